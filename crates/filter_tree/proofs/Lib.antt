@@ -1,0 +1,4 @@
+pub mod ListsLemmas
+pub mod PossibleLemmas
+pub mod SameLemmas
+pub mod ValidLemmas

@@ -1,0 +1,95 @@
+-- The meaning of a filter on a row that agrees with a path is among the values that the path leaves possible.
+use Rattle.std.proofs.Common.{◌≡◌, Bool, true, false, ◌&&◌, ◌||◌, List, [], ◌∷◌, refl, ◌∙◌, ap}
+use Rattle.std.specs.Prelude.{Option, Some, None}
+use Rattle.std.specs.List.{list_any}
+use Rattle.filter_tree.specs.Datum.{Datum, Missing, Known, value_at}
+use Rattle.filter_tree.specs.Logic.{and_of, or_of, not_of, asks_of, tri_of}
+use Rattle.filter_tree.specs.Expr.{Condition, Compares, Lacks, Expr, Always, Holds, Negation, Both, Either, Asks, is_missing, condition_meaning, meaning}
+use Rattle.filter_tree.specs.Mask.{same_tri, all_three, member, mask_where, single_of, lift_one, lift_two}
+use Rattle.filter_tree.specs.Same.{same_condition}
+use Rattle.filter_tree.specs.Paths.{Path, Agrees, first_value, open_mask, known_or_open, possible_of}
+use Rattle.filter_tree.specs.declared.mask.Mask.{Mask}
+use Rattle.filter_tree.specs.declared.tri.Tri.{Tri}
+use Rattle.filter_tree.specs.declared.tri.Tri.TheVariants.{True, False, Null}
+use Rattle.filter_tree.proofs.SameLemmas.{same_condition_is}
+
+by_test : {P : Type 0} (b : Bool) → (b ≡ true → P) → (b ≡ false → P) → P
+by_test true at_true at_false = at_true refl
+by_test false at_true at_false = at_false refl
+
+member_where : (test : Tri → Bool) (t : Tri) → member (mask_where test) t ≡ test t
+member_where test True = refl
+member_where test False = refl
+member_where test Null = refl
+
+same_tri_self : (t : Tri) → same_tri t t ≡ true
+same_tri_self True = refl
+same_tri_self False = refl
+same_tri_self Null = refl
+
+or_true_left : (p q : Bool) → p ≡ true → (p || q) ≡ true
+or_true_left p q h = rw h refl
+
+or_true_right : (p q : Bool) → q ≡ true → (p || q) ≡ true
+or_true_right true q h = refl
+or_true_right false q h = h
+
+any_of_three : (test : Tri → Bool) (t : Tri) → test t ≡ true → list_any test all_three ≡ true
+any_of_three test True h = or_true_left (test True) _ h
+any_of_three test False h = or_true_right (test True) _ (or_true_left (test False) _ h)
+any_of_three test Null h = or_true_right (test True) _ (or_true_right (test False) _ (or_true_left (test Null) _ h))
+
+single_has : (t : Tri) → member (single_of t) t ≡ true
+single_has t = member_where (same_tri t) t ∙ same_tri_self t
+
+one_has : (f : Tri → Tri) (mask : Mask) (a : Tri) → member mask a ≡ true → member (lift_one f mask) (f a) ≡ true
+one_has f mask a h =
+    let here : (member mask a && same_tri (f a) (f a)) ≡ true = rw (h, same_tri_self (f a)) refl in
+    member_where (λ t. list_any (λ x. member mask x && same_tri (f x) t) all_three) (f a)
+    ∙ any_of_three (λ x. member mask x && same_tri (f x) (f a)) a here
+
+two_has : (f : Tri → Tri → Tri) (left right : Mask) (a b : Tri) → member left a ≡ true → member right b ≡ true
+    → member (lift_two f left right) (f a b) ≡ true
+two_has f left right a b h k =
+    let inner : (member left a && (member right b && same_tri (f a b) (f a b))) ≡ true = rw (h, k, same_tri_self (f a b)) refl in
+    let outer = any_of_three (λ y. member left a && (member right y && same_tri (f a y) (f a b))) b inner in
+    member_where (λ t. list_any (λ x. list_any (λ y. member left x && (member right y && same_tri (f x y) t)) all_three) all_three) (f a b)
+    ∙ any_of_three (λ x. list_any (λ y. member left x && (member right y && same_tri (f x y) (f a b))) all_three) a outer
+
+-- a value that the path has is the condition's
+first_value_is : (cells : List Datum) (condition : Condition) (path : Path) (value : Tri) → Agrees cells path
+    → first_value condition path ≡ Some value → condition_meaning condition cells ≡ value
+first_value_is cells condition [] value agrees h = absurd cc
+first_value_is cells condition (entry ∷ path) value agrees h = by_test (same_condition condition entry.0)
+    (λ same. let e : condition ≡ entry.0 = same_condition_is condition entry.0 same in
+    let found : Some entry.1 ≡ Some value = rw same at h in
+    let this : entry.1 ≡ value = cc in
+    ap (λ c. condition_meaning c cells) e ∙ (agrees.0 ∙ this))
+    (λ differs. let later : first_value condition path ≡ Some value = rw differs at h in
+    first_value_is cells condition path value agrees.1 later)
+
+missing_open : (column : _) (value : Datum) → member (open_mask (Lacks column)) (is_missing value) ≡ true
+missing_open column Missing = refl
+missing_open column (Known constant) = refl
+
+open_has : (cells : List Datum) (condition : Condition) → member (open_mask condition) (condition_meaning condition cells) ≡ true
+open_has cells (Compares term op constant) = member_where (λ _. true) _
+open_has cells (Lacks column) = missing_open column (value_at cells column)
+
+known_has : (cells : List Datum) (condition : Condition) (known : Option Tri)
+    → ((value : Tri) → known ≡ Some value → condition_meaning condition cells ≡ value)
+    → member (known_or_open known condition) (condition_meaning condition cells) ≡ true
+known_has cells condition (Some value) h = rw (h value refl) (single_has value)
+known_has cells condition None h = open_has cells condition
+
+pub possible_holds : (filter : Expr) (path : Path) (cells : List Datum) → Agrees cells path
+    → member (possible_of filter path) (meaning filter cells) ≡ true
+possible_holds (Always known) path cells h = single_has (tri_of known)
+possible_holds (Holds condition) path cells h =
+    known_has cells condition (first_value condition path) (λ value. first_value_is cells condition path value h)
+possible_holds (Negation part) path cells h = one_has not_of (possible_of part path) (meaning part cells) (possible_holds part path cells h)
+possible_holds (Both left right) path cells h =
+    two_has and_of (possible_of left path) (possible_of right path) (meaning left cells) (meaning right cells) (possible_holds left path cells h) (possible_holds right path cells h)
+possible_holds (Either left right) path cells h =
+    two_has or_of (possible_of left path) (possible_of right path) (meaning left cells) (meaning right cells) (possible_holds left path cells h) (possible_holds right path cells h)
+possible_holds (Asks test part) path cells h = one_has (asks_of test) (possible_of part path) (meaning part cells) (possible_holds part path cells h)

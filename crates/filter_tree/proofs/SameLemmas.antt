@@ -1,0 +1,143 @@
+-- The tests of sameness hold of equal values only, and of each value with itself.
+use Rattle.std.proofs.Common.{◌≡◌, ℕ, ◌+◌, ◌<◌, ◌≤◌, Bool, true, false, ◌&&◌, List, [], ◌∷◌, length, refl, sym, ap, subst, arith, drop, add-one}
+use Rattle.std.specs.Prelude.{nat_eq}
+use Rattle.std.proofs.lemmas.Option.{unwrap_or-slice_get}
+use Rattle.std.proofs.Math.Seq.{drop-cons}
+use Rattle.std.proofs.Math.ListN.{drop_of_length-le}
+use Rattle.std.specs.Ordering.{int_eq}
+use Rattle.std.specs.Cmp.{unsigned_Decides, signed_Decides, booleans_Decides}
+use Rattle.std.proofs.lemmas.Slice.Eq.{bytes_eq-Decides}
+use Rattle.filter_tree.specs.Datum.{Constant, Number, Truth, Bytes, Datum, Missing, Known, value_at}
+use Rattle.filter_tree.specs.Expr.{Condition, Compares, Lacks}
+use Rattle.filter_tree.specs.Same.{same_constant, same_datum, same_from, same_cells, same_term, same_op, same_condition}
+use Rattle.filter_tree.specs.declared.filter.Term.{Term}
+use Rattle.filter_tree.specs.declared.filter.Term.TheVariants.{Col, Mod}
+use Rattle.filter_tree.specs.declared.filter.Op.{Op}
+use Rattle.filter_tree.specs.declared.filter.Op.TheVariants.{Eq, Ne, Lt, Le, Gt, Ge}
+
+pub both_true : (p q : Bool) → (p && q) ≡ true → (p ≡ true) × (q ≡ true)
+both_true true q h = (refl, h)
+both_true false q h = absurd cc
+
+-- ---- equal from the same
+
+same_constant_is : (k l : Constant) → same_constant k l ≡ true → k ≡ l
+same_constant_is (Number m) (Number n) h = ap Number ((signed_Decides m n).0 h)
+same_constant_is (Truth p) (Truth q) h = ap Truth ((booleans_Decides p q).0 h)
+same_constant_is (Bytes s) (Bytes t) h = ap Bytes ((bytes_eq-Decides s t).0 h)
+same_constant_is k l h = absurd cc
+
+same_datum_is : (v w : Datum) → same_datum v w ≡ true → v ≡ w
+same_datum_is Missing Missing h = refl
+same_datum_is (Known k) (Known l) h = ap Known (same_constant_is k l h)
+same_datum_is v w h = absurd cc
+
+same_term_is : (s t : Term) → same_term s t ≡ true → s ≡ t
+same_term_is (Col c) (Col d) h = ap Col ((unsigned_Decides c d).0 h)
+same_term_is (Mod c m) (Mod d n) h =
+    let both : (nat_eq c d ≡ true) × (int_eq m n ≡ true) = both_true _ _ h in
+    let columns : c ≡ d = (unsigned_Decides c d).0 both.0 in
+    let divisors : m ≡ n = (signed_Decides m n).0 both.1 in
+    cc
+same_term_is s t h = absurd cc
+
+same_op_is : (op other : Op) → same_op op other ≡ true → op ≡ other
+same_op_is Eq Eq h = refl
+same_op_is Ne Ne h = refl
+same_op_is Lt Lt h = refl
+same_op_is Le Le h = refl
+same_op_is Gt Gt h = refl
+same_op_is Ge Ge h = refl
+same_op_is op other h = absurd cc
+
+pub same_condition_is : (c d : Condition) → same_condition c d ≡ true → c ≡ d
+same_condition_is (Compares s op k) (Compares t other l) h =
+    let both : (same_term s t ≡ true) × ((same_op op other && same_constant k l) ≡ true) = both_true _ _ h in
+    let rest : (same_op op other ≡ true) × (same_constant k l ≡ true) = both_true _ _ both.1 in
+    let terms : s ≡ t = same_term_is s t both.0 in
+    let ops : op ≡ other = same_op_is op other rest.0 in
+    let constants : k ≡ l = same_constant_is k l rest.1 in
+    cc
+same_condition_is (Lacks c) (Lacks d) h = ap Lacks ((unsigned_Decides c d).0 h)
+same_condition_is c d h = absurd cc
+
+-- ---- the same as itself
+
+same_constant_self : (k : Constant) → same_constant k k ≡ true
+same_constant_self (Number m) = (signed_Decides m m).1 refl
+same_constant_self (Truth p) = (booleans_Decides p p).1 refl
+same_constant_self (Bytes s) = (bytes_eq-Decides s s).1 refl
+
+same_datum_self : (v : Datum) → same_datum v v ≡ true
+same_datum_self Missing = refl
+same_datum_self (Known k) = same_constant_self k
+
+same_term_self : (t : Term) → same_term t t ≡ true
+same_term_self (Col c) = (unsigned_Decides c c).1 refl
+same_term_self (Mod c m) =
+    let columns : nat_eq c c ≡ true = (unsigned_Decides c c).1 refl in
+    let divisors : int_eq m m ≡ true = (signed_Decides m m).1 refl in
+    rw (columns, divisors) refl
+
+same_op_self : (op : Op) → same_op op op ≡ true
+same_op_self Eq = refl
+same_op_self Ne = refl
+same_op_self Lt = refl
+same_op_self Le = refl
+same_op_self Gt = refl
+same_op_self Ge = refl
+
+same_condition_self : (c : Condition) → same_condition c c ≡ true
+same_condition_self (Compares t op k) =
+    let terms : same_term t t ≡ true = same_term_self t in
+    let ops : same_op op op ≡ true = same_op_self op in
+    let constants : same_constant k k ≡ true = same_constant_self k in
+    rw (terms, ops, constants) refl
+same_condition_self (Lacks c) = (unsigned_Decides c c).1 refl
+
+pub same_condition_of_equal : (c d : Condition) → c ≡ d → same_condition c d ≡ true
+same_condition_of_equal c d e = subst (λ x. same_condition c x ≡ true) e (same_condition_self c)
+
+-- ---- rows
+
+-- the values from a column on, where there is one
+drop_from : (cells : List Datum) (column : ℕ) → column < length cells
+    → drop column cells ≡ value_at cells column ∷ drop (column + 1) cells
+drop_from cells column h = rw (add-one, unwrap_or-slice_get cells column Missing) (drop-cons cells column Missing h)
+
+same_from_is : (cells : List Datum) (column : ℕ) (values : List Datum) → column + length values ≡ length cells
+    → same_from column values cells ≡ true → values ≡ drop column cells
+same_from_is cells column [] h same = let past : length cells ≤ column = omega arith in sym (drop_of_length-le cells past)
+same_from_is cells column (value ∷ values) h same =
+    let both : (same_datum value (value_at cells column) ≡ true) × (same_from (column + 1) values cells ≡ true) = both_true _ _ same in
+    let inside : column < length cells = omega arith in
+    let width : column + 1 + length values ≡ length cells = omega arith in
+    let here : value ≡ value_at cells column = same_datum_is _ _ both.0 in
+    let later : values ≡ drop (column + 1) cells = same_from_is cells (column + 1) values width both.1 in
+    let split = drop_from cells column inside in
+    cc
+
+same_from_self : (cells : List Datum) (column : ℕ) (values : List Datum) → column + length values ≡ length cells
+    → values ≡ drop column cells → same_from column values cells ≡ true
+same_from_self cells column [] h e = refl
+same_from_self cells column (value ∷ values) h e =
+    let inside : column < length cells = omega arith in
+    let width : column + 1 + length values ≡ length cells = omega arith in
+    let split = drop_from cells column inside in
+    let here : value ≡ value_at cells column = cc in
+    let later : values ≡ drop (column + 1) cells = cc in
+    let same : same_datum value (value_at cells column) ≡ true = subst (λ v. same_datum value v ≡ true) here (same_datum_self value) in
+    let rest = same_from_self cells (column + 1) values width later in
+    rw (same, rest) refl
+
+pub equal_from_same_cells : (one other : List Datum) → same_cells one other ≡ true → one ≡ other
+equal_from_same_cells one other h =
+    let both : (nat_eq (length one) (length other) ≡ true) × (same_from 0 one other ≡ true) = both_true _ _ h in
+    let width : length one ≡ length other = (unsigned_Decides _ _).0 both.0 in
+    same_from_is other 0 one (omega arith) both.1
+
+pub same_cells_of_equal : (one other : List Datum) → one ≡ other → same_cells one other ≡ true
+same_cells_of_equal one other e =
+    let width : nat_eq (length one) (length other) ≡ true = (unsigned_Decides _ _).1 (ap length e) in
+    let cells : same_from 0 one other ≡ true = same_from_self other 0 one (omega (arith, ap length e)) e in
+    rw width cells

@@ -1,0 +1,12 @@
+pub mod Compare
+pub mod Datum
+pub mod Expr
+pub mod Lists
+pub mod Logic
+pub mod Mask
+pub mod Paths
+pub mod Range
+pub mod Same
+pub mod Shape
+pub mod Valid
+pub mod Values

@@ -1,0 +1,72 @@
+ghost use Rattle.std.specs.Prelude.{◌≡◌};
+ghost use Rattle.filter_tree.specs.Values.{datum_of, constant_of};
+ghost use Rattle.filter_tree.specs.Compare.{compare_of, compare_known};
+ghost use Rattle.filter_tree.specs.Compare.{compare_numbers_of, compare_truths_of, compare_texts_of};
+
+use crate::filter::Op;
+use crate::text::Text;
+use crate::tri::Tri;
+use crate::value::{Literal, Value};
+use std::alloc::Allocator;
+
+/// SQL's `value op literal`: null where the value is null.
+pub fn compare<A: Allocator, B: Allocator>(op: Op, value: &Value<A>, literal: &Literal<B>) -> Tri
+    ensures { result ≡ compare_of op (datum_of value.now) (constant_of literal.now) }
+{
+    match (value, literal) {
+        (Value::Null, _) => Tri::Null,
+        (Value::Int(left), Literal::Int(right)) => Tri::from(compare_numbers(op, *left, *right)),
+        (Value::Bool(left), Literal::Bool(right)) => Tri::from(compare_truths(op, *left, *right)),
+        (Value::Text(left), Literal::Text(right)) => Tri::from(compare_texts(op, left, right)),
+        (Value::Int(_) | Value::Bool(_) | Value::Text(_), _) => Tri::False,
+    }
+}
+
+/// Whether `left op right` holds of two constants. It never holds of constants of different types.
+pub fn compare_literals<A: Allocator, B: Allocator>(
+    op: Op,
+    left: &Literal<A>,
+    right: &Literal<B>,
+) -> bool
+    ensures { result ≡ compare_known op (constant_of left.now) (constant_of right.now) }
+{
+    match (left, right) {
+        (Literal::Int(left), Literal::Int(right)) => compare_numbers(op, *left, *right),
+        (Literal::Bool(left), Literal::Bool(right)) => compare_truths(op, *left, *right),
+        (Literal::Text(left), Literal::Text(right)) => compare_texts(op, left, right),
+        (Literal::Int(_) | Literal::Bool(_) | Literal::Text(_), _) => false,
+    }
+}
+
+fn compare_numbers(op: Op, left: i64, right: i64) -> bool
+    ensures { result ≡ compare_numbers_of op left right }
+{
+    match op {
+        Op::Eq => left == right,
+        Op::Ne => left != right,
+        Op::Lt => left < right,
+        Op::Le => left <= right,
+        Op::Gt => left > right,
+        Op::Ge => left >= right,
+    }
+}
+
+fn compare_truths(op: Op, left: bool, right: bool) -> bool
+    ensures { result ≡ compare_truths_of op left right }
+{
+    match op {
+        Op::Eq => left == right,
+        Op::Ne => left != right,
+        Op::Lt | Op::Le | Op::Gt | Op::Ge => false,
+    }
+}
+
+fn compare_texts<A: Allocator, B: Allocator>(op: Op, left: &Text<A>, right: &Text<B>) -> bool
+    ensures { result ≡ compare_texts_of op left.now right.now }
+{
+    match op {
+        Op::Eq => left.as_str() == right.as_str(),
+        Op::Ne => left.as_str() != right.as_str(),
+        Op::Lt | Op::Le | Op::Gt | Op::Ge => false,
+    }
+}

@@ -1,0 +1,106 @@
+ghost use Rattle.std.specs.Prelude.{◌≡◌, IfOk};
+ghost use Rattle.filter_tree.specs.Values.{datum_of, constant_of};
+ghost use Rattle.filter_tree.specs.Shape.{condition_of, expr_of};
+
+use crate::filter::{Atom, Filter};
+use crate::text::Text;
+use crate::value::{Literal, Row, Value};
+use std::alloc::{AllocError, Allocator};
+
+/// A copy of the filter, whose memory is taken from `alloc`. The only error is want of memory.
+pub fn copy_in<A: Allocator, B: Allocator + Clone>(
+    alloc: B,
+    filter: &Filter<A>,
+) -> Result<Filter<B>, AllocError>
+    ensures { IfOk result (λ copy. expr_of copy ≡ expr_of filter.now) }
+{
+    copy_filter(&alloc, filter)
+}
+
+#[cycle(copy)]
+fn copy_filter<A: Allocator, B: Allocator + Clone>(
+    alloc: &B,
+    filter: &Filter<A>,
+) -> Result<Filter<B>, AllocError>
+    ensures { IfOk result (λ copy. expr_of copy ≡ expr_of filter.now) }
+{
+    match filter {
+        Filter::Const(known) => Ok(Filter::Const(*known)),
+        Filter::Atom(atom) => Ok(Filter::Atom(copy_atom(alloc, atom)?)),
+        Filter::Not(part) => Ok(Filter::Not(copy_boxed(alloc, part)?)),
+        Filter::And(left, right) => Ok(Filter::And(
+            copy_boxed(alloc, left)?,
+            copy_boxed(alloc, right)?,
+        )),
+        Filter::Or(left, right) => Ok(Filter::Or(
+            copy_boxed(alloc, left)?,
+            copy_boxed(alloc, right)?,
+        )),
+        Filter::Is(test, part) => Ok(Filter::Is(*test, copy_boxed(alloc, part)?)),
+    }
+}
+
+#[cycle(copy)]
+fn copy_boxed<A: Allocator, B: Allocator + Clone>(
+    alloc: &B,
+    filter: &Filter<A>,
+) -> Result<Box<Filter<B>, B>, AllocError>
+    ensures { IfOk result (λ copy. expr_of copy.value ≡ expr_of filter.now) }
+{
+    let copy = copy_filter(alloc, filter)?;
+    Ok(Box::new(alloc.clone()?, copy)?)
+}
+
+fn copy_atom<A: Allocator, B: Allocator + Clone>(
+    alloc: &B,
+    atom: &Atom<A>,
+) -> Result<Atom<B>, AllocError>
+    ensures { IfOk result (λ copy. condition_of copy ≡ condition_of atom.now) }
+{
+    match atom {
+        Atom::Cmp(term, op, literal) => Ok(Atom::Cmp(*term, *op, copy_literal(alloc, literal)?)),
+        Atom::IsNull(column) => Ok(Atom::IsNull(*column)),
+    }
+}
+
+fn copy_literal<A: Allocator, B: Allocator + Clone>(
+    alloc: &B,
+    literal: &Literal<A>,
+) -> Result<Literal<B>, AllocError>
+    ensures { IfOk result (λ copy. constant_of copy ≡ constant_of literal.now) }
+{
+    match literal {
+        Literal::Int(number) => Ok(Literal::Int(*number)),
+        Literal::Bool(truth) => Ok(Literal::Bool(*truth)),
+        Literal::Text(text) => Ok(Literal::Text(Text::from_str(alloc.clone()?, text.as_str())?)),
+    }
+}
+
+/// A copy of the row, whose memory is taken from `alloc`. The only error is want of memory.
+pub fn copy_row<A: Allocator, B: Allocator + Clone>(
+    alloc: B,
+    row: &Row<A>,
+) -> Result<Row<B>, AllocError>
+    ensures { IfOk result (λ copy. copy ≡ row.now) }
+{
+    let values = row.values();
+    let mut copies = Vec::with_capacity(alloc.clone()?, values.len())?;
+    for value in values {
+        copies.push(copy_value(&alloc, value)?)?;
+    }
+    Ok(Row::from_values(copies))
+}
+
+fn copy_value<A: Allocator, B: Allocator + Clone>(
+    alloc: &B,
+    value: &Value<A>,
+) -> Result<Value<B>, AllocError>
+    ensures { IfOk result (λ copy. datum_of copy ≡ datum_of value.now) }
+{
+    match value {
+        Value::Null => Ok(Value::Null),
+        Value::Int(number) => Ok(Value::Int(*number)),
+        Value::Bool(truth) => Ok(Value::Bool(*truth)),
+        Value::Text(text) => Ok(Value::Text(Text::from_str(alloc.clone()?, text.as_str())?)),
+    }
+}

@@ -1,0 +1,80 @@
+ghost use Rattle.std.specs.Prelude.{◌≡◌};
+ghost use Rattle.filter_tree.specs.Expr.{meaning, condition_meaning, remainder_of};
+ghost use Rattle.filter_tree.specs.Values.{datum_of, constant_of};
+ghost use Rattle.filter_tree.specs.Shape.{condition_of, expr_of};
+ghost use Rattle.filter_tree.specs.Compare.{compare_of};
+ghost use Rattle.filter_tree.specs.Expr.{term_value};
+
+use crate::comparison::compare;
+use crate::filter::{Atom, Filter, Op, Term};
+use crate::tri::Tri;
+use crate::value::{Literal, Row, Value};
+use std::alloc::Allocator;
+
+/// What the filter says of the row. A column past the row's end reads as null, and a comparison of unlike types is
+/// false, so each filter has a value on each row.
+pub fn eval<A: Allocator, R: Allocator>(filter: &Filter<A>, row: &Row<R>) -> Tri
+    ensures { result ≡ meaning (expr_of filter.now) row.now }
+{
+    match filter {
+        Filter::Const(known) => Tri::from(*known),
+        Filter::Atom(atom) => eval_atom(atom, row),
+        Filter::Not(part) => eval(part, row).not(),
+        Filter::And(left, right) => eval(left, row).and(eval(right, row)),
+        Filter::Or(left, right) => eval(left, row).or(eval(right, row)),
+        Filter::Is(test, part) => eval(part, row).is(*test),
+    }
+}
+
+fn eval_atom<A: Allocator, R: Allocator>(atom: &Atom<A>, row: &Row<R>) -> Tri
+    ensures { result ≡ condition_meaning (condition_of atom.now) row.now }
+{
+    match atom {
+        Atom::Cmp(term, op, literal) => compare_term(*term, *op, literal, row),
+        Atom::IsNull(column) => match row.get(*column) {
+            None | Some(Value::Null) => Tri::True,
+            Some(Value::Int(_) | Value::Bool(_) | Value::Text(_)) => Tri::False,
+        },
+    }
+}
+
+fn compare_term<A: Allocator, R: Allocator>(
+    term: Term,
+    op: Op,
+    literal: &Literal<A>,
+    row: &Row<R>,
+) -> Tri
+    ensures { result ≡ compare_of op (term_value term row.now) (constant_of literal.now) }
+{
+    match term {
+        Term::Col(column) => match row.get(column) {
+            None => Tri::Null,
+            Some(value) => compare(op, value, literal),
+        },
+        Term::Mod(column, divisor) => match row.get(column) {
+            None => Tri::Null,
+            Some(value) => compare_remainder(value, divisor, op, literal),
+        },
+    }
+}
+
+/// SQL's `value % divisor op literal`. The remainder has the sign of the value.
+fn compare_remainder<A: Allocator, R: Allocator>(
+    value: &Value<R>,
+    divisor: i64,
+    op: Op,
+    literal: &Literal<A>,
+) -> Tri
+    ensures { result ≡ compare_of op (remainder_of (datum_of value.now) divisor) (constant_of literal.now) }
+{
+    match value {
+        Value::Int(number) if divisor != 0 => compare(
+            op,
+            &Value::<R>::Int(number.wrapping_rem(divisor)),
+            literal,
+        ),
+        Value::Null | Value::Int(_) | Value::Bool(_) | Value::Text(_) => compare(
+            op, value, literal,
+        ),
+    }
+}

@@ -1,0 +1,76 @@
+ghost use Rattle.std.specs.Prelude.{◌≡◌};
+
+use crate::value::Literal;
+use std::alloc::{Allocator, Global};
+
+/// What a comparison looks at: a column, by its number from 0, or the remainder of an integer column by a divisor.
+#[derive(Clone, Copy, Debug, PartialEq, Eq)]
+pub enum Term {
+    Col(usize),
+    Mod(usize, i64),
+}
+
+impl Term {
+    ghost use Rattle.filter_tree.specs.Lists.{column_of};
+
+    /// The column that the term looks at.
+    pub fn column(self) -> usize
+        ensures { result ≡ column_of self }
+    {
+        match self {
+            Term::Col(column) | Term::Mod(column, _) => column,
+        }
+    }
+}
+
+/// A comparison operator: `=`, `<>`, `<`, `<=`, `>`, `>=`.
+#[derive(Clone, Copy, Debug, PartialEq, Eq)]
+pub enum Op {
+    Eq,
+    Ne,
+    Lt,
+    Le,
+    Gt,
+    Ge,
+}
+
+/// A test of one column: a comparison of a term with a constant, or `IS NULL` of a column.
+#[derive(Debug, Drop)]
+pub enum Atom<A: Allocator = Global> {
+    Cmp(Term, Op, Literal<A>),
+    IsNull(usize),
+}
+
+impl<A: Allocator> Atom<A> {
+    ghost use Rattle.filter_tree.specs.Lists.{term_of};
+    ghost use Rattle.filter_tree.specs.Shape.{condition_of};
+
+    /// The term that the atom looks at; `IS NULL` looks at its column.
+    pub fn term(&self) -> Term
+        ensures { result ≡ term_of (condition_of self.now) }
+    {
+        match self {
+            Atom::Cmp(term, _, _) => *term,
+            Atom::IsNull(column) => Term::Col(*column),
+        }
+    }
+}
+
+/// What `IS TRUE`, `IS FALSE` and `IS UNKNOWN` ask for.
+#[derive(Clone, Copy, Debug, PartialEq, Eq)]
+pub enum Test {
+    True,
+    False,
+    Unknown,
+}
+
+/// A row filter.
+#[derive(Debug, Drop)]
+pub enum Filter<A: Allocator = Global> {
+    Const(bool),
+    Atom(Atom<A>),
+    Not(Box<Filter<A>, A>),
+    And(Box<Filter<A>, A>, Box<Filter<A>, A>),
+    Or(Box<Filter<A>, A>, Box<Filter<A>, A>),
+    Is(Test, Box<Filter<A>, A>),
+}

@@ -1,0 +1,35 @@
+//! Rows, columns and row filters of PostgreSQL tables: values, SQL's three-valued logic, filter trees, which rows fit
+//! a table, and what a filter says of a row.
+#![tactic(auto)]
+
+mod comparison;
+mod copies;
+mod evaluation;
+mod filter;
+mod items;
+mod lists;
+mod mask;
+mod possibility;
+mod same;
+mod table;
+#[cfg(test)]
+mod tests;
+mod text;
+mod tri;
+mod validity;
+mod value;
+
+pub use comparison::{compare, compare_literals};
+pub use copies::{copy_in, copy_row};
+pub use evaluation::eval;
+pub use filter::{Atom, Filter, Op, Term, Test};
+pub use items::Items;
+pub use lists::{atoms_of, columns_of, terms_of};
+pub use mask::Mask;
+pub use possibility::possible;
+pub use same::{same_atom, same_row};
+pub use table::{ColType, Column, Identity, Table};
+pub use text::Text;
+pub use tri::Tri;
+pub use validity::{MAX_TEXT_BYTES, RowFault, valid};
+pub use value::{Literal, Row, Value};

@@ -1,0 +1,65 @@
+ghost use Rattle.std.specs.Prelude.{◌≡◌, List, IsTrue};
+ghost use Rattle.filter_tree.specs.Datum.{Datum};
+ghost use Rattle.filter_tree.specs.Expr.{Holds, meaning};
+ghost use Rattle.filter_tree.specs.Shape.{condition_of, expr_of};
+ghost use Rattle.filter_tree.specs.Mask.{member};
+ghost use Rattle.filter_tree.specs.Paths.{path_of, Agrees, first_value, possible_of};
+
+use crate::filter::{Atom, Filter};
+use crate::mask::Mask;
+use crate::same::same_atom;
+use crate::tri::Tri;
+use std::alloc::Allocator;
+
+/// The truth values that the filter may have on the rows on which each atom of the path has its value there. Of an
+/// atom that stands twice, the first entry counts.
+#[tactic(auto, using(crate::proofs::PossibleLemmas::possible_holds))]
+pub fn possible<A: Allocator>(filter: &Filter<A>, path: &[(&Atom<A>, Tri)]) -> Mask
+    ensures set { result ≡ possible_of (expr_of filter.now) (path_of path.now) }
+    ensures sound { (cells : List Datum) → Agrees cells (path_of path.now)
+        → IsTrue (member result (meaning (expr_of filter.now) cells)) }
+{
+    mask_of(filter, path)
+}
+
+fn mask_of<A: Allocator>(filter: &Filter<A>, path: &[(&Atom<A>, Tri)]) -> Mask
+    ensures { result ≡ possible_of (expr_of filter.now) (path_of path.now) }
+{
+    match filter {
+        Filter::Const(known) => Mask::single(Tri::from(*known)),
+        Filter::Atom(atom) => mask_of_atom(atom, path),
+        Filter::Not(part) => mask_of(part, path).not(),
+        Filter::And(left, right) => mask_of(left, path).and(mask_of(right, path)),
+        Filter::Or(left, right) => mask_of(left, path).or(mask_of(right, path)),
+        Filter::Is(test, part) => mask_of(part, path).is(*test),
+    }
+}
+
+fn mask_of_atom<A: Allocator>(atom: &Atom<A>, path: &[(&Atom<A>, Tri)]) -> Mask
+    ensures { result ≡ possible_of (Holds (condition_of atom.now)) (path_of path.now) }
+{
+    match (value_on_path(atom, path), atom) {
+        (Some(value), _) => Mask::single(value),
+        (None, Atom::Cmp(..)) => Mask {
+            truth: true,
+            falsity: true,
+            null: true,
+        },
+        (None, Atom::IsNull(_)) => Mask {
+            truth: true,
+            falsity: true,
+            null: false,
+        },
+    }
+}
+
+fn value_on_path<A: Allocator>(atom: &Atom<A>, path: &[(&Atom<A>, Tri)]) -> Option<Tri>
+    ensures { result ≡ first_value (condition_of atom.now) (path_of path.now) }
+{
+    for (tested, value) in path {
+        if same_atom(atom, *tested) {
+            return Some(*value);
+        }
+    }
+    None
+}

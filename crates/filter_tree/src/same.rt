@@ -1,0 +1,100 @@
+ghost use Rattle.std.specs.Prelude.{◌≡◌, ◌↔◌, IsTrue};
+ghost use Rattle.filter_tree.specs.Datum.{value_at};
+ghost use Rattle.filter_tree.specs.Values.{datum_of, constant_of};
+ghost use Rattle.filter_tree.specs.Shape.{condition_of};
+ghost use Rattle.filter_tree.specs.Same.{same_constant, same_datum, same_term, same_op, same_condition, same_cells};
+
+use crate::filter::{Atom, Op, Term};
+use crate::value::{Literal, Row, Value};
+use std::alloc::Allocator;
+
+/// Whether two atoms have equal terms, operators and constants.
+#[tactic(auto, using(crate::proofs::SameLemmas::same_condition_is, crate::proofs::SameLemmas::same_condition_of_equal))]
+pub fn same_atom<A: Allocator, B: Allocator>(one: &Atom<A>, other: &Atom<B>) -> bool
+    ensures test { result ≡ same_condition (condition_of one.now) (condition_of other.now) }
+    ensures equal { IsTrue result ↔ (condition_of one.now ≡ condition_of other.now) }
+{
+    match (one, other) {
+        (Atom::Cmp(term, op, literal), Atom::Cmp(other_term, other_op, other_literal)) => {
+            same_term(*term, *other_term)
+                && same_op(*op, *other_op)
+                && same_literal(literal, other_literal)
+        }
+        (Atom::IsNull(column), Atom::IsNull(other_column)) => column == other_column,
+        (Atom::Cmp(..) | Atom::IsNull(_), _) => false,
+    }
+}
+
+/// Whether two rows have the same values in the same order.
+#[tactic(auto, using(crate::proofs::SameLemmas::equal_from_same_cells, crate::proofs::SameLemmas::same_cells_of_equal))]
+pub fn same_row<A: Allocator, B: Allocator>(one: &Row<A>, other: &Row<B>) -> bool
+    ensures { IsTrue result ↔ (one.now ≡ other.now) }
+{
+    has_cells_of(one, other)
+}
+
+fn has_cells_of<A: Allocator, B: Allocator>(one: &Row<A>, other: &Row<B>) -> bool
+    ensures { result ≡ same_cells one.now other.now }
+{
+    if one.len() != other.len() {
+        return false;
+    }
+    let values = one.values();
+    for (column, value) in values.iter().enumerate() {
+        if !is_at(column, value, other) {
+            return false;
+        }
+    }
+    true
+}
+
+/// Whether the row has this value in the column; past the row's end it has null.
+fn is_at<A: Allocator, B: Allocator>(column: usize, value: &Value<A>, other: &Row<B>) -> bool
+    ensures { result ≡ same_datum (datum_of value.now) (value_at other.now column) }
+{
+    match other.get(column) {
+        None => matches!(value, Value::Null),
+        Some(found) => same_value(value, found),
+    }
+}
+
+fn same_value<A: Allocator, B: Allocator>(one: &Value<A>, other: &Value<B>) -> bool
+    ensures { result ≡ same_datum (datum_of one.now) (datum_of other.now) }
+{
+    match (one, other) {
+        (Value::Null, Value::Null) => true,
+        (Value::Int(number), Value::Int(other_number)) => number == other_number,
+        (Value::Bool(truth), Value::Bool(other_truth)) => truth == other_truth,
+        (Value::Text(text), Value::Text(other_text)) => text.as_str() == other_text.as_str(),
+        (Value::Null | Value::Int(_) | Value::Bool(_) | Value::Text(_), _) => false,
+    }
+}
+
+fn same_literal<A: Allocator, B: Allocator>(one: &Literal<A>, other: &Literal<B>) -> bool
+    ensures { result ≡ same_constant (constant_of one.now) (constant_of other.now) }
+{
+    match (one, other) {
+        (Literal::Int(number), Literal::Int(other_number)) => number == other_number,
+        (Literal::Bool(truth), Literal::Bool(other_truth)) => truth == other_truth,
+        (Literal::Text(text), Literal::Text(other_text)) => text.as_str() == other_text.as_str(),
+        (Literal::Int(_) | Literal::Bool(_) | Literal::Text(_), _) => false,
+    }
+}
+
+pub(crate) fn same_term(one: Term, other: Term) -> bool
+    ensures { result ≡ same_term one other }
+{
+    match (one, other) {
+        (Term::Col(column), Term::Col(other_column)) => column == other_column,
+        (Term::Mod(column, divisor), Term::Mod(other_column, other_divisor)) => column
+            == other_column
+            && divisor == other_divisor,
+        (Term::Col(_) | Term::Mod(..), _) => false,
+    }
+}
+
+fn same_op(one: Op, other: Op) -> bool
+    ensures { result ≡ same_op one other }
+{
+    one == other
+}

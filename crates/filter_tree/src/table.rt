@@ -1,0 +1,67 @@
+ghost use Rattle.std.specs.Prelude.{◌≡◌};
+
+use crate::items::Items;
+use crate::text::Text;
+
+/// A column's data type.
+#[derive(Clone, Copy, Debug, PartialEq, Eq)]
+pub enum ColType {
+    SmallInt,
+    Integer,
+    BigInt,
+    Boolean,
+    Text,
+}
+
+impl ColType {
+    ghost use Rattle.filter_tree.specs.Range.{least_of, greatest_of};
+
+    /// The least number of an integer type. The types that are not integers have the range of `BigInt`.
+    pub fn least(self) -> i64
+        ensures { result ≡ least_of self }
+    {
+        match self {
+            ColType::SmallInt => -32_768,
+            ColType::Integer => -2_147_483_648,
+            ColType::BigInt | ColType::Boolean | ColType::Text => i64::MIN,
+        }
+    }
+
+    /// The greatest number of an integer type. The types that are not integers have the range of `BigInt`.
+    pub fn greatest(self) -> i64
+        ensures { result ≡ greatest_of self }
+    {
+        match self {
+            ColType::SmallInt => 32_767,
+            ColType::Integer => 2_147_483_647,
+            ColType::BigInt | ColType::Boolean | ColType::Text => i64::MAX,
+        }
+    }
+}
+
+/// A column: its name, its data type, and whether it takes no null, as the columns of a primary key do.
+#[derive(Debug, Drop)]
+pub struct Column {
+    pub name: Text,
+    pub kind: ColType,
+    pub not_null: bool,
+}
+
+/// A table's replica identity: what is recorded of an old row. `Default` records the primary key's columns, `Full` the
+/// whole row, `Nothing` none.
+#[derive(Clone, Copy, Debug, PartialEq, Eq)]
+pub enum Identity {
+    Default,
+    Full,
+    Nothing,
+}
+
+/// A table. `key` has the numbers of the primary key's columns, from 0, in the key's order.
+#[derive(Debug, Drop)]
+pub struct Table {
+    pub schema: Text,
+    pub name: Text,
+    pub columns: Items<Column>,
+    pub key: Items<usize>,
+    pub identity: Identity,
+}

@@ -1,0 +1,52 @@
+-- The position of a name in a list of what bears names.
+use Rattle.std.proofs.Common.{◌≡◌, ℕ, suc, ◌+◌, ◌<◌, ◌≤◌, Bool, true, false, not, ◌||◌, cond, List, [], ◌∷◌, ◌++◌, map, length, refl, ap, sym, ◌∙◌, arith}
+use Rattle.std.proofs.lemmas.List.{length-map, map-append}
+use Rattle.std.specs.Prelude.{Option, Some, None, nat_lt, position, if◌then◌else◌}
+use Rattle.std.specs.List.{list_any, position_or_len, prefix_len}
+use Rattle.std.specs.Str.{bytes_eq}
+use Rattle.std.proofs.lemmas.Bool.Decides.{nat_tests}
+
+prefix_len-map : {A B : Type 0} (p : B → Bool) (f : A → B) (xs : List A) → prefix_len p (map f xs) ≡ prefix_len (λ x. p (f x)) xs
+prefix_len-map p f [] = refl
+prefix_len-map p f (x ∷ xs) = ap (λ n. cond (p (f x)) (1 + n) 0) (prefix_len-map p f xs)
+
+pub position-map : {A B : Type 0} (p : B → Bool) (f : A → B) (xs : List A) → position p (map f xs) ≡ position (λ x. p (f x)) xs
+position-map p f xs =
+    ap (λ n. cond (nat_lt n (length (map f xs))) (Some n) None) (prefix_len-map (λ y. not (p y)) f xs)
+    ∙ ap (λ m. cond (nat_lt (position_or_len (λ x. p (f x)) xs) m) (Some (position_or_len (λ x. p (f x)) xs)) None) (length-map xs f)
+
+by_test : {P : Type 0} (b : Bool) → (b ≡ true → P) → (b ≡ false → P) → P
+by_test true holds fails = holds refl
+by_test false holds fails = fails refl
+
+not_found : {A : Type 0} (p : A → Bool) (xs : List A) → length xs ≤ position_or_len p xs → list_any p xs ≡ false
+not_found p [] past = refl
+not_found p (x ∷ xs) past =
+    by_test (p x)
+      (λ passes. let none : position_or_len p (x ∷ xs) ≡ 0 = rw passes refl in absurd (omega arith))
+      (λ misses. let more : position_or_len p (x ∷ xs) ≡ 1 + position_or_len p xs = rw misses refl in
+        rw misses (not_found p xs (omega arith)))
+
+past_end : (n m : ℕ) → cond (nat_lt n m) (Some n) None ≡ None → m ≤ n
+past_end n m e = by_test (nat_lt n m) (λ less. let bad : Some n ≡ None = rw less at e in cc) (λ same. grind (arith, nat_tests))
+
+-- what is at no position isn't there
+pub position-none : {A : Type 0} (p : A → Bool) (xs : List A) → position p xs ≡ None → list_any p xs ≡ false
+position-none p xs e = not_found p xs (past_end (position_or_len p xs) (length xs) e)
+
+pub list_any-map : {A B : Type 0} (p : B → Bool) (f : A → B) (xs : List A) → list_any p (map f xs) ≡ list_any (λ x. p (f x)) xs
+list_any-map p f [] = refl
+list_any-map p f (x ∷ xs) = ap (λ b. p (f x) || b) (list_any-map p f xs)
+
+-- the same, where the list of names is known by an equation
+pub position-by_names : {A : Type 0} (text : List ℕ) (name_of : A → List ℕ) (names : List (List ℕ)) (xs : List A) → names ≡ map name_of xs →
+    position (bytes_eq text) names ≡ position (λ x. bytes_eq text (name_of x)) xs
+position-by_names text name_of names xs e = ap (position (bytes_eq text)) e ∙ position-map (bytes_eq text) name_of xs
+
+-- names stay those of a list where one of each is added
+pub names-push : {A : Type 0} (name_of : A → List ℕ) (text : List ℕ) (names new_names : List (List ℕ)) (xs ys : List A) (x : A) →
+    names ≡ map name_of xs → text ≡ name_of x → position (λ y. bytes_eq (name_of x) (name_of y)) xs ≡ None →
+    (position (bytes_eq text) names ≡ None → new_names ≡ names ++ text ∷ []) → ys ≡ xs ++ x ∷ [] → new_names ≡ map name_of ys
+names-push name_of text names new_names xs ys x same is free added pushed =
+    let absent : position (bytes_eq text) names ≡ None = position-by_names text name_of names xs same ∙ ap (λ t. position (λ y. bytes_eq t (name_of y)) xs) is ∙ free in
+    added absent ∙ ap (λ ns. ns ++ text ∷ []) same ∙ ap (λ t. map name_of xs ++ t ∷ []) is ∙ sym (map-append name_of xs (x ∷ [])) ∙ ap (map name_of) (sym pushed)

@@ -1,0 +1,52 @@
+//! Names with their positions.
+
+ghost use Rattle.std.specs.Prelude.{◌≡◌, ◌∷◌, ◌++◌, [], position, length, IfSome, None, OnOk, OnErr, ◌<◌};
+ghost use Rattle.std.specs.Str.{bytes_eq};
+ghost use Rattle.std.specs.String.{string_bytes};
+
+use indexmap::IndexSet;
+use std::alloc::{AllocError, Global};
+use std::marker::Model;
+
+/// Different names in the order in which they were made, each with its position.
+#[derive(Drop)]
+pub struct Names {
+    names: IndexSet<String>,
+}
+
+impl Model for Names {
+    ghost use Rattle.std.specs.Prelude.{ℕ, List, map};
+    ghost use Rattle.std.specs.String.{string_bytes};
+
+    ghost Value = { List (List ℕ) };
+
+    ghost view = { λ n. map string_bytes n.names.keys };
+}
+
+impl Names {
+    /// No names.
+    pub fn new(alloc: Global) -> Names
+        ensures { result ≡ [] }
+    {
+        Names {
+            names: IndexSet::new(alloc),
+        }
+    }
+
+    /// The position of a name.
+    pub fn find(&self, name: &str) -> Option<usize>
+        ensures value { result ≡ position (bytes_eq name.now) self.now }
+        ensures within { IfSome result (λ n. n < length self.now) }
+    {
+        self.names.get_index_of(name)
+    }
+
+    /// Adds a name behind the others, if it is new.
+    pub fn add(&mut self, name: String) -> Result<(), AllocError>
+        ensures ok { OnOk result (position (bytes_eq (string_bytes name)) self.old ≡ None → self.new ≡ self.old ++ string_bytes name ∷ []) }
+        ensures err { OnErr result (self.new ≡ self.old) }
+    {
+        self.names.insert(name)?;
+        Ok(())
+    }
+}

@@ -1,0 +1,27 @@
+//! What stands between quotes.
+
+ghost use Rattle.std.specs.Prelude.{◌≡◌, ◌<◌, IfOk};
+ghost use Rattle.std.specs.String.{string_bytes};
+ghost use Rattle.sql_tokens.specs.Meant.{undoubled as meant};
+
+use std::alloc::{AllocError, Global};
+
+/// What stands between two quotes, with each two quotes side by side read as one.
+#[tactic(auto, using(crate::proofs::Undoubling::undoubled_turns))]
+pub fn undoubled(alloc: Global, quote: char, written: &str) -> Result<String, AllocError>
+    requires { quote < 128 }
+    ensures { IfOk result (λ text. string_bytes text ≡ meant quote written.now) }
+{
+    let mut text = String::new(alloc);
+    // Whether the last character is the first of two quotes, if another follows.
+    let mut is_quote = false;
+    for character in written.chars() {
+        if is_quote && character == quote {
+            is_quote = false;
+        } else {
+            is_quote = character == quote;
+            text.push(character)?;
+        }
+    }
+    Ok(text)
+}

@@ -1,0 +1,99 @@
+//! The statements of a catalog.
+
+ghost use Rattle.std.specs.Prelude.{◌≡◌, ◌<◌, ◌≤◌, OnOk};
+ghost use Rattle.pub_reader.specs.Ahead.{to_read};
+ghost use Rattle.pub_reader.specs.CatalogView.{catalog_of};
+ghost use Rattle.pub_reader.specs.DraftView.{draft_of};
+ghost use Rattle.pub_reader.specs.Items.{size};
+ghost use Rattle.pub_reader.specs.Reading.{Reads, Answers};
+ghost use Rattle.pub_reader.specs.Statements as spec;
+ghost use Rattle.pub_reader.specs.Written.{as_filter};
+
+use crate::catalog::Catalog;
+use crate::draft::Draft;
+use crate::error::{ErrorKind, Later, ReadError};
+use crate::item::Item;
+use crate::publication::create_publication;
+use crate::reader::Reader;
+use crate::table::{alter_table, create_table};
+use crate::word::Keyword;
+use std::alloc::Global;
+
+/// Takes what is made, behind CREATE.
+#[tactic(auto, using(crate::proofs::Ahead::rest_is_no_more), unfolding(crate::specs::Statements::created))]
+fn created(r: &mut Reader<'_>, alloc: Global, draft: &mut Draft) -> Result<(), ReadError>
+    ensures reads { Reads (λ _. draft_of draft.new) (spec.created as_filter (draft_of draft.old) (to_read r.old)) result (to_read r.new) }
+    ensures fewer { OnOk result (size (to_read r.new) < size (to_read r.old)) }
+{
+    match r.item() {
+        Some(Item::Keyword(Keyword::Table)) => {
+            r.advance();
+            create_table(r, alloc, draft)
+        }
+        Some(Item::Keyword(Keyword::Publication)) => {
+            r.advance();
+            create_publication(r, alloc, draft)
+        }
+        Some(Item::Keyword(Keyword::Unique)) => Err(r.refused(ErrorKind::NotYet(Later::UniqueIndex))),
+        _ => Err(r.refusal("TABLE or PUBLICATION")),
+    }
+}
+
+#[tactic(auto, unfolding(crate::specs::Statements::create))]
+fn create(r: &mut Reader<'_>, alloc: Global, draft: &mut Draft) -> Result<(), ReadError>
+    ensures reads { Reads (λ _. draft_of draft.new) (spec.create as_filter (draft_of draft.old) (to_read r.old)) result (to_read r.new) }
+    ensures fewer { OnOk result (size (to_read r.new) < size (to_read r.old)) }
+{
+    r.expect(Item::Keyword(Keyword::Create), "CREATE")?;
+    created(r, alloc, draft)
+}
+
+/// Takes a statement, which may be empty, up to its semicolon.
+#[tactic(auto, unfolding(crate::specs::Statements::statement))]
+fn statement(r: &mut Reader<'_>, alloc: Global, draft: &mut Draft) -> Result<(), ReadError>
+    ensures reads { Reads (λ _. draft_of draft.new) (spec.statement as_filter (draft_of draft.old) (to_read r.old)) result (to_read r.new) }
+    ensures fewer { OnOk result (size (to_read r.new) ≤ size (to_read r.old)) }
+{
+    match r.item() {
+        Some(Item::Keyword(Keyword::Create)) => create(r, alloc, draft),
+        Some(Item::Keyword(Keyword::Alter)) => alter_table(r, alloc, draft),
+        Some(Item::Semicolon) => Ok(()),
+        _ => Err(r.refusal("CREATE, ALTER or `;`")),
+    }
+}
+
+/// Takes a statement and its semicolon.
+#[tactic(auto, unfolding(crate::specs::Statements::ended_statement))]
+fn ended_statement(r: &mut Reader<'_>, alloc: Global, draft: &mut Draft) -> Result<(), ReadError>
+    ensures reads { Reads (λ _. draft_of draft.new) (spec.ended_statement as_filter (draft_of draft.old) (to_read r.old)) result (to_read r.new) }
+    ensures fewer { OnOk result (size (to_read r.new) < size (to_read r.old)) }
+{
+    statement(r, alloc, draft)?;
+    r.expect(Item::Semicolon, "`;`")?;
+    Ok(())
+}
+
+/// Takes the statements of a text to its end.
+#[tactic(auto, using(crate::proofs::Turning::turns), unfolding(crate::specs::Statements::statements))]
+fn statements(r: &mut Reader<'_>, alloc: Global) -> Result<Draft, ReadError>
+    ensures { Reads (λ draft. draft_of draft) (spec.statements as_filter (to_read r.old)) result (to_read r.new) }
+{
+    let mut draft = Draft::new(alloc);
+    while r.more_ahead()? {
+        ended_statement(r, alloc, &mut draft)?;
+    }
+    Ok(draft)
+}
+
+/// Reads a catalog: CREATE TABLE, ALTER TABLE .. REPLICA IDENTITY and CREATE PUBLICATION .. FOR TABLE, each ended by `;`.
+///
+/// # Errors
+///
+/// The first fault of the text, or `OutOfMemory` where an allocation was refused.
+#[tactic(auto, unfolding(crate::specs::Statements::catalog_by))]
+pub fn read_catalog(alloc: Global, text: &str) -> Result<Catalog, ReadError>
+    ensures { Answers catalog_of (spec.catalog_by as_filter text.now) result }
+{
+    let draft = statements(&mut Reader::new(text), alloc)?;
+    Ok(draft.finish())
+}

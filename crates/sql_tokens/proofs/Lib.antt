@@ -1,0 +1,6 @@
+pub mod CommentTurns
+pub mod QuoteTurns
+pub mod NumberTurns
+pub mod Ends
+pub mod Lexing
+pub mod Cuts

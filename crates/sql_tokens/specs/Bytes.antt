@@ -1,0 +1,23 @@
+-- The classes of bytes that tokens are made of: PostgreSQL 15, "SQL Syntax", 4.1.1 Identifiers and Key Words and 4.1.3 Operators.
+use Rattle.std.specs.Prelude.{ℕ, Bool, not, ◌||◌, ◌==◌}
+use Rattle.std.specs.Char.{is_ascii_alphabetic, is_ascii_alphanumeric, is_ascii_digit}
+use Rattle.sql_tokens.specs.declared.bytes.Class.{Class}
+use Rattle.sql_tokens.specs.declared.bytes.Class.TheVariants as class
+
+-- ~ ! @ # % ^ & | ` ?
+abbrev pub is_free_sign : ℕ → Bool
+is_free_sign b = b == 126 || b == 33 || b == 64 || b == 35 || b == 37 || b == 94 || b == 38 || b == 124 || b == 96 || b == 63
+
+-- + - * / < > = and those
+abbrev pub is_sign : ℕ → Bool
+is_sign b = b == 43 || b == 45 || b == 42 || b == 47 || b == 60 || b == 62 || b == 61 || is_free_sign b
+
+abbrev pub is_of : Class → ℕ → Bool
+is_of class.Space b = b == 32 || b == 9 || b == 10 || b == 13 || b == 12
+is_of class.Letter b = is_ascii_alphabetic b || b == 95
+is_of class.WordByte b = is_ascii_alphanumeric b || b == 95 || b == 36
+is_of class.Digit b = is_ascii_digit b
+is_of class.LineByte b = not (b == 0 || b == 10 || b == 13)
+is_of class.Sign b = is_sign b
+is_of class.FreeSign b = is_free_sign b
+is_of class.PlusMinus b = b == 43 || b == 45

@@ -1,0 +1,10 @@
+pub mod Bytes
+pub mod Pieces
+pub mod Comments
+pub mod Quotes
+pub mod Numbers
+pub mod Operators
+pub mod Front
+pub mod Lexed
+pub mod Left
+pub mod Meant

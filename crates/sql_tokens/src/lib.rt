@@ -1,0 +1,20 @@
+//! Cuts a text into tokens, as PostgreSQL 15 does ("SQL Syntax", 4.1 Lexical Structure).
+//!
+//! `Tokens` is a cursor over a text that takes no memory. It answers a token at a time: its kind,
+//! and the bytes of the text where it stands.
+#![tactic(auto)]
+
+mod bytes;
+mod comments;
+mod cursor;
+mod front;
+mod kinds;
+mod numbers;
+mod quotes;
+mod scan;
+mod signs;
+#[cfg(test)]
+mod tests;
+
+pub use cursor::Tokens;
+pub use kinds::{FaultKind, Operator, Token, TokenFault, TokenKind};
