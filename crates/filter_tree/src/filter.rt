@@ -64,8 +64,9 @@ pub enum Test {
     Unknown,
 }
 
-/// A row filter.
-#[derive(Debug, Drop)]
+/// A row filter. A chain of ANDs and ORs, however long, leans to the left; `drop` goes down it in a loop, and takes
+/// stack only for a right part.
+#[derive(Debug)]
 pub enum Filter<A: Allocator = Global> {
     Const(bool),
     Atom(Atom<A>),
@@ -73,4 +74,19 @@ pub enum Filter<A: Allocator = Global> {
     And(Box<Filter<A>, A>, Box<Filter<A>, A>),
     Or(Box<Filter<A>, A>, Box<Filter<A>, A>),
     Is(Test, Box<Filter<A>, A>),
+}
+
+impl<A: Allocator> Drop for Filter<A> {
+    fn drop(mut self) {
+        loop {
+            match self {
+                Filter::Const(_) | Filter::Atom(_) => return,
+                Filter::Not(part) | Filter::Is(_, part) => self = Box::into_inner(part),
+                Filter::And(left, right) | Filter::Or(left, right) => {
+                    drop(right);
+                    self = Box::into_inner(left);
+                }
+            }
+        }
+    }
 }

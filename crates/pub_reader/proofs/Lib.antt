@@ -1,6 +1,10 @@
 pub mod Ahead
+pub mod Carrying
+pub mod CarryingCatalogs
+pub mod CountingLemmas
 pub mod Cuts
 pub mod Nesting
+pub mod OrderLemmas
 pub mod Positions
 pub mod Required
 pub mod TableLemmas

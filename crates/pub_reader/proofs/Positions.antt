@@ -23,9 +23,9 @@ not_found : {A : Type 0} (p : A → Bool) (xs : List A) → length xs ≤ positi
 not_found p [] past = refl
 not_found p (x ∷ xs) past =
     by_test (p x)
-      (λ passes. let none : position_or_len p (x ∷ xs) ≡ 0 = rw passes refl in absurd (omega arith))
-      (λ misses. let more : position_or_len p (x ∷ xs) ≡ 1 + position_or_len p xs = rw misses refl in
-        rw misses (not_found p xs (omega arith)))
+    (λ passes. let none : position_or_len p (x ∷ xs) ≡ 0 = rw passes refl in absurd (omega arith))
+    (λ misses. let more : position_or_len p (x ∷ xs) ≡ 1 + position_or_len p xs = rw misses refl in
+    rw misses (not_found p xs (omega arith)))
 
 past_end : (n m : ℕ) → cond (nat_lt n m) (Some n) None ≡ None → m ≤ n
 past_end n m e = by_test (nat_lt n m) (λ less. let bad : Some n ≡ None = rw less at e in cc) (λ same. grind (arith, nat_tests))

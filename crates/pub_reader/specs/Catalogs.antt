@@ -1,11 +1,12 @@
 -- What a catalog has: tables, and publications that carry them, whole or the rows of a filter: PostgreSQL 15, "Logical Replication", 31.1 Publication and 31.3 Row Filters.
-use Rattle.std.specs.Prelude.{ℕ, zero, suc, ◌+◌, List, [], ◌∷◌, ◌++◌, map, position, Option, Some, None, codes}
-use Rattle.std.specs.Option.{option_map}
+use Rattle.std.specs.Prelude.{ℕ, zero, suc, ◌+◌, List, [], ◌∷◌, ◌++◌, map, position, ◌==◌, if◌then◌else◌, Option, Some, None, codes}
+use Rattle.std.specs.Option.{option_map, option_to_list}
 use Rattle.std.specs.Str.{bytes_eq}
 use Rattle.filter_tree.specs.declared.table.Column.{Column}
 use Rattle.filter_tree.specs.declared.table.Identity.{Identity}
 use Rattle.filter_tree.specs.declared.table.Identity.TheVariants.{Default}
 use Rattle.filter_tree.specs.declared.table.Table.{Table}
+use Rattle.filter_tree.specs.Expr.{Expr}
 
 -- a publication's entry: the number of a table, and the filter of its rows; with no filter it carries the whole table
 pub record EntryOf (S : Type 0) : Type 0 where
@@ -43,6 +44,19 @@ abbrev pub identified : List Table → ℕ → Identity → List Table
 identified [] number identity = []
 identified (table ∷ tables) zero identity = record table { identity = identity } ∷ tables
 identified (table ∷ tables) (suc number) identity = table ∷ identified tables number identity
+
+-- ---- the filters on a table, as trees
+
+abbrev pub filter_on : {S : Type 0} → (S → Expr) → ℕ → EntryOf S → List Expr
+filter_on tree number entry = if entry.table == number then option_to_list (option_map tree entry.filter) else []
+
+abbrev pub filters_in : {S : Type 0} → (S → Expr) → ℕ → List (EntryOf S) → List Expr
+filters_in tree number [] = []
+filters_in tree number (entry ∷ entries) = filter_on tree number entry ++ filters_in tree number entries
+
+abbrev pub filters_on : {S : Type 0} → (S → Expr) → ℕ → List (PublicationOf S) → List Expr
+filters_on tree number [] = []
+filters_on tree number (publication ∷ publications) = filters_in tree number publication.entries ++ filters_on tree number publications
 
 -- ---- the same catalog with other filters
 

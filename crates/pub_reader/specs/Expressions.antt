@@ -6,6 +6,7 @@ use Rattle.filter_tree.specs.declared.table.ColType.{ColType}
 use Rattle.filter_tree.specs.declared.table.ColType.TheVariants.{SmallInt, Integer, BigInt, Boolean, Text}
 use Rattle.filter_tree.specs.declared.table.Column.{Column}
 use Rattle.filter_tree.specs.declared.filter.Op.{Op}
+use Rattle.filter_tree.specs.Expr.{Expr}
 use Rattle.filter_tree.specs.declared.filter.Op.TheVariants.{Eq, Ne, Lt, Le, Gt, Ge}
 use Rattle.pub_reader.specs.declared.word.Keyword.TheVariants as k
 use Rattle.pub_reader.specs.declared.item.Item.{Item}
@@ -27,6 +28,8 @@ pub record Forms (S : Type 0) : Type 0 where
   pub negated : S → S
   pub both : S → S → S
   pub either : S → S → S
+  -- the filter tree of what they make, whose size is limited
+  pub tree : S → Expr
 
 -- ---- columns
 

@@ -2,10 +2,12 @@ pub mod Ahead
 pub mod CatalogView
 pub mod Catalogs
 pub mod Columns
+pub mod Counting
 pub mod DraftView
 pub mod Expressions
 pub mod Items
 pub mod Keywords
+pub mod Limits
 pub mod Magnitude
 pub mod Names
 pub mod Numbers

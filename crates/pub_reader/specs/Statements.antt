@@ -5,6 +5,7 @@ use Rattle.filter_tree.specs.declared.table.Column.{Column}
 use Rattle.filter_tree.specs.declared.table.Identity.{Identity}
 use Rattle.filter_tree.specs.declared.table.Identity.TheVariants.{Default, Full, Nothing}
 use Rattle.filter_tree.specs.declared.table.Table.{Table}
+use Rattle.filter_tree.specs.Expr.{Expr}
 use Rattle.pub_reader.specs.declared.word.Keyword.TheVariants as k
 use Rattle.pub_reader.specs.declared.item.Item.{Item}
 use Rattle.pub_reader.specs.declared.item.Item.TheVariants as i
@@ -12,11 +13,13 @@ use Rattle.pub_reader.specs.declared.name.PlacedName.{PlacedName}
 use Rattle.pub_reader.specs.declared.error.Omitted.TheVariants.{Clause, Constraint}
 use Rattle.pub_reader.specs.declared.error.Later.TheVariants.{UniqueIndex, UsingIndex}
 use Rattle.pub_reader.specs.declared.error.Limit.TheVariants.{Tables, Publications}
+use Rattle.pub_reader.specs.declared.error.Limit.{Limit}
 use Rattle.pub_reader.specs.Wrong as w
-use Rattle.pub_reader.specs.Catalogs.{EntryOf, PublicationOf, CatalogOf, no_catalog, find_table, find_publication, columns_at, identified}
+use Rattle.pub_reader.specs.Catalogs.{EntryOf, PublicationOf, CatalogOf, no_catalog, find_table, find_publication, columns_at, identified, filters_on}
 use Rattle.pub_reader.specs.Columns.{Parts, elements, has_key, left_out}
 use Rattle.pub_reader.specs.Expressions.{Forms, expression}
 use Rattle.pub_reader.specs.Items.{Items, Stop, Broken, Then, items_of}
+use Rattle.pub_reader.specs.Limits.{exceeded}
 use Rattle.pub_reader.specs.Names.{name}
 use Rattle.pub_reader.specs.Reading.{Rule, Verdict, fault, ◌>>=◌, ◌>>◌, pure, check, refuse, refuse_as, refusal, advance, look, expect, is_ahead, item_ahead}
 use Rattle.pub_reader.specs.Rows.{without_rest}
@@ -149,17 +152,30 @@ publication_name catalog = do
 abbrev pub with_publication : {S : Type 0} → CatalogOf S → PlacedName → EntryOf S → CatalogOf S
 with_publication catalog called entry = record catalog { publications = catalog.publications ++ record { name = called.text; entries = entry ∷ [] } ∷ [] }
 
--- the parenthesis behind a filter
-abbrev pub ended : {S : Type 0} → S → Rule (Option S)
-ended filter = expect i.Close >> pure (Some filter)
+-- ---- WHERE
+
+abbrev pub limited_by : ℕ → Option Limit → Verdict ℕ
+limited_by place None = Ok 0
+limited_by place (Some limit) = Err (fault place (w.TooMany limit))
+
+-- the filters on a table are limited; a fault is at the word WHERE of the one that passes a limit
+unfoldable pub limited : ℕ → List Expr → Verdict ℕ
+limited place filters = limited_by place (exceeded filters)
 
 module _ {S : Type 0} (forms : Forms S) where
+  -- the parenthesis behind a filter
+  unfoldable pub ended : CatalogOf S → ℕ → ℕ → S → Rule (Option S)
+  ended catalog number place filter = do
+    expect i.Close
+    check (limited place (filters_on forms.tree number catalog.publications ++ forms.tree filter ∷ []))
+    pure (Some filter)
+
   unfoldable pub where_clause : CatalogOf S → ℕ → Rule (Option S)
   where_clause catalog number = do
     place ← expect (i.Keyword k.Where)
     expect i.Open
     filter ← expression forms (columns_at catalog.tables number)
-    ended filter
+    ended catalog number place filter
 
   -- behind a table: a filter, or nothing; a list of columns is refused
   abbrev pub filter_by : Option Item → CatalogOf S → ℕ → Rule (Option S)

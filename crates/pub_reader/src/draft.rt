@@ -2,15 +2,17 @@
 
 ghost use Rattle.std.specs.Prelude.{◌≡◌, List, ℕ, map};
 
-use crate::catalog::{Catalog, Entry, Publication};
+use crate::catalog::{Catalog, Publication};
 use crate::error::{ErrorKind, Limit, ReadError};
+use crate::filters::add_filters;
 use crate::name::PlacedName;
 use crate::names::Names;
-use filter_tree::{Column, Identity, Table, Text};
+use filter_tree::{Column, Filter, Identity, Table};
 use std::alloc::{AllocError, Global};
 
 /// How many tables, and how many publications, a catalog may have.
 const MAX_TABLES: usize = 64;
+
 const MAX_PUBLICATIONS: usize = 64;
 
 /// The tables and publications made so far, with their names.
@@ -25,7 +27,8 @@ pub struct Draft {
 }
 
 impl Draft {
-    ghost use Rattle.std.specs.Prelude.{◌≡◌, ◌<◌, ◌∷◌, ◌++◌, [], length, IfOk, IfSome, None, OnOk};
+    ghost use Rattle.std.specs.Prelude.{◌≡◌, ◌<◌, ◌∷◌, ◌++◌, [], length, map, IfOk, IfSome, None, OnOk};
+    ghost use Rattle.filter_tree.specs.Shape.{expr_of};
     ghost use Rattle.pub_reader.specs.Catalogs as spec;
     ghost use Rattle.pub_reader.specs.CatalogView.{catalog_of, publication_of};
     ghost use Rattle.pub_reader.specs.DraftView.{draft_of};
@@ -127,6 +130,17 @@ impl Draft {
         self.tables[number].columns.as_slice()
     }
 
+    /// The filters on a table.
+    pub fn filters(&self, alloc: Global, number: usize) -> Result<Vec<&Filter>, AllocError>
+        ensures { IfOk result (λ filters. map (λ f. expr_of f.now) filters.items ≡ spec.filters_on (λ f. f) number (draft_of self.now).publications) }
+    {
+        let mut filters = Vec::new(alloc);
+        for publication in &self.publications {
+            add_filters(&mut filters, publication.entries.as_slice(), number)?;
+        }
+        Ok(filters)
+    }
+
     /// Adds a table of a new name.
     pub fn add_table(&mut self, alloc: Global, table: Table) -> Result<(), AllocError>
         requires { spec.find_table table.name (draft_of self.old).tables ≡ None }
@@ -140,7 +154,11 @@ impl Draft {
     }
 
     /// Adds a publication of a new name.
-    pub fn add_publication(&mut self, alloc: Global, publication: Publication) -> Result<(), AllocError>
+    pub fn add_publication(
+        &mut self,
+        alloc: Global,
+        publication: Publication,
+    ) -> Result<(), AllocError>
         requires { spec.find_publication publication.name (draft_of self.old).publications ≡ None }
         ensures { OnOk result (draft_of self.new ≡ record (draft_of self.old) { publications = (draft_of self.old).publications ++ publication_of publication ∷ [] }) }
     {

@@ -73,7 +73,11 @@ fn add_column(
 
 /// Takes a column.
 #[tactic(auto, unfolding(crate::specs::Columns::column_element))]
-fn column_element(r: &mut Reader<'_>, alloc: Global, parts: &mut TableParts) -> Result<(), ReadError>
+fn column_element(
+    r: &mut Reader<'_>,
+    alloc: Global,
+    parts: &mut TableParts,
+) -> Result<(), ReadError>
     ensures reads { Reads (λ _. parts_of parts.new) (spec.column_element (parts_of parts.old) (to_read r.old)) result (to_read r.new) }
     ensures fewer { OnOk result (size (to_read r.new) < size (to_read r.old)) }
 {

@@ -50,7 +50,7 @@ pub enum ErrorKind {
 }
 
 /// Forms that are not read yet.
-#[derive(Clone, Copy, Debug, Error)]
+#[derive(Clone, Copy, Debug, PartialEq, Eq, Error)]
 pub enum Later {
     #[error("IN")]
     In,
@@ -67,7 +67,7 @@ pub enum Later {
 }
 
 /// Forms of PostgreSQL that are left out.
-#[derive(Clone, Copy, Debug, Error)]
+#[derive(Clone, Copy, Debug, PartialEq, Eq, Error)]
 pub enum Omitted {
     #[error("this operator")]
     Operator,
@@ -98,7 +98,7 @@ pub enum Omitted {
 }
 
 /// Things of which a catalog or a script may have only so many.
-#[derive(Clone, Copy, Debug, Error)]
+#[derive(Clone, Copy, Debug, PartialEq, Eq, Error)]
 pub enum Limit {
     #[error("tables (64)")]
     Tables,

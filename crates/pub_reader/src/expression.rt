@@ -102,11 +102,7 @@ fn comparison(r: &mut Reader<'_>, alloc: Global, columns: &[Column]) -> Result<F
     let left = column(r, alloc, columns)?;
     let op = comparison_operator(r, left.kind)?;
     let right = signed_number(r)?;
-    Ok(Filter::Atom(Atom::Cmp(
-        Term::Col(left.number),
-        op,
-        Literal::Int(right),
-    )))
+    Ok(Filter::Atom(Atom::Cmp(Term::Col(left.number), op, Literal::Int(right))))
 }
 
 fn negated(alloc: Global, part: Filter) -> Result<Filter, AllocError>
@@ -273,7 +269,11 @@ fn disjunction(
 
 /// Takes a filter over these columns.
 #[tactic(auto, unfolding(crate::specs::Expressions::expression))]
-pub fn expression(r: &mut Reader<'_>, alloc: Global, columns: &[Column]) -> Result<Filter, ReadError>
+pub fn expression(
+    r: &mut Reader<'_>,
+    alloc: Global,
+    columns: &[Column],
+) -> Result<Filter, ReadError>
     ensures reads { Reads (λ f. expr_of f) (spec.expression as_filter columns.now (to_read r.old)) result (to_read r.new) }
     ensures fewer { OnOk result (size (to_read r.new) < size (to_read r.old)) }
 {

@@ -9,7 +9,9 @@ mod draft;
 mod element;
 mod error;
 mod expression;
+mod filters;
 mod item;
+mod limits;
 mod name;
 mod names;
 mod number;
@@ -19,6 +21,8 @@ mod reader;
 mod row;
 mod statement;
 mod table;
+#[cfg(test)]
+mod tests;
 mod token;
 mod word;
 

@@ -54,7 +54,11 @@ fn name_text(r: &Reader<'_>, alloc: Global) -> Result<Text, AllocError>
 
 /// Takes a name.
 #[tactic(auto, using(crate::proofs::Ahead::rest_of_name_is_fewer), unfolding(crate::specs::Names::name))]
-pub fn read_name(r: &mut Reader<'_>, alloc: Global, what: &'static str) -> Result<PlacedName, ReadError>
+pub fn read_name(
+    r: &mut Reader<'_>,
+    alloc: Global,
+    what: &'static str,
+) -> Result<PlacedName, ReadError>
     ensures reads { Reads (λ name. name) (spec.name (to_read r.old)) result (to_read r.new) }
     ensures fewer { OnOk result (size (to_read r.new) < size (to_read r.old)) }
 {

@@ -1,14 +1,14 @@
 //! CREATE PUBLICATION.
 
-ghost use Rattle.std.specs.Prelude.{◌≡◌, ◌<◌, ◌≤◌, IfOk, None, OnOk, length};
+ghost use Rattle.std.specs.Prelude.{◌≡◌, ◌<◌, ◌≤◌, ◌∷◌, ◌++◌, [], IfOk, None, OnOk, length, map};
 ghost use Rattle.std.specs.Option.{option_map};
 ghost use Rattle.filter_tree.specs.Shape.{expr_of};
 ghost use Rattle.pub_reader.specs.Ahead.{to_read};
-ghost use Rattle.pub_reader.specs.Catalogs.{find_publication};
+ghost use Rattle.pub_reader.specs.Catalogs.{find_publication, filters_on};
 ghost use Rattle.pub_reader.specs.CatalogView.{entry_of};
 ghost use Rattle.pub_reader.specs.DraftView.{draft_of};
 ghost use Rattle.pub_reader.specs.Items.{size};
-ghost use Rattle.pub_reader.specs.Reading.{Reads};
+ghost use Rattle.pub_reader.specs.Reading.{Reads, Answers};
 ghost use Rattle.pub_reader.specs.Statements as spec;
 ghost use Rattle.pub_reader.specs.Written.{as_filter};
 
@@ -17,12 +17,60 @@ use crate::draft::Draft;
 use crate::error::{ErrorKind, ReadError};
 use crate::expression::expression;
 use crate::item::Item;
+use crate::limits::exceeded;
 use crate::name::{PlacedName, read_name};
 use crate::reader::Reader;
 use crate::table::table_number;
 use crate::word::Keyword;
 use filter_tree::Filter;
 use std::alloc::{AllocError, Global};
+
+/// Refuses a filter with which the filters on its table pass a limit.
+#[tactic(auto, unfolding(crate::specs::Statements::limited))]
+fn limited(alloc: Global, place: usize, filters: &[&Filter]) -> Result<usize, ReadError>
+    ensures { Answers (λ n. n) (spec.limited place (map (λ f. expr_of f.now) filters.now)) result }
+{
+    match exceeded(alloc, filters)? {
+        None => Ok(0),
+        Some(limit) => Err(ReadError {
+            place,
+            kind: ErrorKind::TooMany(limit),
+        }),
+    }
+}
+
+/// Refuses a filter with which the filters on its table pass a limit.
+fn within_limits(
+    alloc: Global,
+    draft: &Draft,
+    number: usize,
+    place: usize,
+    filter: &Filter,
+) -> Result<usize, ReadError>
+    ensures { Answers (λ n. n) (spec.limited place (filters_on (λ f. f) number (draft_of draft.now).publications ++ expr_of filter.now ∷ [])) result }
+{
+    let mut filters = draft.filters(alloc, number)?;
+    filters.push(filter)?;
+    Ok(limited(alloc, place, &filters)?)
+}
+
+/// Takes the parenthesis behind a filter.
+#[tactic(auto, unfolding(crate::specs::Statements::ended))]
+fn ended(
+    r: &mut Reader<'_>,
+    alloc: Global,
+    draft: &Draft,
+    number: usize,
+    place: usize,
+    filter: Filter,
+) -> Result<Option<Filter>, ReadError>
+    ensures reads { Reads (λ filter. option_map expr_of filter) (spec.ended as_filter (draft_of draft.now) number place (expr_of filter) (to_read r.old)) result (to_read r.new) }
+    ensures fewer { OnOk result (size (to_read r.new) < size (to_read r.old)) }
+{
+    r.expect(Item::Close, "AND, OR or `)`")?;
+    within_limits(alloc, draft, number, place, &filter)?;
+    Ok(Some(filter))
+}
 
 /// Takes WHERE and a filter of the rows of a table.
 #[tactic(auto, unfolding(crate::specs::Statements::where_clause))]
@@ -36,19 +84,10 @@ fn where_clause(
     ensures reads { Reads (λ filter. option_map expr_of filter) (spec.where_clause as_filter (draft_of draft.now) number (to_read r.old)) result (to_read r.new) }
     ensures fewer { OnOk result (size (to_read r.new) < size (to_read r.old)) }
 {
-    r.expect(Item::Keyword(Keyword::Where), "WHERE")?;
+    let place = r.expect(Item::Keyword(Keyword::Where), "WHERE")?;
     r.expect(Item::Open, "`(`")?;
     let filter = expression(r, alloc, draft.columns(number))?;
-    ended(r, filter)
-}
-
-/// Takes the parenthesis behind a filter.
-fn ended(r: &mut Reader<'_>, filter: Filter) -> Result<Option<Filter>, ReadError>
-    ensures reads { Reads (λ filter. option_map expr_of filter) (spec.ended (expr_of filter) (to_read r.old)) result (to_read r.new) }
-    ensures fewer { OnOk result (size (to_read r.new) < size (to_read r.old)) }
-{
-    r.expect(Item::Close, "AND, OR or `)`")?;
-    Ok(Some(filter))
+    Ok(ended(r, alloc, draft, number, place, filter)?)
 }
 
 /// Takes the filter behind a table, if there is one.

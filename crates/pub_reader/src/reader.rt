@@ -1,13 +1,13 @@
 //! The tokens of a text, with one token ahead.
 
+ghost use Rattle.std.specs.Prelude.{◌≡◌, ◌<◌, ◌^◌};
+ghost use Rattle.sql_tokens.specs.Left.{text_of};
+ghost use Rattle.pub_reader.specs.Magnitude.{magnitude};
+
 use crate::error::{ErrorKind, ReadError};
 use crate::item::Item;
 use crate::token::{token_kind, whole, within_quotes};
 use sql_tokens::{FaultKind, Tokens};
-
-ghost use Rattle.std.specs.Prelude.{◌≡◌, ◌<◌, ◌^◌};
-ghost use Rattle.sql_tokens.specs.Left.{text_of};
-ghost use Rattle.pub_reader.specs.Magnitude.{magnitude};
 
 /// What stands ahead of a reader.
 #[derive(Clone, Copy)]

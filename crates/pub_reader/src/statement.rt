@@ -1,13 +1,13 @@
 //! The statements of a catalog.
 
-ghost use Rattle.std.specs.Prelude.{◌≡◌, ◌<◌, ◌≤◌, OnOk};
+ghost use Rattle.std.specs.Prelude.{◌≡◌, ◌<◌, ◌≤◌, IfOk, OnOk};
 ghost use Rattle.pub_reader.specs.Ahead.{to_read};
 ghost use Rattle.pub_reader.specs.CatalogView.{catalog_of};
 ghost use Rattle.pub_reader.specs.DraftView.{draft_of};
 ghost use Rattle.pub_reader.specs.Items.{size};
 ghost use Rattle.pub_reader.specs.Reading.{Reads, Answers};
 ghost use Rattle.pub_reader.specs.Statements as spec;
-ghost use Rattle.pub_reader.specs.Written.{as_filter};
+ghost use Rattle.pub_reader.specs.Written.{as_filter, as_written, MeansAsWritten};
 
 use crate::catalog::Catalog;
 use crate::draft::Draft;
@@ -34,7 +34,9 @@ fn created(r: &mut Reader<'_>, alloc: Global, draft: &mut Draft) -> Result<(), R
             r.advance();
             create_publication(r, alloc, draft)
         }
-        Some(Item::Keyword(Keyword::Unique)) => Err(r.refused(ErrorKind::NotYet(Later::UniqueIndex))),
+        Some(Item::Keyword(Keyword::Unique)) => Err(r.refused(ErrorKind::NotYet(
+            Later::UniqueIndex,
+        ))),
         _ => Err(r.refusal("TABLE or PUBLICATION")),
     }
 }
@@ -90,8 +92,16 @@ fn statements(r: &mut Reader<'_>, alloc: Global) -> Result<Draft, ReadError>
 /// # Errors
 ///
 /// The first fault of the text, or `OutOfMemory` where an allocation was refused.
-#[tactic(auto, unfolding(crate::specs::Statements::catalog_by))]
+#[tactic(auto, using(crate::proofs::CarryingCatalogs::means_as_written))]
 pub fn read_catalog(alloc: Global, text: &str) -> Result<Catalog, ReadError>
+    ensures catalog { Answers catalog_of (spec.catalog_by as_filter text.now) result }
+    ensures written { IfOk result (λ catalog. MeansAsWritten (spec.catalog_by as_written text.now) (catalog_of catalog)) }
+{
+    whole_catalog(alloc, text)
+}
+
+#[tactic(auto, unfolding(crate::specs::Statements::catalog_by))]
+fn whole_catalog(alloc: Global, text: &str) -> Result<Catalog, ReadError>
     ensures { Answers catalog_of (spec.catalog_by as_filter text.now) result }
 {
     let draft = statements(&mut Reader::new(text), alloc)?;

@@ -149,7 +149,10 @@ fn action(r: &mut Reader<'_>) -> Result<usize, ReadError>
     ensures fewer { OnOk result (size (to_read r.new) < size (to_read r.old)) }
 {
     match r.item() {
-        Some(Item::Keyword(Keyword::Replica)) => r.expect(Item::Keyword(Keyword::Replica), "REPLICA"),
+        Some(Item::Keyword(Keyword::Replica)) => r.expect(
+            Item::Keyword(Keyword::Replica),
+            "REPLICA",
+        ),
         Some(Item::Keyword(_)) => Err(r.refused(ErrorKind::LeftOut(Omitted::Clause))),
         Some(Item::Word) => Err(r.refused(ErrorKind::LeftOut(Omitted::Clause))),
         _ => Err(r.refusal("REPLICA IDENTITY")),

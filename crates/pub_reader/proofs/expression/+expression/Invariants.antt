@@ -32,22 +32,22 @@ decreases-behind_not l = 6 * l.depth
 abbrev pub decreases-in_parentheses : goal.decreases-in_parentheses
 decreases-in_parentheses l = 6 * l.depth
 
-abbrev pub invariant-conjunction-loop-left : goal.invariant-conjunction-loop-left
-invariant-conjunction-loop-left l = record {
+abbrev pub invariant-conjunction-loop-r : goal.invariant-conjunction-loop-r
+invariant-conjunction-loop-r l = record {
   so_far : spec.conjunction as_filter l.columns (spec.nested as_filter l.columns l.depth) (to_read l.fn.r)
       ≡ repeat (link (i.Keyword k.And) (spec.one_more_negation as_filter l.columns (spec.nested as_filter l.columns l.depth))) (expr_of l.left) (to_read l.r);
   fewer : size (to_read l.r) < size (to_read l.fn.r);
 }
 
-abbrev pub decreases-conjunction-loop-left : goal.decreases-conjunction-loop-left
-decreases-conjunction-loop-left l = size (to_read l.r)
+abbrev pub decreases-conjunction-loop-r : goal.decreases-conjunction-loop-r
+decreases-conjunction-loop-r l = size (to_read l.r)
 
-abbrev pub invariant-disjunction-loop-left : goal.invariant-disjunction-loop-left
-invariant-disjunction-loop-left l = record {
+abbrev pub invariant-disjunction-loop-r : goal.invariant-disjunction-loop-r
+invariant-disjunction-loop-r l = record {
   so_far : spec.disjunction as_filter l.columns (spec.nested as_filter l.columns l.depth) (to_read l.fn.r)
       ≡ repeat (link (i.Keyword k.Or) (spec.one_more_conjunction as_filter l.columns (spec.nested as_filter l.columns l.depth))) (expr_of l.left) (to_read l.r);
   fewer : size (to_read l.r) < size (to_read l.fn.r);
 }
 
-abbrev pub decreases-disjunction-loop-left : goal.decreases-disjunction-loop-left
-decreases-disjunction-loop-left l = size (to_read l.r)
+abbrev pub decreases-disjunction-loop-r : goal.decreases-disjunction-loop-r
+decreases-disjunction-loop-r l = size (to_read l.r)

@@ -1,0 +1,273 @@
+mod catalog_cases;
+mod chains;
+mod row_cases;
+
+use self::catalog_cases::{BEHIND_A_TABLE, Case, FILTERS, WHOLE};
+use self::row_cases::ROWS;
+use crate::{Catalog, ErrorKind, ReadError, read_catalog, read_row};
+use filter_tree::{Identity, Row, Tri, Value, eval};
+use std::alloc::{AllocError, Global};
+use std::process::Abort;
+use std::test::Fail;
+
+const TABLE: &str = "CREATE TABLE t (id integer PRIMARY KEY, region text);\n";
+
+const FILTER: &str = "CREATE PUBLICATION p FOR TABLE t WHERE (";
+
+/// Whether an error is this one: its kind as it is shown for debugging, up to what was expected, and its place.
+fn is_error(
+    alloc: Global,
+    error: &ReadError,
+    kind: &str,
+    place: usize,
+) -> Result<bool, AllocError> {
+    let found = format!(in alloc; "{:?}", error.kind)?;
+    Ok(error.place == place && found.as_str().starts_with(kind))
+}
+
+fn check_catalogs(
+    rt: &impl Abort,
+    alloc: Global,
+    before: &str,
+    cases: &[Case],
+) -> Result<(), AllocError> {
+    for (text, kind, place) in cases {
+        let whole = format!(in alloc; "{before}{text}")?;
+        match read_catalog(alloc, whole.as_str()) {
+            Ok(_) => assert_eq!(rt; *kind, "ok", "of {text:?}"),
+            Err(error) => {
+                let at = before.len().saturating_add(*place);
+                assert!(rt; is_error(alloc, &error, kind, at)?, "{error:?} of {text:?}");
+            }
+        }
+    }
+    Ok(())
+}
+
+#[test]
+fn reads_catalogs_or_their_first_fault(rt: HostRuntime) -> Result<(), Fail> {
+    let filter = format!(in rt.alloc(); "{TABLE}{FILTER}")?;
+    check_catalogs(&rt, rt.alloc(), "", WHOLE)?;
+    check_catalogs(&rt, rt.alloc(), TABLE, BEHIND_A_TABLE)?;
+    check_catalogs(&rt, rt.alloc(), filter.as_str(), FILTERS)?;
+    Ok(())
+}
+
+/// A row as the cases show it.
+fn shown(alloc: Global, row: &Row) -> Result<String, AllocError> {
+    let mut text = String::new(alloc);
+    for value in row.values() {
+        if !text.is_empty() {
+            text.push_str(" ")?;
+        }
+        let word = match value {
+            Value::Null => format!(in alloc; "NULL")?,
+            Value::Int(number) => format!(in alloc; "{number}")?,
+            Value::Bool(true) => format!(in alloc; "TRUE")?,
+            Value::Bool(false) => format!(in alloc; "FALSE")?,
+            Value::Text(text) => format!(in alloc; "'{}'", text.as_str())?,
+        };
+        text.push_str(word.as_str())?;
+    }
+    Ok(text)
+}
+
+#[test]
+fn reads_rows_or_their_first_fault(rt: HostRuntime) -> Result<(), Fail> {
+    for (text, expected, place) in ROWS {
+        match (read_row(rt.alloc(), text), place) {
+            (Ok(row), None) => assert_eq!(rt;
+                shown(rt.alloc(), &row)?.as_str(),
+                *expected,
+                "of {text:?}"
+            ),
+            (Err(error), Some(place)) => {
+                assert!(rt;
+                    is_error(rt.alloc(), &error, expected, *place)?,
+                    "{error:?} of {text:?}"
+                );
+            }
+            (Ok(_), Some(_)) => panic!(rt; "{text:?} was read"),
+            (Err(error), None) => panic!(rt; "{error:?} of {text:?}"),
+        }
+    }
+    Ok(())
+}
+
+/// `count` pieces with a separator between them, each with its number from 0.
+fn numbered(
+    alloc: Global,
+    before: &str,
+    count: usize,
+    after: &str,
+    between: &str,
+) -> Result<String, AllocError> {
+    let mut text = String::new(alloc);
+    for number in 0..count {
+        if number > 0 {
+            text.push_str(between)?;
+        }
+        let piece = format!(in alloc; "{before}{number}{after}")?;
+        text.push_str(piece.as_str())?;
+    }
+    Ok(text)
+}
+
+/// Whether a text is read, and otherwise its fault by kind and place.
+fn outcome(alloc: Global, text: &str) -> Result<String, AllocError> {
+    match read_catalog(alloc, text) {
+        Ok(_) => format!(in alloc; "ok"),
+        Err(error) => format!(in alloc; "{:?} {}", error.kind, error.place),
+    }
+}
+
+#[test]
+fn counts_up_to_the_limits(rt: HostRuntime) -> Result<(), Fail> {
+    let alloc = rt.alloc();
+    let tables = numbered(
+        alloc,
+        "CREATE TABLE t",
+        64,
+        " (id integer PRIMARY KEY)",
+        ";\n",
+    )?;
+    let one_more = format!(in alloc; "{tables};\nCREATE TABLE u (id integer PRIMARY KEY);")?;
+    let all = format!(in alloc; "{tables};")?;
+    assert_eq!(rt; outcome(alloc, all.as_str())?.as_str(), "ok");
+    assert_eq!(rt;
+        outcome(alloc, one_more.as_str())?.as_str(),
+        "TooMany(Tables) 2755"
+    );
+
+    let columns = numbered(alloc, "c", 99, " integer", ", ")?;
+    let all = format!(in alloc; "CREATE TABLE t ({columns}, id integer PRIMARY KEY);")?;
+    let one_more = format!(in alloc;
+        "CREATE TABLE t ({columns}, id integer PRIMARY KEY, x text);"
+    )?;
+    assert_eq!(rt; outcome(alloc, all.as_str())?.as_str(), "ok");
+    assert_eq!(rt;
+        outcome(alloc, one_more.as_str())?.as_str(),
+        "TooMany(Columns) 1317"
+    );
+
+    let publications = numbered(alloc, "CREATE PUBLICATION p", 64, " FOR TABLE t", ";")?;
+    let all = format!(in alloc; "{TABLE}{publications};")?;
+    let one_more = format!(in alloc; "{TABLE}{publications};CREATE PUBLICATION q FOR TABLE t;")?;
+    assert_eq!(rt; outcome(alloc, all.as_str())?.as_str(), "ok");
+    assert_eq!(rt;
+        outcome(alloc, one_more.as_str())?.as_str(),
+        "TooMany(Publications) 2303"
+    );
+    Ok(())
+}
+
+/// A filter in a publication.
+fn with_filter(alloc: Global, filter: &str) -> Result<String, AllocError> {
+    let text = format!(in alloc; "{TABLE}{FILTER}{filter});")?;
+    outcome(alloc, text.as_str())
+}
+
+#[test]
+fn limits_filters(rt: HostRuntime) -> Result<(), Fail> {
+    let alloc = rt.alloc();
+    let atoms = numbered(alloc, "id = ", 64, "", " OR ")?;
+    let one_more = format!(in alloc; "{atoms} OR id = 64")?;
+    let again = format!(in alloc; "{atoms} OR id = 1")?;
+    assert_eq!(rt; with_filter(alloc, atoms.as_str())?.as_str(), "ok");
+    assert_eq!(rt; with_filter(alloc, again.as_str())?.as_str(), "ok");
+    assert_eq!(rt;
+        with_filter(alloc, one_more.as_str())?.as_str(),
+        "TooMany(Atoms) 87"
+    );
+
+    let mut nodes = String::from_str(alloc, "NOT id = 0")?;
+    for _ in 0..499 {
+        nodes.push_str(" AND id = 1")?;
+    }
+    let one_more = format!(in alloc; "NOT {nodes}")?;
+    assert_eq!(rt; with_filter(alloc, nodes.as_str())?.as_str(), "ok");
+    assert_eq!(rt;
+        with_filter(alloc, one_more.as_str())?.as_str(),
+        "TooMany(Nodes) 87"
+    );
+    Ok(())
+}
+
+#[test]
+fn nests_to_64(rt: HostRuntime) -> Result<(), Fail> {
+    let alloc = rt.alloc();
+    let mut before = String::new(alloc);
+    let mut after = String::new(alloc);
+    for _ in 0..64 {
+        before.push_str("(")?;
+        after.push_str(")")?;
+    }
+    let all = format!(in alloc; "{before}id < 5{after}")?;
+    let one_more = format!(in alloc; "{before}NOT id < 5{after}")?;
+    assert_eq!(rt; with_filter(alloc, all.as_str())?.as_str(), "ok");
+    assert_eq!(rt;
+        with_filter(alloc, one_more.as_str())?.as_str(),
+        "TooDeep 158"
+    );
+    Ok(())
+}
+
+const CATALOG: &str =
+    "CREATE TABLE \"T\u{e9}\" (a bigint, \"B\"\"x\" text NOT NULL, c boolean, PRIMARY KEY (c, a));
+ALTER TABLE \"T\u{e9}\" REPLICA IDENTITY FULL;
+CREATE PUBLICATION whole FOR TABLE \"T\u{e9}\";
+CREATE PUBLICATION part FOR TABLE \"T\u{e9}\" WHERE (a = 1 OR a = 2 AND NOT a < 3);";
+
+fn catalog(alloc: Global) -> Result<Catalog, ReadError> {
+    read_catalog(alloc, CATALOG)
+}
+
+#[test]
+fn gives_the_tables_as_they_are_declared(rt: HostRuntime) -> Result<(), Fail> {
+    let catalog = catalog(rt.alloc())?;
+    let table = catalog.tables.first().ok_or("a table")?;
+    assert_eq!(rt; catalog.tables.len(), 1);
+    assert_eq!(rt; table.schema.as_str(), "public");
+    assert_eq!(rt; table.name.as_str(), "T\u{e9}");
+    assert_eq!(rt; table.identity, Identity::Full);
+    assert_eq!(rt; table.key.as_slice(), [2, 0].as_slice());
+    let columns = table.columns.as_slice();
+    assert_eq!(rt; columns.len(), 3);
+    assert_eq!(rt; columns[1].name.as_str(), "B\"x");
+    let required = [
+        columns[0].not_null,
+        columns[1].not_null,
+        columns[2].not_null,
+    ];
+    assert_eq!(rt; required.as_slice(), [true, true, true].as_slice());
+    Ok(())
+}
+
+/// AND binds tighter than OR, and NOT tighter than AND.
+#[test]
+fn gives_the_filters_as_they_are_written(rt: HostRuntime) -> Result<(), Fail> {
+    let catalog = catalog(rt.alloc())?;
+    assert_eq!(rt; catalog.publications.len(), 2);
+    let whole = catalog.publications[0].entries.first().ok_or("an entry")?;
+    assert!(rt; whole.filter.is_none());
+    let part = catalog.publications[1].entries.first().ok_or("an entry")?;
+    assert_eq!(rt; part.table, 0);
+    let filter = part.filter.as_ref().ok_or("a filter")?;
+    let cases = [
+        ("(1, 'x', TRUE)", Tri::True),
+        ("(2, 'x', TRUE)", Tri::False),
+        ("(3, 'x', TRUE)", Tri::False),
+        ("(NULL, 'x', TRUE)", Tri::Null),
+    ];
+    for (text, expected) in cases {
+        let row = read_row(rt.alloc(), text)?;
+        assert_eq!(rt; eval(filter, &row), expected, "of {text}");
+    }
+    Ok(())
+}
+
+#[test]
+fn names_kinds_without_what_they_carry(rt: HostRuntime) {
+    assert_eq!(rt; ErrorKind::Expected("`;`").name(), "Expected");
+    assert_eq!(rt; ErrorKind::OutOfMemory.name(), "OutOfMemory");
+}
