@@ -1,1 +1,6 @@
+pub mod Evaluating
+pub mod Exits
+pub mod Limits
 pub mod LineCuts
+pub mod Saying
+pub mod Writing

@@ -1,5 +1,5 @@
 -- How lines and cuts go on behind the first line of a text.
-use Rattle.std.proofs.Common.{◌≡◌, ℕ, suc, ◌+◌, ◌<◌, length, append_assoc, Bool, true, false, ◌&&◌, List, [], ◌∷◌, ◌++◌, take, drop, Option, Some, None, refl, sym, ap, ◌∙◌, arith}
+use Rattle.std.proofs.Common.{◌≡◌, ℕ, suc, ◌+◌, ◌<◌, length, append_assoc, append-nil, Bool, true, false, ◌&&◌, List, [], ◌∷◌, ◌++◌, take, drop, Option, Some, None, refl, sym, ap, ◌∙◌, arith}
 use Rattle.std.proofs.lemmas.List.{take-append-drop}
 use Rattle.std.specs.Option.{option_map}
 use Rattle.std.specs.List.{position_or_len}
@@ -38,9 +38,13 @@ lines_step byte text true e later = rw (first_line-newline byte text e, behind_l
 lines_step byte text false e later = rw (first_line-other byte text e, behind_line-other byte text e, e) (later refl)
 
 -- the lines of a text that has some are its first line and those behind it
-pub lines_of-first : (byte : ℕ) (text : List ℕ) → lines_of (byte ∷ text) ≡ first_line (byte ∷ text) ∷ lines_of (behind_line (byte ∷ text))
+lines_of-first : (byte : ℕ) (text : List ℕ) → lines_of (byte ∷ text) ≡ first_line (byte ∷ text) ∷ lines_of (behind_line (byte ∷ text))
 lines_of-first byte [] = lines_step byte [] (is_newline byte) refl (λ e. refl)
 lines_of-first byte (next ∷ text) = lines_step byte (next ∷ text) (is_newline byte) refl (λ e. ap (onto_line byte) (lines_of-first next text))
+
+pub lines_of-some : (text : List ℕ) → 0 < length text → lines_of text ≡ first_line text ∷ lines_of (behind_line text)
+lines_of-some [] some = absurd (omega arith)
+lines_of-some (byte ∷ text) some = lines_of-first byte text
 
 -- ---- cuts
 

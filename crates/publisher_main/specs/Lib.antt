@@ -1,2 +1,9 @@
+pub mod Answers
+pub mod BadRows
+pub mod BoundedView
+pub mod Evaluation
 pub mod LinesView
+pub mod Memory
 pub mod Parts
+pub mod Statuses
+pub mod Tables

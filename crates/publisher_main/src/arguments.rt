@@ -1,6 +1,10 @@
 //! The command line.
 
+ghost use Rattle.std.specs.Prelude.{IfErr};
+ghost use Rattle.publisher_main.specs.Statuses.{IsOfWords};
+
 use crate::failure::Failure;
+use clap::error::ErrorKind;
 use clap::{Arg, ArgAction, Command};
 use std::alloc::{AllocError, Global};
 use std::convert::AsStr;
@@ -27,13 +31,23 @@ fn command<'a>(alloc: Global) -> Result<Command<'a>, AllocError> {
 }
 
 /// Reads the words of a command line, the program's name first.
-pub fn parse<'a, S: AsStr>(alloc: Global, words: &'a [S]) -> Result<Request<'a>, Failure<'a>> {
-    let matches = command(alloc)?.try_get_matches_from(words)?;
+///
+/// # Errors
+///
+/// `CommandLine` where the words are not `eval` and a table's name, with a text for the user; `OutOfMemory`.
+pub fn parse<'a, S: AsStr>(alloc: Global, words: &'a [S]) -> Result<Request<'a>, Failure<'a>>
+    ensures { IfErr result IsOfWords }
+{
+    let mut command = command(alloc)?;
+    let matches = command.try_get_matches_from_mut(words)?;
     let table = matches
         .subcommand_matches("eval")
         .and_then(|eval| eval.get_str("TABLE"));
     match table {
         Some(table) => Ok(Request::Eval { table }),
-        None => Err(Failure::OutOfMemory),
+        None => {
+            let error = command.error(ErrorKind::MissingRequiredArgument, "expected eval TABLE")?;
+            Err(Failure::CommandLine(error))
+        }
     }
 }

@@ -1,11 +1,13 @@
-//! Why a row has no answer.
+//! Rows that are read for a table, and why a row has no answer.
+
+ghost use Rattle.publisher_main.specs.BadRows as spec;
 
 use filter_tree::{Row, RowFault, Table, valid};
 use pub_reader::{ErrorKind, ReadError, read_row};
-use std::alloc::{AllocError, Global};
+use std::alloc::Global;
 use std::fmt;
 
-/// Why a row has no answer.
+/// Why a row has no answer. Its text is the line that is printed.
 #[derive(Debug, Drop)]
 pub enum BadRow {
     /// It is not read.
@@ -14,12 +16,49 @@ pub enum BadRow {
     Invalid(RowFault),
 }
 
+impl BadRow {
+    ghost use Rattle.std.specs.Prelude.{◌≡◌};
+    ghost use Rattle.publisher_main.specs.BadRows.{is_out_of_memory};
+
+    /// Whether memory ran out, which says nothing of the row.
+    pub fn is_out_of_memory(&self) -> bool
+        ensures { result ≡ is_out_of_memory self.now }
+    {
+        match self {
+            BadRow::Unreadable(error) => matches!(error.kind, ErrorKind::OutOfMemory),
+            BadRow::Invalid(_) => false,
+        }
+    }
+}
+
+impl From<ReadError> for BadRow {
+    ghost use Rattle.std.specs.Prelude.{◌≡◌};
+    ghost use Rattle.publisher_main.specs.declared.bad_row.BadRow.TheVariants.{Unreadable};
+
+    ghost from_gives = { λ error bad. bad ≡ Unreadable error };
+
+    fn from(error: ReadError) -> BadRow {
+        BadRow::Unreadable(error)
+    }
+}
+
+impl From<RowFault> for BadRow {
+    ghost use Rattle.std.specs.Prelude.{◌≡◌};
+    ghost use Rattle.publisher_main.specs.declared.bad_row.BadRow.TheVariants.{Invalid};
+
+    ghost from_gives = { λ fault bad. bad ≡ Invalid fault };
+
+    fn from(fault: RowFault) -> BadRow {
+        BadRow::Invalid(fault)
+    }
+}
+
 impl fmt::Display for BadRow {
     fn fmt<W: fmt::Write>(&self, f: &mut fmt::Formatter<W>) -> fmt::Result {
         match self {
             BadRow::Unreadable(error) => {
-                let name = error.kind.name();
                 let place = error.place;
+                let name = error.kind.name();
                 write!(f, "unreadable {place} {name}")
             }
             BadRow::Invalid(RowFault::Width) => write!(f, "invalid Width"),
@@ -42,20 +81,10 @@ impl fmt::Display for BadRow {
 }
 
 /// Reads a row and holds it against its table.
-pub fn table_row(
-    alloc: Global,
-    table: &Table,
-    text: &str,
-) -> Result<Result<Row, BadRow>, AllocError> {
-    let row = match read_row(alloc, text) {
-        Ok(row) => row,
-        Err(error) => match error.kind {
-            ErrorKind::OutOfMemory => return Err(AllocError),
-            _ => return Ok(Err(BadRow::Unreadable(error))),
-        },
-    };
-    match valid(table, &row) {
-        Ok(()) => Ok(Ok(row)),
-        Err(fault) => Ok(Err(BadRow::Invalid(fault))),
-    }
+pub fn table_row(alloc: Global, table: &Table, text: &str) -> Result<Row, BadRow>
+    ensures { spec.IsReading table.now.columns text.now result }
+{
+    let row = read_row(alloc, text)?;
+    valid(table, &row)?;
+    Ok(row)
 }

@@ -35,8 +35,13 @@ pub enum Failure<'a> {
 }
 
 impl Failure<'_> {
+    ghost use Rattle.std.specs.Prelude.{◌≡◌};
+    ghost use Rattle.publisher_main.specs.Statuses.{status_of_failure};
+
     /// The status with which the program ends.
-    pub fn status(&self) -> Status {
+    pub fn status(&self) -> Status
+        ensures { result ≡ status_of_failure self.now }
+    {
         match self {
             Failure::CommandLine(_) => Status::CommandLine,
             Failure::Input | Failure::Catalog(_) | Failure::Table(_) => Status::Input,
@@ -47,12 +52,22 @@ impl Failure<'_> {
 }
 
 impl From<AllocError> for Failure<'_> {
+    ghost use Rattle.std.specs.Prelude.{◌≡◌};
+    ghost use Rattle.publisher_main.specs.declared.failure.Failure.TheVariants.{OutOfMemory};
+
+    ghost from_gives = { λ _ failure. failure ≡ OutOfMemory };
+
     fn from(_: AllocError) -> Self {
         Failure::OutOfMemory
     }
 }
 
 impl From<ReadError> for Failure<'_> {
+    ghost use Rattle.std.specs.Prelude.{◌≡◌};
+    ghost use Rattle.publisher_main.specs.Statuses.{failure_of_read};
+
+    ghost from_gives = { λ error failure. failure ≡ failure_of_read error };
+
     fn from(error: ReadError) -> Self {
         match error.kind {
             ErrorKind::OutOfMemory => Failure::OutOfMemory,
@@ -62,6 +77,10 @@ impl From<ReadError> for Failure<'_> {
 }
 
 impl From<clap::Error> for Failure<'_> {
+    ghost use Rattle.publisher_main.specs.Statuses.{IsOfWords};
+
+    ghost from_gives = { λ _ failure. IsOfWords failure };
+
     fn from(error: clap::Error) -> Self {
         match error.kind() {
             clap::error::ErrorKind::OutOfMemory => Failure::OutOfMemory,

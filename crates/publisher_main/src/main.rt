@@ -11,6 +11,8 @@ mod input;
 mod output;
 mod parts;
 mod program;
+#[cfg(test)]
+mod tests;
 
 use crate::failure::Status;
 use program::run;

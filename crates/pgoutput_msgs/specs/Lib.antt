@@ -1,0 +1,3 @@
+pub mod Prefix
+pub mod Spelling
+pub mod ValueText

@@ -1,0 +1,90 @@
+use crate::{Msg, encode, fits, no_spelling_begins_another, tuple_of};
+use filter_tree::{Row, Text, Value};
+use std::alloc::{AllocError, Global};
+use std::test::Fail;
+
+/// A column's value, written without memory.
+#[derive(Clone, Copy)]
+enum Datum {
+    Null,
+    Int(i64),
+    Bool(bool),
+    Text(&'static str),
+}
+
+fn value(alloc: Global, datum: Datum) -> Result<Value, AllocError> {
+    match datum {
+        Datum::Null => Ok(Value::Null),
+        Datum::Int(number) => Ok(Value::Int(number)),
+        Datum::Bool(truth) => Ok(Value::Bool(truth)),
+        Datum::Text(text) => Ok(Value::Text(Text::from_str(alloc, text)?)),
+    }
+}
+
+/// The Insert message of a row of the table with the OID 16384.
+fn insert_of(alloc: Global, row: &[Datum]) -> Result<Msg, AllocError> {
+    let mut values = Vec::new(alloc);
+    for datum in row {
+        values.push(value(alloc, *datum)?)?;
+    }
+    let new = tuple_of(alloc, &Row::from_values(values))?;
+    Ok(Msg::Insert {
+        relation: 16384,
+        new,
+    })
+}
+
+fn hexadecimal(alloc: Global, bytes: &[u8]) -> Result<String, AllocError> {
+    let mut text = String::new(alloc);
+    for byte in bytes {
+        write!(text, "{byte:02x}")?;
+    }
+    Ok(text)
+}
+
+#[test]
+fn insert_messages_are_spelled_by_the_layout(rt: HostRuntime) -> Result<(), Fail> {
+    use Datum::{Bool, Int, Null};
+    let head = "49000040004e";
+    let cases: [(&[Datum], &str); 10] = [
+        (&[], "0000"),
+        (
+            &[Int(7), Datum::Text("eu")],
+            "000274000000013774000000026575",
+        ),
+        (&[Int(0), Datum::Text("")], "00027400000001307400000000"),
+        (&[Int(100), Null], "000274000000033130306e"),
+        (&[Bool(true), Bool(false)], "0002740000000174740000000166"),
+        (
+            &[Int(-32_768), Int(32_767)],
+            "000274000000062d333237363874000000053332373637",
+        ),
+        (
+            &[Int(-2_147_483_648), Int(2_147_483_647)],
+            "0002740000000b2d32313437343833363438740000000a32313437343833363437",
+        ),
+        (
+            &[Int(i64::MIN)],
+            "000174000000142d39323233333732303336383534373735383038",
+        ),
+        (
+            &[Int(i64::MAX)],
+            "0001740000001339323233333732303336383534373735383037",
+        ),
+        (&[Datum::Text("é€")], "00017400000005c3a9e282ac"),
+    ];
+    for (row, tuple) in cases {
+        let message = insert_of(rt.alloc(), row)?;
+        let Msg::Insert { relation: _, new } = &message;
+        assert_eq!(rt; (new.len(), new.is_empty()), (row.len(), row.is_empty()));
+        let mut out = Vec::new(rt.alloc());
+        if fits(&message) {
+            encode(&message, &mut out)?;
+        }
+        let spelled = hexadecimal(rt.alloc(), out.as_slice())?;
+        let expected = format!(in rt.alloc(); "{head}{tuple}")?;
+        assert_eq!(rt; spelled, expected);
+    }
+    no_spelling_begins_another();
+    Ok(())
+}

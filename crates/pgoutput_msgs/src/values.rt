@@ -1,0 +1,37 @@
+ghost use Rattle.std.specs.Prelude.{◌≡◌, ◌<◌, ◌^◌, IfOk, List, length};
+ghost use Rattle.filter_tree.specs.declared.table.Column.{Column};
+ghost use Rattle.filter_tree.specs.Valid.{IsValid};
+ghost use Rattle.filter_tree.specs.Values.{datum_of};
+ghost use Rattle.pgoutput_msgs.specs.Spelling.{IsTupleWithinRange};
+ghost use Rattle.pgoutput_msgs.specs.ValueText.{cell_of, cells_of};
+
+use crate::message::{Cell, Tuple};
+use filter_tree::{Row, Text, Value};
+use std::alloc::{AllocError, Allocator, Global};
+
+/// The row's values as a message has them. An Insert message has room for those of a row that fits a table of fewer
+/// than 2^15 columns. The only error is want of memory.
+pub fn tuple_of<A: Allocator>(alloc: Global, row: &Row<A>) -> Result<Tuple, AllocError>
+    ensures exact { IfOk result (λ tuple. tuple ≡ cells_of row.now) }
+    ensures room { IfOk result (λ tuple. (columns : List Column) → IsValid columns row.now
+        → length columns < 2 ^ 15 → IsTupleWithinRange tuple) }
+{
+    let values = row.values();
+    let mut cells = Vec::with_capacity(alloc, values.len())?;
+    for value in values {
+        cells.push(value_text(alloc, value)?)?;
+    }
+    Ok(Tuple::from_cells(cells))
+}
+
+fn value_text<A: Allocator>(alloc: Global, value: &Value<A>) -> Result<Cell, AllocError>
+    ensures { IfOk result (λ cell. cell ≡ cell_of (datum_of value.now)) }
+{
+    match value {
+        Value::Null => Ok(Cell::Null),
+        Value::Int(number) => Ok(Cell::Text(Text::new(number.to_string(alloc)?))),
+        Value::Bool(true) => Ok(Cell::Text(Text::from_str(alloc, "t")?)),
+        Value::Bool(false) => Ok(Cell::Text(Text::from_str(alloc, "f")?)),
+        Value::Text(text) => Ok(Cell::Text(Text::from_str(alloc, text.as_str())?)),
+    }
+}

@@ -1,0 +1,8 @@
+use Rattle.publisher_main.proofs.Writing.{IsSoFar}
+use Rattle.publisher_main.specs.LinesView.{lines_left}
+use Rattle.publisher_main.specs.Parts.{lines_of}
+use Rattle.publisher_main.proofs.evaluation.write_rows.Given as goal
+
+abbrev pub invariant-loop-row : goal.invariant-loop-row
+invariant-loop-row g l =
+    IsSoFar l.carried.number l.carried.publications.now l.carried.table.now.columns (lines_of l.rows) (lines_left l.row-iterator) l.status (g.W.Write.contents l.initial.writer) (g.W.Write.contents l.writer)

@@ -1,0 +1,102 @@
+-- What `eval` answers: the first part of its input is a catalog, and the second has rows of one of its tables, one a line.
+use Rattle.std.specs.Prelude.{◌≡◌, ℕ, if◌then◌else◌, List, [], ◌∷◌, ◌++◌, Option, Some, None, IfNone, IfSome, slice_get, Result, Ok, Err}
+use Rattle.std.specs.List.{list_all}
+use Rattle.std.specs.Io.KnownBytes.{Appends}
+use Rattle.filter_tree.specs.Datum.{Datum}
+use Rattle.filter_tree.specs.Valid.{row_fault}
+use Rattle.filter_tree.specs.declared.table.Column.{Column}
+use Rattle.filter_tree.specs.declared.table.Table.{Table}
+use Rattle.pub_reader.specs.CatalogView.{catalog_of}
+use Rattle.pub_reader.specs.Reading.{Fault, Tells}
+use Rattle.pub_reader.specs.Rows.{row_of}
+use Rattle.pub_reader.specs.Statements.{catalog_by}
+use Rattle.pub_reader.specs.Written.{as_filter}
+use Rattle.pub_reader.specs.declared.catalog.Catalog.{Catalog}
+use Rattle.pub_reader.specs.declared.catalog.Publication.{Publication}
+use Rattle.pub_reader.specs.declared.error.ReadError.{ReadError}
+use Rattle.publisher_main.specs.Answers.{line_of}
+use Rattle.publisher_main.specs.BadRows.{is_answered}
+use Rattle.publisher_main.specs.Parts.{Cut, two_parts, lines_of}
+use Rattle.publisher_main.specs.Tables.{table_of}
+use Rattle.publisher_main.specs.declared.failure.Failure.{Failure}
+use Rattle.publisher_main.specs.declared.failure.Failure.TheVariants as f
+use Rattle.publisher_main.specs.declared.failure.Status.{Status}
+use Rattle.publisher_main.specs.declared.failure.Status.TheVariants.{Done, Refused}
+
+-- all rows have an answer, or some have none
+abbrev pub status_of : List Column → List (List ℕ) → Status
+status_of columns rows = if list_all (is_answered columns) rows then Done else Refused
+
+-- ---- what is written
+
+module _ (number : ℕ) (publications : List Publication) (columns : List Column) where
+  -- the line of a row that fits is what the publications say of it
+  abbrev pub IsLineOf : Result (List Datum) Fault → List ℕ → Type 0
+  IsLineOf (Ok cells) line = IfNone (row_fault columns cells) (line ≡ line_of number cells publications)
+  IsLineOf (Err fault) line = Unit {0}
+
+  abbrev pub IsLine : List ℕ → List ℕ → Type 0
+  IsLine text line = IsLineOf (row_of text) line
+
+  -- the bytes are a line for each row, in the order of the rows
+  pub data IsOutput : List (List ℕ) → List ℕ → Type 0 where
+    NoRow : IsOutput [] []
+    OneMore : (rows : List (List ℕ)) (bytes row line : List ℕ) → IsOutput rows bytes → IsLine row line → IsOutput (rows ++ row ∷ []) (bytes ++ (line ++ 10 ∷ []))
+
+  -- a writer's bytes grow by those lines
+  pub record Writes (rows : List (List ℕ)) (old new : Option (List ℕ)) : Type 0 where
+    pub bytes : List ℕ
+    pub output : IsOutput rows bytes
+    pub appends : Appends old new bytes
+
+-- ---- what is answered
+
+-- the input has two parts, the first is a catalog, it has the table, and each row of the second is answered
+pub record IsAnswered (input word : List ℕ) (old new : Option (List ℕ)) (status : Status) : Type 0 where
+  pub cut : Cut
+  pub catalog : Catalog
+  pub number : ℕ
+  pub table : Table
+  pub parts : two_parts input ≡ Some cut
+  pub reads : catalog_by as_filter cut.part ≡ Ok (catalog_of catalog)
+  pub named : table_of word catalog.tables.items ≡ Some number
+  pub stands : slice_get catalog.tables.items number ≡ Some table
+  pub answers : status ≡ status_of table.columns (lines_of cut.rest)
+  pub writes : Writes number catalog.publications.items table.columns (lines_of cut.rest) old new
+
+-- the input has two parts, and the first is no catalog
+pub record IsBadCatalog (input : List ℕ) (error : ReadError) : Type 0 where
+  pub cut : Cut
+  pub parts : two_parts input ≡ Some cut
+  pub tells : Tells error (catalog_by as_filter cut.part)
+
+-- the input has two parts, and the first is a catalog that lacks the table
+pub record IsUnknown (input word : List ℕ) : Type 0 where
+  pub cut : Cut
+  pub catalog : Catalog
+  pub parts : two_parts input ≡ Some cut
+  pub reads : catalog_by as_filter cut.part ≡ Ok (catalog_of catalog)
+  pub unknown : table_of word catalog.tables.items ≡ None
+
+-- why there is no answer; for want of memory or of room for output it says nothing of the input
+abbrev pub IsStopped : List ℕ → List ℕ → Failure → Type 0
+IsStopped input word (f.CommandLine error) = ⊥
+IsStopped input word f.Input = two_parts input ≡ None
+IsStopped input word (f.Catalog error) = IsBadCatalog input error
+IsStopped input word (f.Table name) = IsUnknown input word × (name.now ≡ word)
+IsStopped input word f.Output = Unit {0}
+IsStopped input word f.OutOfMemory = Unit {0}
+
+abbrev pub IsEvaluated : List ℕ → List ℕ → Option (List ℕ) → Option (List ℕ) → Result Status Failure → Type 0
+IsEvaluated input word old new (Ok status) = IsAnswered input word old new status
+IsEvaluated input word old new (Err failure) = IsStopped input word failure
+
+-- the same where the word is not told, of an input that is known
+abbrev pub AnswersSome : Option (List ℕ) → Option (List ℕ) → Option (List ℕ) → Status → Type 0
+AnswersSome known old new status = IfSome known (λ input. (word : List ℕ) × IsAnswered input word old new status)
+
+-- what a status says of the input and the output
+abbrev pub IsOutcome : Option (List ℕ) → Option (List ℕ) → Option (List ℕ) → Status → Type 0
+IsOutcome known old new Done = AnswersSome known old new Done
+IsOutcome known old new Refused = AnswersSome known old new Refused
+IsOutcome known old new _ = Unit {0}

@@ -1,0 +1,24 @@
+-- Which table of a catalog a word names: `name` of the schema public, or `schema.name`, split at the first dot (PostgreSQL 15, "Schemas", 5.9).
+use Rattle.std.specs.Prelude.{ℕ, ◌==◌, Bool, ◌&&◌, if◌then◌else◌, List, length, nat_lt, Option, position, codes}
+use Rattle.std.specs.List.{position_or_len, before_first, after_first}
+use Rattle.std.specs.Str.{bytes_eq}
+use Rattle.filter_tree.specs.declared.table.Table.{Table}
+
+abbrev pub is_dot : ℕ → Bool
+is_dot byte = byte == 46
+
+abbrev pub has_dot : List ℕ → Bool
+has_dot word = nat_lt (position_or_len is_dot word) (length word)
+
+abbrev pub schema_of : List ℕ → List ℕ
+schema_of word = if has_dot word then before_first is_dot word else codes "public"
+
+abbrev pub name_of : List ℕ → List ℕ
+name_of word = if has_dot word then after_first is_dot word else word
+
+abbrev pub is_named : List ℕ → Table → Bool
+is_named word table = bytes_eq table.schema (schema_of word) && bytes_eq table.name (name_of word)
+
+-- the number of the first table that the word names
+abbrev pub table_of : List ℕ → List Table → Option ℕ
+table_of word tables = position (is_named word) tables
