@@ -4,7 +4,7 @@ use Rattle.std.specs.Char.{is_ascii_alphabetic, is_ascii_alphanumeric, is_ascii_
 use Rattle.sql_tokens.specs.declared.bytes.Class.{Class}
 use Rattle.sql_tokens.specs.declared.bytes.Class.TheVariants as class
 
--- ~ ! @ # % ^ & | ` ?
+-- ~ ! @ # % ^ & |, the backquote and the question mark
 abbrev pub is_free_sign : ℕ → Bool
 is_free_sign b = b == 126 || b == 33 || b == 64 || b == 35 || b == 37 || b == 94 || b == 38 || b == 124 || b == 96 || b == 63
 
