@@ -1,5 +1,5 @@
 -- Taking a token leaves fewer.
-use Rattle.std.proofs.Common.{◌≡◌, ℕ, ℤ, ◌<◌, ◌≤◌, Bool, true, Some, IsSome, arith}
+use Rattle.std.proofs.Common.{◌≡◌, ℤ, ◌<◌, ◌≤◌, Bool, true, Some, IsSome, arith}
 use Rattle.pub_reader.specs.declared.item.Item.{Item}
 use Rattle.pub_reader.specs.Items.{Items, Stop, Broken, Then, size}
 use Rattle.pub_reader.specs.Reading.{is_ahead, item_ahead, rest_of}

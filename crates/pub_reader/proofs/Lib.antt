@@ -1,8 +1,12 @@
 pub mod Ahead
 pub mod Carrying
 pub mod CarryingCatalogs
+pub mod CarryingDrafts
+pub mod CarryingObjects
 pub mod CountingLemmas
 pub mod Cuts
+pub mod Listing
+pub mod Meanings
 pub mod Nesting
 pub mod OrderLemmas
 pub mod Positions

@@ -1,5 +1,5 @@
 -- What may stand in parentheses or behind NOT where so many more may nest.
-use Rattle.std.proofs.Common.{◌≡◌, ℕ, zero, suc, ◌-◌, ◌<◌, ◌≢◌, Bool, true, false, List, refl, ap, arith}
+use Rattle.std.proofs.Common.{◌≡◌, ℕ, zero, suc, ◌-◌, ◌≢◌, Bool, true, false, List, refl, ap, arith}
 use Rattle.filter_tree.specs.declared.table.Column.{Column}
 use Rattle.pub_reader.specs.Expressions.{Forms, nested, behind_not, in_parentheses}
 use Rattle.pub_reader.specs.Items.{Items}

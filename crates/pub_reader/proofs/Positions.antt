@@ -1,9 +1,10 @@
 -- The position of a name in a list of what bears names.
-use Rattle.std.proofs.Common.{◌≡◌, ℕ, suc, ◌+◌, ◌<◌, ◌≤◌, Bool, true, false, not, ◌||◌, cond, List, [], ◌∷◌, ◌++◌, map, length, refl, ap, sym, ◌∙◌, arith}
+use Rattle.std.proofs.Common.{◌≡◌, ℕ, ◌+◌, ◌≤◌, Bool, true, false, not, ◌||◌, cond, List, [], ◌∷◌, ◌++◌, map, length, refl, ap, sym, ◌∙◌, arith}
 use Rattle.std.proofs.lemmas.List.{length-map, map-append}
-use Rattle.std.specs.Prelude.{Option, Some, None, nat_lt, position, if◌then◌else◌}
+use Rattle.std.specs.Prelude.{Some, None, nat_lt, position}
 use Rattle.std.specs.List.{list_any, position_or_len, prefix_len}
 use Rattle.std.specs.Str.{bytes_eq}
+use Rattle.pub_reader.specs.Drafts.{with_name}
 use Rattle.std.proofs.lemmas.Bool.Decides.{nat_tests}
 
 prefix_len-map : {A B : Type 0} (p : B → Bool) (f : A → B) (xs : List A) → prefix_len p (map f xs) ≡ prefix_len (λ x. p (f x)) xs
@@ -46,7 +47,9 @@ position-by_names text name_of names xs e = ap (position (bytes_eq text)) e ∙ 
 -- names stay those of a list where one of each is added
 pub names-push : {A : Type 0} (name_of : A → List ℕ) (text : List ℕ) (names new_names : List (List ℕ)) (xs ys : List A) (x : A) →
     names ≡ map name_of xs → text ≡ name_of x → position (λ y. bytes_eq (name_of x) (name_of y)) xs ≡ None →
-    (position (bytes_eq text) names ≡ None → new_names ≡ names ++ text ∷ []) → ys ≡ xs ++ x ∷ [] → new_names ≡ map name_of ys
+    new_names ≡ with_name names text → ys ≡ xs ++ x ∷ [] → new_names ≡ map name_of ys
 names-push name_of text names new_names xs ys x same is free added pushed =
     let absent : position (bytes_eq text) names ≡ None = position-by_names text name_of names xs same ∙ ap (λ t. position (λ y. bytes_eq t (name_of y)) xs) is ∙ free in
-    added absent ∙ ap (λ ns. ns ++ text ∷ []) same ∙ ap (λ t. map name_of xs ++ t ∷ []) is ∙ sym (map-append name_of xs (x ∷ [])) ∙ ap (map name_of) (sym pushed)
+    let none : list_any (bytes_eq text) names ≡ false = position-none (bytes_eq text) names absent in
+    let grown : with_name names text ≡ names ++ text ∷ [] = rw none refl in
+    added ∙ grown ∙ ap (λ ns. ns ++ text ∷ []) same ∙ ap (λ t. map name_of xs ++ t ∷ []) is ∙ sym (map-append name_of xs (x ∷ [])) ∙ ap (map name_of) (sym pushed)

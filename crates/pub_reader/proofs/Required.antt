@@ -1,5 +1,5 @@
 -- Making one column of a list NOT NULL.
-use Rattle.std.proofs.Common.{◌≡◌, ℕ, zero, suc, ◌+◌, ◌<◌, ◌≤◌, true, List, [], ◌∷◌, length, slice_index_or, slice_set, refl, ap, arith}
+use Rattle.std.proofs.Common.{◌≡◌, ℕ, zero, suc, ◌<◌, ◌≤◌, true, List, [], ◌∷◌, length, slice_index_or, slice_set, refl, ap, arith}
 use Rattle.filter_tree.specs.declared.table.Column.{Column}
 use Rattle.pub_reader.specs.Columns.{required}
 

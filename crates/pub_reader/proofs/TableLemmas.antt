@@ -1,5 +1,5 @@
 -- Tables by their numbers.
-use Rattle.std.proofs.Common.{◌≡◌, ℕ, zero, suc, ◌+◌, ◌<◌, List, [], ◌∷◌, length, slice_index_or, slice_set, map, refl, ap, arith}
+use Rattle.std.proofs.Common.{◌≡◌, ℕ, zero, suc, ◌<◌, List, [], ◌∷◌, length, slice_index_or, slice_set, ap, arith}
 use Rattle.filter_tree.specs.declared.table.Identity.{Identity}
 use Rattle.filter_tree.specs.declared.table.Table.{Table}
 use Rattle.pub_reader.specs.Catalogs.{columns_at, identified}
@@ -15,10 +15,4 @@ identified-set [] number table identity within is = absurd (omega arith)
 identified-set (first ∷ tables) zero table identity within is = ap (λ (t : Table). record t { identity = identity } ∷ tables) is
 identified-set (first ∷ tables) (suc number) table identity within is = ap (λ ts. first ∷ ts) (identified-set tables number table identity (omega arith) is)
 
-pub names-identified : (tables : List Table) (number : ℕ) (table : Table) (identity : Identity) → number < length tables → table ≡ slice_index_or tables number table →
-    map (λ (t : Table). t.name) (slice_set tables number (record table { identity = identity })) ≡ map (λ (t : Table). t.name) tables
-names-identified [] number table identity within is = absurd (omega arith)
-names-identified (first ∷ tables) zero table identity within is = ap (λ (t : Table). t.name ∷ map (λ (t : Table). t.name) tables) is
-names-identified (first ∷ tables) (suc number) table identity within is = ap (λ ns. first.name ∷ ns) (names-identified tables number table identity (omega arith) is)
-
-pub ruleset table_numbers = (columns_at-is)
+pub ruleset table_numbers = (columns_at-is, identified-set)

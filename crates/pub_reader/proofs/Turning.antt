@@ -1,10 +1,10 @@
 -- How a loop goes through the steps of a list: each turn takes the first step of what is left.
-use Rattle.std.proofs.Common.{◌≡◌, ℕ, zero, suc, ◌+◌, ◌<◌, ◌≤◌, Bool, true, false, if◌then◌else◌, refl, ap, sym, ◌∙◌, arith, rules}
+use Rattle.std.proofs.Common.{◌≡◌, ℕ, zero, suc, ◌<◌, Bool, true, false, refl, ap, ◌∙◌, arith}
 use Rattle.std.specs.Prelude.{nat_lt, Option, Some, None, Result, Ok, Err}
 use Rattle.std.proofs.lemmas.Bool.Decides.{nat_tests}
 use Rattle.pub_reader.specs.declared.item.Item.{Item}
 use Rattle.pub_reader.specs.declared.error.ReadError.{ReadError}
-use Rattle.pub_reader.specs.Items.{Items, Stop, Broken, Then, size}
+use Rattle.pub_reader.specs.Items.{Items, size}
 use Rattle.pub_reader.specs.Wrong.{Wrong, wrong_of}
 use Rattle.pub_reader.specs.Reading.{Fault, Outcome, Rule, next_is, rest_of, Tells, TellsOf, fault}
 use Rattle.pub_reader.specs.Turns.{Step, after_step, goes, at_most, repeat, link, linked, one_more, each, guarded}

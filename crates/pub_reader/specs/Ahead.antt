@@ -1,8 +1,6 @@
 -- What a reader has still to read.
-use Rattle.std.specs.Prelude.{◌≡◌, ℕ, ◌^◌, ◌<◌, List}
-use Rattle.sql_tokens.specs.Left.{text_of, left}
-use Rattle.pub_reader.specs.declared.item.Item.{Item}
-use Rattle.pub_reader.specs.declared.item.Item.TheVariants.{Number}
+use Rattle.std.specs.Prelude.{ℕ, List}
+use Rattle.sql_tokens.specs.Left.{left}
 use Rattle.pub_reader.specs.declared.reader.Ahead.{Ahead}
 use Rattle.pub_reader.specs.declared.reader.Ahead.TheVariants as a
 use Rattle.pub_reader.specs.declared.reader.Reader.{Reader}

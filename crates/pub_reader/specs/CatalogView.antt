@@ -1,5 +1,5 @@
 -- What a catalog that was read stands for.
-use Rattle.std.specs.Prelude.{List, map, Option}
+use Rattle.std.specs.Prelude.{map}
 use Rattle.std.specs.Option.{option_map}
 use Rattle.filter_tree.specs.Expr.{Expr}
 use Rattle.filter_tree.specs.Shape.{expr_of}
@@ -12,7 +12,7 @@ abbrev pub entry_of : Entry → EntryOf Expr
 entry_of entry = record { table = entry.table; filter = option_map expr_of entry.filter }
 
 abbrev pub publication_of : Publication → PublicationOf Expr
-publication_of publication = record { name = publication.name; entries = map entry_of publication.entries.items }
+publication_of publication = record { name = publication.name; publishes = publication.publishes; entries = map entry_of publication.entries.items }
 
 abbrev pub catalog_of : Catalog → CatalogOf Expr
-catalog_of catalog = record { tables = catalog.tables.items; publications = map publication_of catalog.publications.items }
+catalog_of catalog = record { tables = catalog.tables.items; publications = map publication_of catalog.publications.items; subscriptions = catalog.subscriptions.items }

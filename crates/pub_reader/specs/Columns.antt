@@ -1,5 +1,5 @@
 -- The elements of CREATE TABLE: columns with their types and constraints, and the primary key: PostgreSQL 15, SQL Commands, CREATE TABLE, and "Data Types", Table 8.1.
-use Rattle.std.specs.Prelude.{ℕ, zero, suc, Bool, true, false, not, ◌||◌, nat_lt, nat_le, ◌==◌, if◌then◌else◌, List, [], ◌∷◌, ◌++◌, length, Option, Some, None, Result, Ok, Err, codes}
+use Rattle.std.specs.Prelude.{ℕ, zero, suc, Bool, true, false, not, ◌||◌, nat_le, ◌==◌, if◌then◌else◌, List, [], ◌∷◌, ◌++◌, length, Option, Some, None, Ok, Err, codes}
 use Rattle.std.specs.List.{list_any}
 use Rattle.std.specs.Option.{is_some}
 use Rattle.std.specs.Str.{str_eq_ignore_ascii_case}
@@ -16,7 +16,7 @@ use Rattle.pub_reader.specs.declared.error.Omitted.TheVariants.{Constraint, Data
 use Rattle.pub_reader.specs.declared.error.Limit.TheVariants.{Columns}
 use Rattle.pub_reader.specs.Wrong as w
 use Rattle.pub_reader.specs.Expressions.{find_column, known_column}
-use Rattle.pub_reader.specs.Items.{Items, Stop, Broken, Then}
+use Rattle.pub_reader.specs.Items.{Items, Broken}
 use Rattle.pub_reader.specs.Names.{name, name_ahead}
 use Rattle.pub_reader.specs.Reading.{Fault, Rule, Verdict, fault, place_ahead, ◌>>=◌, ◌>>◌, pure, check, refuse, refuse_as, refusal, advance, expect, item_ahead, written_ahead, rest_of}
 use Rattle.pub_reader.specs.Turns.{link, each, repeat}

@@ -1,5 +1,5 @@
 -- The tokens of a text as the grammar tells them apart: PostgreSQL 15, "SQL Syntax", 4.1 Lexical Structure.
-use Rattle.std.specs.Prelude.{ℕ, zero, suc, ◌+◌, Bool, true, false, not, List, Option, Some, None, ◌==◌}
+use Rattle.std.specs.Prelude.{ℕ, suc, ◌+◌, Bool, true, false, not, List, Option, Some, None, ◌==◌}
 use Rattle.sql_tokens.specs.declared.kinds.FaultKind.{FaultKind}
 use Rattle.sql_tokens.specs.declared.kinds.TokenKind.{TokenKind}
 use Rattle.sql_tokens.specs.declared.kinds.TokenKind.TheVariants as t
@@ -62,16 +62,27 @@ keyword_number k.Using = 25
 keyword_number k.Where = 26
 keyword_number k.With = 27
 keyword_number k.Alter = 28
-keyword_number k.Full = 29
-keyword_number k.Identity = 30
-keyword_number k.If = 31
-keyword_number k.Inherits = 32
-keyword_number k.Key = 33
-keyword_number k.Nothing = 34
-keyword_number k.Partition = 35
-keyword_number k.Publication = 36
-keyword_number k.Replica = 37
-keyword_number k.Text = 38
+keyword_number k.Between = 29
+keyword_number k.Case = 30
+keyword_number k.Connection = 31
+keyword_number k.CurrentSchema = 32
+keyword_number k.Full = 33
+keyword_number k.Identity = 34
+keyword_number k.If = 35
+keyword_number k.Ilike = 36
+keyword_number k.Inherits = 37
+keyword_number k.Key = 38
+keyword_number k.Like = 39
+keyword_number k.Nothing = 40
+keyword_number k.Partition = 41
+keyword_number k.Publication = 42
+keyword_number k.Replica = 43
+keyword_number k.Schema = 44
+keyword_number k.Similar = 45
+keyword_number k.Subscription = 46
+keyword_number k.Tables = 47
+keyword_number k.Text = 48
+keyword_number k.Unknown = 49
 
 abbrev pub operator_number : Operator → ℕ
 operator_number o.Equal = 0

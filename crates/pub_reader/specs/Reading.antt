@@ -1,8 +1,8 @@
 -- How the grammar is read: each rule takes tokens from the front of a list and gives what it reads and the tokens that are left, or the first fault of the text.
-use Rattle.std.specs.Prelude.{◌≡◌, ℕ, Bool, true, false, if◌then◌else◌, List, [], Option, Some, None, Result, Ok, Err}
+use Rattle.std.specs.Prelude.{◌≡◌, ℕ, Bool, false, if◌then◌else◌, List, [], Option, Some, None, Result, Ok, Err}
 use Rattle.pub_reader.specs.declared.error.ReadError.{ReadError}
 use Rattle.pub_reader.specs.declared.item.Item.{Item}
-use Rattle.pub_reader.specs.Items.{Seen, Items, Stop, Broken, Then, is_like}
+use Rattle.pub_reader.specs.Items.{Items, Stop, Broken, Then, is_like}
 use Rattle.pub_reader.specs.Wrong.{Wrong, wrong_of, wrong_token}
 use Rattle.pub_reader.specs.Wrong as w
 

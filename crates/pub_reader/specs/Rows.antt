@@ -1,11 +1,11 @@
 -- Rows as they are written: PostgreSQL 15, "Value Expressions", 4.2.13 Row Constructors, of the constants of 4.1.2.
-use Rattle.std.specs.Prelude.{ℕ, ℤ, Bool, true, false, if◌then◌else◌, List, [], ◌∷◌, ◌++◌, Option, Some, None, Ok, Err}
+use Rattle.std.specs.Prelude.{ℕ, true, false, if◌then◌else◌, List, [], ◌∷◌, ◌++◌, Option, Some, Ok, Err}
 use Rattle.filter_tree.specs.Datum.{Datum, Missing, Known, Number, Truth, Bytes}
 use Rattle.sql_tokens.specs.declared.kinds.Operator.TheVariants.{Minus}
 use Rattle.pub_reader.specs.declared.word.Keyword.TheVariants as k
 use Rattle.pub_reader.specs.declared.item.Item.{Item}
 use Rattle.pub_reader.specs.declared.item.Item.TheVariants as i
-use Rattle.pub_reader.specs.Items.{Items, Stop, Broken, Then, items_of}
+use Rattle.pub_reader.specs.Items.{Stop, items_of}
 use Rattle.pub_reader.specs.Names.{string_meant}
 use Rattle.pub_reader.specs.Numbers.{signed_number}
 use Rattle.pub_reader.specs.Reading.{Rule, Verdict, Outcome, ◌>>=◌, ◌>>◌, pure, refuse, refusal, advance, expect, next_is, item_ahead, written_ahead}

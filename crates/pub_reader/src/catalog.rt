@@ -1,19 +1,31 @@
 //! What a catalog has.
 
-use filter_tree::{Filter, Table, Text};
+use filter_tree::{Filter, Items, Table, Text};
 
-/// The tables and the publications of a catalog, each in the order in which they are made, so that each has a number from
-/// 0.
+/// The tables, the publications and the subscriptions of a catalog, each in the order in which they are made, so that
+/// each has a number from 0.
 #[derive(Drop)]
 pub struct Catalog {
     pub tables: Vec<Table>,
     pub publications: Vec<Publication>,
+    pub subscriptions: Vec<Subscription>,
 }
 
-/// A publication: its name, and the tables that it carries.
+/// The operations of which a publication sends the changes.
+#[derive(Clone, Copy, Debug, PartialEq, Eq)]
+pub struct Operations {
+    pub insert: bool,
+    pub update: bool,
+    pub delete: bool,
+    pub truncate: bool,
+}
+
+/// A publication: its name, the operations that it publishes, and the tables that it carries: those that it names, and
+/// then, in the order of the tables, each that it carries whole by FOR ALL TABLES or TABLES IN SCHEMA.
 #[derive(Drop)]
 pub struct Publication {
     pub name: Text,
+    pub publishes: Operations,
     pub entries: Vec<Entry>,
 }
 
@@ -22,4 +34,12 @@ pub struct Publication {
 pub struct Entry {
     pub table: usize,
     pub filter: Option<Filter>,
+}
+
+/// A subscription: its name, which is that of its replication slot too, and the numbers of the publications that it
+/// takes, in the order of its list.
+#[derive(Drop)]
+pub struct Subscription {
+    pub name: Text,
+    pub publications: Items<usize>,
 }

@@ -2,57 +2,120 @@
 
 ghost use Rattle.std.specs.Prelude.{◌≡◌, List, ℕ, map};
 
-use crate::catalog::{Catalog, Publication};
+use crate::catalog::{Catalog, Operations, Publication, Subscription};
+use crate::coverage::Coverage;
 use crate::error::{ErrorKind, Limit, ReadError};
 use crate::filters::add_filters;
 use crate::name::PlacedName;
 use crate::names::Names;
-use filter_tree::{Column, Filter, Identity, Table};
+use crate::resolution::resolved;
+use crate::table_name::NewName;
+use filter_tree::{Column, Filter, Identity, Table, Text};
 use std::alloc::{AllocError, Global};
 
-/// How many tables, and how many publications, a catalog may have.
+/// How many tables, publications and subscriptions a catalog may have.
 const MAX_TABLES: usize = 64;
 
 const MAX_PUBLICATIONS: usize = 64;
 
-/// The tables and publications made so far, with their names.
+const MAX_SUBSCRIPTIONS: usize = 32;
+
+/// The schema that is there from the start.
+pub const PUBLIC: &str = "public";
+
+/// A publication while the catalog is read: what it covers whole shows only at the end of the catalog.
+#[derive(Drop)]
+pub struct DraftPublication {
+    pub name: Text,
+    pub publishes: Operations,
+    pub coverage: Coverage,
+}
+
+/// The schemas, tables, publications and subscriptions made so far, with their names.
 #[derive(Drop)]
 pub struct Draft {
+    schemas: Names,
     tables: Vec<Table>,
-    table_names: Names,
-    publications: Vec<Publication>,
+    publications: Vec<DraftPublication>,
     publication_names: Names,
-    ghost same_tables: { table_names ≡ map (λ t. t.name) tables.items },
+    subscriptions: Vec<Subscription>,
+    subscription_names: Names,
     ghost same_publications: { publication_names ≡ map (λ p. p.name) publications.items },
+    ghost same_subscriptions: { subscription_names ≡ map (λ s. s.name) subscriptions.items },
 }
 
 impl Draft {
     ghost use Rattle.std.specs.Prelude.{◌≡◌, ◌<◌, ◌∷◌, ◌++◌, [], length, map, IfOk, IfSome, None, OnOk};
     ghost use Rattle.filter_tree.specs.Shape.{expr_of};
-    ghost use Rattle.pub_reader.specs.Catalogs as spec;
-    ghost use Rattle.pub_reader.specs.CatalogView.{catalog_of, publication_of};
-    ghost use Rattle.pub_reader.specs.DraftView.{draft_of};
+    ghost use Rattle.pub_reader.specs.Catalogs.{columns_at, identified};
+    ghost use Rattle.pub_reader.specs.CatalogView.{catalog_of};
+    ghost use Rattle.pub_reader.specs.Drafts as spec;
+    ghost use Rattle.pub_reader.specs.DraftView.{draft_of, draft_publication_of};
+    ghost use Rattle.pub_reader.specs.Publications.{new_publication};
     ghost use Rattle.pub_reader.specs.Reading.{Answers};
-    ghost use Rattle.pub_reader.specs.Statements as rules;
+    ghost use Rattle.pub_reader.specs.Schemas.{known, new_schema, known_schema};
+    ghost use Rattle.pub_reader.specs.Subscriptions.{new_subscription};
+    ghost use Rattle.pub_reader.specs.TableNames.{new_table, known_table};
 
-    /// Nothing made.
-    pub fn new(alloc: Global) -> Draft
-        ensures { draft_of result ≡ spec.no_catalog }
+    /// Nothing made but the schema `public`.
+    pub fn new(alloc: Global) -> Result<Draft, AllocError>
+        ensures { IfOk result (λ draft. draft_of draft ≡ spec.no_draft) }
     {
-        Draft {
+        let mut schemas = Names::new(alloc);
+        schemas.add(String::from_str(alloc, PUBLIC)?)?;
+        Ok(Draft {
+            schemas,
             tables: Vec::new(alloc),
-            table_names: Names::new(alloc),
             publications: Vec::new(alloc),
             publication_names: Names::new(alloc),
+            subscriptions: Vec::new(alloc),
+            subscription_names: Names::new(alloc),
+        })
+    }
+
+    /// Refuses a schema whose name is taken.
+    #[tactic(auto, unfolding(crate::specs::Schemas::new_schema))]
+    pub fn new_schema(&self, name: &PlacedName) -> Result<usize, ReadError>
+        ensures { Answers (λ n. n) (new_schema (draft_of self.now).schemas name.now) result }
+    {
+        let found = self.schemas.find(name.text.as_str());
+        if found.is_some() {
+            return Err(ReadError {
+                place: name.place,
+                kind: ErrorKind::NameTwice,
+            });
+        }
+        Ok(0)
+    }
+
+    /// The number of a schema that was made before.
+    #[tactic(auto, unfolding(crate::specs::Schemas::known_schema))]
+    pub fn known_schema(&self, name: &PlacedName) -> Result<usize, ReadError>
+        ensures { Answers (λ n. n) (known_schema (draft_of self.now).schemas name.now) result }
+    {
+        match self.schemas.find(name.text.as_str()) {
+            Some(number) => Ok(number),
+            None => Err(ReadError {
+                place: name.place,
+                kind: ErrorKind::UnknownName,
+            }),
         }
     }
 
-    /// The number of the table of a name.
-    fn find_table(&self, name: &str) -> Option<usize>
-        ensures value { result ≡ spec.find_table name.now (draft_of self.now).tables }
+    /// Adds a schema.
+    pub fn add_schema(&mut self, name: Text) -> Result<(), AllocError>
+        ensures { OnOk result (draft_of self.new ≡ record (draft_of self.old) { schemas = spec.with_name (draft_of self.old).schemas name }) }
+    {
+        self.schemas.add(name.into_string())
+    }
+
+    /// The number of the table of a schema and a name.
+    fn find_table(&self, schema: &str, name: &str) -> Option<usize>
+        ensures value { result ≡ spec.find_table schema.now name.now (draft_of self.now).tables }
         ensures within { IfSome result (λ n. n < length (draft_of self.now).tables) }
     {
-        self.table_names.find(name)
+        self.tables.iter().position(|table| schema == table.schema.as_str()
+            && name == table.name.as_str())
     }
 
     /// The number of the publication of a name.
@@ -62,22 +125,28 @@ impl Draft {
         self.publication_names.find(name)
     }
 
-    /// Refuses a table whose name is taken, or that is one too many.
-    #[tactic(auto, unfolding(crate::specs::Statements::new_table))]
-    pub fn new_table(&self, name: &PlacedName) -> Result<usize, ReadError>
-        ensures answer { Answers (λ n. n) (rules.new_table (draft_of self.now).tables name.now) result }
-        ensures free { OnOk result (spec.find_table name.now.text (draft_of self.now).tables ≡ None) }
+    /// The number of the subscription of a name.
+    fn find_subscription(&self, name: &str) -> Option<usize>
+        ensures { result ≡ spec.find_subscription name.now (draft_of self.now).subscriptions }
     {
-        let found = self.find_table(name.text.as_str());
+        self.subscription_names.find(name)
+    }
+
+    /// Refuses a table whose name is taken in its schema, or that is one too many.
+    #[tactic(auto, unfolding(crate::specs::TableNames::new_table))]
+    pub fn new_table(&self, name: &NewName) -> Result<usize, ReadError>
+        ensures { Answers (λ n. n) (new_table (draft_of self.now).tables name.now) result }
+    {
+        let found = self.find_table(name.schema.as_str(), name.name.text.as_str());
         if found.is_some() {
             return Err(ReadError {
-                place: name.place,
+                place: name.name.place,
                 kind: ErrorKind::NameTwice,
             });
         }
         if self.tables.len() >= MAX_TABLES {
             return Err(ReadError {
-                place: name.place,
+                place: name.name.place,
                 kind: ErrorKind::TooMany(Limit::Tables),
             });
         }
@@ -85,9 +154,9 @@ impl Draft {
     }
 
     /// Refuses a publication whose name is taken, or that is one too many.
-    #[tactic(auto, unfolding(crate::specs::Statements::new_publication))]
+    #[tactic(auto, unfolding(crate::specs::Publications::new_publication))]
     pub fn new_publication(&self, name: &PlacedName) -> Result<usize, ReadError>
-        ensures answer { Answers (λ n. n) (rules.new_publication (draft_of self.now) name.now) result }
+        ensures answer { Answers (λ n. n) (new_publication (draft_of self.now) name.now) result }
         ensures free { OnOk result (spec.find_publication name.now.text (draft_of self.now).publications ≡ None) }
     {
         let found = self.find_publication(name.text.as_str());
@@ -106,13 +175,48 @@ impl Draft {
         Ok(0)
     }
 
+    /// Refuses a subscription whose name is taken, or that is one too many.
+    #[tactic(auto, unfolding(crate::specs::Subscriptions::new_subscription))]
+    pub fn new_subscription(&self, name: &PlacedName) -> Result<usize, ReadError>
+        ensures answer { Answers (λ n. n) (new_subscription (draft_of self.now) name.now) result }
+        ensures free { OnOk result (spec.find_subscription name.now.text (draft_of self.now).subscriptions ≡ None) }
+    {
+        let found = self.find_subscription(name.text.as_str());
+        if found.is_some() {
+            return Err(ReadError {
+                place: name.place,
+                kind: ErrorKind::NameTwice,
+            });
+        }
+        if self.subscriptions.len() >= MAX_SUBSCRIPTIONS {
+            return Err(ReadError {
+                place: name.place,
+                kind: ErrorKind::TooMany(Limit::Subscriptions),
+            });
+        }
+        Ok(0)
+    }
+
     /// The number of a table that was made before.
-    #[tactic(auto, unfolding(crate::specs::Statements::known_table))]
-    pub fn known_table(&self, name: &PlacedName) -> Result<usize, ReadError>
-        ensures answer { Answers (λ n. n) (rules.known_table (draft_of self.now).tables name.now) result }
+    #[tactic(auto, unfolding(crate::specs::TableNames::known_table))]
+    pub fn known_table(&self, schema: &str, name: &PlacedName) -> Result<usize, ReadError>
+        ensures answer { Answers (λ n. n) (known_table (draft_of self.now).tables schema.now name.now) result }
         ensures within { IfOk result (λ n. n < length (draft_of self.now).tables) }
     {
-        match self.find_table(name.text.as_str()) {
+        match self.find_table(schema, name.text.as_str()) {
+            Some(number) => Ok(number),
+            None => Err(ReadError {
+                place: name.place,
+                kind: ErrorKind::UnknownName,
+            }),
+        }
+    }
+
+    /// The number of a publication that was made before.
+    pub fn known_publication(&self, name: &PlacedName) -> Result<usize, ReadError>
+        ensures { Answers (λ n. n) (known name.now (spec.find_publication name.now.text (draft_of self.now).publications)) result }
+    {
+        match self.find_publication(name.text.as_str()) {
             Some(number) => Ok(number),
             None => Err(ReadError {
                 place: name.place,
@@ -125,7 +229,7 @@ impl Draft {
     #[tactic(auto, using(crate::proofs::TableLemmas::table_numbers))]
     pub fn columns(&self, number: usize) -> &[Column]
         requires { number < length (draft_of self.now).tables }
-        ensures { result.now ≡ spec.columns_at (draft_of self.now).tables number }
+        ensures { result.now ≡ columns_at (draft_of self.now).tables number }
     {
         self.tables[number].columns.as_slice()
     }
@@ -136,20 +240,20 @@ impl Draft {
     {
         let mut filters = Vec::new(alloc);
         for publication in &self.publications {
-            add_filters(&mut filters, publication.entries.as_slice(), number)?;
+            add_filters(
+                &mut filters,
+                publication.coverage.entries.as_slice(),
+                number,
+            )?;
         }
         Ok(filters)
     }
 
-    /// Adds a table of a new name.
-    pub fn add_table(&mut self, alloc: Global, table: Table) -> Result<(), AllocError>
-        requires { spec.find_table table.name (draft_of self.old).tables ≡ None }
+    /// Adds a table.
+    pub fn add_table(&mut self, table: Table) -> Result<(), AllocError>
         ensures { OnOk result (draft_of self.new ≡ record (draft_of self.old) { tables = (draft_of self.old).tables ++ table ∷ [] }) }
     {
-        let name = String::from_str(alloc, table.name.as_str())?;
-        self.tables.try_reserve(1)?;
-        self.table_names.add(name)?;
-        self.tables.push_reserved(table);
+        self.tables.push(table)?;
         Ok(())
     }
 
@@ -157,10 +261,10 @@ impl Draft {
     pub fn add_publication(
         &mut self,
         alloc: Global,
-        publication: Publication,
+        publication: DraftPublication,
     ) -> Result<(), AllocError>
         requires { spec.find_publication publication.name (draft_of self.old).publications ≡ None }
-        ensures { OnOk result (draft_of self.new ≡ record (draft_of self.old) { publications = (draft_of self.old).publications ++ publication_of publication ∷ [] }) }
+        ensures { OnOk result (draft_of self.new ≡ record (draft_of self.old) { publications = (draft_of self.old).publications ++ draft_publication_of publication ∷ [] }) }
     {
         let name = String::from_str(alloc, publication.name.as_str())?;
         self.publications.try_reserve(1)?;
@@ -169,27 +273,48 @@ impl Draft {
         Ok(())
     }
 
+    /// Adds a subscription of a new name.
+    pub fn add_subscription(
+        &mut self,
+        alloc: Global,
+        subscription: Subscription,
+    ) -> Result<(), AllocError>
+        requires { spec.find_subscription subscription.name (draft_of self.old).subscriptions ≡ None }
+        ensures { OnOk result (draft_of self.new ≡ record (draft_of self.old) { subscriptions = (draft_of self.old).subscriptions ++ subscription ∷ [] }) }
+    {
+        let name = String::from_str(alloc, subscription.name.as_str())?;
+        self.subscriptions.try_reserve(1)?;
+        self.subscription_names.add(name)?;
+        self.subscriptions.push_reserved(subscription);
+        Ok(())
+    }
+
     /// Gives a table another replica identity.
+    #[tactic(auto, using(crate::proofs::TableLemmas::table_numbers))]
     pub fn identify(&mut self, number: usize, identity: Identity)
         requires { number < length (draft_of self.old).tables }
-        ensures { draft_of self.new ≡ record (draft_of self.old) { tables = spec.identified (draft_of self.old).tables number identity } }
+        ensures { draft_of self.new ≡ record (draft_of self.old) { tables = identified (draft_of self.old).tables number identity } }
     {
         self.tables[number].identity = identity;
     }
 
-    /// The catalog, once it is read.
-    pub fn finish(self) -> Catalog
-        ensures { catalog_of result ≡ draft_of self }
+    /// The catalog, once it is read: what the publications cover is resolved.
+    pub fn finish(self, alloc: Global) -> Result<Catalog, AllocError>
+        ensures { IfOk result (λ catalog. catalog_of catalog ≡ spec.resolved (draft_of self)) }
     {
         let Draft {
+            schemas: _,
             tables,
-            table_names: _,
             publications,
             publication_names: _,
+            subscriptions,
+            subscription_names: _,
         } = self;
-        Catalog {
+        let publications = resolved(alloc, tables.as_slice(), publications)?;
+        Ok(Catalog {
             tables,
             publications,
-        }
+            subscriptions,
+        })
     }
 }

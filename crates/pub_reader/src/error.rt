@@ -119,8 +119,13 @@ pub enum Limit {
 }
 
 impl ErrorKind {
+    ghost use Rattle.std.specs.Prelude.{◌≡◌};
+    ghost use Rattle.pub_reader.specs.KindNames.{kind_name};
+
     /// The name of the kind, without what it carries.
-    pub fn name(&self) -> &'static str {
+    pub fn name(&self) -> &'static str
+        ensures { result.now ≡ kind_name self.now }
+    {
         match self {
             ErrorKind::BadToken => "BadToken",
             ErrorKind::Expected(_) => "Expected",

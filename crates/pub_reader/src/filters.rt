@@ -3,7 +3,7 @@
 ghost use Rattle.std.specs.Prelude.{◌≡◌, ◌++◌, OnOk, map};
 ghost use Rattle.filter_tree.specs.Shape.{expr_of};
 ghost use Rattle.pub_reader.specs.CatalogView.{entry_of};
-ghost use Rattle.pub_reader.specs.Catalogs as spec;
+ghost use Rattle.pub_reader.specs.Drafts as spec;
 
 use crate::catalog::Entry;
 use filter_tree::Filter;

@@ -1,8 +1,9 @@
 //! Names with their positions.
 
-ghost use Rattle.std.specs.Prelude.{◌≡◌, ◌∷◌, ◌++◌, [], position, length, IfSome, None, OnOk, OnErr, ◌<◌};
+ghost use Rattle.std.specs.Prelude.{◌≡◌, [], position, length, IfSome, OnOk, OnErr, ◌<◌};
 ghost use Rattle.std.specs.Str.{bytes_eq};
 ghost use Rattle.std.specs.String.{string_bytes};
+ghost use Rattle.pub_reader.specs.Drafts.{with_name};
 
 use indexmap::IndexSet;
 use std::alloc::{AllocError, Global};
@@ -43,7 +44,7 @@ impl Names {
 
     /// Adds a name behind the others, if it is new.
     pub fn add(&mut self, name: String) -> Result<(), AllocError>
-        ensures ok { OnOk result (position (bytes_eq (string_bytes name)) self.old ≡ None → self.new ≡ self.old ++ string_bytes name ∷ []) }
+        ensures ok { OnOk result (self.new ≡ with_name self.old (string_bytes name)) }
         ensures err { OnErr result (self.new ≡ self.old) }
     {
         self.names.insert(name)?;

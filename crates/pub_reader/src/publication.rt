@@ -1,130 +1,36 @@
 //! CREATE PUBLICATION.
 
-ghost use Rattle.std.specs.Prelude.{◌≡◌, ◌<◌, ◌≤◌, ◌∷◌, ◌++◌, [], IfOk, None, OnOk, length, map};
-ghost use Rattle.std.specs.Option.{option_map};
-ghost use Rattle.filter_tree.specs.Shape.{expr_of};
+ghost use Rattle.std.specs.Prelude.{◌≡◌, ◌<◌, ◌≤◌, IfOk, None, OnOk};
 ghost use Rattle.pub_reader.specs.Ahead.{to_read};
-ghost use Rattle.pub_reader.specs.Catalogs.{find_publication, filters_on};
-ghost use Rattle.pub_reader.specs.CatalogView.{entry_of};
-ghost use Rattle.pub_reader.specs.DraftView.{draft_of};
+ghost use Rattle.pub_reader.specs.Drafts.{find_publication};
+ghost use Rattle.pub_reader.specs.DraftView.{coverage_of, draft_of};
 ghost use Rattle.pub_reader.specs.Items.{size};
-ghost use Rattle.pub_reader.specs.Reading.{Reads, Answers};
-ghost use Rattle.pub_reader.specs.Statements as spec;
+ghost use Rattle.pub_reader.specs.Publications as spec;
+ghost use Rattle.pub_reader.specs.Reading.{Reads};
 ghost use Rattle.pub_reader.specs.Written.{as_filter};
 
-use crate::catalog::{Entry, Publication};
-use crate::draft::Draft;
-use crate::error::{ErrorKind, ReadError};
-use crate::expression::expression;
+use crate::catalog::Operations;
+use crate::coverage::Coverage;
+use crate::draft::{Draft, DraftPublication};
+use crate::error::ReadError;
 use crate::item::Item;
-use crate::limits::exceeded;
 use crate::name::{PlacedName, read_name};
+use crate::object::objects;
+use crate::parameter::{Given, parameters_clause};
 use crate::reader::Reader;
-use crate::table::table_number;
 use crate::word::Keyword;
-use filter_tree::Filter;
 use std::alloc::{AllocError, Global};
 
-/// Refuses a filter with which the filters on its table pass a limit.
-#[tactic(auto, unfolding(crate::specs::Statements::limited))]
-fn limited(alloc: Global, place: usize, filters: &[&Filter]) -> Result<usize, ReadError>
-    ensures { Answers (λ n. n) (spec.limited place (map (λ f. expr_of f.now) filters.now)) result }
-{
-    match exceeded(alloc, filters)? {
-        None => Ok(0),
-        Some(limit) => Err(ReadError {
-            place,
-            kind: ErrorKind::TooMany(limit),
-        }),
-    }
-}
-
-/// Refuses a filter with which the filters on its table pass a limit.
-fn within_limits(
-    alloc: Global,
-    draft: &Draft,
-    number: usize,
-    place: usize,
-    filter: &Filter,
-) -> Result<usize, ReadError>
-    ensures { Answers (λ n. n) (spec.limited place (filters_on (λ f. f) number (draft_of draft.now).publications ++ expr_of filter.now ∷ [])) result }
-{
-    let mut filters = draft.filters(alloc, number)?;
-    filters.push(filter)?;
-    Ok(limited(alloc, place, &filters)?)
-}
-
-/// Takes the parenthesis behind a filter.
-#[tactic(auto, unfolding(crate::specs::Statements::ended))]
-fn ended(
-    r: &mut Reader<'_>,
-    alloc: Global,
-    draft: &Draft,
-    number: usize,
-    place: usize,
-    filter: Filter,
-) -> Result<Option<Filter>, ReadError>
-    ensures reads { Reads (λ filter. option_map expr_of filter) (spec.ended as_filter (draft_of draft.now) number place (expr_of filter) (to_read r.old)) result (to_read r.new) }
-    ensures fewer { OnOk result (size (to_read r.new) < size (to_read r.old)) }
-{
-    r.expect(Item::Close, "AND, OR or `)`")?;
-    within_limits(alloc, draft, number, place, &filter)?;
-    Ok(Some(filter))
-}
-
-/// Takes WHERE and a filter of the rows of a table.
-#[tactic(auto, unfolding(crate::specs::Statements::where_clause))]
-fn where_clause(
-    r: &mut Reader<'_>,
-    alloc: Global,
-    draft: &Draft,
-    number: usize,
-) -> Result<Option<Filter>, ReadError>
-    requires { number < length (draft_of draft.now).tables }
-    ensures reads { Reads (λ filter. option_map expr_of filter) (spec.where_clause as_filter (draft_of draft.now) number (to_read r.old)) result (to_read r.new) }
-    ensures fewer { OnOk result (size (to_read r.new) < size (to_read r.old)) }
-{
-    let place = r.expect(Item::Keyword(Keyword::Where), "WHERE")?;
-    r.expect(Item::Open, "`(`")?;
-    let filter = expression(r, alloc, draft.columns(number))?;
-    Ok(ended(r, alloc, draft, number, place, filter)?)
-}
-
-/// Takes the filter behind a table, if there is one.
-#[tactic(auto, unfolding(crate::specs::Statements::filter_clause))]
-fn filter_clause(
-    r: &mut Reader<'_>,
-    alloc: Global,
-    draft: &Draft,
-    number: usize,
-) -> Result<Option<Filter>, ReadError>
-    requires { number < length (draft_of draft.now).tables }
-    ensures reads { Reads (λ filter. option_map expr_of filter) (spec.filter_clause as_filter (draft_of draft.now) number (to_read r.old)) result (to_read r.new) }
-    ensures fewer { OnOk result (size (to_read r.new) ≤ size (to_read r.old)) }
-{
-    match r.item() {
-        Some(Item::Keyword(Keyword::Where)) => where_clause(r, alloc, draft, number),
-        Some(Item::Open) => Err(r.refused(ErrorKind::ColumnList)),
-        _ => Ok(None),
-    }
-}
-
-/// Takes a table with its filter, or a whole one.
-#[tactic(auto, unfolding(crate::specs::Statements::object))]
-fn object(r: &mut Reader<'_>, alloc: Global, draft: &Draft) -> Result<Entry, ReadError>
-    ensures reads { Reads entry_of (spec.object as_filter (draft_of draft.now) (to_read r.old)) result (to_read r.new) }
-    ensures fewer { OnOk result (size (to_read r.new) < size (to_read r.old)) }
-{
-    let number = table_number(r, alloc, draft)?;
-    let filter = filter_clause(r, alloc, draft, number)?;
-    Ok(Entry {
-        table: number,
-        filter,
-    })
-}
+/// What a publication publishes unless it says otherwise.
+const EVERY_OPERATION: Operations = Operations {
+    insert: true,
+    update: true,
+    delete: true,
+    truncate: true,
+};
 
 /// Takes the name of a new publication.
-#[tactic(auto, unfolding(crate::specs::Statements::publication_name))]
+#[tactic(auto, unfolding(crate::specs::Publications::publication_name))]
 fn publication_name(
     r: &mut Reader<'_>,
     alloc: Global,
@@ -139,29 +45,78 @@ fn publication_name(
     Ok(name)
 }
 
-/// Adds a publication of one table.
+/// Takes ALL TABLES.
+#[tactic(auto, unfolding(crate::specs::Publications::all_tables))]
+fn all_tables(r: &mut Reader<'_>, alloc: Global) -> Result<Coverage, ReadError>
+    ensures reads { Reads (λ coverage. coverage_of coverage) (spec.all_tables (to_read r.old)) result (to_read r.new) }
+    ensures fewer { OnOk result (size (to_read r.new) < size (to_read r.old)) }
+{
+    r.expect(Item::Keyword(Keyword::All), "ALL TABLES")?;
+    r.expect(Item::Keyword(Keyword::Tables), "TABLES")?;
+    let mut coverage = Coverage::new(alloc);
+    coverage.everything = true;
+    Ok(coverage)
+}
+
+/// Takes tables and schemas.
+#[tactic(auto, unfolding(crate::specs::Publications::listed_objects))]
+fn listed_objects(r: &mut Reader<'_>, alloc: Global, draft: &Draft) -> Result<Coverage, ReadError>
+    ensures reads { Reads (λ coverage. coverage_of coverage) (spec.listed_objects as_filter (draft_of draft.now) (to_read r.old)) result (to_read r.new) }
+    ensures fewer { OnOk result (size (to_read r.new) < size (to_read r.old)) }
+{
+    let mut coverage = Coverage::new(alloc);
+    objects(r, alloc, draft, &mut coverage)?;
+    Ok(coverage)
+}
+
+/// Takes what the publication is for, behind FOR.
+#[tactic(auto, unfolding(crate::specs::Publications::scope))]
+fn scope(r: &mut Reader<'_>, alloc: Global, draft: &Draft) -> Result<Coverage, ReadError>
+    ensures reads { Reads (λ coverage. coverage_of coverage) (spec.scope as_filter (draft_of draft.now) (to_read r.old)) result (to_read r.new) }
+    ensures fewer { OnOk result (size (to_read r.new) < size (to_read r.old)) }
+{
+    match r.item() {
+        Some(Item::Keyword(Keyword::All)) => all_tables(r, alloc),
+        _ => listed_objects(r, alloc, draft),
+    }
+}
+
+/// Takes FOR and what the publication is for; without FOR it has no tables.
+#[tactic(auto, using(crate::proofs::Ahead::rest_is_no_more), unfolding(crate::specs::Publications::for_clause))]
+fn for_clause(r: &mut Reader<'_>, alloc: Global, draft: &Draft) -> Result<Coverage, ReadError>
+    ensures reads { Reads (λ coverage. coverage_of coverage) (spec.for_clause as_filter (draft_of draft.now) (to_read r.old)) result (to_read r.new) }
+    ensures fewer { OnOk result (size (to_read r.new) ≤ size (to_read r.old)) }
+{
+    match r.item() {
+        Some(Item::Keyword(Keyword::For)) => {
+            r.advance();
+            scope(r, alloc, draft)
+        }
+        _ => Ok(Coverage::new(alloc)),
+    }
+}
+
+/// Adds a publication.
 fn add_publication(
     alloc: Global,
     draft: &mut Draft,
     name: PlacedName,
-    entry: Entry,
+    coverage: Coverage,
+    given: Given,
 ) -> Result<(), AllocError>
     requires { find_publication name.text (draft_of draft.old).publications ≡ None }
-    ensures { OnOk result (draft_of draft.new ≡ spec.with_publication (draft_of draft.old) name (entry_of entry)) }
+    ensures { OnOk result (draft_of draft.new ≡ spec.with_publication (draft_of draft.old) name (coverage_of coverage) given) }
 {
-    let mut entries = Vec::new(alloc);
-    entries.push(entry)?;
-    draft.add_publication(
-        alloc,
-        Publication {
-            name: name.text,
-            entries,
-        },
-    )
+    let publication = DraftPublication {
+        name: name.text,
+        publishes: given.publishes.unwrap_or(EVERY_OPERATION),
+        coverage,
+    };
+    draft.add_publication(alloc, publication)
 }
 
 /// Takes what stands behind CREATE PUBLICATION, and makes the publication.
-#[tactic(auto, unfolding(crate::specs::Statements::create_publication))]
+#[tactic(auto, unfolding(crate::specs::Publications::create_publication))]
 pub fn create_publication(
     r: &mut Reader<'_>,
     alloc: Global,
@@ -171,9 +126,8 @@ pub fn create_publication(
     ensures fewer { OnOk result (size (to_read r.new) < size (to_read r.old)) }
 {
     let name = publication_name(r, alloc, draft)?;
-    r.expect(Item::Keyword(Keyword::For), "FOR TABLE")?;
-    r.expect(Item::Keyword(Keyword::Table), "TABLE")?;
-    let entry = object(r, alloc, draft)?;
-    add_publication(alloc, draft, name, entry)?;
+    let coverage = for_clause(r, alloc, draft)?;
+    let given = parameters_clause(r)?;
+    add_publication(alloc, draft, name, coverage, given)?;
     Ok(())
 }

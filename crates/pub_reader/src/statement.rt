@@ -12,10 +12,13 @@ ghost use Rattle.pub_reader.specs.Written.{as_filter, as_written, MeansAsWritten
 use crate::catalog::Catalog;
 use crate::draft::Draft;
 use crate::error::{ErrorKind, Later, ReadError};
+use crate::identity::alter_table;
 use crate::item::Item;
 use crate::publication::create_publication;
 use crate::reader::Reader;
-use crate::table::{alter_table, create_table};
+use crate::schema::create_schema;
+use crate::subscription::create_subscription;
+use crate::table::create_table;
 use crate::word::Keyword;
 use std::alloc::Global;
 
@@ -34,10 +37,18 @@ fn created(r: &mut Reader<'_>, alloc: Global, draft: &mut Draft) -> Result<(), R
             r.advance();
             create_publication(r, alloc, draft)
         }
+        Some(Item::Keyword(Keyword::Schema)) => {
+            r.advance();
+            create_schema(r, alloc, draft)
+        }
+        Some(Item::Keyword(Keyword::Subscription)) => {
+            r.advance();
+            create_subscription(r, alloc, draft)
+        }
         Some(Item::Keyword(Keyword::Unique)) => Err(r.refused(ErrorKind::NotYet(
             Later::UniqueIndex,
         ))),
-        _ => Err(r.refusal("TABLE or PUBLICATION")),
+        _ => Err(r.refusal("SCHEMA, TABLE, PUBLICATION or SUBSCRIPTION")),
     }
 }
 
@@ -80,14 +91,16 @@ fn ended_statement(r: &mut Reader<'_>, alloc: Global, draft: &mut Draft) -> Resu
 fn statements(r: &mut Reader<'_>, alloc: Global) -> Result<Draft, ReadError>
     ensures { Reads (λ draft. draft_of draft) (spec.statements as_filter (to_read r.old)) result (to_read r.new) }
 {
-    let mut draft = Draft::new(alloc);
+    let mut draft = Draft::new(alloc)?;
     while r.more_ahead()? {
         ended_statement(r, alloc, &mut draft)?;
     }
     Ok(draft)
 }
 
-/// Reads a catalog: CREATE TABLE, ALTER TABLE .. REPLICA IDENTITY and CREATE PUBLICATION .. FOR TABLE, each ended by `;`.
+/// Reads a catalog: CREATE SCHEMA, CREATE TABLE, ALTER TABLE .. REPLICA IDENTITY, CREATE PUBLICATION and CREATE
+/// SUBSCRIPTION, each ended by `;`. A publication's entries are the tables that it names, and then each table that it
+/// carries whole by FOR ALL TABLES or TABLES IN SCHEMA, wherever in the text the table is made.
 ///
 /// # Errors
 ///
@@ -105,5 +118,5 @@ fn whole_catalog(alloc: Global, text: &str) -> Result<Catalog, ReadError>
     ensures { Answers catalog_of (spec.catalog_by as_filter text.now) result }
 {
     let draft = statements(&mut Reader::new(text), alloc)?;
-    Ok(draft.finish())
+    Ok(draft.finish(alloc)?)
 }

@@ -1,9 +1,18 @@
 mod catalog_cases;
 mod chains;
+mod expression_cases;
+mod expressions;
+mod parameter_cases;
+mod publication_cases;
+mod resolution;
 mod row_cases;
+mod statement_cases;
 
 use self::catalog_cases::{BEHIND_A_TABLE, Case, FILTERS, WHOLE};
+use self::parameter_cases::PARAMETERS;
+use self::publication_cases::{BEHIND_PUBLICATIONS, BEHIND_TABLES};
 use self::row_cases::ROWS;
+use self::statement_cases::STATEMENTS;
 use crate::{Catalog, ErrorKind, ReadError, read_catalog, read_row};
 use filter_tree::{Identity, Row, Tri, Value, eval};
 use std::alloc::{AllocError, Global};
@@ -24,6 +33,9 @@ fn is_error(
     let found = format!(in alloc; "{:?}", error.kind)?;
     Ok(error.place == place && found.as_str().starts_with(kind))
 }
+
+const TABLES: &str =
+    "CREATE SCHEMA s;\nCREATE TABLE t (id integer PRIMARY KEY, region text);\nCREATE TABLE s.u (id integer PRIMARY KEY);\n";
 
 fn check_catalogs(
     rt: &impl Abort,
@@ -50,6 +62,18 @@ fn reads_catalogs_or_their_first_fault(rt: HostRuntime) -> Result<(), Fail> {
     check_catalogs(&rt, rt.alloc(), "", WHOLE)?;
     check_catalogs(&rt, rt.alloc(), TABLE, BEHIND_A_TABLE)?;
     check_catalogs(&rt, rt.alloc(), filter.as_str(), FILTERS)?;
+    Ok(())
+}
+
+#[test]
+fn reads_statements_or_their_first_fault(rt: HostRuntime) -> Result<(), Fail> {
+    let publications = format!(in rt.alloc();
+        "{TABLES}CREATE PUBLICATION p;CREATE PUBLICATION q FOR TABLE t;"
+    )?;
+    check_catalogs(&rt, rt.alloc(), "", STATEMENTS)?;
+    check_catalogs(&rt, rt.alloc(), TABLES, BEHIND_TABLES)?;
+    check_catalogs(&rt, rt.alloc(), TABLES, PARAMETERS)?;
+    check_catalogs(&rt, rt.alloc(), publications.as_str(), BEHIND_PUBLICATIONS)?;
     Ok(())
 }
 
@@ -122,6 +146,21 @@ fn outcome(alloc: Global, text: &str) -> Result<String, AllocError> {
 }
 
 #[test]
+fn strings_have_a_limit(rt: HostRuntime) -> Result<(), Fail> {
+    let alloc = rt.alloc();
+    let before = "CREATE PUBLICATION p;CREATE SUBSCRIPTION s CONNECTION ";
+    let letters = "a".repeat(alloc, 65_534)?;
+    let longest = format!(in alloc; "{before}'{letters}''' PUBLICATION p;")?;
+    let one_more = format!(in alloc; "{before}'{letters}a''' PUBLICATION p;")?;
+    assert_eq!(rt; outcome(alloc, longest.as_str())?.as_str(), "ok");
+    assert_eq!(rt;
+        outcome(alloc, one_more.as_str())?.as_str(),
+        "TooMany(LiteralBytes) 54"
+    );
+    Ok(())
+}
+
+#[test]
 fn counts_up_to_the_limits(rt: HostRuntime) -> Result<(), Fail> {
     let alloc = rt.alloc();
     let tables = numbered(
@@ -158,12 +197,27 @@ fn counts_up_to_the_limits(rt: HostRuntime) -> Result<(), Fail> {
         outcome(alloc, one_more.as_str())?.as_str(),
         "TooMany(Publications) 2303"
     );
+
+    let subscriptions = numbered(
+        alloc,
+        "CREATE SUBSCRIPTION s",
+        32,
+        " CONNECTION '' PUBLICATION p",
+        ";",
+    )?;
+    let all = format!(in alloc; "CREATE PUBLICATION p;{subscriptions};")?;
+    let one_more = format!(in alloc; "{all}CREATE SUBSCRIPTION t CONNECTION '' PUBLICATION p;")?;
+    assert_eq!(rt; outcome(alloc, all.as_str())?.as_str(), "ok");
+    assert_eq!(rt;
+        outcome(alloc, one_more.as_str())?.as_str(),
+        "TooMany(Subscriptions) 1695"
+    );
     Ok(())
 }
 
 /// A filter in a publication.
 fn with_filter(alloc: Global, filter: &str) -> Result<String, AllocError> {
-    let text = format!(in alloc; "{TABLE}{FILTER}{filter});")?;
+    let text = format!(in alloc; "{TABLES}{FILTER}{filter});")?;
     outcome(alloc, text.as_str())
 }
 
@@ -177,7 +231,7 @@ fn limits_filters(rt: HostRuntime) -> Result<(), Fail> {
     assert_eq!(rt; with_filter(alloc, again.as_str())?.as_str(), "ok");
     assert_eq!(rt;
         with_filter(alloc, one_more.as_str())?.as_str(),
-        "TooMany(Atoms) 87"
+        "TooMany(Atoms) 147"
     );
 
     let mut nodes = String::from_str(alloc, "NOT id = 0")?;
@@ -188,7 +242,15 @@ fn limits_filters(rt: HostRuntime) -> Result<(), Fail> {
     assert_eq!(rt; with_filter(alloc, nodes.as_str())?.as_str(), "ok");
     assert_eq!(rt;
         with_filter(alloc, one_more.as_str())?.as_str(),
-        "TooMany(Nodes) 87"
+        "TooMany(Nodes) 147"
+    );
+
+    let other_table = format!(in alloc; "id = 100), s.u WHERE ({atoms}")?;
+    let same_table = format!(in alloc; "id = 100), t WHERE ({atoms}")?;
+    assert_eq!(rt; with_filter(alloc, other_table.as_str())?.as_str(), "ok");
+    assert_eq!(rt;
+        with_filter(alloc, same_table.as_str())?.as_str(),
+        "TooMany(Atoms) 167"
     );
     Ok(())
 }
@@ -207,7 +269,7 @@ fn nests_to_64(rt: HostRuntime) -> Result<(), Fail> {
     assert_eq!(rt; with_filter(alloc, all.as_str())?.as_str(), "ok");
     assert_eq!(rt;
         with_filter(alloc, one_more.as_str())?.as_str(),
-        "TooDeep 158"
+        "TooDeep 218"
     );
     Ok(())
 }

@@ -36,16 +36,27 @@ pub enum Keyword {
     Where,
     With,
     Alter,
+    Between,
+    Case,
+    Connection,
+    CurrentSchema,
     Full,
     Identity,
     If,
+    Ilike,
     Inherits,
     Key,
+    Like,
     Nothing,
     Partition,
     Publication,
     Replica,
+    Schema,
+    Similar,
+    Subscription,
+    Tables,
     Text,
+    Unknown,
 }
 
 /// The keyword that a word spells, in upper or lower case.
@@ -57,7 +68,10 @@ pub fn keyword_of(word: &str) -> Option<Keyword>
         Some(keyword) => Some(keyword),
         None => match late_keyword(word) {
             Some(keyword) => Some(keyword),
-            None => free_keyword(word),
+            None => match early_free_keyword(word) {
+                Some(keyword) => Some(keyword),
+                None => late_free_keyword(word),
+            },
         },
     }
 }
@@ -68,16 +82,27 @@ pub fn is_reserved(keyword: Keyword) -> bool
 {
     match keyword {
         Keyword::Alter
+        | Keyword::Between
+        | Keyword::Case
+        | Keyword::Connection
+        | Keyword::CurrentSchema
         | Keyword::Full
         | Keyword::Identity
         | Keyword::If
+        | Keyword::Ilike
         | Keyword::Inherits
         | Keyword::Key
+        | Keyword::Like
         | Keyword::Nothing
         | Keyword::Partition
         | Keyword::Publication
         | Keyword::Replica
-        | Keyword::Text => false,
+        | Keyword::Schema
+        | Keyword::Similar
+        | Keyword::Subscription
+        | Keyword::Tables
+        | Keyword::Text
+        | Keyword::Unknown => false,
         _ => true,
     }
 }
@@ -158,23 +183,45 @@ fn late_keyword(word: &str) -> Option<Keyword>
     }
 }
 
-/// The keywords that may be names too.
-#[tactic(auto, unfolding(crate::specs::Keywords::free_keyword))]
-fn free_keyword(word: &str) -> Option<Keyword>
-    ensures { result ≡ spec.free_keyword word.now }
+/// The keywords from ALTER to KEY that may be names too.
+#[tactic(auto, unfolding(crate::specs::Keywords::early_free_keyword))]
+fn early_free_keyword(word: &str) -> Option<Keyword>
+    ensures { result ≡ spec.early_free_keyword word.now }
 {
     if same_word(word, "alter") {
         Some(Keyword::Alter)
+    } else if same_word(word, "between") {
+        Some(Keyword::Between)
+    } else if same_word(word, "case") {
+        Some(Keyword::Case)
+    } else if same_word(word, "connection") {
+        Some(Keyword::Connection)
+    } else if same_word(word, "current_schema") {
+        Some(Keyword::CurrentSchema)
     } else if same_word(word, "full") {
         Some(Keyword::Full)
     } else if same_word(word, "identity") {
         Some(Keyword::Identity)
     } else if same_word(word, "if") {
         Some(Keyword::If)
+    } else if same_word(word, "ilike") {
+        Some(Keyword::Ilike)
     } else if same_word(word, "inherits") {
         Some(Keyword::Inherits)
     } else if same_word(word, "key") {
         Some(Keyword::Key)
+    } else {
+        None
+    }
+}
+
+/// The keywords from LIKE to UNKNOWN that may be names too.
+#[tactic(auto, unfolding(crate::specs::Keywords::late_free_keyword))]
+fn late_free_keyword(word: &str) -> Option<Keyword>
+    ensures { result ≡ spec.late_free_keyword word.now }
+{
+    if same_word(word, "like") {
+        Some(Keyword::Like)
     } else if same_word(word, "nothing") {
         Some(Keyword::Nothing)
     } else if same_word(word, "partition") {
@@ -183,8 +230,18 @@ fn free_keyword(word: &str) -> Option<Keyword>
         Some(Keyword::Publication)
     } else if same_word(word, "replica") {
         Some(Keyword::Replica)
+    } else if same_word(word, "schema") {
+        Some(Keyword::Schema)
+    } else if same_word(word, "similar") {
+        Some(Keyword::Similar)
+    } else if same_word(word, "subscription") {
+        Some(Keyword::Subscription)
+    } else if same_word(word, "tables") {
+        Some(Keyword::Tables)
     } else if same_word(word, "text") {
         Some(Keyword::Text)
+    } else if same_word(word, "unknown") {
+        Some(Keyword::Unknown)
     } else {
         None
     }

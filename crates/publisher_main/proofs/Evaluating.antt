@@ -1,5 +1,5 @@
 -- What `eval` answers, from what its steps gave.
-use Rattle.std.proofs.Common.{◌≡◌, ℕ, List, Option, Some, None, Result, Ok, Err, IfOk, OnOk, IfErr, slice_get, subst}
+use Rattle.std.proofs.Common.{◌≡◌, ℕ, List, Option, Some, Result, Ok, Err, IfOk, OnOk, IfErr, slice_get, subst}
 use Rattle.filter_tree.specs.declared.table.Table.{Table}
 use Rattle.pub_reader.specs.CatalogView.{catalog_of}
 use Rattle.pub_reader.specs.Statements.{catalog_by}
@@ -10,12 +10,14 @@ use Rattle.publisher_main.specs.Evaluation.{status_of, Writes, IsEvaluated, IsSt
 use Rattle.publisher_main.specs.Parts.{Cut, two_parts, lines_of}
 use Rattle.publisher_main.specs.Statuses.{IsOfWriting}
 use Rattle.publisher_main.specs.Tables.{table_of}
+use Rattle.publisher_main.specs.declared.arguments.Question.{Question}
 use Rattle.publisher_main.specs.declared.failure.Failure.{Failure}
 use Rattle.publisher_main.specs.declared.failure.Failure.TheVariants as f
 use Rattle.publisher_main.specs.declared.failure.Status.{Status}
 
 stopped : (input word : List ℕ) (failure : Failure) → IsOfWriting failure → IsStopped input word failure
 stopped input word (f.CommandLine error) h = absurd h
+stopped input word f.WordNotUtf8 h = absurd h
 stopped input word f.Input h = absurd h
 stopped input word (f.Catalog error) h = absurd h
 stopped input word (f.Table name) h = absurd h
@@ -23,11 +25,11 @@ stopped input word f.Output h = tt
 stopped input word f.OutOfMemory h = tt
 
 -- the rows were written, or writing stopped
-pub evaluated : (input word : List ℕ) (old new : Option (List ℕ)) (cut : Cut) (catalog : Catalog) (number : ℕ) (table : Table) (publications : List Publication) → publications ≡ catalog.publications.items → two_parts input ≡ Some cut
+pub evaluated : (question : Question) (input word : List ℕ) (old new : Option (List ℕ)) (cut : Cut) (catalog : Catalog) (number : ℕ) (table : Table) (publications : List Publication) → publications ≡ catalog.publications.items → two_parts input ≡ Some cut
     → catalog_by as_filter cut.part ≡ Ok (catalog_of catalog) → table_of word catalog.tables.items ≡ Some number → slice_get catalog.tables.items number ≡ Some table
     → (result : Result Status Failure) → IfOk result (λ status. status ≡ status_of table.columns (lines_of cut.rest))
-    → OnOk result (Writes number publications table.columns (lines_of cut.rest) old new) → IfErr result IsOfWriting → IsEvaluated input word old new result
-evaluated input word old new cut catalog number table publications same parts reads named stands (Ok status) answers writes stops = record {
+    → OnOk result (Writes question number publications table.columns (lines_of cut.rest) old new) → IfErr result IsOfWriting → IsEvaluated question input word old new result
+evaluated question input word old new cut catalog number table publications same parts reads named stands (Ok status) answers writes stops = record {
   cut = cut;
   catalog = catalog;
   number = number;
@@ -37,6 +39,6 @@ evaluated input word old new cut catalog number table publications same parts re
   named = named;
   stands = stands;
   answers = answers;
-  writes = subst (λ (p : List Publication). Writes number p table.columns (lines_of cut.rest) old new) same writes;
+  writes = subst (λ (p : List Publication). Writes question number p table.columns (lines_of cut.rest) old new) same writes;
 }
-evaluated input word old new cut catalog number table publications same parts reads named stands (Err failure) answers writes stops = stopped input word failure stops
+evaluated question input word old new cut catalog number table publications same parts reads named stands (Err failure) answers writes stops = stopped input word failure stops

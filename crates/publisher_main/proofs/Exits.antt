@@ -2,9 +2,9 @@
 use Rattle.std.proofs.Common.{◌≡◌, ℕ, List, Option, Some, None, arith, ◌∙◌}
 use Rattle.std.specs.Io.KnownBytes.{Appends, Keeps}
 use denote.Enum.Declared.{tag_of}
-use Rattle.publisher_main.specs.Evaluation.{IsAnswered, AnswersSome, IsOutcome}
-use Rattle.publisher_main.specs.Statuses.{IsEarly}
+use Rattle.publisher_main.specs.Evaluation.{IsAnswered, AnswersWords, AnswersSome, IsOutcome}
 use Rattle.publisher_main.specs.contracts.failure.Status.{the_type}
+use Rattle.publisher_main.specs.declared.arguments.Question.{Question}
 use Rattle.publisher_main.specs.declared.failure.Status.{Status}
 use Rattle.publisher_main.specs.declared.failure.Status.TheVariants.{Done, Refused, CommandLine, Input, Output, OutOfMemory}
 
@@ -14,8 +14,8 @@ appends_kept (Some xs) None newer bytes first second = absurd first
 appends_kept (Some xs) (Some ys) None bytes first second = absurd second
 appends_kept (Some xs) (Some ys) (Some zs) bytes first second = second ∙ first
 
-answered_kept : (input word : List ℕ) (old new newer : Option (List ℕ)) (status : Status) → IsAnswered input word old new status → Keeps new newer → IsAnswered input word old newer status
-answered_kept input word old new newer status now keeps = record {
+answered_kept : (question : Question) (input word : List ℕ) (old new newer : Option (List ℕ)) (status : Status) → IsAnswered question input word old new status → Keeps new newer → IsAnswered question input word old newer status
+answered_kept question input word old new newer status now keeps = record {
   cut = now.cut;
   catalog = now.catalog;
   number = now.number;
@@ -32,38 +32,30 @@ answered_kept input word old new newer status now keeps = record {
   };
 }
 
-some_kept : (known old new newer : Option (List ℕ)) (status : Status) → AnswersSome known old new status → Keeps new newer → AnswersSome known old newer status
-some_kept None old new newer status now keeps = tt
-some_kept (Some input) old new newer status now keeps = (now.0, answered_kept input now.0 old new newer status now.1 keeps)
+words_kept : (words : List (List ℕ)) (input : List ℕ) (old new newer : Option (List ℕ)) (status : Status) → AnswersWords words input old new status → Keeps new newer → AnswersWords words input old newer status
+words_kept words input old new newer status now keeps = record {
+  word = now.word;
+  question = now.question;
+  asks = now.asks;
+  answers = answered_kept now.question input now.word old new newer status now.answers keeps;
+}
 
-pub is_done : (known old new newer : Option (List ℕ)) (status : Status) → IsOutcome known old new status → Keeps new newer → tag_of the_type status ≡ 0 → AnswersSome known old newer Done
-is_done known old new newer Done now keeps e = some_kept known old new newer Done now keeps
-is_done known old new newer Refused now keeps e = absurd (omega arith)
-is_done known old new newer CommandLine now keeps e = absurd (omega arith)
-is_done known old new newer Input now keeps e = absurd (omega arith)
-is_done known old new newer Output now keeps e = absurd (omega arith)
-is_done known old new newer OutOfMemory now keeps e = absurd (omega arith)
+some_kept : (words : List (List ℕ)) (known old new newer : Option (List ℕ)) (status : Status) → AnswersSome words known old new status → Keeps new newer → AnswersSome words known old newer status
+some_kept words None old new newer status now keeps = tt
+some_kept words (Some input) old new newer status now keeps = words_kept words input old new newer status now keeps
 
-pub is_refused : (known old new newer : Option (List ℕ)) (status : Status) → IsOutcome known old new status → Keeps new newer → tag_of the_type status ≡ 1 → AnswersSome known old newer Refused
-is_refused known old new newer Done now keeps e = absurd (omega arith)
-is_refused known old new newer Refused now keeps e = some_kept known old new newer Refused now keeps
-is_refused known old new newer CommandLine now keeps e = absurd (omega arith)
-is_refused known old new newer Input now keeps e = absurd (omega arith)
-is_refused known old new newer Output now keeps e = absurd (omega arith)
-is_refused known old new newer OutOfMemory now keeps e = absurd (omega arith)
+pub is_done : (words : List (List ℕ)) (known old new newer : Option (List ℕ)) (status : Status) → IsOutcome words known old new status → Keeps new newer → tag_of the_type status ≡ 0 → AnswersSome words known old newer Done
+is_done words known old new newer Done now keeps e = some_kept words known old new newer Done now keeps
+is_done words known old new newer Refused now keeps e = absurd (omega arith)
+is_done words known old new newer CommandLine now keeps e = absurd (omega arith)
+is_done words known old new newer Input now keeps e = absurd (omega arith)
+is_done words known old new newer Output now keeps e = absurd (omega arith)
+is_done words known old new newer OutOfMemory now keeps e = absurd (omega arith)
 
-pub outcome_of_answer : (known old new : Option (List ℕ)) (status : Status) → AnswersSome known old new status → IsOutcome known old new status
-outcome_of_answer known old new Done now = now
-outcome_of_answer known old new Refused now = now
-outcome_of_answer known old new CommandLine now = tt
-outcome_of_answer known old new Input now = tt
-outcome_of_answer known old new Output now = tt
-outcome_of_answer known old new OutOfMemory now = tt
-
-pub outcome_of_early : (known old new : Option (List ℕ)) (status : Status) → IsEarly status → IsOutcome known old new status
-outcome_of_early known old new Done early = absurd early
-outcome_of_early known old new Refused early = absurd early
-outcome_of_early known old new CommandLine early = tt
-outcome_of_early known old new Input early = tt
-outcome_of_early known old new Output early = tt
-outcome_of_early known old new OutOfMemory early = tt
+pub is_refused : (words : List (List ℕ)) (known old new newer : Option (List ℕ)) (status : Status) → IsOutcome words known old new status → Keeps new newer → tag_of the_type status ≡ 1 → AnswersSome words known old newer Refused
+is_refused words known old new newer Done now keeps e = absurd (omega arith)
+is_refused words known old new newer Refused now keeps e = some_kept words known old new newer Refused now keeps
+is_refused words known old new newer CommandLine now keeps e = absurd (omega arith)
+is_refused words known old new newer Input now keeps e = absurd (omega arith)
+is_refused words known old new newer Output now keeps e = absurd (omega arith)
+is_refused words known old new newer OutOfMemory now keeps e = absurd (omega arith)

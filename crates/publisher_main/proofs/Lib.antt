@@ -1,3 +1,4 @@
+pub mod Asking
 pub mod Evaluating
 pub mod Exits
 pub mod Limits

@@ -1,5 +1,5 @@
 -- How lines and cuts go on behind the first line of a text.
-use Rattle.std.proofs.Common.{◌≡◌, ℕ, suc, ◌+◌, ◌<◌, length, append_assoc, append-nil, Bool, true, false, ◌&&◌, List, [], ◌∷◌, ◌++◌, take, drop, Option, Some, None, refl, sym, ap, ◌∙◌, arith}
+use Rattle.std.proofs.Common.{◌≡◌, ℕ, suc, ◌+◌, ◌<◌, length, append_assoc, Bool, true, false, List, [], ◌∷◌, ◌++◌, take, drop, Option, Some, None, refl, sym, ap, ◌∙◌, arith}
 use Rattle.std.proofs.lemmas.List.{take-append-drop}
 use Rattle.std.specs.Option.{option_map}
 use Rattle.std.specs.List.{position_or_len}
@@ -94,13 +94,6 @@ pub record IsCutLater (text rest : List ℕ) : Type 0 where
   pub whole : text ≡ front ++ rest
   pub same : cut_of text ≡ option_map (onto_parts front) (cut_of rest)
 
-map_onto_nothing : (cut : Option Cut) → cut ≡ option_map (onto_parts []) cut
-map_onto_nothing None = refl
-map_onto_nothing (Some cut) = refl
-
-pub later_at_start : (text : List ℕ) → IsCutLater text text
-later_at_start text = record { front = []; whole = refl; same = map_onto_nothing (cut_of text) }
-
 later_next : (text : List ℕ) (byte : ℕ) (rest : List ℕ) → is_separator (first_line (byte ∷ rest)) ≡ false → IsCutLater text (byte ∷ rest) → IsCutLater text (behind_line (byte ∷ rest))
 later_next text byte rest other now = record {
   front = now.front ++ whole_line (byte ∷ rest);
@@ -112,15 +105,3 @@ later_next text byte rest other now = record {
 pub later_behind_line : (text rest : List ℕ) → 0 < length rest → is_separator (first_line rest) ≡ false → IsCutLater text rest → IsCutLater text (behind_line rest)
 later_behind_line text [] some other now = absurd (omega arith)
 later_behind_line text (byte ∷ rest) some other now = later_next text byte rest other now
-
-cut_of-here : (byte : ℕ) (text : List ℕ) → is_separator (first_line (byte ∷ text)) ≡ true → cut_of (byte ∷ text) ≡ Some (record { part = []; rest = behind_line (byte ∷ text) })
-cut_of-here byte text e = rw e refl
-
-append-nothing : (front : List ℕ) → front ++ [] ≡ front
-append-nothing front = append-nil front
-
--- where it is one
-pub cut_here : (text rest : List ℕ) → 0 < length rest → is_separator (first_line rest) ≡ true → (now : IsCutLater text rest) → cut_of text ≡ Some (record { part = now.front; rest = behind_line rest })
-cut_here text [] some here now = absurd (omega arith)
-cut_here text (byte ∷ rest) some here now =
-    now.same ∙ ap (option_map (onto_parts now.front)) (cut_of-here byte rest here) ∙ ap (λ part. Some (record { part = part; rest = behind_line (byte ∷ rest) })) (append-nothing now.front)

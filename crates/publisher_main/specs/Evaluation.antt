@@ -16,8 +16,12 @@ use Rattle.pub_reader.specs.declared.catalog.Publication.{Publication}
 use Rattle.pub_reader.specs.declared.error.ReadError.{ReadError}
 use Rattle.publisher_main.specs.Answers.{line_of}
 use Rattle.publisher_main.specs.BadRows.{is_answered}
+use Rattle.publisher_main.specs.CommandLine.{Asks}
+use Rattle.publisher_main.specs.Inserts.{insert_line}
 use Rattle.publisher_main.specs.Parts.{Cut, two_parts, lines_of}
 use Rattle.publisher_main.specs.Tables.{table_of}
+use Rattle.publisher_main.specs.declared.arguments.Question.{Question}
+use Rattle.publisher_main.specs.declared.arguments.Question.TheVariants as q
 use Rattle.publisher_main.specs.declared.failure.Failure.{Failure}
 use Rattle.publisher_main.specs.declared.failure.Failure.TheVariants as f
 use Rattle.publisher_main.specs.declared.failure.Status.{Status}
@@ -29,10 +33,15 @@ status_of columns rows = if list_all (is_answered columns) rows then Done else R
 
 -- ---- what is written
 
-module _ (number : ℕ) (publications : List Publication) (columns : List Column) where
-  -- the line of a row that fits is what the publications say of it
+-- what the publications say of a row that fits, or its Insert message
+abbrev pub told : Question → ℕ → List Datum → List Publication → List ℕ
+told q.Answers number cells publications = line_of number cells publications
+told q.Insert number cells publications = insert_line number cells publications
+
+module _ (question : Question) (number : ℕ) (publications : List Publication) (columns : List Column) where
+  -- the line of a row that fits is what is told of it
   abbrev pub IsLineOf : Result (List Datum) Fault → List ℕ → Type 0
-  IsLineOf (Ok cells) line = IfNone (row_fault columns cells) (line ≡ line_of number cells publications)
+  IsLineOf (Ok cells) line = IfNone (row_fault columns cells) (line ≡ told question number cells publications)
   IsLineOf (Err fault) line = Unit {0}
 
   abbrev pub IsLine : List ℕ → List ℕ → Type 0
@@ -52,7 +61,7 @@ module _ (number : ℕ) (publications : List Publication) (columns : List Column
 -- ---- what is answered
 
 -- the input has two parts, the first is a catalog, it has the table, and each row of the second is answered
-pub record IsAnswered (input word : List ℕ) (old new : Option (List ℕ)) (status : Status) : Type 0 where
+pub record IsAnswered (question : Question) (input word : List ℕ) (old new : Option (List ℕ)) (status : Status) : Type 0 where
   pub cut : Cut
   pub catalog : Catalog
   pub number : ℕ
@@ -62,7 +71,7 @@ pub record IsAnswered (input word : List ℕ) (old new : Option (List ℕ)) (sta
   pub named : table_of word catalog.tables.items ≡ Some number
   pub stands : slice_get catalog.tables.items number ≡ Some table
   pub answers : status ≡ status_of table.columns (lines_of cut.rest)
-  pub writes : Writes number catalog.publications.items table.columns (lines_of cut.rest) old new
+  pub writes : Writes question number catalog.publications.items table.columns (lines_of cut.rest) old new
 
 -- the input has two parts, and the first is no catalog
 pub record IsBadCatalog (input : List ℕ) (error : ReadError) : Type 0 where
@@ -81,22 +90,30 @@ pub record IsUnknown (input word : List ℕ) : Type 0 where
 -- why there is no answer; for want of memory or of room for output it says nothing of the input
 abbrev pub IsStopped : List ℕ → List ℕ → Failure → Type 0
 IsStopped input word (f.CommandLine error) = ⊥
+IsStopped input word f.WordNotUtf8 = ⊥
 IsStopped input word f.Input = two_parts input ≡ None
 IsStopped input word (f.Catalog error) = IsBadCatalog input error
 IsStopped input word (f.Table name) = IsUnknown input word × (name.now ≡ word)
 IsStopped input word f.Output = Unit {0}
 IsStopped input word f.OutOfMemory = Unit {0}
 
-abbrev pub IsEvaluated : List ℕ → List ℕ → Option (List ℕ) → Option (List ℕ) → Result Status Failure → Type 0
-IsEvaluated input word old new (Ok status) = IsAnswered input word old new status
-IsEvaluated input word old new (Err failure) = IsStopped input word failure
+abbrev pub IsEvaluated : Question → List ℕ → List ℕ → Option (List ℕ) → Option (List ℕ) → Result Status Failure → Type 0
+IsEvaluated question input word old new (Ok status) = IsAnswered question input word old new status
+IsEvaluated question input word old new (Err failure) = IsStopped input word failure
 
--- the same where the word is not told, of an input that is known
-abbrev pub AnswersSome : Option (List ℕ) → Option (List ℕ) → Option (List ℕ) → Status → Type 0
-AnswersSome known old new status = IfSome known (λ input. (word : List ℕ) × IsAnswered input word old new status)
+-- the words ask a question, and it is answered of this input
+pub record AnswersWords (words : List (List ℕ)) (input : List ℕ) (old new : Option (List ℕ)) (status : Status) : Type 0 where
+  pub word : List ℕ
+  pub question : Question
+  pub asks : Asks words word question
+  pub answers : IsAnswered question input word old new status
 
--- what a status says of the input and the output
-abbrev pub IsOutcome : Option (List ℕ) → Option (List ℕ) → Option (List ℕ) → Status → Type 0
-IsOutcome known old new Done = AnswersSome known old new Done
-IsOutcome known old new Refused = AnswersSome known old new Refused
-IsOutcome known old new _ = Unit {0}
+-- the same of an input that is known
+abbrev pub AnswersSome : List (List ℕ) → Option (List ℕ) → Option (List ℕ) → Option (List ℕ) → Status → Type 0
+AnswersSome words known old new status = IfSome known (λ input. AnswersWords words input old new status)
+
+-- what a status says of the words, the input and the output
+abbrev pub IsOutcome : List (List ℕ) → Option (List ℕ) → Option (List ℕ) → Option (List ℕ) → Status → Type 0
+IsOutcome words known old new Done = AnswersSome words known old new Done
+IsOutcome words known old new Refused = AnswersSome words known old new Refused
+IsOutcome words known old new _ = Unit {0}

@@ -1,7 +1,10 @@
 pub mod Answers
 pub mod BadRows
 pub mod BoundedView
+pub mod CommandLine
 pub mod Evaluation
+pub mod Hexadecimal
+pub mod Inserts
 pub mod LinesView
 pub mod Memory
 pub mod Parts

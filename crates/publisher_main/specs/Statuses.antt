@@ -9,6 +9,7 @@ use Rattle.publisher_main.specs.declared.failure.Status.TheVariants as s
 
 abbrev pub status_of_failure : Failure → Status
 status_of_failure (f.CommandLine error) = s.CommandLine
+status_of_failure f.WordNotUtf8 = s.CommandLine
 status_of_failure f.Input = s.Input
 status_of_failure (f.Catalog error) = s.Input
 status_of_failure (f.Table word) = s.Input

@@ -1,6 +1,8 @@
 //! The command line.
 
-ghost use Rattle.std.specs.Prelude.{IfErr};
+ghost use Rattle.std.specs.Prelude.{◌≡◌, IfErr, IfOk, map};
+ghost use Rattle.clap.specs.Words.{app_of};
+ghost use Rattle.publisher_main.specs.CommandLine.{pgshard, IsRequest};
 ghost use Rattle.publisher_main.specs.Statuses.{IsOfWords};
 
 use crate::failure::Failure;
@@ -9,21 +11,37 @@ use clap::{Arg, ArgAction, Command};
 use std::alloc::{AllocError, Global};
 use std::convert::AsStr;
 
+/// What is asked of each row that fits its table.
+#[derive(Clone, Copy, Debug, PartialEq, Eq)]
+pub enum Question {
+    /// What each publication says of it.
+    Answers,
+    /// The Insert message that carries it to a subscriber.
+    Insert,
+}
+
 /// What the program is asked to do.
 #[derive(Clone, Copy, Debug, PartialEq, Eq)]
 pub enum Request<'a> {
-    /// Say of each row of this table which publications carry it.
-    Eval { table: &'a str },
+    /// Answer a question about each row of this table.
+    Eval { table: &'a str, question: Question },
 }
 
-fn command<'a>(alloc: Global) -> Result<Command<'a>, AllocError> {
+fn command<'a>(alloc: Global) -> Result<Command<'a>, AllocError>
+    ensures { IfOk result (λ command. app_of command ≡ pgshard) }
+{
     let table = Arg::new(alloc, "TABLE")
         .help("a table of the schema public, or SCHEMA.TABLE")
         .required(true)
         .action(ArgAction::Set);
+    let insert = Arg::new(alloc, "insert")
+        .long("insert")
+        .help("print the Insert message of each row that some publication carries, in hexadecimal")
+        .action(ArgAction::SetTrue);
     let eval = Command::new(alloc, "eval")
         .about("reads a catalog, a line %% and rows, and tells which publications carry each row")
-        .arg(table)?;
+        .arg(table)?
+        .arg(insert)?;
     Command::new(alloc, "pgshard")
         .about("checks a sharding of PostgreSQL tables by the row filters of publications")
         .subcommand_required(true)
@@ -34,20 +52,24 @@ fn command<'a>(alloc: Global) -> Result<Command<'a>, AllocError> {
 ///
 /// # Errors
 ///
-/// `CommandLine` where the words are not `eval` and a table's name, with a text for the user; `OutOfMemory`.
+/// `CommandLine` where the words are not `eval`, a table's name and at most one `--insert`, with a text for the user;
+/// `OutOfMemory`.
 pub fn parse<'a, S: AsStr>(alloc: Global, words: &'a [S]) -> Result<Request<'a>, Failure<'a>>
-    ensures { IfErr result IsOfWords }
+    ensures request { IfOk result (IsRequest (map S.text words.entry.now)) }
+    ensures stopped { IfErr result IsOfWords }
 {
     let mut command = command(alloc)?;
     let matches = command.try_get_matches_from_mut(words)?;
-    let table = matches
-        .subcommand_matches("eval")
-        .and_then(|eval| eval.get_str("TABLE"));
-    match table {
-        Some(table) => Ok(Request::Eval { table }),
-        None => {
-            let error = command.error(ErrorKind::MissingRequiredArgument, "expected eval TABLE")?;
-            Err(Failure::CommandLine(error))
+    if let Some(eval) = matches.subcommand_matches("eval") {
+        if let Some(table) = eval.get_str("TABLE") {
+            let question = if eval.get_flag("insert") {
+                Question::Insert
+            } else {
+                Question::Answers
+            };
+            return Ok(Request::Eval { table, question });
         }
     }
+    let error = command.error(ErrorKind::MissingRequiredArgument, "expected eval TABLE")?;
+    Err(Failure::CommandLine(error))
 }

@@ -1,5 +1,7 @@
 //! Rows that are read for a table, and why a row has no answer.
 
+ghost use Rattle.std.specs.Prelude.{IfOk};
+ghost use Rattle.filter_tree.specs.Valid.{IsValid};
 ghost use Rattle.publisher_main.specs.BadRows as spec;
 
 use filter_tree::{Row, RowFault, Table, valid};
@@ -82,7 +84,8 @@ impl fmt::Display for BadRow {
 
 /// Reads a row and holds it against its table.
 pub fn table_row(alloc: Global, table: &Table, text: &str) -> Result<Row, BadRow>
-    ensures { spec.IsReading table.now.columns text.now result }
+    ensures reading { spec.IsReading table.now.columns text.now result }
+    ensures fits { IfOk result (λ row. IsValid table.now.columns row) }
 {
     let row = read_row(alloc, text)?;
     valid(table, &row)?;

@@ -21,6 +21,8 @@ pub enum Status {
 pub enum Failure<'a> {
     #[error("{0}")]
     CommandLine(clap::Error),
+    #[error("a word of the command line is not UTF-8")]
+    WordNotUtf8,
     #[error("input")]
     Input,
     #[error("catalog {} {}", .0.place, .0.kind.name())]
@@ -43,7 +45,7 @@ impl Failure<'_> {
         ensures { result ≡ status_of_failure self.now }
     {
         match self {
-            Failure::CommandLine(_) => Status::CommandLine,
+            Failure::CommandLine(_) | Failure::WordNotUtf8 => Status::CommandLine,
             Failure::Input | Failure::Catalog(_) | Failure::Table(_) => Status::Input,
             Failure::Output => Status::Output,
             Failure::OutOfMemory => Status::OutOfMemory,

@@ -7,40 +7,49 @@ mod arguments;
 mod bad_row;
 mod evaluation;
 mod failure;
+mod hexadecimal;
 mod input;
+mod inserts;
+#[cfg(test)]
+mod io_tests;
+#[cfg(test)]
+mod language_tests;
 mod output;
 mod parts;
 mod program;
+mod tables;
 #[cfg(test)]
 mod tests;
 
-use crate::failure::Status;
-use program::run;
-use std::alloc::Global;
-use std::io::{BufWriter, Write};
+use crate::failure::Failure;
+use program::{report, run};
+use std::io::{BufWriter, ErrorKind, Write};
 use std::process::ExitCode;
 use std::{env, io};
 
 /// The words of the command line, the program's name first.
-fn words(rt: &HostRuntime) -> Result<Vec<String>, Status> {
+fn words(rt: &HostRuntime) -> Result<Vec<String>, Failure<'static>> {
+    let arguments = env::args(rt).map_err(|error| match error.kind() {
+        ErrorKind::OutOfMemory => Failure::OutOfMemory,
+        _ => Failure::WordNotUtf8,
+    })?;
     let mut words = Vec::new(rt.alloc());
-    let arguments = env::args(rt).map_err(|_| Status::CommandLine)?;
     for word in arguments {
-        words.push(word).map_err(|_| Status::OutOfMemory)?;
+        words.push(word).map_err(|_| Failure::OutOfMemory)?;
     }
     Ok(words)
 }
 
 /// Runs the program on the command line, the standard input and the standard output.
-fn run_on_host(rt: &HostRuntime) -> Result<u8, Status> {
+fn run_on_host(rt: &HostRuntime) -> Result<u8, Failure<'static>> {
     let words = words(rt)?;
-    let mut writer = BufWriter::new(rt.alloc(), io::writer(rt)).map_err(|_| Status::OutOfMemory)?;
+    let mut writer = BufWriter::new(rt.alloc(), io::writer(rt)).map_err(|_| Failure::OutOfMemory)?;
     Ok(run(rt.alloc(), words.as_slice(), rt.stdin(), &mut writer))
 }
 
 fn main(rt: HostRuntime) -> ExitCode {
     match run_on_host(&rt) {
         Ok(status) => ExitCode::from(status),
-        Err(status) => ExitCode::from(status as u8),
+        Err(failure) => ExitCode::from(report(&failure, &mut io::writer(&rt)) as u8),
     }
 }

@@ -1,9 +1,9 @@
 //! The program, over any reader and writer.
 
-ghost use Rattle.std.specs.Prelude.{◌≡◌, ◌≤◌, IfOk};
+ghost use Rattle.std.specs.Prelude.{◌≡◌, ◌≤◌, ◌⊎◌, IfOk, map};
 ghost use Rattle.publisher_main.specs.Evaluation.{AnswersSome, IsOutcome};
-ghost use Rattle.publisher_main.specs.Statuses.{IsEarly};
-ghost use Rattle.publisher_main.specs.declared.failure.Status.TheVariants.{Done, Refused};
+ghost use Rattle.publisher_main.specs.Statuses.{IsEarly, status_of_failure};
+ghost use Rattle.publisher_main.specs.declared.failure.Status.TheVariants.{Done, Refused, Output};
 
 use crate::arguments::{Request, parse};
 use crate::evaluation::evaluate;
@@ -19,21 +19,27 @@ fn answer<'a, S: AsStr, R: Read + Drop, W: Write>(
     reader: R,
     writer: &mut W,
 ) -> Result<Status, Failure<'a>>
-    ensures { IfOk result (AnswersSome (R.remaining reader) (W.contents writer.old) (W.contents writer.new)) }
+    ensures { IfOk result (AnswersSome (map S.text words.entry.now) (R.remaining reader) (W.contents writer.old) (W.contents writer.new)) }
 {
     match parse(alloc, words)? {
-        Request::Eval { table } => {
+        Request::Eval { table, question } => {
             let input = read_input(alloc, reader)?;
-            evaluate(alloc, table, input.as_str(), writer)
+            evaluate(alloc, table, question, input.as_str(), writer)
         }
     }
 }
 
-/// Writes the line of a failure, and tells the status of the program.
-fn report<W: Write>(failure: &Failure<'_>, writer: &mut W) -> Status
-    ensures { IsEarly result }
+/// Writes the line of a failure, and tells the status of the program. Where the failure is that of the output, nothing
+/// more is written.
+pub fn report<W: Write>(failure: &Failure<'_>, writer: &mut W) -> Status
+    ensures early { IsEarly result }
+    ensures status { (result ≡ status_of_failure failure.now) ⊎ (result ≡ Output) }
+    ensures silent { status_of_failure failure.now ≡ Output → W.contents writer.new ≡ W.contents writer.old }
 {
     let status = failure.status();
+    if status == Status::Output {
+        return status;
+    }
     match writeln!(writer, "{failure}") {
         Ok(()) => status,
         Err(_) if status == Status::CommandLine => status,
@@ -47,7 +53,7 @@ fn outcome<S: AsStr, R: Read + Drop, W: Write>(
     reader: R,
     writer: &mut W,
 ) -> Status
-    ensures { IsOutcome (R.remaining reader) (W.contents writer.old) (W.contents writer.new) result }
+    ensures { IsOutcome (map S.text words.now) (R.remaining reader) (W.contents writer.old) (W.contents writer.new) result }
 {
     match answer(alloc, words, reader, writer) {
         Ok(status) => status,
@@ -65,10 +71,13 @@ pub fn run<S: AsStr, R: Read + Drop, W: Write>(
     writer: &mut W,
 ) -> u8
     ensures status { result ≤ 5 }
-    ensures done { result ≡ 0 → AnswersSome (R.remaining reader) (W.contents writer.old) (W.contents writer.new) Done }
-    ensures refused { result ≡ 1 → AnswersSome (R.remaining reader) (W.contents writer.old) (W.contents writer.new) Refused }
+    ensures done { result ≡ 0 → AnswersSome (map S.text words.now) (R.remaining reader) (W.contents writer.old) (W.contents writer.new) Done }
+    ensures refused { result ≡ 1 → AnswersSome (map S.text words.now) (R.remaining reader) (W.contents writer.old) (W.contents writer.new) Refused }
 {
     let status = outcome(alloc, words, reader, writer);
+    if status == Status::Output {
+        return status as u8;
+    }
     match writer.flush() {
         Ok(()) => status as u8,
         Err(_) => Status::Output as u8,

@@ -1,11 +1,10 @@
-use crate::input::Bounded;
 use crate::program::run;
 use std::alloc::{AllocError, Global};
-use std::io;
-use std::io::{ErrorKind, Read, Write};
+use std::io::Read;
 use std::test::Fail;
 
-const BASE: &str = "CREATE TABLE t (id integer, region text, PRIMARY KEY (id));
+/// A catalog that cuts a table in two.
+pub const BASE: &str = "CREATE TABLE t (id integer, region text, PRIMARY KEY (id));
 ALTER TABLE t REPLICA IDENTITY FULL;
 CREATE PUBLICATION pa FOR TABLE t WHERE (id < 100);
 CREATE PUBLICATION pb FOR TABLE t WHERE (id >= 100);
@@ -37,7 +36,8 @@ const fn row_case(
     }
 }
 
-fn output_of<R: Read + Drop>(
+/// The exit status of a run, and what it wrote.
+pub fn output_of<R: Read + Drop>(
     alloc: Global,
     words: &[&str],
     reader: R,
@@ -130,6 +130,83 @@ fn rows_are_answered(rt: HostRuntime) -> Result<(), Fail> {
     Ok(())
 }
 
+/// The same of the table `t`, for a run under `--insert`.
+fn insert_case(
+    catalog: &'static str,
+    rows: &'static str,
+    output: &'static str,
+    status: u8,
+) -> Case {
+    row_case("t", catalog, rows, output, status)
+}
+
+#[test]
+fn inserts_are_printed(rt: HostRuntime) -> Result<(), Fail> {
+    let half =
+        "CREATE TABLE t (id integer PRIMARY KEY, n integer); CREATE PUBLICATION p FOR TABLE t WHERE (n > 1);\n";
+    let both =
+        "CREATE TABLE t (id integer PRIMARY KEY, n integer); CREATE PUBLICATION p FOR TABLE t WHERE (n > 1);
+        CREATE PUBLICATION q FOR TABLE t WHERE (n > 2);\n";
+    let second = "CREATE TABLE s (id integer PRIMARY KEY); CREATE TABLE t (id bigint PRIMARY KEY);
+        CREATE PUBLICATION p FOR TABLE t;\n";
+    let other = "CREATE TABLE t (id integer PRIMARY KEY); CREATE TABLE s (id integer PRIMARY KEY);
+        CREATE PUBLICATION p FOR TABLE s;\n";
+    let kinds = "CREATE TABLE t (id smallint PRIMARY KEY, n bigint, a boolean, b boolean, e text);
+        CREATE PUBLICATION p FOR TABLE t;\n";
+    let cases = [
+        insert_case(
+            BASE,
+            "(7, 'eu')\n(0, '')\n(100, NULL)\n",
+            "49000040004e000274000000013774000000026575\n49000040004e00027400000001307400000000\n49000040004e000274000000033130306e\n",
+            0,
+        ),
+        insert_case(
+            half,
+            "(1, 2)\n(1, 1)\n(1, NULL)\n(1, 1)\n",
+            "49000040004e0002740000000131740000000132\nnone\nnone\nnone\n",
+            0,
+        ),
+        insert_case(
+            both,
+            "(1, 2)\n(1, 3)\n(1, 1)\n",
+            "49000040004e0002740000000131740000000132\n49000040004e0002740000000131740000000133\nnone\n",
+            0,
+        ),
+        insert_case(
+            half,
+            "(1\n(1)\n(NULL, 2)\n(2147483648, 2)\n(1, 2)\n",
+            "unreadable 2 Expected\ninvalid Width\ninvalid NullInNotNull 0\ninvalid OutOfRange 0\n49000040004e0002740000000131740000000132\n",
+            1,
+        ),
+        insert_case(second, "(10)\n", "49000040014e000174000000023130\n", 0),
+        insert_case(other, "(10)\n", "none\n", 0),
+        insert_case(
+            kinds,
+            "(-32768, 9223372036854775807, TRUE, FALSE, '\u{e9}\u{20ac}')\n",
+            "49000040004e000574000000062d33323736387400000013393232333337323033363835343737353830377400000001747400000001667400000005c3a9e282ac\n",
+            0,
+        ),
+    ];
+    for c in cases {
+        let (catalog, rows) = (c.catalog, c.rows);
+        let input = format!(in rt.alloc(); "{catalog}%%\n{rows}")?;
+        let orders = [
+            ["pgshard", "eval", c.word, "--insert"],
+            ["pgshard", "eval", "--insert", c.word],
+        ];
+        for words in orders {
+            let (status, output) = output_of(rt.alloc(), words.as_slice(), input.as_bytes())?;
+            assert_eq!(rt;
+                output.as_slice(),
+                c.output.as_bytes(),
+                "{words:?} on {catalog}"
+            );
+            assert_eq!(rt; status, c.status, "{words:?} on {catalog}");
+        }
+    }
+    Ok(())
+}
+
 #[test]
 fn inputs_have_two_parts(rt: HostRuntime) -> Result<(), Fail> {
     let table = "CREATE TABLE t (id integer PRIMARY KEY);";
@@ -164,178 +241,21 @@ fn inputs_have_two_parts(rt: HostRuntime) -> Result<(), Fail> {
 
 #[test]
 fn other_words_are_refused(rt: HostRuntime) -> Result<(), Fail> {
-    let cases: [&[&str]; 7] = [
+    let cases: [&[&str]; 10] = [
         &[],
         &["pgshard"],
         &["pgshard", "eval"],
         &["pgshard", "t"],
         &["pgshard", "evil", "t"],
         &["pgshard", "eval", "t", "u"],
-        &["pgshard", "eval", "--insert", "t"],
+        &["pgshard", "eval", "--insert"],
+        &["pgshard", "eval", "t", "--insert", "--insert"],
+        &["pgshard", "eval", "t", "--insert=yes"],
+        &["pgshard", "eval", "t", "--Insert"],
     ];
     for words in cases {
         let (status, _) = output_of(rt.alloc(), words, BASE.as_bytes())?;
         assert_eq!(rt; status, 2, "{words:?}");
-    }
-    Ok(())
-}
-
-#[test]
-fn inputs_have_a_limit(rt: HostRuntime) -> Result<(), Fail> {
-    let catalog = "CREATE TABLE t (id integer PRIMARY KEY);";
-    let rows = "\n%%\n(1)";
-    let limit = 16_777_216;
-    for (length, expected, expected_status) in [(limit, "\n", 0), (limit + 1, "input\n", 3)] {
-        let spaces = length - catalog.len() as u64 - rows.len() as u64;
-        let reader = catalog
-            .as_bytes()
-            .chain(io::repeat(b' ').take(spaces))
-            .chain(rows.as_bytes());
-        let (status, output) = output_of(rt.alloc(), ["pgshard", "eval", "t"].as_slice(), reader)?;
-        assert_eq!(rt; status, expected_status);
-        assert_eq!(rt; output.as_slice(), expected.as_bytes());
-    }
-    Ok(())
-}
-
-/// A reader that gives a text a byte at a time, and after so many reads of a byte fails in this way, so many times.
-#[derive(Drop)]
-struct Failing<'a> {
-    text: &'a [u8],
-    good: usize,
-    kind: ErrorKind,
-    failures: usize,
-    reads: &'a mut usize,
-}
-
-impl Read for Failing<'_> {
-    fn read(&mut self, buffer: &mut [u8]) -> io::Result<usize> {
-        *self.reads = self.reads.saturating_add(1);
-        if self.good == 0 && self.failures > 0 {
-            self.failures -= 1;
-            return Err(io::Error::from(self.kind));
-        }
-        self.good = self.good.saturating_sub(1);
-        let room = buffer.len().min(1);
-        self.text.read(&mut buffer[..room])
-    }
-}
-
-#[test]
-fn a_failing_reader_is_an_input_fault(rt: HostRuntime) -> Result<(), Fail> {
-    let input = format!(in rt.alloc(); "{BASE}%%\n(7, 'eu')\n")?;
-    let all = input.len() + 1;
-    let cases = [
-        (0, ErrorKind::Other, 1, 3, "input\n", 1),
-        (20, ErrorKind::Other, 1, 3, "input\n", 21),
-        (20, ErrorKind::OutOfMemory, 1, 3, "input\n", 21),
-        (
-            20,
-            ErrorKind::Interrupted,
-            3,
-            0,
-            "pa=true pb=false\n",
-            all + 3,
-        ),
-    ];
-    for (good, kind, failures, expected_status, expected, expected_reads) in cases {
-        let mut reads = 0;
-        let reader = Failing {
-            text: input.as_bytes(),
-            good,
-            kind,
-            failures,
-            reads: &mut reads,
-        };
-        let (status, output) = output_of(rt.alloc(), ["pgshard", "eval", "t"].as_slice(), reader)?;
-        assert_eq!(rt; status, expected_status);
-        assert_eq!(rt; output.as_slice(), expected.as_bytes());
-        assert_eq!(rt; reads, expected_reads);
-    }
-    Ok(())
-}
-
-#[test]
-fn reads_have_a_limit(rt: HostRuntime) -> Result<(), Fail> {
-    for (failures, taken, expected_reads) in [(2, true, 5), (3, false, 5), (1_000, false, 5)] {
-        let mut reads = 0;
-        let reader = Failing {
-            text: b"ab",
-            good: 1,
-            kind: ErrorKind::Interrupted,
-            failures,
-            reads: &mut reads,
-        };
-        let mut bytes = Vec::new(rt.alloc());
-        let read = Bounded::new(reader, 5).read_to_end(&mut bytes);
-        assert_eq!(rt; read.is_ok(), taken);
-        assert_eq!(rt; reads, expected_reads);
-    }
-    Ok(())
-}
-
-/// A writer that takes so many writes, and then fails.
-#[derive(Drop)]
-struct Full {
-    taken: Vec<u8>,
-    left: usize,
-    flushes: bool,
-}
-
-impl Write for Full {
-    fn write(&mut self, bytes: &[u8]) -> io::Result<usize> {
-        if self.left == 0 {
-            return Err(io::Error::from(ErrorKind::Other));
-        }
-        self.left -= 1;
-        self.taken.write(bytes)
-    }
-
-    fn flush(&mut self) -> io::Result<()> {
-        if self.flushes {
-            return Ok(());
-        }
-        Err(io::Error::from(ErrorKind::Other))
-    }
-}
-
-#[test]
-fn a_failing_writer_is_an_output_fault(rt: HostRuntime) -> Result<(), Fail> {
-    let input = format!(in rt.alloc(); "{BASE}%%\n(7, 'eu')\n(100, NULL)\n(1)\n")?;
-    let cases: [(&str, usize, bool, u8, &str); 6] = [
-        ("t", 0, true, 4, ""),
-        ("t", 1, true, 4, "pa=true pb=false\n"),
-        ("t", 2, true, 4, "pa=true pb=false\npa=false pb=true\n"),
-        (
-            "t",
-            100,
-            false,
-            4,
-            "pa=true pb=false\npa=false pb=true\ninvalid Width\n",
-        ),
-        (
-            "t",
-            100,
-            true,
-            1,
-            "pa=true pb=false\npa=false pb=true\ninvalid Width\n",
-        ),
-        ("u", 0, true, 4, ""),
-    ];
-    for (word, left, flushes, expected_status, expected) in cases {
-        let mut writer = Full {
-            taken: Vec::new(rt.alloc()),
-            left,
-            flushes,
-        };
-        let words = ["pgshard", "eval", word];
-        let status = run(rt.alloc(), words.as_slice(), input.as_bytes(), &mut writer);
-        assert_eq!(rt; status, expected_status, "{word} after {left}");
-        assert_eq!(rt;
-            writer.taken.as_slice(),
-            expected.as_bytes(),
-            "{word} after {left}"
-        );
     }
     Ok(())
 }

@@ -1,7 +1,7 @@
 use Rattle.std.proofs.Common.{◌≡◌, ◌++◌, map, drop}
 use Rattle.filter_tree.specs.Shape.{expr_of}
 use Rattle.pub_reader.specs.CatalogView.{entry_of}
-use Rattle.pub_reader.specs.Catalogs.{filters_in}
+use Rattle.pub_reader.specs.Drafts.{filters_in}
 use Rattle.pub_reader.proofs.filters.add_filters.Given as goal
 
 abbrev pub invariant-loop-entry : goal.invariant-loop-entry

@@ -1,4 +1,4 @@
-use Rattle.std.proofs.Common.{◌≡◌, ◌<◌, map}
+use Rattle.std.proofs.Common.{◌≡◌, map}
 use Rattle.filter_tree.specs.Values.{datum_of}
 use Rattle.pub_reader.specs.declared.item.Item.TheVariants.{Comma}
 use Rattle.pub_reader.specs.Ahead.{to_read}

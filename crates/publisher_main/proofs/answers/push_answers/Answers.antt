@@ -1,4 +1,4 @@
-use Rattle.std.proofs.Common.{rules, ◌≡◌, refl, sym, ap, ◌∙◌}
+use Rattle.std.proofs.Common.{sym, ap, ◌∙◌}
 use Rattle.publisher_main.specs.Answers.{with_said, said_by}
 use Rattle.publisher_main.proofs.Saying.{line_of-next}
 use Rattle.publisher_main.proofs.answers.push_answers.Goals as goal

@@ -5,4 +5,4 @@ use Rattle.publisher_main.proofs.evaluation.write_rows.Given as goal
 
 abbrev pub invariant-loop-row : goal.invariant-loop-row
 invariant-loop-row g l =
-    IsSoFar l.carried.number l.carried.publications.now l.carried.table.now.columns (lines_of l.rows) (lines_left l.row-iterator) l.status (g.W.Write.contents l.initial.writer) (g.W.Write.contents l.writer)
+    IsSoFar l.question l.carried.number l.carried.publications.now l.carried.table.now.columns (lines_of l.rows) (lines_left l.row-iterator) l.status (g.W.Write.contents l.initial.writer) (g.W.Write.contents l.writer)

@@ -1,4 +1,4 @@
-use Rattle.std.proofs.Common.{rules, ◌≡◌, ◌≤◌, length, IfErr, IfOk, IfSome}
+use Rattle.std.proofs.Common.{rules, ◌≡◌, ◌≤◌, length}
 use Rattle.std.specs.String.{string_bytes}
 use Rattle.publisher_main.proofs.Limits.{all_read}
 use Rattle.publisher_main.proofs.input.read_input.Goals as goal

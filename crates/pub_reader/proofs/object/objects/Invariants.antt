@@ -1,0 +1,18 @@
+use Rattle.std.proofs.Common.{◌≡◌, ◌<◌}
+use Rattle.pub_reader.specs.declared.item.Item.TheVariants.{Comma}
+use Rattle.pub_reader.specs.Ahead.{to_read}
+use Rattle.pub_reader.specs.DraftView.{draft_of, objects_of}
+use Rattle.pub_reader.specs.Items.{size}
+use Rattle.pub_reader.specs.Objects as spec
+use Rattle.pub_reader.specs.Turns.{link, repeat}
+use Rattle.pub_reader.specs.Written.{as_filter}
+use Rattle.pub_reader.proofs.object.objects.Given as goal
+
+abbrev pub invariant-loop-r : goal.invariant-loop-r
+invariant-loop-r l = record {
+  so_far : spec.objects as_filter (draft_of l.draft) (to_read l.fn.r) ≡ repeat (link Comma (spec.object as_filter (draft_of l.draft))) (objects_of l.kind l.coverage) (to_read l.r);
+  fewer : size (to_read l.r) < size (to_read l.fn.r);
+}
+
+abbrev pub decreases-loop-r : goal.decreases-loop-r
+decreases-loop-r l = size (to_read l.r)

@@ -1,0 +1,17 @@
+use Rattle.std.proofs.Common.{◌≡◌, ◌<◌}
+use Rattle.pub_reader.specs.declared.item.Item.TheVariants.{Comma}
+use Rattle.pub_reader.specs.Ahead.{to_read}
+use Rattle.pub_reader.specs.DraftView.{draft_of}
+use Rattle.pub_reader.specs.Items.{size}
+use Rattle.pub_reader.specs.Subscriptions as spec
+use Rattle.pub_reader.specs.Turns.{link, repeat}
+use Rattle.pub_reader.proofs.subscription.publication_list.Given as goal
+
+abbrev pub invariant-loop-numbers : goal.invariant-loop-numbers
+invariant-loop-numbers l = record {
+  so_far : spec.publication_list (draft_of l.draft) (to_read l.fn.r) ≡ repeat (link Comma (spec.one_publication (draft_of l.draft))) l.numbers.items (to_read l.r);
+  fewer : size (to_read l.r) < size (to_read l.fn.r);
+}
+
+abbrev pub decreases-loop-numbers : goal.decreases-loop-numbers
+decreases-loop-numbers l = size (to_read l.r)

@@ -1,0 +1,60 @@
+-- The list of operations that a publication publishes: PostgreSQL 15, SQL Commands, CREATE PUBLICATION, the parameter "publish".
+use Rattle.std.specs.Prelude.{ℕ, suc, ◌-◌, Bool, true, false, not, ◌==◌, if◌then◌else◌, List, [], ◌∷◌, length, take, drop, Option, Some, None, codes}
+use Rattle.std.specs.Borrow.{Bor}
+use Rattle.std.specs.List.{prefix_len, suffix_len}
+use Rattle.std.specs.Char.{is_ascii_whitespace}
+use Rattle.std.specs.Str.{str_eq_ignore_ascii_case}
+use Rattle.pub_reader.specs.declared.catalog.Operations.{Operations}
+
+abbrev pub no_operation : Operations
+no_operation = record { insert = false; update = false; delete = false; truncate = false }
+
+-- a text without the white space at its start, and without that at its end
+abbrev pub start_trimmed : List ℕ → List ℕ
+start_trimmed text = drop (prefix_len is_ascii_whitespace text) text
+
+abbrev pub end_trimmed : List ℕ → List ℕ
+end_trimmed text = take (length text - suffix_len is_ascii_whitespace text) text
+
+unfoldable pub trimmed : List ℕ → List ℕ
+trimmed text = end_trimmed (start_trimmed text)
+
+abbrev pub before_first : ℕ → List (List ℕ) → List (List ℕ)
+before_first byte [] = []
+before_first byte (part ∷ parts) = (byte ∷ part) ∷ parts
+
+-- the parts of a text between commas
+abbrev pub parts : List ℕ → List (List ℕ)
+parts [] = [] ∷ []
+parts (byte ∷ text) = if byte == 44 then [] ∷ parts text else before_first byte (parts text)
+
+abbrev pub is_part_byte : ℕ → Bool
+is_part_byte byte = not (byte == 44)
+
+-- those of what stands behind a comma, if there is one
+abbrev pub parts_behind : Option (Bor (List ℕ)) → List (List ℕ)
+parts_behind None = []
+parts_behind (Some text) = parts text.now
+
+abbrev pub behind_length : Option (Bor (List ℕ)) → ℕ
+behind_length None = 0
+behind_length (Some text) = suc (length text.now)
+
+-- one more operation, in upper or lower case
+unfoldable pub with_operation : Operations → List ℕ → Option Operations
+with_operation listed word =
+    if str_eq_ignore_ascii_case word (codes "insert") then Some (record listed { insert = true }) else
+    if str_eq_ignore_ascii_case word (codes "update") then Some (record listed { update = true }) else
+    if str_eq_ignore_ascii_case word (codes "delete") then Some (record listed { delete = true }) else
+    if str_eq_ignore_ascii_case word (codes "truncate") then Some (record listed { truncate = true }) else
+    None
+
+-- each word has to name an operation
+abbrev pub listed_by : Option Operations → List (List ℕ) → Option Operations
+listed_by None words = None
+listed_by (Some listed) [] = Some listed
+listed_by (Some listed) (word ∷ words) = listed_by (with_operation listed (trimmed word)) words
+
+-- the operations of a list, of which a text of white space alone has none
+unfoldable pub operations : List ℕ → Option Operations
+operations text = if length (trimmed text) == 0 then Some no_operation else listed_by (Some no_operation) (parts text)

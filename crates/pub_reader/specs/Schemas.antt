@@ -1,0 +1,27 @@
+-- Schemas: PostgreSQL 15, SQL Commands, CREATE SCHEMA, and "Data Definition", 5.9 Schemas.
+use Rattle.std.specs.Prelude.{ℕ, if◌then◌else◌, List, Option, Some, None, Ok, Err}
+use Rattle.std.specs.Option.{is_some}
+use Rattle.pub_reader.specs.declared.name.PlacedName.{PlacedName}
+use Rattle.pub_reader.specs.Wrong as w
+use Rattle.pub_reader.specs.Drafts.{DraftOf, find_schema, with_name}
+use Rattle.pub_reader.specs.Names.{name}
+use Rattle.pub_reader.specs.Reading.{Rule, Verdict, fault, ◌>>=◌, ◌>>◌, pure, check}
+
+-- the position of what has a name, which has to be there
+abbrev pub known : PlacedName → Option ℕ → Verdict ℕ
+known called (Some number) = Ok number
+known called None = Err (fault called.place w.UnknownName)
+
+-- a schema that was made before
+unfoldable pub known_schema : List (List ℕ) → PlacedName → Verdict ℕ
+known_schema schemas called = known called (find_schema called.text schemas)
+
+-- a new schema has a new name
+unfoldable pub new_schema : List (List ℕ) → PlacedName → Verdict ℕ
+new_schema schemas called = if is_some (find_schema called.text schemas) then Err (fault called.place w.NameTwice) else Ok 0
+
+unfoldable pub create_schema : {S : Type 0} → DraftOf S → Rule (DraftOf S)
+create_schema draft = do
+  called ← name
+  check (new_schema draft.schemas called)
+  pure (record draft { schemas = with_name draft.schemas called.text })

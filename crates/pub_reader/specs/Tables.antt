@@ -1,0 +1,45 @@
+-- CREATE TABLE: PostgreSQL 15, SQL Commands, CREATE TABLE.
+use Rattle.std.specs.Prelude.{ℕ, if◌then◌else◌, [], ◌∷◌, ◌++◌, Option, Some, Ok, Err}
+use Rattle.filter_tree.specs.declared.table.Identity.TheVariants.{Default}
+use Rattle.filter_tree.specs.declared.table.Table.{Table}
+use Rattle.pub_reader.specs.declared.word.Keyword.TheVariants as k
+use Rattle.pub_reader.specs.declared.item.Item.{Item}
+use Rattle.pub_reader.specs.declared.item.Item.TheVariants as i
+use Rattle.pub_reader.specs.declared.name.PlacedName.{PlacedName}
+use Rattle.pub_reader.specs.declared.table_name.NewName.{NewName}
+use Rattle.pub_reader.specs.Wrong as w
+use Rattle.pub_reader.specs.Columns.{Parts, elements, has_key, left_out}
+use Rattle.pub_reader.specs.Drafts.{DraftOf}
+use Rattle.pub_reader.specs.Reading.{Rule, Verdict, fault, ◌>>=◌, ◌>>◌, pure, check, expect, item_ahead}
+use Rattle.pub_reader.specs.TableNames.{new_name}
+
+-- every table has a primary key
+unfoldable pub keyed : PlacedName → Parts → Verdict ℕ
+keyed called parts = if has_key parts then Ok 0 else Err (fault called.place w.NoKey)
+
+abbrev pub table_of : NewName → Parts → Table
+table_of called parts = record { schema = called.schema; name = called.name.text; columns = parts.columns; key = parts.key; identity = Default }
+
+-- the words behind the elements at which a clause begins that is left out
+abbrev pub tail_by : Option Item → Rule ℕ
+tail_by (Some (i.Keyword k.Inherits)) = left_out
+tail_by (Some (i.Keyword k.Partition)) = left_out
+tail_by _ = pure 0
+
+unfoldable pub table_tail : Rule ℕ
+table_tail ts = tail_by (item_ahead ts) ts
+
+unfoldable pub table_body : NewName → Rule Table
+table_body called = do
+  expect i.Open
+  parts ← elements
+  expect i.Close
+  check (keyed called.name parts)
+  table_tail
+  pure (table_of called parts)
+
+unfoldable pub create_table : {S : Type 0} → DraftOf S → Rule (DraftOf S)
+create_table draft = do
+  called ← new_name draft
+  table ← table_body called
+  pure (record draft { tables = draft.tables ++ table ∷ [] })

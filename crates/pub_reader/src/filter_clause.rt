@@ -1,0 +1,114 @@
+//! The WHERE clause of a table in a publication.
+
+ghost use Rattle.std.specs.Prelude.{◌≡◌, ◌<◌, ◌≤◌, ◌∷◌, ◌++◌, [], OnOk, length, map};
+ghost use Rattle.std.specs.Option.{option_map};
+ghost use Rattle.filter_tree.specs.Shape.{expr_of};
+ghost use Rattle.pub_reader.specs.Ahead.{to_read};
+ghost use Rattle.pub_reader.specs.Drafts.{filters_in, filters_on};
+ghost use Rattle.pub_reader.specs.DraftView.{coverage_of, draft_of};
+ghost use Rattle.pub_reader.specs.Items.{size};
+ghost use Rattle.pub_reader.specs.Objects as spec;
+ghost use Rattle.pub_reader.specs.Reading.{Reads, Answers};
+ghost use Rattle.pub_reader.specs.Written.{as_filter};
+
+use crate::coverage::Coverage;
+use crate::draft::Draft;
+use crate::error::{ErrorKind, ReadError};
+use crate::expression::expression;
+use crate::filters::add_filters;
+use crate::item::Item;
+use crate::limits::exceeded;
+use crate::reader::Reader;
+use crate::word::Keyword;
+use filter_tree::Filter;
+use std::alloc::Global;
+
+/// Refuses a filter with which the filters on its table pass a limit.
+#[tactic(auto, unfolding(crate::specs::Objects::limited))]
+fn limited(alloc: Global, place: usize, filters: &[&Filter]) -> Result<usize, ReadError>
+    ensures { Answers (λ n. n) (spec.limited place (map (λ f. expr_of f.now) filters.now)) result }
+{
+    match exceeded(alloc, filters)? {
+        None => Ok(0),
+        Some(limit) => Err(ReadError {
+            place,
+            kind: ErrorKind::TooMany(limit),
+        }),
+    }
+}
+
+/// Refuses a filter with which the filters on its table pass a limit.
+fn within_limits(
+    alloc: Global,
+    draft: &Draft,
+    coverage: &Coverage,
+    number: usize,
+    place: usize,
+    filter: &Filter,
+) -> Result<usize, ReadError>
+    ensures { Answers (λ n. n) (spec.limited place ((filters_on (λ f. f) number (draft_of draft.now).publications ++ filters_in (λ f. f) number (coverage_of coverage.now).entries) ++ expr_of filter.now ∷ [])) result }
+{
+    let mut filters = draft.filters(alloc, number)?;
+    add_filters(&mut filters, coverage.entries.as_slice(), number)?;
+    filters.push(filter)?;
+    Ok(limited(alloc, place, &filters)?)
+}
+
+/// Takes the parenthesis behind a filter.
+#[tactic(auto, unfolding(crate::specs::Objects::ended))]
+fn ended(
+    r: &mut Reader<'_>,
+    alloc: Global,
+    draft: &Draft,
+    coverage: &Coverage,
+    number: usize,
+    place: usize,
+    filter: Filter,
+) -> Result<Option<Filter>, ReadError>
+    ensures reads { Reads (λ filter. option_map expr_of filter) (spec.ended as_filter (draft_of draft.now) (coverage_of coverage.now) number place (expr_of filter) (to_read r.old)) result (to_read r.new) }
+    ensures fewer { OnOk result (size (to_read r.new) < size (to_read r.old)) }
+{
+    r.expect(Item::Close, "AND, OR or `)`")?;
+    within_limits(alloc, draft, coverage, number, place, &filter)?;
+    Ok(Some(filter))
+}
+
+/// Takes WHERE and a filter of the rows of a table.
+#[tactic(auto, unfolding(crate::specs::Objects::where_clause))]
+fn where_clause(
+    r: &mut Reader<'_>,
+    alloc: Global,
+    draft: &Draft,
+    coverage: &Coverage,
+    number: usize,
+) -> Result<Option<Filter>, ReadError>
+    requires { number < length (draft_of draft.now).tables }
+    ensures reads { Reads (λ filter. option_map expr_of filter) (spec.where_clause as_filter (draft_of draft.now) (coverage_of coverage.now) number (to_read r.old)) result (to_read r.new) }
+    ensures fewer { OnOk result (size (to_read r.new) < size (to_read r.old)) }
+{
+    let place = r.expect(Item::Keyword(Keyword::Where), "WHERE")?;
+    r.expect(Item::Open, "`(`")?;
+    let filter = expression(r, alloc, draft.columns(number))?;
+    Ok(ended(r, alloc, draft, coverage, number, place, filter)?)
+}
+
+/// Takes the filter behind a table, if there is one.
+#[tactic(auto, unfolding(crate::specs::Objects::filter_clause))]
+pub fn filter_clause(
+    r: &mut Reader<'_>,
+    alloc: Global,
+    draft: &Draft,
+    coverage: &Coverage,
+    number: usize,
+) -> Result<Option<Filter>, ReadError>
+    requires { number < length (draft_of draft.now).tables }
+    ensures reads { Reads (λ filter. option_map expr_of filter) (spec.filter_clause as_filter (draft_of draft.now) (coverage_of coverage.now) number (to_read r.old)) result (to_read r.new) }
+    ensures fewer { OnOk result (size (to_read r.new) ≤ size (to_read r.old)) }
+{
+    r.look()?;
+    match r.item() {
+        Some(Item::Keyword(Keyword::Where)) => Ok(where_clause(r, alloc, draft, coverage, number)?),
+        Some(Item::Open) => Err(r.refused(ErrorKind::ColumnList)),
+        _ => Ok(None),
+    }
+}

@@ -1,0 +1,84 @@
+//! ALTER TABLE .. REPLICA IDENTITY.
+
+ghost use Rattle.std.specs.Prelude.{◌≡◌, ◌<◌, ◌≤◌, OnOk};
+ghost use Rattle.pub_reader.specs.Ahead.{to_read};
+ghost use Rattle.pub_reader.specs.DraftView.{draft_of};
+ghost use Rattle.pub_reader.specs.Identities as spec;
+ghost use Rattle.pub_reader.specs.Items.{size};
+ghost use Rattle.pub_reader.specs.Reading.{Reads};
+
+use crate::draft::Draft;
+use crate::error::{ErrorKind, Later, Omitted, ReadError};
+use crate::item::Item;
+use crate::reader::Reader;
+use crate::table_name::{only_or_none, table_number};
+use crate::word::Keyword;
+use filter_tree::Identity;
+use std::alloc::Global;
+
+/// Takes the word REPLICA.
+#[tactic(auto, unfolding(crate::specs::Identities::action))]
+fn action(r: &mut Reader<'_>) -> Result<usize, ReadError>
+    ensures reads { Reads (λ n. n) (spec.action (to_read r.old)) result (to_read r.new) }
+    ensures fewer { OnOk result (size (to_read r.new) < size (to_read r.old)) }
+{
+    match r.item() {
+        Some(Item::Keyword(Keyword::Replica)) => r.expect(
+            Item::Keyword(Keyword::Replica),
+            "REPLICA",
+        ),
+        Some(Item::Keyword(_)) => Err(r.refused(ErrorKind::LeftOut(Omitted::Clause))),
+        Some(Item::Word) => Err(r.refused(ErrorKind::LeftOut(Omitted::Clause))),
+        _ => Err(r.refusal("REPLICA IDENTITY")),
+    }
+}
+
+/// Takes DEFAULT, FULL or NOTHING.
+#[tactic(auto, using(crate::proofs::Ahead::rest_is_no_more), unfolding(crate::specs::Identities::identity))]
+fn identity(r: &mut Reader<'_>) -> Result<Identity, ReadError>
+    ensures reads { Reads (λ identity. identity) (spec.identity (to_read r.old)) result (to_read r.new) }
+    ensures fewer { OnOk result (size (to_read r.new) ≤ size (to_read r.old)) }
+{
+    match r.item() {
+        Some(Item::Keyword(Keyword::Default)) => {
+            r.advance();
+            Ok(Identity::Default)
+        }
+        Some(Item::Keyword(Keyword::Full)) => {
+            r.advance();
+            Ok(Identity::Full)
+        }
+        Some(Item::Keyword(Keyword::Nothing)) => {
+            r.advance();
+            Ok(Identity::Nothing)
+        }
+        Some(Item::Keyword(Keyword::Using)) => Err(r.refused(ErrorKind::NotYet(Later::UsingIndex))),
+        _ => Err(r.refusal("DEFAULT, FULL or NOTHING")),
+    }
+}
+
+/// Takes REPLICA IDENTITY and the identity.
+#[tactic(auto, unfolding(crate::specs::Identities::replica_identity))]
+fn replica_identity(r: &mut Reader<'_>) -> Result<Identity, ReadError>
+    ensures reads { Reads (λ identity. identity) (spec.replica_identity (to_read r.old)) result (to_read r.new) }
+    ensures fewer { OnOk result (size (to_read r.new) < size (to_read r.old)) }
+{
+    action(r)?;
+    r.expect(Item::Keyword(Keyword::Identity), "IDENTITY")?;
+    identity(r)
+}
+
+/// Takes ALTER TABLE, and gives the table its replica identity.
+#[tactic(auto, unfolding(crate::specs::Identities::alter_table))]
+pub fn alter_table(r: &mut Reader<'_>, alloc: Global, draft: &mut Draft) -> Result<(), ReadError>
+    ensures reads { Reads (λ _. draft_of draft.new) (spec.alter_table (draft_of draft.old) (to_read r.old)) result (to_read r.new) }
+    ensures fewer { OnOk result (size (to_read r.new) < size (to_read r.old)) }
+{
+    r.expect(Item::Keyword(Keyword::Alter), "ALTER")?;
+    r.expect(Item::Keyword(Keyword::Table), "TABLE")?;
+    only_or_none(r)?;
+    let number = table_number(r, alloc, draft)?;
+    let recorded = replica_identity(r)?;
+    draft.identify(number, recorded);
+    Ok(())
+}

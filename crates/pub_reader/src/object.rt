@@ -1,0 +1,272 @@
+//! What a publication is made for: tables, with the filters of their rows, and schemas.
+
+ghost use Rattle.std.specs.Prelude.{◌≡◌, ◌<◌, ◌≤◌, ◌∷◌, ◌++◌, [], IfOk, IsSome, OnOk, length, map};
+ghost use Rattle.std.specs.Option.{option_map};
+ghost use Rattle.filter_tree.specs.Shape.{expr_of};
+ghost use Rattle.pub_reader.specs.Ahead.{to_read};
+ghost use Rattle.pub_reader.specs.Drafts.{filters_in, filters_on, nothing_covered};
+ghost use Rattle.pub_reader.specs.DraftView.{coverage_of, draft_of, objects_of};
+ghost use Rattle.pub_reader.specs.Items.{size};
+ghost use Rattle.pub_reader.specs.Objects as spec;
+ghost use Rattle.pub_reader.specs.Reading.{Reads, Answers};
+ghost use Rattle.pub_reader.specs.Written.{as_filter};
+
+use crate::catalog::Entry;
+use crate::coverage::{Coverage, ObjectKind};
+use crate::draft::{Draft, PUBLIC};
+use crate::error::{ErrorKind, ReadError};
+use crate::filter_clause::filter_clause;
+use crate::item::Item;
+use crate::name::{PlacedName, read_name};
+use crate::reader::Reader;
+use crate::table_name::{only_or_none, table_named};
+use crate::word::Keyword;
+use filter_tree::Text;
+use sql_tokens::Operator;
+use std::alloc::Global;
+
+/// Adds a schema that was made before.
+#[tactic(auto, unfolding(crate::specs::Objects::schema_mentioned, crate::specs::Schemas::known_schema))]
+fn mention_schema(draft: &Draft, coverage: &mut Coverage, name: PlacedName) -> Result<(), ReadError>
+    ensures { Answers (λ _. coverage_of coverage.new) (spec.schema_mentioned (draft_of draft.now) (coverage_of coverage.old) name) result }
+{
+    draft.known_schema(&name)?;
+    coverage.add_schema(name.text)?;
+    Ok(())
+}
+
+/// Takes the name of a schema.
+#[tactic(auto, unfolding(crate::specs::Objects::named_schema))]
+fn named_schema(
+    r: &mut Reader<'_>,
+    alloc: Global,
+    draft: &Draft,
+    coverage: &mut Coverage,
+) -> Result<ObjectKind, ReadError>
+    ensures reads { Reads (λ kind. objects_of kind coverage.new) (spec.named_schema (draft_of draft.now) (coverage_of coverage.old) (to_read r.old)) result (to_read r.new) }
+    ensures fewer { OnOk result (size (to_read r.new) < size (to_read r.old)) }
+{
+    let name = read_name(r, alloc, "the name of a schema")?;
+    mention_schema(draft, coverage, name)?;
+    Ok(ObjectKind::Schema)
+}
+
+/// Takes CURRENT_SCHEMA.
+#[tactic(auto, unfolding(crate::specs::Objects::current_schema))]
+fn current_schema(
+    r: &mut Reader<'_>,
+    alloc: Global,
+    coverage: &mut Coverage,
+) -> Result<ObjectKind, ReadError>
+    ensures reads { Reads (λ kind. objects_of kind coverage.new) (spec.current_schema (coverage_of coverage.old) (to_read r.old)) result (to_read r.new) }
+    ensures fewer { OnOk result (size (to_read r.new) < size (to_read r.old)) }
+{
+    r.expect(Item::Keyword(Keyword::CurrentSchema), "CURRENT_SCHEMA")?;
+    let schema = Text::from_str(alloc, PUBLIC)?;
+    coverage.add_schema(schema)?;
+    Ok(ObjectKind::Schema)
+}
+
+/// Takes a schema.
+#[tactic(auto, unfolding(crate::specs::Objects::schema_object))]
+fn schema_object(
+    r: &mut Reader<'_>,
+    alloc: Global,
+    draft: &Draft,
+    coverage: &mut Coverage,
+) -> Result<ObjectKind, ReadError>
+    ensures reads { Reads (λ kind. objects_of kind coverage.new) (spec.schema_object (draft_of draft.now) (coverage_of coverage.old) (to_read r.old)) result (to_read r.new) }
+    ensures fewer { OnOk result (size (to_read r.new) < size (to_read r.old)) }
+{
+    match r.item() {
+        Some(Item::Keyword(Keyword::CurrentSchema)) => current_schema(r, alloc, coverage),
+        _ => named_schema(r, alloc, draft, coverage),
+    }
+}
+
+/// Takes IN SCHEMA and a schema.
+#[tactic(auto, unfolding(crate::specs::Objects::in_schema))]
+fn in_schema(
+    r: &mut Reader<'_>,
+    alloc: Global,
+    draft: &Draft,
+    coverage: &mut Coverage,
+) -> Result<ObjectKind, ReadError>
+    ensures reads { Reads (λ kind. objects_of kind coverage.new) (spec.in_schema (draft_of draft.now) (coverage_of coverage.old) (to_read r.old)) result (to_read r.new) }
+    ensures fewer { OnOk result (size (to_read r.new) < size (to_read r.old)) }
+{
+    r.expect(Item::Keyword(Keyword::In), "IN SCHEMA")?;
+    r.expect(Item::Keyword(Keyword::Schema), "SCHEMA")?;
+    schema_object(r, alloc, draft, coverage)
+}
+
+/// Adds a schema whose name was taken.
+#[tactic(auto, unfolding(crate::specs::Objects::taken_schema))]
+fn taken_schema(
+    r: &Reader<'_>,
+    draft: &Draft,
+    coverage: &mut Coverage,
+    name: PlacedName,
+) -> Result<ObjectKind, ReadError>
+    ensures { Reads (λ kind. objects_of kind coverage.new) (spec.taken_schema (draft_of draft.now) (coverage_of coverage.old) name (to_read r.now)) result (to_read r.now) }
+{
+    mention_schema(draft, coverage, name)?;
+    Ok(ObjectKind::Schema)
+}
+
+/// Takes a star, if it is ahead.
+#[tactic(auto, unfolding(crate::specs::Objects::star_or_none))]
+fn star_or_none(r: &mut Reader<'_>) -> Result<usize, ReadError>
+    ensures reads { Reads (λ n. n) (spec.star_or_none (to_read r.old)) result (to_read r.new) }
+    ensures fewer { OnOk result (size (to_read r.new) ≤ size (to_read r.old)) }
+{
+    if r.is(Item::Operator(Operator::Star)) {
+        return Ok(r.expect(Item::Operator(Operator::Star), "`*`")?);
+    }
+    Ok(0)
+}
+
+/// Takes the rest of a table and its filter, once the first part of the table's name is taken.
+#[tactic(auto, unfolding(crate::specs::Objects::taken_table))]
+fn taken_table(
+    r: &mut Reader<'_>,
+    alloc: Global,
+    draft: &Draft,
+    coverage: &mut Coverage,
+    name: &PlacedName,
+) -> Result<ObjectKind, ReadError>
+    ensures reads { Reads (λ kind. objects_of kind coverage.new) (spec.taken_table as_filter (draft_of draft.now) (coverage_of coverage.old) name.now (to_read r.old)) result (to_read r.new) }
+    ensures fewer { OnOk result (size (to_read r.new) ≤ size (to_read r.old)) }
+{
+    let number = table_named(r, alloc, draft, name)?;
+    star_or_none(r)?;
+    let filter = filter_clause(r, alloc, draft, coverage, number)?;
+    coverage.add_table(
+        name.place,
+        Entry {
+            table: number,
+            filter,
+        },
+    )?;
+    Ok(ObjectKind::Table)
+}
+
+/// Takes a table with its filter, or a whole one.
+#[tactic(auto, unfolding(crate::specs::Objects::table_object))]
+fn table_object(
+    r: &mut Reader<'_>,
+    alloc: Global,
+    draft: &Draft,
+    coverage: &mut Coverage,
+) -> Result<ObjectKind, ReadError>
+    ensures reads { Reads (λ kind. objects_of kind coverage.new) (spec.table_object as_filter (draft_of draft.now) (coverage_of coverage.old) (to_read r.old)) result (to_read r.new) }
+    ensures fewer { OnOk result (size (to_read r.new) < size (to_read r.old)) }
+{
+    only_or_none(r)?;
+    let name = read_name(r, alloc, "the name of a table")?;
+    Ok(taken_table(r, alloc, draft, coverage, &name)?)
+}
+
+/// Takes the rest of an object, once the word TABLES at its front is taken: it begins TABLES IN SCHEMA, or is a name.
+#[tactic(auto, unfolding(crate::specs::Objects::behind_tables))]
+fn behind_tables(
+    r: &mut Reader<'_>,
+    alloc: Global,
+    draft: &Draft,
+    kind: ObjectKind,
+    coverage: &mut Coverage,
+    name: PlacedName,
+) -> Result<ObjectKind, ReadError>
+    ensures reads { Reads (λ kind. objects_of kind coverage.new) (spec.behind_tables as_filter (draft_of draft.now) (objects_of kind coverage.old) name (to_read r.old)) result (to_read r.new) }
+    ensures fewer { OnOk result (size (to_read r.new) ≤ size (to_read r.old)) }
+{
+    r.look()?;
+    match (r.item(), kind) {
+        (Some(Item::Keyword(Keyword::In)), _) => Ok(in_schema(r, alloc, draft, coverage)?),
+        (_, ObjectKind::Table) => Ok(taken_table(r, alloc, draft, coverage, &name)?),
+        (_, ObjectKind::Schema) => Ok(taken_schema(r, draft, coverage, name)?),
+    }
+}
+
+/// Takes an object whose first word is TABLES.
+#[tactic(auto, unfolding(crate::specs::Objects::tables_object))]
+fn tables_object(
+    r: &mut Reader<'_>,
+    alloc: Global,
+    draft: &Draft,
+    kind: ObjectKind,
+    coverage: &mut Coverage,
+) -> Result<ObjectKind, ReadError>
+    ensures reads { Reads (λ kind. objects_of kind coverage.new) (spec.tables_object as_filter (draft_of draft.now) (objects_of kind coverage.old) (to_read r.old)) result (to_read r.new) }
+    ensures fewer { OnOk result (size (to_read r.new) < size (to_read r.old)) }
+{
+    let name = read_name(r, alloc, "TABLES")?;
+    Ok(behind_tables(r, alloc, draft, kind, coverage, name)?)
+}
+
+/// Takes one more object, which is of the kind of the one before unless it names its own.
+#[tactic(auto, using(crate::proofs::Ahead::rest_is_no_more), unfolding(crate::specs::Objects::object))]
+fn object(
+    r: &mut Reader<'_>,
+    alloc: Global,
+    draft: &Draft,
+    kind: ObjectKind,
+    coverage: &mut Coverage,
+) -> Result<ObjectKind, ReadError>
+    ensures reads { Reads (λ kind. objects_of kind coverage.new) (spec.object as_filter (draft_of draft.now) (objects_of kind coverage.old) (to_read r.old)) result (to_read r.new) }
+    ensures fewer { OnOk result (size (to_read r.new) < size (to_read r.old)) }
+{
+    match (r.item(), kind) {
+        (Some(Item::Keyword(Keyword::Table)), _) => {
+            r.advance();
+            table_object(r, alloc, draft, coverage)
+        }
+        (Some(Item::Keyword(Keyword::Tables)), _) => tables_object(r, alloc, draft, kind, coverage),
+        (_, ObjectKind::Table) => table_object(r, alloc, draft, coverage),
+        (_, ObjectKind::Schema) => schema_object(r, alloc, draft, coverage),
+    }
+}
+
+/// Takes the first object, which names its kind.
+#[tactic(auto, using(crate::proofs::Ahead::rest_is_no_more), unfolding(crate::specs::Objects::first_object))]
+fn first_object(
+    r: &mut Reader<'_>,
+    alloc: Global,
+    draft: &Draft,
+    coverage: &mut Coverage,
+) -> Result<ObjectKind, ReadError>
+    ensures reads { Reads (λ kind. objects_of kind coverage.new) (spec.first_object as_filter (draft_of draft.now) (coverage_of coverage.old) (to_read r.old)) result (to_read r.new) }
+    ensures fewer { OnOk result (size (to_read r.new) < size (to_read r.old)) }
+{
+    match r.item() {
+        Some(Item::Keyword(Keyword::Table)) => {
+            r.advance();
+            table_object(r, alloc, draft, coverage)
+        }
+        Some(Item::Keyword(Keyword::Tables)) => {
+            r.advance();
+            in_schema(r, alloc, draft, coverage)
+        }
+        _ => Err(r.refusal("ALL TABLES, TABLE or TABLES IN SCHEMA")),
+    }
+}
+
+/// Takes objects, which commas part.
+#[tactic(auto, using(crate::proofs::Turning::chains), unfolding(crate::specs::Objects::objects))]
+pub fn objects(
+    r: &mut Reader<'_>,
+    alloc: Global,
+    draft: &Draft,
+    coverage: &mut Coverage,
+) -> Result<ObjectKind, ReadError>
+    requires { coverage_of coverage.old ≡ nothing_covered }
+    ensures reads { Reads (λ kind. objects_of kind coverage.new) (spec.objects as_filter (draft_of draft.now) (to_read r.old)) result (to_read r.new) }
+    ensures fewer { OnOk result (size (to_read r.new) < size (to_read r.old)) }
+{
+    let mut kind = first_object(r, alloc, draft, coverage)?;
+    while r.next_is(Item::Comma)? {
+        r.advance();
+        kind = object(r, alloc, draft, kind, coverage)?;
+    }
+    Ok(kind)
+}

@@ -1,0 +1,137 @@
+//! CREATE SUBSCRIPTION.
+
+ghost use Rattle.std.specs.Prelude.{◌≡◌, ◌<◌, IfOk, None, OnOk};
+ghost use Rattle.pub_reader.specs.Ahead.{to_read};
+ghost use Rattle.pub_reader.specs.Drafts.{find_subscription};
+ghost use Rattle.pub_reader.specs.DraftView.{draft_of};
+ghost use Rattle.pub_reader.specs.Items.{size};
+ghost use Rattle.pub_reader.specs.Reading.{Reads, Answers};
+ghost use Rattle.pub_reader.specs.Subscriptions as spec;
+
+use crate::catalog::Subscription;
+use crate::draft::Draft;
+use crate::error::{ErrorKind, Omitted, ReadError};
+use crate::item::Item;
+use crate::name::{PlacedName, read_name};
+use crate::reader::Reader;
+use crate::word::Keyword;
+use filter_tree::Items;
+use std::alloc::Global;
+
+/// Takes the name of a new subscription.
+#[tactic(auto, unfolding(crate::specs::Subscriptions::subscription_name))]
+fn subscription_name(
+    r: &mut Reader<'_>,
+    alloc: Global,
+    draft: &Draft,
+) -> Result<PlacedName, ReadError>
+    ensures reads { Reads (λ name. name) (spec.subscription_name (draft_of draft.now) (to_read r.old)) result (to_read r.new) }
+    ensures fewer { OnOk result (size (to_read r.new) < size (to_read r.old)) }
+    ensures free { IfOk result (λ name. find_subscription name.text (draft_of draft.now).subscriptions ≡ None) }
+{
+    let name = read_name(r, alloc, "the name of a subscription")?;
+    draft.new_subscription(&name)?;
+    Ok(name)
+}
+
+/// The number of a publication that was made before, if it isn't among these numbers.
+#[tactic(auto, unfolding(crate::specs::Subscriptions::subscribed))]
+fn subscribed(draft: &Draft, numbers: &[usize], name: &PlacedName) -> Result<usize, ReadError>
+    ensures { Answers (λ n. n) (spec.subscribed (draft_of draft.now) numbers.now name.now) result }
+{
+    let number = draft.known_publication(name)?;
+    if numbers.contains(&number) {
+        return Err(ReadError {
+            place: name.place,
+            kind: ErrorKind::NameTwice,
+        });
+    }
+    Ok(number)
+}
+
+/// Takes the name of a publication.
+#[tactic(auto, unfolding(crate::specs::Subscriptions::one_publication))]
+fn one_publication(
+    r: &mut Reader<'_>,
+    alloc: Global,
+    draft: &Draft,
+    numbers: &mut Vec<usize>,
+) -> Result<(), ReadError>
+    ensures reads { Reads (λ _. numbers.new.items) (spec.one_publication (draft_of draft.now) numbers.old.items (to_read r.old)) result (to_read r.new) }
+    ensures fewer { OnOk result (size (to_read r.new) < size (to_read r.old)) }
+{
+    let name = read_name(r, alloc, "the name of a publication")?;
+    let number = subscribed(draft, numbers.as_slice(), &name)?;
+    numbers.push(number)?;
+    Ok(())
+}
+
+/// Takes the names of publications, which commas part.
+#[tactic(auto, using(crate::proofs::Turning::chains), unfolding(crate::specs::Subscriptions::publication_list))]
+fn publication_list(
+    r: &mut Reader<'_>,
+    alloc: Global,
+    draft: &Draft,
+) -> Result<Vec<usize>, ReadError>
+    ensures reads { Reads (λ numbers. numbers.items) (spec.publication_list (draft_of draft.now) (to_read r.old)) result (to_read r.new) }
+    ensures fewer { OnOk result (size (to_read r.new) < size (to_read r.old)) }
+{
+    let mut numbers = Vec::new(alloc);
+    one_publication(r, alloc, draft, &mut numbers)?;
+    while r.next_is(Item::Comma)? {
+        r.advance();
+        one_publication(r, alloc, draft, &mut numbers)?;
+    }
+    Ok(numbers)
+}
+
+/// Refuses WITH behind the publications.
+#[tactic(auto, unfolding(crate::specs::Subscriptions::subscription_tail))]
+fn subscription_tail(r: &Reader<'_>) -> Result<usize, ReadError>
+    ensures { Reads (λ n. n) (spec.subscription_tail (to_read r.now)) result (to_read r.now) }
+{
+    match r.item() {
+        Some(Item::Keyword(Keyword::With)) => Err(r.refused(ErrorKind::LeftOut(Omitted::Clause))),
+        _ => Ok(0),
+    }
+}
+
+/// Takes what stands behind the name of a subscription, and tells the numbers of its publications.
+#[tactic(auto, unfolding(crate::specs::Subscriptions::subscription_body))]
+fn subscription_body(
+    r: &mut Reader<'_>,
+    alloc: Global,
+    draft: &Draft,
+) -> Result<Vec<usize>, ReadError>
+    ensures reads { Reads (λ numbers. numbers.items) (spec.subscription_body (draft_of draft.now) (to_read r.old)) result (to_read r.new) }
+    ensures fewer { OnOk result (size (to_read r.new) < size (to_read r.old)) }
+{
+    r.expect(Item::Keyword(Keyword::Connection), "CONNECTION")?;
+    r.expect(Item::Text, "a string")?;
+    r.expect(Item::Keyword(Keyword::Publication), "PUBLICATION")?;
+    let numbers = publication_list(r, alloc, draft)?;
+    subscription_tail(r)?;
+    Ok(numbers)
+}
+
+/// Takes what stands behind CREATE SUBSCRIPTION, and makes the subscription.
+#[tactic(auto, unfolding(crate::specs::Subscriptions::create_subscription))]
+pub fn create_subscription(
+    r: &mut Reader<'_>,
+    alloc: Global,
+    draft: &mut Draft,
+) -> Result<(), ReadError>
+    ensures reads { Reads (λ _. draft_of draft.new) (spec.create_subscription (draft_of draft.old) (to_read r.old)) result (to_read r.new) }
+    ensures fewer { OnOk result (size (to_read r.new) < size (to_read r.old)) }
+{
+    let name = subscription_name(r, alloc, draft)?;
+    let numbers = subscription_body(r, alloc, draft)?;
+    draft.add_subscription(
+        alloc,
+        Subscription {
+            name: name.text,
+            publications: Items::from_vec(numbers),
+        },
+    )?;
+    Ok(())
+}

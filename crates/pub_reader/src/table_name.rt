@@ -1,0 +1,156 @@
+//! The names of tables, with their schemas.
+
+ghost use Rattle.std.specs.Prelude.{◌≡◌, ◌<◌, ◌≤◌, IfOk, OnOk, length};
+ghost use Rattle.pub_reader.specs.Ahead.{to_read};
+ghost use Rattle.pub_reader.specs.DraftView.{draft_of};
+ghost use Rattle.pub_reader.specs.Items.{size};
+ghost use Rattle.pub_reader.specs.Reading.{Reads};
+ghost use Rattle.pub_reader.specs.TableNames as spec;
+
+use crate::column_rule::left_out;
+use crate::draft::{Draft, PUBLIC};
+use crate::error::{ErrorKind, Omitted, ReadError};
+use crate::item::Item;
+use crate::name::{PlacedName, read_name};
+use crate::reader::Reader;
+use crate::word::Keyword;
+use filter_tree::Text;
+use std::alloc::Global;
+
+/// The name of a new table, and its schema.
+#[derive(Drop)]
+pub struct NewName {
+    pub schema: Text,
+    pub name: PlacedName,
+}
+
+/// Takes ONLY, if it is ahead.
+#[tactic(auto, unfolding(crate::specs::TableNames::only_or_none))]
+pub fn only_or_none(r: &mut Reader<'_>) -> Result<usize, ReadError>
+    ensures reads { Reads (λ n. n) (spec.only_or_none (to_read r.old)) result (to_read r.new) }
+    ensures fewer { OnOk result (size (to_read r.new) ≤ size (to_read r.old)) }
+{
+    if r.is(Item::Keyword(Keyword::Only)) {
+        return Ok(r.expect(Item::Keyword(Keyword::Only), "ONLY")?);
+    }
+    Ok(0)
+}
+
+/// Takes a dot and the name of a table that was made before, behind the name of its schema, and tells its number.
+#[tactic(auto, unfolding(crate::specs::TableNames::table_in_schema))]
+fn table_in_schema(
+    r: &mut Reader<'_>,
+    alloc: Global,
+    draft: &Draft,
+    schema: &PlacedName,
+) -> Result<usize, ReadError>
+    ensures reads { Reads (λ number. number) (spec.table_in_schema (draft_of draft.now) schema.now (to_read r.old)) result (to_read r.new) }
+    ensures fewer { OnOk result (size (to_read r.new) < size (to_read r.old)) }
+    ensures within { IfOk result (λ number. number < length (draft_of draft.now).tables) }
+{
+    draft.known_schema(schema)?;
+    r.expect(Item::Dot, "`.`")?;
+    let name = read_name(r, alloc, "the name of a table")?;
+    Ok(draft.known_table(schema.text.as_str(), &name)?)
+}
+
+/// Tells the number of a table that was made before, once the first part of its name is taken.
+#[tactic(auto, unfolding(crate::specs::TableNames::table_named))]
+pub fn table_named(
+    r: &mut Reader<'_>,
+    alloc: Global,
+    draft: &Draft,
+    name: &PlacedName,
+) -> Result<usize, ReadError>
+    ensures reads { Reads (λ number. number) (spec.table_named (draft_of draft.now) name.now (to_read r.old)) result (to_read r.new) }
+    ensures fewer { OnOk result (size (to_read r.new) ≤ size (to_read r.old)) }
+    ensures within { IfOk result (λ number. number < length (draft_of draft.now).tables) }
+{
+    r.look()?;
+    if r.is(Item::Dot) {
+        return Ok(table_in_schema(r, alloc, draft, name)?);
+    }
+    Ok(draft.known_table(PUBLIC, name)?)
+}
+
+/// Takes the name of a table that was made before, and tells its number.
+#[tactic(auto, unfolding(crate::specs::TableNames::table_number))]
+pub fn table_number(r: &mut Reader<'_>, alloc: Global, draft: &Draft) -> Result<usize, ReadError>
+    ensures reads { Reads (λ number. number) (spec.table_number (draft_of draft.now) (to_read r.old)) result (to_read r.new) }
+    ensures fewer { OnOk result (size (to_read r.new) < size (to_read r.old)) }
+    ensures within { IfOk result (λ number. number < length (draft_of draft.now).tables) }
+{
+    let name = read_name(r, alloc, "the name of a table")?;
+    Ok(table_named(r, alloc, draft, &name)?)
+}
+
+/// Takes a dot and the name of a new table, behind the name of its schema.
+#[tactic(auto, unfolding(crate::specs::TableNames::new_in_schema))]
+fn new_in_schema(
+    r: &mut Reader<'_>,
+    alloc: Global,
+    draft: &Draft,
+    schema: PlacedName,
+) -> Result<NewName, ReadError>
+    ensures reads { Reads (λ name. name) (spec.new_in_schema (draft_of draft.now).schemas schema (to_read r.old)) result (to_read r.new) }
+    ensures fewer { OnOk result (size (to_read r.new) < size (to_read r.old)) }
+{
+    draft.known_schema(&schema)?;
+    r.expect(Item::Dot, "`.`")?;
+    let name = read_name(r, alloc, "the name of a table")?;
+    Ok(NewName {
+        schema: schema.text,
+        name,
+    })
+}
+
+/// Takes the rest of the name of a new table, once its first part is taken.
+#[tactic(auto, unfolding(crate::specs::TableNames::new_named))]
+fn new_named(
+    r: &mut Reader<'_>,
+    alloc: Global,
+    draft: &Draft,
+    is_if: bool,
+    name: PlacedName,
+) -> Result<NewName, ReadError>
+    ensures reads { Reads (λ name. name) (spec.new_named (draft_of draft.now).schemas is_if name (to_read r.old)) result (to_read r.new) }
+    ensures fewer { OnOk result (size (to_read r.new) ≤ size (to_read r.old)) }
+{
+    r.look()?;
+    match (is_if, r.item()) {
+        (true, Some(Item::Keyword(Keyword::Not))) => Err(ReadError {
+            place: name.place,
+            kind: ErrorKind::LeftOut(Omitted::Constraint),
+        }),
+        (_, Some(Item::Dot)) => Ok(new_in_schema(r, alloc, draft, name)?),
+        _ => Ok(NewName {
+            schema: Text::from_str(alloc, PUBLIC)?,
+            name,
+        }),
+    }
+}
+
+/// Refuses a clause that is left out behind the name of a table.
+#[tactic(auto, unfolding(crate::specs::TableNames::table_head))]
+fn table_head(r: &Reader<'_>) -> Result<usize, ReadError>
+    ensures { Reads (λ n. n) (spec.table_head (to_read r.now)) result (to_read r.now) }
+{
+    match r.item() {
+        Some(Item::Keyword(Keyword::Partition)) => Err(left_out(r)),
+        _ => Ok(0),
+    }
+}
+
+/// Takes the name of a new table.
+#[tactic(auto, unfolding(crate::specs::TableNames::new_name))]
+pub fn new_name(r: &mut Reader<'_>, alloc: Global, draft: &Draft) -> Result<NewName, ReadError>
+    ensures reads { Reads (λ name. name) (spec.new_name (draft_of draft.now) (to_read r.old)) result (to_read r.new) }
+    ensures fewer { OnOk result (size (to_read r.new) < size (to_read r.old)) }
+{
+    let is_if = r.is(Item::Keyword(Keyword::If));
+    let first = read_name(r, alloc, "the name of a table")?;
+    let name = new_named(r, alloc, draft, is_if, first)?;
+    draft.new_table(&name)?;
+    table_head(r)?;
+    Ok(name)
+}

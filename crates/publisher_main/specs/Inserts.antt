@@ -1,0 +1,46 @@
+-- The Insert message of a row that some publication carries: PostgreSQL 15, "Row Filters", 31.3, and "Logical Replication Message Formats", 55.9.
+use Rattle.std.specs.Prelude.{ℕ, ◌+◌, ◌%◌, ◌^◌, Bool, true, false, ◌&&◌, if◌then◌else◌, nat_lt, length, List, Option, Some, codes}
+use Rattle.std.specs.List.{list_any}
+use Rattle.filter_tree.specs.Datum.{Datum}
+use Rattle.filter_tree.specs.declared.tri.Tri.TheVariants.{True}
+use Rattle.pgoutput_msgs.specs.Spelling.{spelling_of}
+use Rattle.pgoutput_msgs.specs.ValueText.{cells_of}
+use Rattle.pgoutput_msgs.specs.declared.message.Msg.{Msg}
+use Rattle.pgoutput_msgs.specs.declared.message.Msg.TheVariants.{Insert}
+use Rattle.pub_reader.specs.declared.catalog.Publication.{Publication}
+use Rattle.publisher_main.specs.Answers.{answer_of}
+use Rattle.publisher_main.specs.Hexadecimal.{hexadecimal}
+use Rattle.publisher_main.specs.declared.answers.Answer.{Answer}
+use Rattle.publisher_main.specs.declared.answers.Answer.TheVariants.{All, Filtered}
+
+-- a row is carried where the whole table is, or where the filter is true
+abbrev pub is_through : Option Answer → Bool
+is_through (Some All) = true
+is_through (Some (Filtered True)) = true
+is_through _ = false
+
+abbrev pub carries : ℕ → List Datum → Publication → Bool
+carries table cells publication = is_through (answer_of table cells publication.entries.items)
+
+abbrev pub is_carried : ℕ → List Datum → List Publication → Bool
+is_carried table cells publications = list_any (carries table cells) publications
+
+-- the OID of a table is 16384 and its number, as a number of 32 bits
+abbrev pub oid_of : ℕ → ℕ
+oid_of table = (16384 + table) % 2 ^ 32
+
+abbrev pub insert_of : ℕ → List Datum → Msg
+insert_of table cells = Insert (oid_of table) (cells_of cells)
+
+abbrev pub message_text : ℕ → List Datum → List ℕ
+message_text table cells = hexadecimal (spelling_of (insert_of table cells))
+
+-- the number of columns is a signed number of 16 bits; the tables of a catalog have at most 100
+abbrev pub has_room : List Datum → Bool
+has_room cells = nat_lt (length cells) 32768
+
+-- the message of a row that some publication carries, or `none`
+abbrev pub insert_line : ℕ → List Datum → List Publication → List ℕ
+insert_line table cells publications =
+    if has_room cells && is_carried table cells publications then message_text table cells
+    else codes "none"

@@ -1,0 +1,32 @@
+//! The table of a catalog that a word names.
+
+ghost use Rattle.std.specs.Prelude.{◌≡◌, ◌<◌, length, IfSome};
+ghost use Rattle.publisher_main.specs.Tables.{schema_of, name_of, table_of};
+
+use filter_tree::Table;
+use pub_reader::Publication;
+
+/// A table of a catalog: its number there, and the publications of which some may carry it.
+#[derive(Clone, Copy)]
+pub struct CatalogTable<'a> {
+    pub number: usize,
+    pub table: &'a Table,
+    pub publications: &'a [Publication],
+}
+
+/// The schema and the name of a table that a word names.
+fn table_name(word: &str) -> (&str, &str)
+    ensures schema { result.0.now ≡ schema_of word.now }
+    ensures name { result.1.now ≡ name_of word.now }
+{
+    word.split_once('.').unwrap_or(("public", word))
+}
+
+/// The number of the table that a word names: `name` of the schema public, or `schema.name`.
+pub fn find_table(tables: &[Table], word: &str) -> Option<usize>
+    ensures value { result ≡ table_of word.now tables.now }
+    ensures within { IfSome result (λ number. number < length tables.now) }
+{
+    let (schema, name) = table_name(word);
+    tables.iter().position(|table| table.schema.as_str() == schema && table.name.as_str() == name)
+}

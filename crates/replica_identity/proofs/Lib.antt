@@ -1,0 +1,4 @@
+pub mod JoiningLemmas
+pub mod NumberLemmas
+pub mod PassingLemmas
+pub mod PlanLemmas

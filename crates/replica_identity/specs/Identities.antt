@@ -1,0 +1,24 @@
+-- The columns of a table's replica identity, whose old values an UPDATE or DELETE records: PostgreSQL 15, "Logical Replication", 31.1 Publication, and ALTER TABLE (REPLICA IDENTITY).
+use Rattle.std.specs.Prelude.{ℕ, zero, suc, ◌==◌, Bool, List, [], ◌∷◌, ◌++◌, length}
+use Rattle.std.specs.List.{list_any}
+use Rattle.filter_tree.specs.declared.table.Identity.{Identity}
+use Rattle.filter_tree.specs.declared.table.Identity.TheVariants.{Default, Full, Nothing}
+use Rattle.filter_tree.specs.declared.table.Table.{Table}
+
+-- 0, 1 and so on, so many
+abbrev pub numbers_to : ℕ → List ℕ
+numbers_to zero = []
+numbers_to (suc n) = numbers_to n ++ n ∷ []
+
+-- the primary key, every column, or none
+abbrev pub columns_by : Identity → Table → List ℕ
+columns_by Default table = table.key
+columns_by Full table = numbers_to (length table.columns)
+columns_by Nothing table = []
+
+abbrev pub identity_columns : Table → List ℕ
+identity_columns table = columns_by table.identity table
+
+-- whether the column is one of them
+abbrev pub is_covered : Table → ℕ → Bool
+is_covered table column = list_any (λ number. number == column) (identity_columns table)

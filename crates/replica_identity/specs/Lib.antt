@@ -1,0 +1,7 @@
+pub mod Identities
+pub mod Joining
+pub mod Passes
+pub mod PlanView
+pub mod Plans
+pub mod Setting
+pub mod Shares

@@ -1,0 +1,8 @@
+-- What a plan of the code stands for.
+use Rattle.std.specs.Prelude.{map}
+use Rattle.replica_identity.specs.declared.shares.Plan.{Plan}
+use Rattle.replica_identity.specs.Plans.{PlanOf}
+use Rattle.replica_identity.specs.Shares.{share_of}
+
+abbrev pub plan_view : Plan → PlanOf
+plan_view plan = map (λ shares. map share_of shares.items) plan.shares.items

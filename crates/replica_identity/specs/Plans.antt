@@ -1,0 +1,52 @@
+-- What each subscriber takes of each table of a catalog: PostgreSQL 15, "Logical Replication", 31.2 Subscription and 31.3.6 Combining Multiple Row Filters.
+use Rattle.std.specs.Prelude.{◌≡◌, ℕ, ◌+◌, ◌<◌, ◌==◌, List, [], ◌∷◌, map, flat_map, filter, slice_get, slice_index_or, length, Option, Some, None}
+use Rattle.filter_tree.specs.Datum.{Datum}
+use Rattle.filter_tree.specs.Expr.{Expr}
+use Rattle.filter_tree.specs.declared.table.Table.{Table}
+use Rattle.pub_reader.specs.Catalogs.{CatalogOf, PublicationOf, EntryOf}
+use Rattle.pub_reader.specs.declared.catalog.Subscription.{Subscription}
+use Rattle.replica_identity.specs.Passes.{passes}
+use Rattle.replica_identity.specs.Shares.{ShareOf, Nothing, share_by, takes}
+
+-- what the entries for a table carry of it
+abbrev pub filters_for : ℕ → List (EntryOf Expr) → List (Option Expr)
+filters_for table entries = map (λ (entry : EntryOf Expr). entry.filter) (filter (λ entry. entry.table == table) entries)
+
+abbrev pub share_in : List (EntryOf Expr) → ℕ → ShareOf
+share_in entries table = share_by (filters_for table entries)
+
+-- the shares of the tables that begin at this number
+abbrev pub shares_from : List (EntryOf Expr) → ℕ → List Table → List ShareOf
+shares_from entries number [] = []
+shares_from entries number (table ∷ tables) = share_in entries number ∷ shares_from entries (number + 1) tables
+
+-- the entries of the publication of this number
+abbrev pub entries_in : Option (PublicationOf Expr) → List (EntryOf Expr)
+entries_in None = []
+entries_in (Some publication) = publication.entries
+
+abbrev pub entries_at : List (PublicationOf Expr) → ℕ → List (EntryOf Expr)
+entries_at publications number = entries_in (slice_get publications number)
+
+-- the entries of publications, in the order of a list of their numbers
+abbrev pub entries_listed : List (PublicationOf Expr) → List ℕ → List (EntryOf Expr)
+entries_listed publications numbers = flat_map (entries_at publications) numbers
+
+-- a subscriber's share of each table
+abbrev pub shares_for : CatalogOf Expr → Subscription → List ShareOf
+shares_for catalog subscription = shares_from (entries_listed catalog.publications subscription.publications) 0 catalog.tables
+
+-- of each subscriber the share of each table
+abbrev pub PlanOf : Type 0
+PlanOf = List (List ShareOf)
+
+abbrev pub plan_of : CatalogOf Expr → PlanOf
+plan_of catalog = map (shares_for catalog) catalog.subscriptions
+
+-- a subscriber's share of a table; of others nothing
+abbrev pub share_at : PlanOf → ℕ → ℕ → ShareOf
+share_at plan subscriber table = slice_index_or (slice_index_or plan subscriber []) table Nothing
+
+-- Of each table of the catalog each subscriber's share takes the rows that pass to it.
+pub record TakesWhatPasses (catalog : CatalogOf Expr) (plan : PlanOf) : Type 0 where
+  pub same : (subscriber table : ℕ) → table < length catalog.tables → (row : List Datum) → takes (share_at plan subscriber table) row ≡ passes catalog subscriber table row

@@ -1,0 +1,48 @@
+//! The columns of a table's replica identity.
+
+ghost use Rattle.std.specs.Prelude.{◌≡◌, IfOk};
+ghost use Rattle.replica_identity.specs.Identities as spec;
+
+use filter_tree::{Identity, Table};
+use std::alloc::{AllocError, Global};
+
+/// The numbers from 0 up to a length.
+fn numbers(alloc: Global, length: usize) -> Result<Vec<usize>, AllocError>
+    ensures { IfOk result (λ numbers. numbers.items ≡ spec.numbers_to length) }
+{
+    let mut numbers = Vec::new(alloc);
+    for number in 0..length {
+        numbers.push(number)?;
+    }
+    Ok(numbers)
+}
+
+/// The numbers of the columns of a table's replica identity: those of the primary key in its order for `Default`, all
+/// columns for `Full`, none for `Nothing`. The only error is want of memory.
+///
+/// PostgreSQL 15, "Logical Replication", 31.1 Publication.
+pub fn identity_columns(alloc: Global, table: &Table) -> Result<Vec<usize>, AllocError>
+    ensures { IfOk result (λ columns. columns.items ≡ spec.identity_columns table.now) }
+{
+    match table.identity {
+        Identity::Default => {
+            let mut columns = Vec::new(alloc);
+            columns.extend_from_slice(table.key.as_slice())?;
+            Ok(columns)
+        }
+        Identity::Full => numbers(alloc, table.columns.len()),
+        Identity::Nothing => Ok(Vec::new(alloc)),
+    }
+}
+
+/// Whether a table's replica identity has the column of this number.
+#[tactic(auto, using(crate::proofs::NumberLemmas::has_numbers))]
+pub fn covered(table: &Table, column: usize) -> bool
+    ensures { result ≡ spec.is_covered table.now column }
+{
+    match table.identity {
+        Identity::Default => table.key.as_slice().contains(&column),
+        Identity::Full => column < table.columns.len(),
+        Identity::Nothing => false,
+    }
+}

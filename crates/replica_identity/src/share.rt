@@ -1,0 +1,71 @@
+//! What a subscriber takes of a table.
+
+ghost use Rattle.std.specs.Prelude.{◌≡◌, IfOk, OnOk};
+ghost use Rattle.std.specs.Option.{option_map};
+ghost use Rattle.filter_tree.specs.Shape.{expr_of};
+ghost use Rattle.filter_tree.specs.Expr.{Either};
+ghost use Rattle.replica_identity.specs.Joining.{joined as joined_of};
+ghost use Rattle.replica_identity.specs.Shares.{share_of, Where};
+
+use filter_tree::{Filter, Row, Tri, copy_in, eval};
+use std::alloc::{AllocError, Allocator, Global};
+
+/// What a subscriber takes of a table: no row, every row, or the rows for which a filter is true.
+#[derive(Debug, Drop)]
+pub enum Share<A: Allocator = Global> {
+    Nothing,
+    Everything,
+    Where(Filter<A>),
+}
+
+impl<A: Allocator> Share<A> {
+    ghost use Rattle.std.specs.Prelude.{◌≡◌};
+    ghost use Rattle.replica_identity.specs.Shares.{share_of, takes};
+
+    /// Whether the subscriber takes the row. Where a filter is null it does not.
+    pub fn takes<R: Allocator>(&self, row: &Row<R>) -> bool
+        ensures { result ≡ takes (share_of self.now) row.now }
+    {
+        match self {
+            Share::Nothing => false,
+            Share::Everything => true,
+            Share::Where(filter) => matches!(eval(filter, row), Tri::True),
+        }
+    }
+}
+
+/// A filter that is true where either of two is.
+fn either(alloc: Global, left: Filter, right: Filter) -> Result<Filter, AllocError>
+    ensures { IfOk result (λ filter. expr_of filter ≡ Either (expr_of left) (expr_of right)) }
+{
+    let left = Box::new(alloc, left)?;
+    let right = Box::new(alloc, right)?;
+    Ok(Filter::Or(left, right))
+}
+
+/// The share with one filter more, of which there are some already.
+fn with_filter(alloc: Global, filter: Filter, more: &Filter) -> Result<Share, AllocError>
+    ensures { IfOk result (λ share. share_of share ≡ Where (Either (expr_of filter) (expr_of more.now))) }
+{
+    let more = copy_in(alloc, more)?;
+    Ok(Share::Where(either(alloc, filter, more)?))
+}
+
+/// The share of one filter.
+fn first_filter(alloc: Global, filter: &Filter) -> Result<Share, AllocError>
+    ensures { IfOk result (λ share. share_of share ≡ Where (expr_of filter.now)) }
+{
+    Ok(Share::Where(copy_in(alloc, filter)?))
+}
+
+/// What is taken where a publication more carries the table: whole, or the rows of a filter.
+pub fn joined(alloc: Global, share: Share, more: Option<&Filter>) -> Result<Share, AllocError>
+    ensures { IfOk result (λ joined. share_of joined ≡ joined_of (share_of share) (option_map (λ filter. expr_of filter.now) more.entry)) }
+{
+    match (share, more) {
+        (Share::Everything, _) => Ok(Share::Everything),
+        (_, None) => Ok(Share::Everything),
+        (Share::Nothing, Some(filter)) => first_filter(alloc, filter),
+        (Share::Where(earlier), Some(filter)) => with_filter(alloc, earlier, filter),
+    }
+}

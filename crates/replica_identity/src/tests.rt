@@ -1,0 +1,107 @@
+use crate::{Plan, Share, covered, identity_columns, plan};
+use filter_tree::{Filter, Row};
+use pub_reader::{Catalog, ReadError, read_catalog, read_row};
+use std::alloc::{AllocError, Global};
+use std::test::Fail;
+
+const CATALOG: &str =
+    "CREATE TABLE t (id integer, region text, n integer, PRIMARY KEY (region, id));
+ALTER TABLE t REPLICA IDENTITY FULL;
+CREATE TABLE u (n integer, id integer PRIMARY KEY);
+CREATE TABLE v (id integer PRIMARY KEY);
+ALTER TABLE v REPLICA IDENTITY NOTHING;
+CREATE PUBLICATION low FOR TABLE t WHERE (id < 100);
+CREATE PUBLICATION high FOR TABLE t WHERE (id >= 100), TABLE u;
+CREATE PUBLICATION eu FOR TABLE t WHERE (region = 'eu'), TABLE v;
+CREATE PUBLICATION everything FOR ALL TABLES;
+CREATE PUBLICATION none;
+CREATE SUBSCRIPTION s0 CONNECTION '' PUBLICATION low;
+CREATE SUBSCRIPTION s1 CONNECTION '' PUBLICATION eu, low;
+CREATE SUBSCRIPTION s2 CONNECTION '' PUBLICATION high;
+CREATE SUBSCRIPTION s3 CONNECTION '' PUBLICATION low, everything, eu;
+CREATE SUBSCRIPTION s4 CONNECTION '' PUBLICATION none;
+";
+
+fn catalog(alloc: Global) -> Result<Catalog, ReadError> {
+    read_catalog(alloc, CATALOG)
+}
+
+fn row(alloc: Global, text: &str) -> Result<Row, ReadError> {
+    read_row(alloc, text)
+}
+
+/// Which of the five subscribers take a row of a table.
+fn takers(plan: &Plan, table: usize, row: &Row) -> [bool; 5] {
+    [0, 1, 2, 3, 4].map(|subscriber| plan.share(subscriber, table).takes(row))
+}
+
+#[test]
+fn rows_pass_by_publications(rt: HostRuntime) -> Result<(), Fail> {
+    let catalog = catalog(rt.alloc())?;
+    let plan = plan(rt.alloc(), &catalog)?;
+    let cases: [(usize, &str, [bool; 5]); 9] = [
+        (0, "(7, 'eu', 1)", [true, true, false, true, false]),
+        (0, "(7, 'us', 1)", [true, true, false, true, false]),
+        (0, "(7, NULL, 1)", [true, true, false, true, false]),
+        (0, "(100, 'eu', NULL)", [false, true, true, true, false]),
+        (0, "(100, 'us', NULL)", [false, false, true, true, false]),
+        (0, "(NULL, NULL, NULL)", [false, false, false, true, false]),
+        (1, "(1, 2)", [false, false, true, true, false]),
+        (2, "(1)", [false, true, false, true, false]),
+        (3, "(1)", [false, false, false, false, false]),
+    ];
+    for (table, text, expected) in cases {
+        let row = row(rt.alloc(), text)?;
+        assert_eq!(rt;
+            takers(&plan, table, &row),
+            expected,
+            "{text} of table {table}"
+        );
+    }
+    assert!(rt; matches!(plan.share(5, 0), Share::Nothing));
+    Ok(())
+}
+
+/// The columns of a share that joins two conditions by OR.
+fn joined_columns(share: &Share) -> Option<(usize, usize)> {
+    match share {
+        Share::Where(Filter::Or(left, right)) => Some((column(left)?, column(right)?)),
+        Share::Nothing | Share::Everything | Share::Where(_) => None,
+    }
+}
+
+fn column(filter: &Filter) -> Option<usize> {
+    match filter {
+        Filter::Atom(atom) => Some(atom.term().column()),
+        _ => None,
+    }
+}
+
+#[test]
+fn filters_are_joined_in_the_order_of_the_list(rt: HostRuntime) -> Result<(), Fail> {
+    let catalog = catalog(rt.alloc())?;
+    let plan = plan(rt.alloc(), &catalog)?;
+    assert_eq!(rt; joined_columns(plan.share(1, 0)), Some((1, 0)));
+    Ok(())
+}
+
+#[test]
+fn identities_have_their_columns(rt: HostRuntime) -> Result<(), Fail> {
+    let catalog = catalog(rt.alloc())?;
+    let cases: [(usize, &[usize], [bool; 4]); 3] = [
+        (0, &[0, 1, 2], [true, true, true, false]),
+        (1, &[1], [false, true, false, false]),
+        (2, &[], [false, false, false, false]),
+    ];
+    for (number, columns, coverage) in cases {
+        let table = catalog.tables.get(number).expect(&rt, "a table");
+        let found = identity_columns(rt.alloc(), table)?;
+        assert_eq!(rt; found.as_slice(), columns, "of table {number}");
+        assert_eq!(rt;
+            [0, 1, 2, 3].map(|column| covered(table, column)),
+            coverage,
+            "of table {number}"
+        );
+    }
+    Ok(())
+}

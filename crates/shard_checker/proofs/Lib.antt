@@ -1,0 +1,11 @@
+pub mod CountingLemmas
+pub mod ExistingLemmas
+pub mod FactLemmas
+pub mod OwnerLemmas
+pub mod PlaceLemmas
+pub mod RangeLemmas
+pub mod ShardingLemmas
+pub mod SoundLemmas
+pub mod Testing
+pub mod TruthLemmas
+pub mod ValueLemmas

@@ -1,0 +1,188 @@
+-- The value of a term on a row that fits the columns is of the term's domain.
+use Rattle.std.proofs.Common.{◌≡◌, ℕ, zero, suc, ◌-◌, ◌<◌, ◌≤◌, ℤ, pos, negsuc, neg_ℤ, ◌≤ℤ◌, true, List, [], ◌∷◌, length, refl, ap, subst, arith}
+use Rattle.std.specs.Prelude.{Option, Some, None, IfSome, slice_get, int_rem, nat_abs}
+use Rattle.std.specs.Int.{int_max, int_min}
+use Rattle.std.specs.Ordering.{int_eq}
+use Rattle.std.specs.Cmp.{signed_Decides}
+use Rattle.std.proofs.Math.Nat.{mod-le, mod-zero}
+use Rattle.std.proofs.lemmas.Int.{ints, clamps, rem_below}
+use Rattle.std.proofs.lemmas.Option.{slice_get_past}
+use Rattle.filter_tree.specs.Datum.{Constant, Number, Truth, Bytes, Datum, Missing, Known, value_at}
+use Rattle.filter_tree.specs.Expr.{remainder_of, term_value}
+use Rattle.filter_tree.specs.Lists.{column_of}
+use Rattle.filter_tree.specs.Range.{least_of, greatest_of}
+use Rattle.filter_tree.specs.Valid.{IsWithin, IsOf, Fits, IsValid}
+use Rattle.filter_tree.specs.declared.filter.Term.{Term}
+use Rattle.filter_tree.specs.declared.filter.Term.TheVariants.{Col, Mod}
+use Rattle.filter_tree.specs.declared.table.ColType.{ColType}
+use Rattle.filter_tree.specs.declared.table.ColType.TheVariants.{SmallInt, Integer, BigInt, Boolean, Text}
+use Rattle.filter_tree.specs.declared.table.Column.{Column}
+use Rattle.shard_checker.specs.Domain.{kind_in, kind_at, greatest_remainder, whole_range, range_within, range_of, IsIn, IsInDomain}
+use Rattle.shard_checker.proofs.Testing.{by_test}
+
+-- ---- remainders
+
+-- the remainder is no farther from 0 than the number, and on its side
+rem_between : (number divisor least greatest : ℤ) → least ≤ℤ pos 0 → pos 0 ≤ℤ greatest → least ≤ℤ number → number ≤ℤ greatest
+    → (least ≤ℤ int_rem number divisor) × (int_rem number divisor ≤ℤ greatest)
+rem_between (pos n) divisor least greatest low high above below =
+    let small = mod-le n (nat_abs divisor) in (omega (arith, ints), omega (arith, ints))
+rem_between (negsuc n) divisor least greatest low high above below =
+    let small = mod-le (suc n) (nat_abs divisor) in (omega (arith, ints), omega (arith, ints))
+
+-- a number that is nearer to 0 than another
+near_above : (number : ℤ) (far : ℕ) → nat_abs number < suc far → neg_ℤ (pos far) ≤ℤ number
+near_above (pos n) far near = omega (arith, ints)
+near_above (negsuc n) far near = omega (arith, ints)
+
+near_below : (number : ℤ) (far : ℕ) → nat_abs number < suc far → number ≤ℤ pos far
+near_below (pos n) far near = omega (arith, ints)
+near_below (negsuc n) far near = omega (arith, ints)
+
+-- by a divisor that isn't 0 it is nearer to 0 than the divisor
+rem_within : (number divisor : ℤ) → (divisor ≡ pos 0 → ⊥)
+    → (neg_ℤ (greatest_remainder divisor) ≤ℤ int_rem number divisor) × (int_rem number divisor ≤ℤ greatest_remainder divisor)
+rem_within number (pos zero) divides = absurd (divides refl)
+rem_within number (pos (suc k)) divides =
+    let some : 0 < nat_abs (pos (suc k)) = omega arith in
+    let near = rem_below number (pos (suc k)) some in
+    let less : suc k - 1 ≡ k = omega arith in
+    rw less (near_above (int_rem number (pos (suc k))) k near, near_below (int_rem number (pos (suc k))) k near)
+rem_within number (negsuc k) divides =
+    let some : 0 < nat_abs (negsuc k) = omega arith in
+    let near = rem_below number (negsuc k) some in
+    (near_above (int_rem number (negsuc k)) k near, near_below (int_rem number (negsuc k)) k near)
+
+cut_above : (a b number : ℤ) → a ≤ℤ number → b ≤ℤ number → int_max a b ≤ℤ number
+cut_above a b number above near = omega (arith, ints, clamps)
+
+cut_below : (a b number : ℤ) → number ≤ℤ a → number ≤ℤ b → number ≤ℤ int_min a b
+cut_below a b number below near = omega (arith, ints, clamps)
+
+zero_above : (kind : ColType) → least_of kind ≤ℤ pos 0
+zero_above SmallInt = omega (arith, ints)
+zero_above Integer = omega (arith, ints)
+zero_above BigInt = omega (arith, ints)
+zero_above Boolean = omega (arith, ints)
+zero_above Text = omega (arith, ints)
+
+zero_below : (kind : ColType) → pos 0 ≤ℤ greatest_of kind
+zero_below SmallInt = omega (arith, ints)
+zero_below Integer = omega (arith, ints)
+zero_below BigInt = omega (arith, ints)
+zero_below Boolean = omega (arith, ints)
+zero_below Text = omega (arith, ints)
+
+rem_zero : (number : ℤ) → int_rem number (pos 0) ≡ number
+rem_zero (pos n) = ap pos (mod-zero n)
+rem_zero (negsuc n) = ap (λ k. neg_ℤ (pos k)) (mod-zero (suc n))
+
+in_whole : (kind : ColType) (number : ℤ) → IsWithin kind number → IsIn (whole_range kind) number
+in_whole kind number fits = record { above_least = fits.above_least; below_greatest = fits.below_greatest }
+
+in_cut : (kind : ColType) (number divisor : ℤ) → IsWithin kind number → (divisor ≡ pos 0 → ⊥) → IsIn (range_within kind (greatest_remainder divisor)) (int_rem number divisor)
+in_cut kind number divisor fits divides =
+    let between = rem_between number divisor (least_of kind) (greatest_of kind) (zero_above kind) (zero_below kind) fits.above_least fits.below_greatest in
+    let near = rem_within number divisor divides in
+    record {
+      above_least = cut_above (least_of kind) (neg_ℤ (greatest_remainder divisor)) (int_rem number divisor) between.0 near.0;
+      below_greatest = cut_below (greatest_of kind) (greatest_remainder divisor) (int_rem number divisor) between.1 near.1;
+    }
+
+in_range : (kind : ColType) (column : ℕ) (number divisor : ℤ) → IsWithin kind number → IsIn (range_of kind (Mod column divisor)) (int_rem number divisor)
+in_range kind column number divisor fits = by_test (int_eq divisor (pos 0))
+    (λ zero_divisor. let e : divisor ≡ pos 0 = (signed_Decides divisor (pos 0)).0 zero_divisor in
+    rw (zero_divisor, e, rem_zero) (in_whole kind number fits))
+    (λ divides. rw divides (in_cut kind number divisor fits (λ e. let same = (signed_Decides divisor (pos 0)).1 e in cc)))
+
+-- ---- values of terms
+
+-- a term's value on a row, of the term's domain
+pub record HasKnown (kind : ColType) (term : Term) (cells : List Datum) : Type 0 where
+  pub value : Constant
+  pub is : term_value term cells ≡ Known value
+  pub in_domain : IsInDomain kind term value
+
+of_number : (kind : ColType) (cells : List Datum) (column : ℕ) (divisor number : ℤ) → value_at cells column ≡ Known (Number number) → IsWithin kind number
+    → (IsIn (range_of kind (Mod column divisor)) (int_rem number divisor) → IsInDomain kind (Mod column divisor) (Number (int_rem number divisor)))
+    → HasKnown kind (Mod column divisor) cells
+of_number kind cells column divisor number is fits domain =
+    record { value = Number (int_rem number divisor); is = ap (λ v. remainder_of v divisor) is; in_domain = domain (in_range kind column number divisor fits) }
+
+known_of : (kind : ColType) (term : Term) (cells : List Datum) (value : Constant) → value_at cells (column_of term) ≡ Known value → IsOf kind value → HasKnown kind term cells
+known_of SmallInt (Col column) cells (Number n) is fits = record { value = Number n; is = is; in_domain = in_whole SmallInt n fits }
+known_of Integer (Col column) cells (Number n) is fits = record { value = Number n; is = is; in_domain = in_whole Integer n fits }
+known_of BigInt (Col column) cells (Number n) is fits = record { value = Number n; is = is; in_domain = in_whole BigInt n fits }
+known_of SmallInt (Mod column divisor) cells (Number n) is fits = of_number SmallInt cells column divisor n is fits (λ h. h)
+known_of Integer (Mod column divisor) cells (Number n) is fits = of_number Integer cells column divisor n is fits (λ h. h)
+known_of BigInt (Mod column divisor) cells (Number n) is fits = of_number BigInt cells column divisor n is fits (λ h. h)
+known_of Boolean (Col column) cells (Truth b) is fits = record { value = Truth b; is = is; in_domain = tt }
+known_of Boolean (Mod column divisor) cells (Truth b) is fits = record { value = Truth b; is = ap (λ v. remainder_of v divisor) is; in_domain = tt }
+known_of Text (Col column) cells (Bytes s) is fits = record { value = Bytes s; is = is; in_domain = tt }
+known_of Text (Mod column divisor) cells (Bytes s) is fits = record { value = Bytes s; is = ap (λ v. remainder_of v divisor) is; in_domain = tt }
+known_of SmallInt term cells (Truth b) is fits = absurd fits
+known_of SmallInt term cells (Bytes s) is fits = absurd fits
+known_of Integer term cells (Truth b) is fits = absurd fits
+known_of Integer term cells (Bytes s) is fits = absurd fits
+known_of BigInt term cells (Truth b) is fits = absurd fits
+known_of BigInt term cells (Bytes s) is fits = absurd fits
+known_of Boolean term cells (Number n) is fits = absurd fits
+known_of Boolean term cells (Bytes s) is fits = absurd fits
+known_of Text term cells (Number n) is fits = absurd fits
+known_of Text term cells (Truth b) is fits = absurd fits
+
+past_from_none : (columns : List Column) (column : ℕ) → slice_get columns column ≡ None → length columns ≤ column
+past_from_none [] column none = omega arith
+past_from_none (first ∷ columns) zero none = absurd cc
+past_from_none (first ∷ columns) (suc column) none = let shorter = past_from_none columns column none in omega arith
+
+missing_past : (columns : List Column) (cells : List Datum) (column : ℕ) → IsValid columns cells → length columns ≤ column → value_at cells column ≡ Missing
+missing_past columns cells column valid past =
+    let short : length cells ≤ column = omega (arith, valid.wide) in
+    rw (slice_get_past cells column short) refl
+
+-- the value of a column that isn't null
+column_known : (columns : List Column) (found : Option Column) (term : Term) (cells : List Datum) (value : Constant) → IfSome found (λ column. Fits column (Known value))
+    → (found ≡ None → value_at cells (column_of term) ≡ Missing) → value_at cells (column_of term) ≡ Known value → HasKnown (kind_in found) term cells
+column_known columns None term cells value fits past is = let gone = past refl in absurd cc
+column_known columns (Some column) term cells value fits past is = known_of column.kind term cells value is fits
+
+pub known_in_domain : (columns : List Column) (term : Term) (cells : List Datum) (value : Constant) → IsValid columns cells → value_at cells (column_of term) ≡ Known value
+    → HasKnown (kind_at columns (column_of term)) term cells
+known_in_domain columns term cells value valid is =
+    column_known columns (slice_get columns (column_of term)) term cells value
+    (subst (λ v. IfSome (slice_get columns (column_of term)) (λ column. Fits column v)) is (valid.fits (column_of term)))
+    (λ none. missing_past columns cells (column_of term) valid (past_from_none columns (column_of term) none))
+    is
+
+-- ---- each domain has a value
+
+zero_in_cut : (kind : ColType) (far : ℕ) → IsIn (range_within kind (pos far)) (pos 0)
+zero_in_cut kind far = record {
+  above_least = cut_above (least_of kind) (neg_ℤ (pos far)) (pos 0) (zero_above kind) (omega (arith, ints));
+  below_greatest = cut_below (greatest_of kind) (pos far) (pos 0) (zero_below kind) (omega (arith, ints));
+}
+
+zero_in_rest : (kind : ColType) (divisor : ℤ) → IsIn (range_within kind (greatest_remainder divisor)) (pos 0)
+zero_in_rest kind (pos n) = zero_in_cut kind (n - 1)
+zero_in_rest kind (negsuc n) = zero_in_cut kind n
+
+zero_in_whole : (kind : ColType) → IsIn (whole_range kind) (pos 0)
+zero_in_whole kind = record { above_least = zero_above kind; below_greatest = zero_below kind }
+
+zero_in : (kind : ColType) (term : Term) → IsIn (range_of kind term) (pos 0)
+zero_in kind (Col column) = zero_in_whole kind
+zero_in kind (Mod column divisor) = by_test (int_eq divisor (pos 0))
+    (λ same. rw same (zero_in_whole kind))
+    (λ differs. rw differs (zero_in_rest kind divisor))
+
+pub record HasMember (kind : ColType) (term : Term) : Type 0 where
+  pub value : Constant
+  pub in_domain : IsInDomain kind term value
+
+pub some_member : (kind : ColType) (term : Term) → HasMember kind term
+some_member SmallInt term = record { value = Number (pos 0); in_domain = zero_in SmallInt term }
+some_member Integer term = record { value = Number (pos 0); in_domain = zero_in Integer term }
+some_member BigInt term = record { value = Number (pos 0); in_domain = zero_in BigInt term }
+some_member Boolean term = record { value = Truth true; in_domain = tt }
+some_member Text term = record { value = Bytes []; in_domain = tt }

@@ -1,0 +1,205 @@
+-- A sharding without a refusal is sound.
+use Rattle.std.proofs.Common.{◌≡◌, ◌≢◌, ℕ, zero, suc, ◌+◌, ◌<◌, Bool, true, false, List, [], ◌∷◌, length, refl, sym, ◌∙◌, ap, subst, arith}
+use Rattle.std.specs.Prelude.{Option, Some, None, IfSome, if◌then◌else◌, ◌==◌, slice_get}
+use Rattle.std.specs.List.{list_any, list_all}
+use Rattle.std.proofs.lemmas.Option.{slice_get_within}
+use Rattle.filter_tree.specs.Datum.{Datum}
+use Rattle.filter_tree.specs.Expr.{Expr}
+use Rattle.filter_tree.specs.Lists.{distinct_columns}
+use Rattle.filter_tree.specs.Valid.{IsValid}
+use Rattle.filter_tree.specs.declared.table.Identity.{Identity}
+use Rattle.filter_tree.specs.declared.table.Identity.TheVariants.{Default, Full, Nothing}
+use Rattle.filter_tree.specs.declared.table.Table.{Table}
+use Rattle.pub_reader.specs.Catalogs.{CatalogOf, PublicationOf, EntryOf}
+use Rattle.pub_reader.specs.declared.catalog.Operations.{Operations}
+use Rattle.pub_reader.specs.declared.catalog.Subscription.{Subscription}
+use Rattle.replica_identity.specs.Passes.{listed_by, carries, passes}
+use Rattle.replica_identity.specs.Plans.{PlanOf, TakesWhatPasses, share_at, plan_of}
+use Rattle.replica_identity.specs.Shares as s
+use Rattle.replica_identity.proofs.PassingLemmas.{takes_what_passes}
+use Rattle.split_cert.specs.Tree.{Tree}
+use Rattle.shard_checker.specs.CatalogRefusal.{missing_operation, missing_by, publication_refusal, publishing_refusal, table_refusal, identity_refusal, column_refusal, filter_refusal, entry_refusal, entries_refusal, taken_refusal, coverage_refusal, table_shares, certificates_refusal, count_refusal, catalog_refusal, sharding_refusal}
+use Rattle.shard_checker.specs.Owners.{share_in, HasOneOwner}
+use Rattle.shard_checker.specs.Refusal.{first_of, first_refusal}
+use Rattle.shard_checker.specs.Sound.{is_taken, HasOneSubscriber, PublishesChanges, covers, is_covered_by, entry_is_covered, IsSound}
+use Rattle.shard_checker.specs.declared.error.CheckError.{CheckError}
+use Rattle.shard_checker.specs.declared.error.CheckError.TheVariants.{NotCovered, CertCount}
+use Rattle.shard_checker.specs.declared.error.Operation.{Operation}
+use Rattle.shard_checker.specs.declared.error.Operation.TheVariants.{Insert, Update, Delete}
+use Rattle.shard_checker.proofs.SoundLemmas.{certificate_sound}
+use Rattle.shard_checker.proofs.Testing.{two_true, same_number}
+
+none_first : (one next : Option CheckError) → first_of one next ≡ None → (one ≡ None) × (next ≡ None)
+none_first None next h = (refl, h)
+none_first (Some error) next h = absurd cc
+
+at_zero : (number : ℕ) → number + 0 ≡ number
+at_zero number = omega arith
+
+zero_more : (number : ℕ) → 0 + number ≡ number
+zero_more number = omega arith
+
+at_next : (number k : ℕ) → number + suc k ≡ number + 1 + k
+at_next number k = omega arith
+
+-- ---- what is published
+
+all_published : (insert update delete : Bool) → (if insert then (if update then (if delete then None else Some Delete) else Some Update) else Some Insert) ≡ None
+    → (insert ≡ true) × (update ≡ true) × (delete ≡ true)
+all_published true true true h = (refl, refl, refl)
+all_published true true false h = absurd cc
+all_published true false delete h = absurd cc
+all_published false update delete h = absurd cc
+
+none_missing : (number : ℕ) (missing : Option Operation) → missing_by number missing ≡ None → missing ≡ None
+none_missing number None h = refl
+none_missing number (Some operation) h = absurd cc
+
+publishes_changes : (subscriptions : List Subscription) (number : ℕ) (publishes : Operations) → publication_refusal subscriptions number publishes ≡ None
+    → is_taken subscriptions number ≡ true → PublishesChanges publishes
+publishes_changes subscriptions number publishes h taken =
+    let missing : missing_by number (missing_operation publishes) ≡ None = rw taken at h in
+    let all = all_published publishes.insert publishes.update publishes.delete (none_missing number (missing_operation publishes) missing) in
+    record { inserts = all.0; updates = all.1; deletes = all.2 }
+
+all_publish : (subscriptions : List Subscription) (number : ℕ) (publications : List (PublicationOf Expr)) → publishing_refusal subscriptions number publications ≡ None
+    → (k : ℕ) → is_taken subscriptions (number + k) ≡ true → IfSome (slice_get publications k) (λ publication. PublishesChanges publication.publishes)
+all_publish subscriptions number [] h k taken = tt
+all_publish subscriptions number (publication ∷ publications) h zero taken =
+    let both = none_first (publication_refusal subscriptions number publication.publishes) (publishing_refusal subscriptions (number + 1) publications) h in
+    publishes_changes subscriptions number publication.publishes both.0 (subst (λ n. is_taken subscriptions n ≡ true) (at_zero number) taken)
+all_publish subscriptions number (publication ∷ publications) h (suc k) taken =
+    let both = none_first (publication_refusal subscriptions number publication.publishes) (publishing_refusal subscriptions (number + 1) publications) h in
+    all_publish subscriptions (number + 1) publications both.1 k (subst (λ n. is_taken subscriptions n ≡ true) (at_next number k) taken)
+
+-- ---- what is recorded of old rows
+
+is_identified : (number : ℕ) (identity : Identity) → table_refusal number identity ≡ None → identity ≢ Nothing
+is_identified number Nothing h = absurd cc
+is_identified number Default h = λ is. cc
+is_identified number Full h = λ is. cc
+
+all_identified : (number : ℕ) (tables : List Table) → identity_refusal number tables ≡ None → (k : ℕ) → IfSome (slice_get tables k) (λ table. table.identity ≢ Nothing)
+all_identified number [] h k = tt
+all_identified number (table ∷ tables) h zero =
+    let both = none_first (table_refusal number table.identity) (identity_refusal (number + 1) tables) h in is_identified number table.identity both.0
+all_identified number (table ∷ tables) h (suc k) =
+    let both = none_first (table_refusal number table.identity) (identity_refusal (number + 1) tables) h in all_identified (number + 1) tables both.1 k
+
+-- ---- which columns filters name
+
+covered_first : (b : Bool) (later : Option CheckError) (error : CheckError) → (if b then later else Some error) ≡ None → (b ≡ true) × (later ≡ None)
+covered_first true later error h = (refl, h)
+covered_first false later error h = absurd cc
+
+columns_covered : (publication table : ℕ) (found : Option Table) (columns : List ℕ) → column_refusal publication table found columns ≡ None → list_all (covers found) columns ≡ true
+columns_covered publication table found [] h = refl
+columns_covered publication table found (column ∷ columns) h =
+    let both = covered_first (covers found column) (column_refusal publication table found columns) (NotCovered publication table column) h in
+    two_true (covers found column) (list_all (covers found) columns) both.0 (columns_covered publication table found columns both.1)
+
+filter_covered : (publication table : ℕ) (found : Option Table) (filter : Option Expr) → filter_refusal publication table found filter ≡ None → is_covered_by found filter ≡ true
+filter_covered publication table found None h = refl
+filter_covered publication table found (Some filter) h = columns_covered publication table found (distinct_columns filter) h
+
+entries_covered : (tables : List Table) (publication : ℕ) (entries : List (EntryOf Expr)) → entries_refusal tables publication entries ≡ None → list_all (entry_is_covered tables) entries ≡ true
+entries_covered tables publication [] h = refl
+entries_covered tables publication (entry ∷ entries) h =
+    let both = none_first (entry_refusal tables publication entry) (entries_refusal tables publication entries) h in
+    two_true (entry_is_covered tables entry) (list_all (entry_is_covered tables) entries)
+    (filter_covered publication entry.table (slice_get tables entry.table) entry.filter both.0) (entries_covered tables publication entries both.1)
+
+taken_covered : (tables : List Table) (subscriptions : List Subscription) (number : ℕ) (entries : List (EntryOf Expr)) → taken_refusal tables subscriptions number entries ≡ None
+    → is_taken subscriptions number ≡ true → list_all (entry_is_covered tables) entries ≡ true
+taken_covered tables subscriptions number entries h taken = let all : entries_refusal tables number entries ≡ None = rw taken at h in entries_covered tables number entries all
+
+all_covered : (tables : List Table) (subscriptions : List Subscription) (number : ℕ) (publications : List (PublicationOf Expr)) → coverage_refusal tables subscriptions number publications ≡ None
+    → (k : ℕ) → is_taken subscriptions (number + k) ≡ true → IfSome (slice_get publications k) (λ publication. list_all (entry_is_covered tables) publication.entries ≡ true)
+all_covered tables subscriptions number [] h k taken = tt
+all_covered tables subscriptions number (publication ∷ publications) h zero taken =
+    let both = none_first (taken_refusal tables subscriptions number publication.entries) (coverage_refusal tables subscriptions (number + 1) publications) h in
+    taken_covered tables subscriptions number publication.entries both.0 (subst (λ n. is_taken subscriptions n ≡ true) (at_zero number) taken)
+all_covered tables subscriptions number (publication ∷ publications) h (suc k) taken =
+    let both = none_first (taken_refusal tables subscriptions number publication.entries) (coverage_refusal tables subscriptions (number + 1) publications) h in
+    all_covered tables subscriptions (number + 1) publications both.1 k (subst (λ n. is_taken subscriptions n ≡ true) (at_next number k) taken)
+
+-- ---- certificates
+
+-- each row that fits the table of this number has one owner
+abbrev HasOwners : (ℕ → List s.ShareOf) → ℕ → Table → Type 0
+HasOwners shares number table = (cells : List Datum) → IsValid table.columns cells → HasOneOwner (shares number) cells
+
+all_owned : (plan : PlanOf) (subscriptions : List Subscription) (number : ℕ) (tables : List Table) (trees : List Tree) → length trees ≡ length tables
+    → certificates_refusal plan subscriptions number tables trees ≡ None
+    → (k : ℕ) → IfSome (slice_get tables k) (HasOwners (λ n. table_shares plan n 0 subscriptions) (number + k))
+all_owned plan subscriptions number [] trees same h k = tt
+all_owned plan subscriptions number (table ∷ tables) [] same h k = absurd (omega arith)
+all_owned plan subscriptions number (table ∷ tables) (tree ∷ trees) same h zero =
+    let both = none_first (first_refusal number table (table_shares plan number 0 subscriptions) tree) (certificates_refusal plan subscriptions (number + 1) tables trees) h in
+    subst (λ n. HasOwners (λ m. table_shares plan m 0 subscriptions) n table) (sym (at_zero number)) (certificate_sound number table (table_shares plan number 0 subscriptions) tree both.0)
+all_owned plan subscriptions number (table ∷ tables) (tree ∷ trees) same h (suc k) =
+    let both = none_first (first_refusal number table (table_shares plan number 0 subscriptions) tree) (certificates_refusal plan subscriptions (number + 1) tables trees) h in
+    subst (λ n. IfSome (slice_get tables k) (HasOwners (λ m. table_shares plan m 0 subscriptions) n)) (sym (at_next number k)) (all_owned plan subscriptions (number + 1) tables trees (omega arith) both.1 k)
+
+-- the share of a subscriber who is there
+share_there : (plan : PlanOf) (table number : ℕ) (subscriptions : List Subscription) (k : ℕ) (subscription : Subscription) → slice_get subscriptions k ≡ Some subscription
+    → share_in (table_shares plan table number subscriptions) k ≡ share_at plan (number + k) table
+share_there plan table number [] k subscription h = absurd cc
+share_there plan table number (first ∷ subscriptions) zero subscription h = ap (λ n. share_at plan n table) (sym (at_zero number))
+share_there plan table number (first ∷ subscriptions) (suc k) subscription h =
+    share_there plan table (number + 1) subscriptions k subscription h ∙ ap (λ n. share_at plan n table) (sym (at_next number k))
+
+no_share : (plan : PlanOf) (table number : ℕ) (subscriptions : List Subscription) (k : ℕ) → slice_get subscriptions k ≡ None → share_in (table_shares plan table number subscriptions) k ≡ s.Nothing
+no_share plan table number [] k h = refl
+no_share plan table number (first ∷ subscriptions) zero h = absurd cc
+no_share plan table number (first ∷ subscriptions) (suc k) h = no_share plan table (number + 1) subscriptions k h
+
+-- a subscriber takes what passes to it
+takes_by : (catalog : CatalogOf Expr) (plan : PlanOf) → TakesWhatPasses catalog plan → (table : ℕ) → table < length catalog.tables → (cells : List Datum)
+    (subscriber : ℕ) (found : Option Subscription) → slice_get catalog.subscriptions subscriber ≡ found
+    → s.takes (share_in (table_shares plan table 0 catalog.subscriptions) subscriber) cells ≡ passes catalog subscriber table cells
+takes_by catalog plan same table there cells subscriber None e =
+    ap (λ share. s.takes share cells) (no_share plan table 0 catalog.subscriptions subscriber e)
+    ∙ sym (ap (λ found. list_any (carries table cells) (listed_by catalog.publications found)) e)
+takes_by catalog plan same table there cells subscriber (Some subscription) e =
+    ap (λ share. s.takes share cells) (share_there plan table 0 catalog.subscriptions subscriber subscription e ∙ ap (λ n. share_at plan n table) (zero_more subscriber))
+    ∙ same.same subscriber table there cells
+
+one_subscriber : (catalog : CatalogOf Expr) (plan : PlanOf) → TakesWhatPasses catalog plan → (table : ℕ) → table < length catalog.tables → (cells : List Datum)
+    → HasOneOwner (table_shares plan table 0 catalog.subscriptions) cells → HasOneSubscriber catalog table cells
+one_subscriber catalog plan same table there cells owned = record {
+  subscriber = owned.owner;
+  takes_it = sym (takes_by catalog plan same table there cells owned.owner (slice_get catalog.subscriptions owned.owner) refl) ∙ owned.takes_it;
+  no_other = λ other h. owned.no_other other (takes_by catalog plan same table there cells other (slice_get catalog.subscriptions other) refl ∙ h);
+}
+
+table_there : (catalog : CatalogOf Expr) (plan : PlanOf) → TakesWhatPasses catalog plan → (number : ℕ) (found : Option Table) → slice_get catalog.tables number ≡ found
+    → IfSome found (HasOwners (λ n. table_shares plan n 0 catalog.subscriptions) (0 + number))
+    → IfSome found (λ table. (cells : List Datum) → IsValid table.columns cells → HasOneSubscriber catalog number cells)
+table_there catalog plan same number None e owned = tt
+table_there catalog plan same number (Some table) e owned = λ cells valid.
+    one_subscriber catalog plan same number (slice_get_within catalog.tables number table e) cells
+    (subst (λ n. HasOneOwner (table_shares plan n 0 catalog.subscriptions) cells) (zero_more number) (owned cells valid))
+
+counted : (b : Bool) (error : CheckError) → (if b then None else Some error) ≡ None → b ≡ true
+counted true error h = refl
+counted false error h = absurd cc
+
+pub sharding_sound : (catalog : CatalogOf Expr) (plan : PlanOf) (trees : List Tree) → sharding_refusal catalog plan trees ≡ None → plan ≡ plan_of catalog → IsSound catalog
+sharding_sound catalog plan trees h own =
+    let all = none_first (catalog_refusal catalog) (first_of (count_refusal (length catalog.tables) (length trees)) (certificates_refusal plan catalog.subscriptions 0 catalog.tables trees)) h in
+    let certificates = none_first (count_refusal (length catalog.tables) (length trees)) (certificates_refusal plan catalog.subscriptions 0 catalog.tables trees) all.1 in
+    let publishing = none_first (publishing_refusal catalog.subscriptions 0 catalog.publications)
+    (first_of (identity_refusal 0 catalog.tables) (coverage_refusal catalog.tables catalog.subscriptions 0 catalog.publications)) all.0 in
+    let rest = none_first (identity_refusal 0 catalog.tables) (coverage_refusal catalog.tables catalog.subscriptions 0 catalog.publications) publishing.1 in
+    let many : length trees ≡ length catalog.tables = same_number (length trees) (length catalog.tables) (counted (length trees == length catalog.tables) CertCount certificates.0) in
+    record {
+      one_subscriber = λ number. table_there catalog plan (takes_what_passes catalog plan own) number (slice_get catalog.tables number) refl
+          (all_owned plan catalog.subscriptions 0 catalog.tables trees many certificates.1 number);
+      publishes = λ number taken. all_publish catalog.subscriptions 0 catalog.publications publishing.0 number (subst (λ n. is_taken catalog.subscriptions n ≡ true) (sym (zero_more number)) taken);
+      covered = λ number taken. all_covered catalog.tables catalog.subscriptions 0 catalog.publications rest.1 number (subst (λ n. is_taken catalog.subscriptions n ≡ true) (sym (zero_more number)) taken);
+      identified = λ number. all_identified 0 catalog.tables rest.0 number;
+    }
+
+pub takes_own : (catalog : CatalogOf Expr) (plan : PlanOf) → plan ≡ plan_of catalog → TakesWhatPasses catalog plan
+takes_own catalog plan own = takes_what_passes catalog plan own

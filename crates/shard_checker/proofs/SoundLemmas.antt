@@ -1,0 +1,196 @@
+-- A tree without a refusal at the end of a path: each row that fits the columns and agrees with the path has one owner.
+use Rattle.std.proofs.Common.{◌≡◌, ℕ, zero, suc, ◌+◌, Bool, true, false, not, ◌&&◌, List, [], ◌∷◌, ◌++◌, refl, ◌∙◌, ap, arith}
+use Rattle.std.specs.Prelude.{Option, Some, None, if◌then◌else◌, slice_get}
+use Rattle.std.proofs.lemmas.Option.{get_or_from_slice_get}
+use Rattle.filter_tree.specs.Datum.{Constant, Datum, Missing, Known, value_at}
+use Rattle.filter_tree.specs.Expr.{Condition, condition_meaning, meaning}
+use Rattle.filter_tree.specs.Lists.{column_of}
+use Rattle.filter_tree.specs.Mask.{member}
+use Rattle.filter_tree.specs.Paths.{Path, Agrees, possible_of}
+use Rattle.filter_tree.specs.Valid.{IsValid}
+use Rattle.filter_tree.specs.declared.filter.Term.{Term}
+use Rattle.filter_tree.specs.declared.mask.Mask.{Mask}
+use Rattle.filter_tree.specs.declared.table.Column.{Column}
+use Rattle.filter_tree.specs.declared.table.Table.{Table}
+use Rattle.filter_tree.specs.declared.tri.Tri.{Tri}
+use Rattle.filter_tree.specs.declared.tri.Tri.TheVariants.{True, False, Null}
+use Rattle.filter_tree.proofs.PossibleLemmas.{possible_holds}
+use Rattle.replica_identity.specs.Shares.{ShareOf, Nothing, Everything, Where, takes, is_true}
+use Rattle.split_cert.specs.Tree.{Tree, Branches, Owned, Void, Never, nodes}
+use Rattle.shard_checker.specs.Domain.{kind_at, has_value}
+use Rattle.shard_checker.specs.Facts.{is_null, is_present, is_never_null}
+use Rattle.shard_checker.specs.Owners.{share_in, HasOneOwner, is_surely_true, must_take, may_take, is_second, second_owner}
+use Rattle.shard_checker.specs.Refusal.{Subject, subject_of, first_refusal, later, second_refusal, owner_refusal, is_empty, empty_refusal, never_null_refusal, first_of, split_refusal, refusal, IsSound}
+use Rattle.shard_checker.specs.declared.error.CheckError.{CheckError}
+use Rattle.shard_checker.specs.declared.error.CheckError.TheVariants.{NotEmpty, MayBeNull, NotOwner}
+use Rattle.shard_checker.proofs.FactLemmas.{null_is, missing_term, present_is, never_null_is, value_left, all_left}
+use Rattle.shard_checker.proofs.RangeLemmas.{known_in_domain, some_member}
+use Rattle.shard_checker.proofs.ValueLemmas.{value_found}
+use Rattle.shard_checker.proofs.OwnerLemmas.{only_owner}
+use Rattle.shard_checker.proofs.Testing.{by_test, both_true, by_either, not_true, clash}
+
+-- ---- nodes that say that a term is empty
+
+missing_found : (columns : List Column) (cells : List Datum) (term : Term) (path : Path) → Agrees cells path → value_at cells (column_of term) ≡ Missing
+    → has_value (kind_at columns (column_of term)) term path ≡ true
+missing_found columns cells term path agrees missing =
+    let some = some_member (kind_at columns (column_of term)) term in
+    value_found (kind_at columns (column_of term)) term path some.value some.in_domain (all_left cells term (Some some.value) path agrees (missing_term term cells missing))
+
+known_found : (columns : List Column) (cells : List Datum) (term : Term) (path : Path) (value : Constant) → IsValid columns cells → Agrees cells path
+    → value_at cells (column_of term) ≡ Known value → has_value (kind_at columns (column_of term)) term path ≡ true
+known_found columns cells term path value valid agrees is =
+    let known = known_in_domain columns term cells value valid is in
+    value_found (kind_at columns (column_of term)) term path known.value known.in_domain (value_left cells term known.value path agrees known.is)
+
+some_found : (columns : List Column) (cells : List Datum) (term : Term) (path : Path) (value : Datum) → IsValid columns cells → Agrees cells path
+    → value_at cells (column_of term) ≡ value → has_value (kind_at columns (column_of term)) term path ≡ true
+some_found columns cells term path Missing valid agrees is = missing_found columns cells term path agrees is
+some_found columns cells term path (Known value) valid agrees is = known_found columns cells term path value valid agrees is
+
+-- no row that fits the columns agrees with a path that leaves a term empty
+empty_is : (columns : List Column) (cells : List Datum) (term : Term) (path : Path) → IsValid columns cells → Agrees cells path → is_empty columns term path ≡ true → ⊥
+empty_is columns cells term path valid agrees h =
+    by_either (is_null (column_of term) path && is_present columns (column_of term) path) (not (has_value (kind_at columns (column_of term)) term path)) h
+    (λ torn. let both = both_true (is_null (column_of term) path) (is_present columns (column_of term) path) torn in
+    present_is columns cells (column_of term) path valid agrees both.1 (null_is cells (column_of term) path agrees both.0))
+    (λ none. clash (has_value (kind_at columns (column_of term)) term path) (some_found columns cells term path (value_at cells (column_of term)) valid agrees refl) (not_true _ none))
+
+-- a test that decides whether there is a refusal
+passed : (b : Bool) (error : CheckError) → (if b then None else Some error) ≡ None → b ≡ true
+passed true error h = refl
+passed false error h = absurd cc
+
+empty_sound : (subject : Subject) (path : Path) (node : ℕ) (found : Option Term) → empty_refusal subject path node found ≡ None → IsSound subject.columns subject.shares path
+empty_sound subject path node None h = absurd cc
+empty_sound subject path node (Some term) h = record {
+  one_owner = λ cells valid agrees. absurd (empty_is subject.columns cells term path valid agrees (passed (is_empty subject.columns term path) (NotEmpty subject.table node) h));
+}
+
+never_null_sound : (subject : Subject) (path : Path) (node : ℕ) (found : Option Condition) → never_null_refusal subject path node found ≡ None → IsSound subject.columns subject.shares path
+never_null_sound subject path node None h = absurd cc
+never_null_sound subject path node (Some condition) h = record {
+  one_owner = λ cells valid agrees. absurd (never_null_is subject.columns cells condition path valid agrees (passed (is_never_null subject.columns condition path) (MayBeNull subject.table node) h));
+}
+
+-- ---- nodes that name an owner
+
+surely_true : (mask : Mask) (value : Tri) → is_surely_true mask ≡ true → member mask value ≡ true → is_true value ≡ true
+surely_true mask True sure has = refl
+surely_true mask False sure has =
+    let both = both_true mask.truth (not mask.falsity && not mask.null) sure in
+    let rest = both_true (not mask.falsity) (not mask.null) both.1 in
+    absurd (clash mask.falsity has (not_true mask.falsity rest.0))
+surely_true mask Null sure has =
+    let both = both_true mask.truth (not mask.falsity && not mask.null) sure in
+    let rest = both_true (not mask.falsity) (not mask.null) both.1 in
+    absurd (clash mask.null has (not_true mask.null rest.1))
+
+must_take_is : (share : ShareOf) (cells : List Datum) (path : Path) → Agrees cells path → must_take share path ≡ true → takes share cells ≡ true
+must_take_is Nothing cells path agrees h = absurd cc
+must_take_is Everything cells path agrees h = refl
+must_take_is (Where filter) cells path agrees h = surely_true (possible_of filter path) (meaning filter cells) h (possible_holds filter path cells agrees)
+
+has_true : (mask : Mask) (value : Tri) → member mask value ≡ true → is_true value ≡ true → mask.truth ≡ true
+has_true mask True has holds = has
+has_true mask False has holds = absurd cc
+has_true mask Null has holds = absurd cc
+
+may_take_is : (share : ShareOf) (cells : List Datum) (path : Path) → Agrees cells path → takes share cells ≡ true → may_take share path ≡ true
+may_take_is Nothing cells path agrees h = absurd cc
+may_take_is Everything cells path agrees h = refl
+may_take_is (Where filter) cells path agrees h = has_true (possible_of filter path) (meaning filter cells) (possible_holds filter path cells agrees) h
+
+first_is_not : (owner number : ℕ) (share : ShareOf) (path : Path) (rest : Option ℕ) → (if is_second owner number share path then Some number else rest) ≡ None
+    → (is_second owner number share path ≡ false) × (rest ≡ None)
+first_is_not owner number share path rest h = by_test (is_second owner number share path)
+    (λ second. absurd (let found = rw second at h in cc))
+    (λ first. let later : rest ≡ None = rw first at h in (first, later))
+
+no_second : (owner number : ℕ) (shares : List ShareOf) (path : Path) → second_owner owner number shares path ≡ None
+    → (other : ℕ) → may_take (share_in shares other) path ≡ true → number + other ≡ owner
+no_second owner number [] path h other may = absurd cc
+no_second owner number (share ∷ shares) path h zero may =
+    let both = first_is_not owner number share path (second_owner owner (number + 1) shares path) h in
+    let here = only_owner owner number share path both.0 may in
+    omega arith
+no_second owner number (share ∷ shares) path h (suc other) may =
+    let both = first_is_not owner number share path (second_owner owner (number + 1) shares path) h in
+    let there = no_second owner (number + 1) shares path both.1 other may in
+    omega arith
+
+no_refusal : (subject : Subject) (node : ℕ) (second : Option ℕ) → second_refusal subject node second ≡ None → second ≡ None
+no_refusal subject node None h = refl
+no_refusal subject node (Some second) h = absurd cc
+
+owner_passed : (owns : Bool) (second : Option CheckError) (not_owner : CheckError) → (if owns then second else Some not_owner) ≡ None → (owns ≡ true) × (second ≡ None)
+owner_passed true second not_owner h = (refl, h)
+owner_passed false second not_owner h = absurd cc
+
+owner_sound : (subject : Subject) (path : Path) (node owner : ℕ) (found : Option ShareOf) → slice_get subject.shares owner ≡ found
+    → owner_refusal subject path node owner found ≡ None → IsSound subject.columns subject.shares path
+owner_sound subject path node owner None e h = absurd cc
+owner_sound subject path node owner (Some share) e h =
+    let both = owner_passed (must_take share path) (second_refusal subject node (second_owner owner 0 subject.shares path)) (NotOwner subject.table node) h in
+    let alone = no_refusal subject node (second_owner owner 0 subject.shares path) both.1 in
+    let is : share_in subject.shares owner ≡ share = get_or_from_slice_get subject.shares owner share Nothing e in
+    record {
+      one_owner = λ cells valid agrees. record {
+        owner = owner;
+        takes_it = ap (λ s. takes s cells) is ∙ must_take_is share cells path agrees both.0;
+        no_other = λ other h. let there = no_second owner 0 subject.shares path alone other (may_take_is (share_in subject.shares other) cells path agrees h) in omega arith;
+      };
+    }
+
+-- ---- splits
+
+agrees_longer : (cells : List Datum) (path : Path) (condition : Condition) (value : Tri) → Agrees cells path → condition_meaning condition cells ≡ value
+    → Agrees cells (path ++ (condition, value) ∷ [])
+agrees_longer cells [] condition value agrees is = (is, tt)
+agrees_longer cells (entry ∷ path) condition value agrees is = (agrees.0, agrees_longer cells path condition value agrees.1 is)
+
+first_none : (one next : Option CheckError) → first_of one next ≡ None → (one ≡ None) × (next ≡ None)
+first_none None next h = (refl, h)
+first_none (Some error) next h = absurd cc
+
+-- a row goes to the branch of the value that the condition has on it
+one_branch : (columns : List Column) (shares : List ShareOf) (path : Path) (condition : Condition)
+    → IsSound columns shares (path ++ (condition, True) ∷ []) → IsSound columns shares (path ++ (condition, False) ∷ []) → IsSound columns shares (path ++ (condition, Null) ∷ [])
+    → (cells : List Datum) (value : Tri) → IsValid columns cells → Agrees cells path → condition_meaning condition cells ≡ value → HasOneOwner shares cells
+one_branch columns shares path condition if_true if_false if_null cells True valid agrees is = if_true.one_owner cells valid (agrees_longer cells path condition True agrees is)
+one_branch columns shares path condition if_true if_false if_null cells False valid agrees is = if_false.one_owner cells valid (agrees_longer cells path condition False agrees is)
+one_branch columns shares path condition if_true if_false if_null cells Null valid agrees is = if_null.one_owner cells valid (agrees_longer cells path condition Null agrees is)
+
+split_sound : (subject : Subject) (path : Path) (node : ℕ) (found : Option Condition) (if_true if_false if_null : Path → Option CheckError)
+    → ((longer : Path) → if_true longer ≡ None → IsSound subject.columns subject.shares longer)
+    → ((longer : Path) → if_false longer ≡ None → IsSound subject.columns subject.shares longer)
+    → ((longer : Path) → if_null longer ≡ None → IsSound subject.columns subject.shares longer)
+    → split_refusal subject path node found if_true if_false if_null ≡ None → IsSound subject.columns subject.shares path
+split_sound subject path node None if_true if_false if_null at_true at_false at_null h = absurd cc
+split_sound subject path node (Some condition) if_true if_false if_null at_true at_false at_null h =
+    let both = first_none (if_true (path ++ (condition, True) ∷ [])) (first_of (if_false (path ++ (condition, False) ∷ [])) (if_null (path ++ (condition, Null) ∷ []))) h in
+    let rest = first_none (if_false (path ++ (condition, False) ∷ [])) (if_null (path ++ (condition, Null) ∷ [])) both.1 in
+    record {
+      one_owner = λ cells valid agrees. one_branch subject.columns subject.shares path condition
+          (at_true (path ++ (condition, True) ∷ []) both.0) (at_false (path ++ (condition, False) ∷ []) rest.0) (at_null (path ++ (condition, Null) ∷ []) rest.1)
+          cells (condition_meaning condition cells) valid agrees refl;
+    }
+
+pub refusal_sound : (subject : Subject) (tree : Tree) (path : Path) (node : ℕ) → refusal subject tree path node ≡ None → IsSound subject.columns subject.shares path
+refusal_sound subject (Branches atom if_true if_false if_null) path node h =
+    split_sound subject path node (slice_get subject.conditions atom)
+    (λ longer. refusal subject if_true longer (later node 1))
+    (λ longer. refusal subject if_false longer (later (later node 1) (nodes if_true)))
+    (λ longer. refusal subject if_null longer (later (later (later node 1) (nodes if_true)) (nodes if_false)))
+    (λ longer. refusal_sound subject if_true longer (later node 1))
+    (λ longer. refusal_sound subject if_false longer (later (later node 1) (nodes if_true)))
+    (λ longer. refusal_sound subject if_null longer (later (later (later node 1) (nodes if_true)) (nodes if_false)))
+    h
+refusal_sound subject (Owned subscriber) path node h = owner_sound subject path node subscriber (slice_get subject.shares subscriber) refl h
+refusal_sound subject (Void term) path node h = empty_sound subject path node (slice_get subject.terms term) h
+refusal_sound subject (Never atom) path node h = never_null_sound subject path node (slice_get subject.conditions atom) h
+
+-- a certificate without a refusal
+pub certificate_sound : (number : ℕ) (table : Table) (shares : List ShareOf) (tree : Tree) → first_refusal number table shares tree ≡ None
+    → (cells : List Datum) → IsValid table.columns cells → HasOneOwner shares cells
+certificate_sound number table shares tree h cells valid = (refusal_sound (subject_of number table.columns shares) tree [] 0 h).one_owner cells valid tt

@@ -1,0 +1,65 @@
+-- Tests and their answers.
+use Rattle.std.proofs.Common.{◌≡◌, ℕ, Bool, true, false, not, ◌&&◌, ◌||◌, refl, ap}
+use Rattle.std.specs.Prelude.{T, nat_eq, ◌==◌}
+use Rattle.std.specs.Ordering.{int_eq}
+use Rattle.std.specs.Cmp.{unsigned_Decides, signed_Decides}
+use Rattle.filter_tree.specs.Same.{same_term}
+use Rattle.filter_tree.specs.declared.filter.Term.{Term}
+use Rattle.filter_tree.specs.declared.filter.Term.TheVariants.{Col, Mod}
+
+-- what holds in both cases of a test
+pub by_test : {P : Type 0} (b : Bool) → (b ≡ true → P) → (b ≡ false → P) → P
+by_test true at_true at_false = at_true refl
+by_test false at_true at_false = at_false refl
+
+pub both_true : (p q : Bool) → (p && q) ≡ true → (p ≡ true) × (q ≡ true)
+both_true true q h = (refl, h)
+both_true false q h = absurd cc
+
+pub two_true : (p q : Bool) → p ≡ true → q ≡ true → (p && q) ≡ true
+two_true true q h k = k
+two_true false q h k = absurd cc
+
+pub both_false : (p q : Bool) → (p || q) ≡ false → (p ≡ false) × (q ≡ false)
+both_false true q h = absurd cc
+both_false false q h = (refl, h)
+
+pub left_true : (p q : Bool) → p ≡ true → (p || q) ≡ true
+left_true true q h = refl
+left_true false q h = absurd cc
+
+pub right_true : (p q : Bool) → q ≡ true → (p || q) ≡ true
+right_true true q h = refl
+right_true false q h = h
+
+-- one of two tests passes
+pub by_either : {P : Type 0} (p q : Bool) → (p || q) ≡ true → (p ≡ true → P) → (q ≡ true → P) → P
+by_either true q h at_left at_right = at_left refl
+by_either false q h at_left at_right = at_right h
+
+pub not_true : (b : Bool) → not b ≡ true → b ≡ false
+not_true true h = absurd cc
+not_true false h = refl
+
+pub clash : (b : Bool) → b ≡ true → b ≡ false → ⊥
+clash b h k = cc
+
+pub not_true_false : (b : Bool) → (b ≡ true → ⊥) → b ≡ false
+not_true_false true h = absurd (h refl)
+not_true_false false h = refl
+
+pub from_test : (b : Bool) → T b → b ≡ true
+from_test true t = refl
+from_test false t = absurd t
+
+pub same_number : (m n : ℕ) → (m == n) ≡ true → m ≡ n
+same_number m n h = (unsigned_Decides m n).0 h
+
+pub same_term_is : (s t : Term) → same_term s t ≡ true → s ≡ t
+same_term_is (Col c) (Col d) h = ap Col ((unsigned_Decides c d).0 h)
+same_term_is (Mod c m) (Mod d n) h =
+    let both : (nat_eq c d ≡ true) × (int_eq m n ≡ true) = both_true _ _ h in
+    let columns : c ≡ d = (unsigned_Decides c d).0 both.0 in
+    let divisors : m ≡ n = (signed_Decides m n).0 both.1 in
+    cc
+same_term_is s t h = absurd cc

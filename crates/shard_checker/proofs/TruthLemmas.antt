@@ -1,0 +1,173 @@
+-- The first refusal says something that is so of the node that it names.
+use Rattle.std.proofs.Common.{◌≡◌, ℕ, zero, suc, ◌+◌, ◌<◌, Bool, true, false, not, ◌&&◌, List, [], ◌∷◌, ◌++◌, refl, ◌∙◌, subst, inl, inr, arith}
+use Rattle.std.specs.Prelude.{Option, Some, None, if◌then◌else◌, ◌==◌, ◌⊎◌, slice_get}
+use Rattle.std.specs.Cmp.{unsigned_Decides}
+use Rattle.filter_tree.specs.Expr.{Condition}
+use Rattle.filter_tree.specs.Lists.{column_of}
+use Rattle.filter_tree.specs.Paths.{Path}
+use Rattle.filter_tree.specs.declared.filter.Term.{Term}
+use Rattle.filter_tree.specs.declared.table.Table.{Table}
+use Rattle.filter_tree.specs.declared.tri.Tri.TheVariants.{True, False, Null}
+use Rattle.replica_identity.specs.Shares.{ShareOf}
+use Rattle.split_cert.specs.Tree.{Tree, Branches, Owned, Void, Never, nodes}
+use Rattle.shard_checker.specs.Domain.{kind_at, has_value}
+use Rattle.shard_checker.specs.Facts.{is_null, is_present, is_never_null}
+use Rattle.shard_checker.specs.Owners.{share_in, must_take, may_take, is_second, second_owner}
+use Rattle.shard_checker.specs.Refusal.{Subject, subject_of, later, second_refusal, others_refusal, owner_refusal, is_empty, empty_refusal, never_null_refusal, first_of, split_refusal, refusal, first_refusal}
+use Rattle.shard_checker.specs.Truth.{IsLeastOther, HasSecond, EmptyIsWrong, NeverNullIsWrong, OwnerIsWrong, SplitIsWrong, IsWrong, CertificateIsWrong}
+use Rattle.shard_checker.specs.declared.error.CheckError.{CheckError}
+use Rattle.shard_checker.specs.declared.error.CheckError.TheVariants.{BadIndex, NotEmpty, MayBeNull, NotOwner, SecondOwner}
+use Rattle.shard_checker.proofs.ExistingLemmas.{value_exists}
+use Rattle.shard_checker.proofs.OwnerLemmas.{only_owner}
+use Rattle.shard_checker.proofs.Testing.{by_test, both_true, both_false, not_true, clash}
+
+same_some : (one other : CheckError) → Some one ≡ Some other → other ≡ one
+same_some one other h = cc
+
+-- a test that decides whether there is a refusal
+failed : (b : Bool) (one error : CheckError) → (if b then None else Some one) ≡ Some error → (b ≡ false) × (error ≡ one)
+failed true one error h = absurd cc
+failed false one error h = (refl, same_some one error h)
+
+not_false : (b : Bool) → not b ≡ false → b ≡ true
+not_false true h = refl
+not_false false h = absurd cc
+
+empty_wrong : (subject : Subject) (path : Path) (node : ℕ) (found : Option Term) (error : CheckError) → empty_refusal subject path node found ≡ Some error → EmptyIsWrong subject path node found error
+empty_wrong subject path node None error h = same_some (BadIndex subject.table node) error h
+empty_wrong subject path node (Some term) error h =
+    let both = failed (is_empty subject.columns term path) (NotEmpty subject.table node) error h in
+    let parts = both_false (is_null (column_of term) path && is_present subject.columns (column_of term) path) (not (has_value (kind_at subject.columns (column_of term)) term path)) both.0 in
+    (both.1, record { value = value_exists (kind_at subject.columns (column_of term)) term path (not_false _ parts.1); not_torn = parts.0 })
+
+never_null_wrong : (subject : Subject) (path : Path) (node : ℕ) (found : Option Condition) (error : CheckError)
+    → never_null_refusal subject path node found ≡ Some error → NeverNullIsWrong subject path node found error
+never_null_wrong subject path node None error h = same_some (BadIndex subject.table node) error h
+never_null_wrong subject path node (Some condition) error h =
+    let both = failed (is_never_null subject.columns condition path) (MayBeNull subject.table node) error h in (both.1, both.0)
+
+-- ---- owners
+
+-- what the search for a second owner finds, in a list whose first share has this number
+record IsFound (owner number second : ℕ) (shares : List ShareOf) (path : Path) : Type 0 where
+  place : ℕ
+  at : second ≡ number + place
+  other : second ≡ owner → ⊥
+  may : may_take (share_in shares place) path ≡ true
+  least : (earlier : ℕ) → earlier < place → may_take (share_in shares earlier) path ≡ true → number + earlier ≡ owner
+
+second_is : (owner number : ℕ) (share : ShareOf) (path : Path) → is_second owner number share path ≡ true → (number ≡ owner → ⊥) × (may_take share path ≡ true)
+second_is owner number share path h =
+    let both = both_true (not (number == owner)) (may_take share path) h in
+    ((λ same. clash (number == owner) ((unsigned_Decides number owner).1 same) (not_true _ both.0)), both.1)
+
+least_before : (owner number : ℕ) (share : ShareOf) (shares : List ShareOf) (path : Path) (place : ℕ) → is_second owner number share path ≡ false
+    → ((earlier : ℕ) → earlier < place → may_take (share_in shares earlier) path ≡ true → number + 1 + earlier ≡ owner)
+    → (earlier : ℕ) → earlier < suc place → may_take (share_in (share ∷ shares) earlier) path ≡ true → number + earlier ≡ owner
+least_before owner number share shares path place first least zero below may = let is = only_owner owner number share path first may in omega arith
+least_before owner number share shares path place first least (suc earlier) below may = let is = least earlier (omega arith) may in omega arith
+
+found_by : (owner number : ℕ) (share : ShareOf) (path : Path) (rest : Option ℕ) (second : ℕ) → (if is_second owner number share path then Some number else rest) ≡ Some second
+    → ((is_second owner number share path ≡ true) × (number ≡ second)) ⊎ ((is_second owner number share path ≡ false) × (rest ≡ Some second))
+found_by owner number share path rest second h = by_test (is_second owner number share path)
+    (λ here. let found : Some number ≡ Some second = rw here at h in let same : number ≡ second = cc in inl (here, same))
+    (λ there. let found : rest ≡ Some second = rw there at h in inr (there, found))
+
+found_in : (owner number : ℕ) (share : ShareOf) (shares : List ShareOf) (path : Path) (second : ℕ)
+    → (second_owner owner (number + 1) shares path ≡ Some second → IsFound owner (number + 1) second shares path)
+    → ((is_second owner number share path ≡ true) × (number ≡ second)) ⊎ ((is_second owner number share path ≡ false) × (second_owner owner (number + 1) shares path ≡ Some second))
+    → IsFound owner number second (share ∷ shares) path
+found_in owner number share shares path second later (inl here) =
+    let is = second_is owner number share path here.0 in
+    record {
+      place = 0;
+      at = omega (arith, here.1);
+      other = λ same. is.0 (here.1 ∙ same);
+      may = is.1;
+      least = λ earlier below may. absurd (omega arith);
+    }
+found_in owner number share shares path second later (inr there) =
+    let rest = later there.1 in
+    record {
+      place = suc rest.place;
+      at = omega (arith, rest.at);
+      other = rest.other;
+      may = rest.may;
+      least = least_before owner number share shares path rest.place there.0 rest.least;
+    }
+
+found_is : (owner number : ℕ) (shares : List ShareOf) (path : Path) (second : ℕ) → second_owner owner number shares path ≡ Some second → IsFound owner number second shares path
+found_is owner number [] path second h = absurd cc
+found_is owner number (share ∷ shares) path second h =
+    found_in owner number share shares path second (λ later. found_is owner (number + 1) shares path second later)
+    (found_by owner number share path (second_owner owner (number + 1) shares path) second h)
+
+least_other : (owner second : ℕ) (shares : List ShareOf) (path : Path) → second_owner owner 0 shares path ≡ Some second → IsLeastOther shares path owner second
+least_other owner second shares path h =
+    let found = found_is owner 0 shares path second h in
+    let same : found.place ≡ second = omega (arith, found.at) in
+    record {
+      other = found.other;
+      may = subst (λ k. may_take (share_in shares k) path ≡ true) same found.may;
+      least = λ number below may. let is = found.least number (omega (arith, same)) may in omega (arith, is);
+    }
+
+others_wrong : (subject : Subject) (path : Path) (node owner : ℕ) (error : CheckError) (found : Option ℕ) → second_owner owner 0 subject.shares path ≡ found
+    → second_refusal subject node found ≡ Some error → HasSecond subject path node owner error
+others_wrong subject path node owner error None e h = absurd cc
+others_wrong subject path node owner error (Some second) e h =
+    record { second = second; is = same_some (SecondOwner subject.table node second) error h; least = least_other owner second subject.shares path e }
+
+owner_wrong : (subject : Subject) (path : Path) (node owner : ℕ) (found : Option ShareOf) (error : CheckError) → owner_refusal subject path node owner found ≡ Some error
+    → OwnerIsWrong subject path node owner found error
+owner_wrong subject path node owner None error h = same_some (BadIndex subject.table node) error h
+owner_wrong subject path node owner (Some share) error h = by_test (must_take share path)
+    (λ takes_it. let rest : others_refusal subject path node owner ≡ Some error = rw takes_it at h in
+    inr (others_wrong subject path node owner error (second_owner owner 0 subject.shares path) refl rest))
+    (λ leaves_it. let rest : Some (NotOwner subject.table node) ≡ Some error = rw leaves_it at h in
+    inl (same_some (NotOwner subject.table node) error rest, leaves_it))
+
+-- ---- trees
+
+first_some : (one next : Option CheckError) (error : CheckError) → first_of one next ≡ Some error → (one ≡ Some error) ⊎ (next ≡ Some error)
+first_some None next error h = inr h
+first_some (Some one) next error h = inl h
+
+of_three : {A B C : Type 0} (one two three : Option CheckError) (error : CheckError) → (one ≡ Some error → A) → (two ≡ Some error → B) → (three ≡ Some error → C)
+    → (one ≡ Some error) ⊎ (first_of two three ≡ Some error) → A ⊎ (B ⊎ C)
+of_three one two three error at_one at_two at_three (inl h) = inl (at_one h)
+of_three one None three error at_one at_two at_three (inr h) = inr (inr (at_three h))
+of_three one (Some two) three error at_one at_two at_three (inr h) = inr (inl (at_two h))
+
+split_wrong : (subject : Subject) (path : Path) (node : ℕ) (found : Option Condition) (error : CheckError) (if_true if_false if_null : Path → Option CheckError)
+    (true_wrong false_wrong null_wrong : Path → Type 0)
+    → ((longer : Path) → if_true longer ≡ Some error → true_wrong longer)
+    → ((longer : Path) → if_false longer ≡ Some error → false_wrong longer)
+    → ((longer : Path) → if_null longer ≡ Some error → null_wrong longer)
+    → split_refusal subject path node found if_true if_false if_null ≡ Some error → SplitIsWrong subject path node found true_wrong false_wrong null_wrong error
+split_wrong subject path node None error if_true if_false if_null true_wrong false_wrong null_wrong at_true at_false at_null h = same_some (BadIndex subject.table node) error h
+split_wrong subject path node (Some condition) error if_true if_false if_null true_wrong false_wrong null_wrong at_true at_false at_null h =
+    of_three (if_true (path ++ (condition, True) ∷ [])) (if_false (path ++ (condition, False) ∷ [])) (if_null (path ++ (condition, Null) ∷ [])) error
+    (at_true (path ++ (condition, True) ∷ [])) (at_false (path ++ (condition, False) ∷ [])) (at_null (path ++ (condition, Null) ∷ []))
+    (first_some (if_true (path ++ (condition, True) ∷ [])) (first_of (if_false (path ++ (condition, False) ∷ [])) (if_null (path ++ (condition, Null) ∷ []))) error h)
+
+refusal_true : (subject : Subject) (tree : Tree) (path : Path) (node : ℕ) (error : CheckError) → refusal subject tree path node ≡ Some error → IsWrong subject tree path node error
+refusal_true subject (Branches atom if_true if_false if_null) path node error h =
+    split_wrong subject path node (slice_get subject.conditions atom) error
+    (λ longer. refusal subject if_true longer (later node 1))
+    (λ longer. refusal subject if_false longer (later (later node 1) (nodes if_true)))
+    (λ longer. refusal subject if_null longer (later (later (later node 1) (nodes if_true)) (nodes if_false)))
+    (λ longer. IsWrong subject if_true longer (later node 1) error)
+    (λ longer. IsWrong subject if_false longer (later (later node 1) (nodes if_true)) error)
+    (λ longer. IsWrong subject if_null longer (later (later (later node 1) (nodes if_true)) (nodes if_false)) error)
+    (λ longer. refusal_true subject if_true longer (later node 1) error)
+    (λ longer. refusal_true subject if_false longer (later (later node 1) (nodes if_true)) error)
+    (λ longer. refusal_true subject if_null longer (later (later (later node 1) (nodes if_true)) (nodes if_false)) error)
+    h
+refusal_true subject (Owned subscriber) path node error h = owner_wrong subject path node subscriber (slice_get subject.shares subscriber) error h
+refusal_true subject (Void term) path node error h = empty_wrong subject path node (slice_get subject.terms term) error h
+refusal_true subject (Never atom) path node error h = never_null_wrong subject path node (slice_get subject.conditions atom) error h
+
+pub certificate_wrong : (number : ℕ) (table : Table) (shares : List ShareOf) (tree : Tree) (error : CheckError) → first_refusal number table shares tree ≡ Some error
+    → CertificateIsWrong number table shares tree error
+certificate_wrong number table shares tree error h = refusal_true (subject_of number table.columns shares) tree [] 0 error h

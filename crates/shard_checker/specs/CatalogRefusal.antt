@@ -1,0 +1,107 @@
+-- Why a sharding is refused, of several reasons the first: a publication that is taken and doesn't publish an operation, a table that records no old row, a filter that names a column outside the replica identity, too few or too many certificates, and then the certificates, table by table. PostgreSQL 15, "Logical Replication", 31.1 Publication.
+use Rattle.std.specs.Prelude.{ℕ, ◌+◌, ◌==◌, if◌then◌else◌, List, [], ◌∷◌, length, Option, Some, None, slice_get}
+use Rattle.filter_tree.specs.Expr.{Expr}
+use Rattle.filter_tree.specs.Lists.{distinct_columns}
+use Rattle.filter_tree.specs.declared.table.Identity.{Identity}
+use Rattle.filter_tree.specs.declared.table.Identity.TheVariants.{Default, Full, Nothing}
+use Rattle.filter_tree.specs.declared.table.Table.{Table}
+use Rattle.pub_reader.specs.Catalogs.{CatalogOf, PublicationOf, EntryOf}
+use Rattle.pub_reader.specs.declared.catalog.Operations.{Operations}
+use Rattle.pub_reader.specs.declared.catalog.Subscription.{Subscription}
+use Rattle.replica_identity.specs.Plans.{PlanOf, share_at}
+use Rattle.replica_identity.specs.Shares.{ShareOf}
+use Rattle.split_cert.specs.Tree.{Tree}
+use Rattle.shard_checker.specs.Refusal.{first_of, first_refusal}
+use Rattle.shard_checker.specs.Sound.{is_taken, covers}
+use Rattle.shard_checker.specs.declared.error.CheckError.{CheckError}
+use Rattle.shard_checker.specs.declared.error.CheckError.TheVariants.{PublishMissing, NoIdentity, NotCovered, CertCount}
+use Rattle.shard_checker.specs.declared.error.Operation.{Operation}
+use Rattle.shard_checker.specs.declared.error.Operation.TheVariants.{Insert, Update, Delete}
+
+-- ---- what is published
+
+-- the first of insert, update and delete that isn't published
+abbrev pub missing_operation : Operations → Option Operation
+missing_operation publishes =
+    if publishes.insert then (if publishes.update then (if publishes.delete then None else Some Delete) else Some Update) else Some Insert
+
+abbrev pub missing_by : ℕ → Option Operation → Option CheckError
+missing_by number None = None
+missing_by number (Some operation) = Some (PublishMissing number operation)
+
+abbrev pub publication_refusal : List Subscription → ℕ → Operations → Option CheckError
+publication_refusal subscriptions number publishes = if is_taken subscriptions number then missing_by number (missing_operation publishes) else None
+
+-- of the publications that begin at this number
+abbrev pub publishing_refusal : List Subscription → ℕ → List (PublicationOf Expr) → Option CheckError
+publishing_refusal subscriptions number [] = None
+publishing_refusal subscriptions number (publication ∷ publications) =
+    first_of (publication_refusal subscriptions number publication.publishes) (publishing_refusal subscriptions (number + 1) publications)
+
+-- ---- what is recorded of old rows
+
+abbrev pub table_refusal : ℕ → Identity → Option CheckError
+table_refusal number Nothing = Some (NoIdentity number)
+table_refusal number Default = None
+table_refusal number Full = None
+
+-- of the tables that begin at this number
+abbrev pub identity_refusal : ℕ → List Table → Option CheckError
+identity_refusal number [] = None
+identity_refusal number (table ∷ tables) = first_of (table_refusal number table.identity) (identity_refusal (number + 1) tables)
+
+-- ---- which columns filters name
+
+-- the first of these columns that the replica identity lacks
+abbrev pub column_refusal : ℕ → ℕ → Option Table → List ℕ → Option CheckError
+column_refusal publication table found [] = None
+column_refusal publication table found (column ∷ columns) =
+    if covers found column then column_refusal publication table found columns else Some (NotCovered publication table column)
+
+abbrev pub filter_refusal : ℕ → ℕ → Option Table → Option Expr → Option CheckError
+filter_refusal publication table found None = None
+filter_refusal publication table found (Some filter) = column_refusal publication table found (distinct_columns filter)
+
+abbrev pub entry_refusal : List Table → ℕ → EntryOf Expr → Option CheckError
+entry_refusal tables publication entry = filter_refusal publication entry.table (slice_get tables entry.table) entry.filter
+
+abbrev pub entries_refusal : List Table → ℕ → List (EntryOf Expr) → Option CheckError
+entries_refusal tables publication [] = None
+entries_refusal tables publication (entry ∷ entries) = first_of (entry_refusal tables publication entry) (entries_refusal tables publication entries)
+
+abbrev pub taken_refusal : List Table → List Subscription → ℕ → List (EntryOf Expr) → Option CheckError
+taken_refusal tables subscriptions number entries = if is_taken subscriptions number then entries_refusal tables number entries else None
+
+-- of the publications that begin at this number
+abbrev pub coverage_refusal : List Table → List Subscription → ℕ → List (PublicationOf Expr) → Option CheckError
+coverage_refusal tables subscriptions number [] = None
+coverage_refusal tables subscriptions number (publication ∷ publications) =
+    first_of (taken_refusal tables subscriptions number publication.entries) (coverage_refusal tables subscriptions (number + 1) publications)
+
+-- ---- certificates
+
+-- the shares of a table that subscribers take, who begin at this number
+abbrev pub table_shares : PlanOf → ℕ → ℕ → List Subscription → List ShareOf
+table_shares plan table number [] = []
+table_shares plan table number (subscription ∷ subscriptions) = share_at plan number table ∷ table_shares plan table (number + 1) subscriptions
+
+-- of the certificates of the tables that begin at this number
+abbrev pub certificates_refusal : PlanOf → List Subscription → ℕ → List Table → List Tree → Option CheckError
+certificates_refusal plan subscriptions number (table ∷ tables) (tree ∷ trees) =
+    first_of (first_refusal number table (table_shares plan number 0 subscriptions) tree) (certificates_refusal plan subscriptions (number + 1) tables trees)
+certificates_refusal plan subscriptions number tables trees = None
+
+abbrev pub count_refusal : ℕ → ℕ → Option CheckError
+count_refusal tables certificates = if certificates == tables then None else Some CertCount
+
+-- ---- the first reason
+
+abbrev pub catalog_refusal : CatalogOf Expr → Option CheckError
+catalog_refusal catalog =
+    first_of (publishing_refusal catalog.subscriptions 0 catalog.publications)
+    (first_of (identity_refusal 0 catalog.tables) (coverage_refusal catalog.tables catalog.subscriptions 0 catalog.publications))
+
+abbrev pub sharding_refusal : CatalogOf Expr → PlanOf → List Tree → Option CheckError
+sharding_refusal catalog plan trees =
+    first_of (catalog_refusal catalog)
+    (first_of (count_refusal (length catalog.tables) (length trees)) (certificates_refusal plan catalog.subscriptions 0 catalog.tables trees))

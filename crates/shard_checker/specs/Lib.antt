@@ -1,0 +1,11 @@
+pub mod CatalogRefusal
+pub mod CheckedView
+pub mod Domain
+pub mod Facts
+pub mod Numbering
+pub mod Owners
+pub mod Refusal
+pub mod Sound
+pub mod SoundFacts
+pub mod SubjectView
+pub mod Truth

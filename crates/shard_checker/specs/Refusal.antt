@@ -1,0 +1,108 @@
+-- The first node, in the order in which a certificate is written, at which it says something that isn't so. Certificates are this project's own, and restate no section of PostgreSQL's documentation.
+use Rattle.std.specs.Prelude.{ℕ, ◌+◌, ◌-◌, ◌^◌, min, not, ◌&&◌, ◌||◌, Bool, if◌then◌else◌, List, [], ◌∷◌, ◌++◌, Option, Some, None, slice_get}
+use Rattle.filter_tree.specs.Datum.{Datum}
+use Rattle.filter_tree.specs.Expr.{Condition}
+use Rattle.filter_tree.specs.Lists.{column_of}
+use Rattle.filter_tree.specs.Paths.{Path, Agrees}
+use Rattle.filter_tree.specs.Valid.{IsValid}
+use Rattle.filter_tree.specs.declared.filter.Term.{Term}
+use Rattle.filter_tree.specs.declared.table.Column.{Column}
+use Rattle.filter_tree.specs.declared.table.Table.{Table}
+use Rattle.filter_tree.specs.declared.tri.Tri.TheVariants.{True, False, Null}
+use Rattle.replica_identity.specs.Shares.{ShareOf}
+use Rattle.split_cert.specs.Tree.{Tree, Branches, Owned, Void, Never, nodes}
+use Rattle.shard_checker.specs.Domain.{kind_at, has_value}
+use Rattle.shard_checker.specs.Facts.{is_null, is_present, is_never_null}
+use Rattle.shard_checker.specs.Numbering.{numbered_conditions, numbered_terms}
+use Rattle.shard_checker.specs.Owners.{HasOneOwner, must_take, second_owner}
+use Rattle.shard_checker.specs.declared.error.CheckError.{CheckError}
+use Rattle.shard_checker.specs.declared.error.CheckError.TheVariants.{BadIndex, NotEmpty, MayBeNull, NotOwner, SecondOwner}
+
+-- what a certificate speaks of: a table, by its number, its columns, the share of each subscriber, and the conditions and terms that the certificate names by their numbers
+pub record Subject : Type 0 where
+  pub table : ℕ
+  pub columns : List Column
+  pub shares : List ShareOf
+  pub conditions : List Condition
+  pub terms : List Term
+
+abbrev pub numbered_subject : ℕ → List Column → List ShareOf → List Condition → List Term → Subject
+numbered_subject table columns shares conditions terms = record { table = table; columns = columns; shares = shares; conditions = conditions; terms = terms }
+
+abbrev pub subject_of : ℕ → List Column → List ShareOf → Subject
+subject_of table columns shares = numbered_subject table columns shares (numbered_conditions shares) (numbered_terms shares)
+
+-- the number of a node that comes so many nodes later; the numbers end at the greatest of 64 bits, which all later nodes have
+abbrev pub later : ℕ → ℕ → ℕ
+later node count = min (node + count) (2 ^ 64 - 1)
+
+-- ---- what a node that isn't a split says, at the end of a path
+
+abbrev pub second_refusal : Subject → ℕ → Option ℕ → Option CheckError
+second_refusal subject node None = None
+second_refusal subject node (Some second) = Some (SecondOwner subject.table node second)
+
+-- no other share than the owner's may take a row
+abbrev pub others_refusal : Subject → Path → ℕ → ℕ → Option CheckError
+others_refusal subject path node owner = second_refusal subject node (second_owner owner 0 subject.shares path)
+
+-- the share of the owner takes the rows, and no other share may
+abbrev pub owner_refusal : Subject → Path → ℕ → ℕ → Option ShareOf → Option CheckError
+owner_refusal subject path node owner None = Some (BadIndex subject.table node)
+owner_refusal subject path node owner (Some share) =
+    if must_take share path then others_refusal subject path node owner else Some (NotOwner subject.table node)
+
+-- the term's column would have to be null and not null, or no value is left to the term
+abbrev pub is_empty : List Column → Term → Path → Bool
+is_empty columns term path =
+    (is_null (column_of term) path && is_present columns (column_of term) path) || not (has_value (kind_at columns (column_of term)) term path)
+
+abbrev pub empty_refusal : Subject → Path → ℕ → Option Term → Option CheckError
+empty_refusal subject path node None = Some (BadIndex subject.table node)
+empty_refusal subject path node (Some term) = if is_empty subject.columns term path then None else Some (NotEmpty subject.table node)
+
+abbrev pub never_null_refusal : Subject → Path → ℕ → Option Condition → Option CheckError
+never_null_refusal subject path node None = Some (BadIndex subject.table node)
+never_null_refusal subject path node (Some condition) = if is_never_null subject.columns condition path then None else Some (MayBeNull subject.table node)
+
+-- ---- trees
+
+abbrev pub first_of : Option CheckError → Option CheckError → Option CheckError
+first_of None next = next
+first_of (Some error) next = Some error
+
+-- the refusal of a split, from those of its branches, each with the path that it has by the value of the condition
+abbrev pub split_refusal : Subject → Path → ℕ → Option Condition → (Path → Option CheckError) → (Path → Option CheckError) → (Path → Option CheckError) → Option CheckError
+split_refusal subject path node None if_true if_false if_null = Some (BadIndex subject.table node)
+split_refusal subject path node (Some condition) if_true if_false if_null =
+    first_of (if_true (path ++ (condition, True) ∷ [])) (first_of (if_false (path ++ (condition, False) ∷ [])) (if_null (path ++ (condition, Null) ∷ [])))
+
+-- the first refusal in a tree at the end of a path, whose first node has this number
+abbrev pub refusal : Subject → Tree → Path → ℕ → Option CheckError
+refusal subject (Branches atom if_true if_false if_null) path node =
+    split_refusal subject path node (slice_get subject.conditions atom)
+    (λ longer. refusal subject if_true longer (later node 1))
+    (λ longer. refusal subject if_false longer (later (later node 1) (nodes if_true)))
+    (λ longer. refusal subject if_null longer (later (later (later node 1) (nodes if_true)) (nodes if_false)))
+refusal subject (Owned subscriber) path node = owner_refusal subject path node subscriber (slice_get subject.shares subscriber)
+refusal subject (Void term) path node = empty_refusal subject path node (slice_get subject.terms term)
+refusal subject (Never atom) path node = never_null_refusal subject path node (slice_get subject.conditions atom)
+
+-- the first refusal in the branches of a split by this condition, the first of which begins with the node of this number
+abbrev pub branches_refusal : Subject → Path → ℕ → Condition → Tree → Tree → Tree → Option CheckError
+branches_refusal subject path node condition if_true if_false if_null =
+    first_of (refusal subject if_true (path ++ (condition, True) ∷ []) node)
+    (first_of (refusal subject if_false (path ++ (condition, False) ∷ []) (later node (nodes if_true)))
+    (refusal subject if_null (path ++ (condition, Null) ∷ []) (later (later node (nodes if_true)) (nodes if_false))))
+
+-- the number of the node after three trees, the first of which begins with the node of this number
+abbrev pub after_branches : ℕ → Tree → Tree → Tree → ℕ
+after_branches node if_true if_false if_null = later (later (later node (nodes if_true)) (nodes if_false)) (nodes if_null)
+
+-- the first refusal in the certificate of the table of this number
+abbrev pub first_refusal : ℕ → Table → List ShareOf → Tree → Option CheckError
+first_refusal number table shares tree = refusal (subject_of number table.columns shares) tree [] 0
+
+-- each row that fits the columns and agrees with the path has one owner
+pub record IsSound (columns : List Column) (shares : List ShareOf) (path : Path) : Type 0 where
+  pub one_owner : (cells : List Datum) → IsValid columns cells → Agrees cells path → HasOneOwner shares cells

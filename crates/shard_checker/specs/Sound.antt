@@ -1,0 +1,56 @@
+-- When the sharding of a catalog is sound: each row that fits its table passes to exactly one subscriber, and what is taken publishes the operations and names the columns by which rows move between subscribers. PostgreSQL 15, "Logical Replication", 31.1 Publication and 31.3 Row Filters.
+use Rattle.std.specs.Prelude.{◌≡◌, ◌≢◌, ℕ, ◌==◌, Bool, true, false, List, Option, Some, None, IfSome, slice_get}
+use Rattle.std.specs.List.{list_any, list_all}
+use Rattle.filter_tree.specs.Datum.{Datum}
+use Rattle.filter_tree.specs.Expr.{Expr}
+use Rattle.filter_tree.specs.Lists.{distinct_columns}
+use Rattle.filter_tree.specs.Valid.{IsValid}
+use Rattle.filter_tree.specs.declared.table.Identity.TheVariants.{Nothing}
+use Rattle.filter_tree.specs.declared.table.Table.{Table}
+use Rattle.pub_reader.specs.Catalogs.{CatalogOf, EntryOf}
+use Rattle.pub_reader.specs.declared.catalog.Operations.{Operations}
+use Rattle.pub_reader.specs.declared.catalog.Subscription.{Subscription}
+use Rattle.replica_identity.specs.Identities.{is_covered}
+use Rattle.replica_identity.specs.Passes.{passes}
+
+abbrev pub is_listed : ℕ → Subscription → Bool
+is_listed publication subscription = list_any (λ number. number == publication) subscription.publications
+
+-- some subscription takes the publication of this number
+abbrev pub is_taken : List Subscription → ℕ → Bool
+is_taken subscriptions publication = list_any (is_listed publication) subscriptions
+
+-- exactly one subscriber takes the row of the table
+pub record HasOneSubscriber (catalog : CatalogOf Expr) (table : ℕ) (cells : List Datum) : Type 0 where
+  pub subscriber : ℕ
+  pub takes_it : passes catalog subscriber table cells ≡ true
+  pub no_other : (other : ℕ) → passes catalog other table cells ≡ true → other ≡ subscriber
+
+pub record PublishesChanges (publishes : Operations) : Type 0 where
+  pub inserts : publishes.insert ≡ true
+  pub updates : publishes.update ≡ true
+  pub deletes : publishes.delete ≡ true
+
+-- the table's replica identity has the column; that of a table that isn't there has none
+abbrev pub covers : Option Table → ℕ → Bool
+covers None column = false
+covers (Some table) column = is_covered table column
+
+-- a filter names only columns of the replica identity
+abbrev pub is_covered_by : Option Table → Option Expr → Bool
+is_covered_by found None = true
+is_covered_by found (Some filter) = list_all (covers found) (distinct_columns filter)
+
+abbrev pub entry_is_covered : List Table → EntryOf Expr → Bool
+entry_is_covered tables entry = is_covered_by (slice_get tables entry.table) entry.filter
+
+-- Tables and publications by their numbers.
+pub record IsSound (catalog : CatalogOf Expr) : Type 0 where
+  -- each row that fits a table passes to exactly one subscriber
+  pub one_subscriber : (number : ℕ) → IfSome (slice_get catalog.tables number) (λ table. (cells : List Datum) → IsValid table.columns cells → HasOneSubscriber catalog number cells)
+  -- each publication that is taken publishes insert, update and delete
+  pub publishes : (number : ℕ) → is_taken catalog.subscriptions number ≡ true → IfSome (slice_get catalog.publications number) (λ publication. PublishesChanges publication.publishes)
+  -- and its filters name only columns of the tables' replica identities
+  pub covered : (number : ℕ) → is_taken catalog.subscriptions number ≡ true → IfSome (slice_get catalog.publications number) (λ publication. list_all (entry_is_covered catalog.tables) publication.entries ≡ true)
+  -- no table's replica identity is NOTHING
+  pub identified : (number : ℕ) → IfSome (slice_get catalog.tables number) (λ table. table.identity ≢ Nothing)

@@ -1,0 +1,151 @@
+//! What replica identities record, and which columns the filters of the publications that are taken name.
+
+ghost use Rattle.std.specs.Prelude.{◌≡◌, ◌≢◌, OnOk, IfErr, None, Some, map, slice_get};
+ghost use Rattle.std.specs.Option.{option_map, option_copied};
+ghost use Rattle.filter_tree.specs.Shape.{expr_of};
+ghost use Rattle.pub_reader.specs.CatalogView.{entry_of, publication_of};
+ghost use Rattle.shard_checker.specs.CatalogRefusal as spec;
+ghost use Rattle.shard_checker.specs.Sound as sound;
+
+use crate::error::CheckError;
+use crate::publishing::is_taken;
+use filter_tree::{Filter, Identity, Table, columns_of};
+use pub_reader::{Entry, Publication, Subscription};
+use replica_identity::covered;
+use std::alloc::Global;
+
+fn check_identity(number: usize, identity: Identity) -> Result<(), CheckError>
+    ensures ok { OnOk result (spec.table_refusal number identity ≡ None) }
+    ensures err { IfErr result (λ error. spec.table_refusal number identity ≡ Some error) }
+{
+    match identity {
+        Identity::Nothing => Err(CheckError::NoIdentity { table: number }),
+        Identity::Default | Identity::Full => Ok(()),
+    }
+}
+
+/// Checks that no table's replica identity is NOTHING.
+pub fn check_identities(tables: &[Table]) -> Result<(), CheckError>
+    ensures ok { OnOk result (spec.identity_refusal 0 tables.now ≡ None) }
+    ensures err { IfErr result (λ error. spec.identity_refusal 0 tables.now ≡ Some error) }
+{
+    for (number, table) in tables.iter().enumerate() {
+        check_identity(number, table.identity)?;
+    }
+    Ok(())
+}
+
+/// Whether the replica identity of the table of this number has the column.
+fn covers(tables: &[Table], table: usize, column: usize) -> bool
+    ensures { result ≡ sound.covers (slice_get tables.now table) column }
+{
+    match tables.get(table) {
+        None => false,
+        Some(table) => covered(table, column),
+    }
+}
+
+/// Checks that the replica identity of the table has the columns.
+fn check_columns(
+    tables: &[Table],
+    publication: usize,
+    table: usize,
+    columns: &[usize],
+) -> Result<(), CheckError>
+    ensures ok { OnOk result (spec.column_refusal publication table (slice_get tables.now table) columns.now ≡ None) }
+    ensures err { IfErr result (λ error. spec.column_refusal publication table (slice_get tables.now table) columns.now ≡ Some error) }
+{
+    for column in columns {
+        if !covers(tables, table, *column) {
+            return Err(CheckError::NotCovered {
+                publication,
+                table,
+                column: *column,
+            });
+        }
+    }
+    Ok(())
+}
+
+fn check_filter(
+    alloc: Global,
+    tables: &[Table],
+    publication: usize,
+    table: usize,
+    filter: &Filter,
+) -> Result<(), CheckError>
+    ensures ok { OnOk result (spec.filter_refusal publication table (slice_get tables.now table) (Some (expr_of filter.now)) ≡ None) }
+    ensures err { IfErr result (λ error. error ≢ CheckError.OutOfMemory → spec.filter_refusal publication table (slice_get tables.now table) (Some (expr_of filter.now)) ≡ Some error) }
+{
+    let columns = columns_of(alloc, filter)?;
+    check_columns(tables, publication, table, &columns)
+}
+
+fn check_entry(
+    alloc: Global,
+    tables: &[Table],
+    publication: usize,
+    entry: &Entry,
+) -> Result<(), CheckError>
+    ensures ok { OnOk result (spec.entry_refusal tables.now publication (entry_of entry.now) ≡ None) }
+    ensures err { IfErr result (λ error. error ≢ CheckError.OutOfMemory → spec.entry_refusal tables.now publication (entry_of entry.now) ≡ Some error) }
+{
+    match &entry.filter {
+        None => Ok(()),
+        Some(filter) => check_filter(alloc, tables, publication, entry.table, filter),
+    }
+}
+
+fn check_entries(
+    alloc: Global,
+    tables: &[Table],
+    publication: usize,
+    entries: &[Entry],
+) -> Result<(), CheckError>
+    ensures ok { OnOk result (spec.entries_refusal tables.now publication (map entry_of entries.now) ≡ None) }
+    ensures err { IfErr result (λ error. error ≢ CheckError.OutOfMemory → spec.entries_refusal tables.now publication (map entry_of entries.now) ≡ Some error) }
+{
+    for entry in entries {
+        check_entry(alloc, tables, publication, entry)?;
+    }
+    Ok(())
+}
+
+fn check_taken(
+    alloc: Global,
+    tables: &[Table],
+    subscriptions: &[Subscription],
+    number: usize,
+    entries: &[Entry],
+) -> Result<(), CheckError>
+    ensures ok { OnOk result (spec.taken_refusal tables.now subscriptions.now number (map entry_of entries.now) ≡ None) }
+    ensures err { IfErr result (λ error. error ≢ CheckError.OutOfMemory → spec.taken_refusal tables.now subscriptions.now number (map entry_of entries.now) ≡ Some error) }
+{
+    if is_taken(subscriptions, number) {
+        check_entries(alloc, tables, number, entries)
+    } else {
+        Ok(())
+    }
+}
+
+/// Checks that the filters of each publication that is taken name only columns of the tables' replica identities.
+pub fn check_coverage(
+    alloc: Global,
+    tables: &[Table],
+    subscriptions: &[Subscription],
+    publications: &[Publication],
+) -> Result<(), CheckError>
+    ensures ok { OnOk result (spec.coverage_refusal tables.now subscriptions.now 0 (map publication_of publications.now) ≡ None) }
+    ensures err { IfErr result (λ error. error ≢ CheckError.OutOfMemory → spec.coverage_refusal tables.now subscriptions.now 0 (map publication_of publications.now) ≡ Some error) }
+{
+    for (number, publication) in publications.iter().enumerate() {
+        check_taken(
+            alloc,
+            tables,
+            subscriptions,
+            number,
+            publication.entries.as_slice(),
+        )?;
+    }
+    Ok(())
+}

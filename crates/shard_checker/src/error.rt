@@ -1,0 +1,87 @@
+//! Why a sharding is refused.
+
+use std::alloc::AllocError;
+use thiserror::Error;
+
+/// An operation whose changes a publication may leave out.
+#[derive(Clone, Copy, Debug, PartialEq, Eq, Error)]
+pub enum Operation {
+    #[error("insert")]
+    Insert,
+    #[error("update")]
+    Update,
+    #[error("delete")]
+    Delete,
+}
+
+/// Why a sharding is refused. Publications, tables, columns and subscribers are named by their numbers in the catalog,
+/// from 0, and the nodes of a table's certificate by their numbers in the order in which it is written, from 0: a split,
+/// and then its branches.
+#[derive(Clone, Copy, Debug, PartialEq, Eq, Error)]
+pub enum CheckError {
+    /// A subscription takes the publication, which doesn't publish the operation.
+    #[error("publication {publication} is taken, but does not publish {operation}")]
+    PublishMissing {
+        publication: usize,
+        operation: Operation,
+    },
+    /// The table's replica identity is NOTHING.
+    #[error("table {table} has the replica identity NOTHING")]
+    NoIdentity {
+        table: usize,
+    },
+    /// A subscription takes the publication, whose filter of the table names a column outside the replica identity.
+    #[error("a filter of publication {publication} names column {column} of table {table}, which is not in the replica identity")]
+    NotCovered {
+        publication: usize,
+        table: usize,
+        column: usize,
+    },
+    /// There are fewer or more certificates than tables.
+    #[error("the number of certificates is not the number of tables")]
+    CertCount,
+    /// The node names an atom, a term or a subscriber that isn't there.
+    #[error("node {node} of the certificate of table {table} has a number that is out of range")]
+    BadIndex {
+        table: usize,
+        node: usize,
+    },
+    /// The node says that the term has no value, but it may have one.
+    #[error("at node {node} of the certificate of table {table} the term may have a value")]
+    NotEmpty {
+        table: usize,
+        node: usize,
+    },
+    /// The node says that the atom is never null, but it may be.
+    #[error("at node {node} of the certificate of table {table} the atom may be null")]
+    MayBeNull {
+        table: usize,
+        node: usize,
+    },
+    /// The subscriber that the node names may not take the rows.
+    #[error("at node {node} of the certificate of table {table} the subscriber may not take the row")]
+    NotOwner {
+        table: usize,
+        node: usize,
+    },
+    /// A subscriber may take the rows of the one that the node names.
+    #[error("at node {node} of the certificate of table {table} subscriber {subscriber} may take the row too")]
+    SecondOwner {
+        table: usize,
+        node: usize,
+        subscriber: usize,
+    },
+    #[error("out of memory")]
+    OutOfMemory,
+}
+
+impl From<AllocError> for CheckError {
+    ghost use Rattle.std.specs.Prelude.{◌≡◌};
+    ghost use Rattle.shard_checker.specs.declared.error.CheckError.TheVariants.{OutOfMemory};
+
+    ghost from_gives = { λ _ error. error ≡ OutOfMemory };
+
+    fn from(_: AllocError) -> CheckError {
+        CheckError::OutOfMemory
+    }
+}

@@ -1,0 +1,108 @@
+//! What the atoms on a path tell of the rows there: the path of a node has each atom that was split by on the way to it,
+//! with its value there.
+
+ghost use Rattle.std.specs.Prelude.{◌≡◌};
+ghost use Rattle.filter_tree.specs.Paths.{path_of};
+ghost use Rattle.filter_tree.specs.Shape.{condition_of};
+ghost use Rattle.shard_checker.specs.Facts as spec;
+
+use filter_tree::{Atom, Column, Tri, same_atom};
+use std::alloc::Allocator;
+
+/// Whether the atom with this value says that the column is null.
+fn says_null<A: Allocator>(column: usize, atom: &Atom<A>, value: Tri) -> bool
+    ensures { result ≡ spec.says_null column (condition_of atom.now) value }
+{
+    match (atom, value) {
+        (Atom::Cmp(term, _, _), Tri::Null) => term.column() == column,
+        (Atom::IsNull(other), Tri::True) => *other == column,
+        (Atom::Cmp(..) | Atom::IsNull(_), _) => false,
+    }
+}
+
+/// Whether the atom with this value says that the column isn't null.
+fn says_present<A: Allocator>(column: usize, atom: &Atom<A>, value: Tri) -> bool
+    ensures { result ≡ spec.says_present column (condition_of atom.now) value }
+{
+    match (atom, value) {
+        (Atom::Cmp(term, _, _), Tri::True | Tri::False) => term.column() == column,
+        (Atom::IsNull(other), Tri::False) => *other == column,
+        (Atom::Cmp(..) | Atom::IsNull(_), _) => false,
+    }
+}
+
+/// Whether the column is declared NOT NULL.
+fn is_declared(columns: &[Column], column: usize) -> bool
+    ensures { result ≡ spec.is_declared columns.now column }
+{
+    match columns.get(column) {
+        None => false,
+        Some(column) => column.not_null,
+    }
+}
+
+/// Whether some atom of the path says that the column is null.
+pub fn is_null<A: Allocator>(column: usize, path: &[(&Atom<A>, Tri)]) -> bool
+    ensures { result ≡ spec.is_null column (path_of path.now) }
+{
+    for (atom, value) in path {
+        if says_null(column, *atom, *value) {
+            return true;
+        }
+    }
+    false
+}
+
+/// Whether the column is declared NOT NULL, or some atom of the path says that it isn't null.
+pub fn is_present<A: Allocator>(columns: &[Column], column: usize, path: &[(&Atom<A>, Tri)]) -> bool
+    ensures { result ≡ spec.is_present columns.now column (path_of path.now) }
+{
+    is_declared(columns, column) || is_found_present(column, path)
+}
+
+fn is_found_present<A: Allocator>(column: usize, path: &[(&Atom<A>, Tri)]) -> bool
+    ensures { result ≡ spec.is_found_present column (path_of path.now) }
+{
+    for (atom, value) in path {
+        if says_present(column, *atom, *value) {
+            return true;
+        }
+    }
+    false
+}
+
+fn is_this_null<A: Allocator>(wanted: &Atom<A>, atom: &Atom<A>, value: Tri) -> bool
+    ensures { result ≡ spec.is_this_null (condition_of wanted.now) (condition_of atom.now) value }
+{
+    same_atom(wanted, atom) && matches!(value, Tri::Null)
+}
+
+/// Whether the path has the atom with the value null.
+fn has_null<A: Allocator>(wanted: &Atom<A>, path: &[(&Atom<A>, Tri)]) -> bool
+    ensures { result ≡ spec.has_null (condition_of wanted.now) (path_of path.now) }
+{
+    for (atom, value) in path {
+        if is_this_null(wanted, *atom, *value) {
+            return true;
+        }
+    }
+    false
+}
+
+fn is_null_test<A: Allocator>(atom: &Atom<A>) -> bool
+    ensures { result ≡ spec.is_null_test (condition_of atom.now) }
+{
+    matches!(atom, Atom::IsNull(_))
+}
+
+/// Whether the path has the atom with the value null, which it can't have: it is an `IS NULL`, or its column is declared
+/// NOT NULL.
+pub fn is_never_null<A: Allocator>(
+    columns: &[Column],
+    atom: &Atom<A>,
+    path: &[(&Atom<A>, Tri)],
+) -> bool
+    ensures { result ≡ spec.is_never_null columns.now (condition_of atom.now) (path_of path.now) }
+{
+    has_null(atom, path) && (is_null_test(atom) || is_declared(columns, atom.term().column()))
+}

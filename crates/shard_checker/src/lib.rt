@@ -1,0 +1,26 @@
+//! Tells whether a sharding is sound: whether each row that fits a table passes to exactly one subscriber. Certificates
+//! say why, and the check relies on nothing else that their maker says.
+#![tactic(auto)]
+
+mod checked;
+mod checking;
+mod coverage;
+mod domain;
+mod error;
+mod facts;
+mod nodes;
+mod numbering;
+mod owners;
+mod publishing;
+mod same;
+mod sharding;
+mod subject;
+#[cfg(test)]
+mod tests;
+mod values;
+mod walk;
+
+pub use checked::Checked;
+pub use checking::check_one;
+pub use error::{CheckError, Operation};
+pub use sharding::check;

@@ -1,0 +1,100 @@
+//! What a node that isn't a split says of the rows at the end of its path.
+
+ghost use Rattle.std.specs.Prelude.{◌≡◌, OnOk, IfErr, None, Some};
+ghost use Rattle.filter_tree.specs.Paths.{path_of};
+ghost use Rattle.split_cert.specs.Tree.{Owned, Void, Never};
+ghost use Rattle.shard_checker.specs.Refusal as spec;
+ghost use Rattle.shard_checker.specs.SubjectView.{subject_view};
+
+use crate::domain::kind_at;
+use crate::error::CheckError;
+use crate::facts::{is_never_null, is_null, is_present};
+use crate::owners::{must_take, second_owner};
+use crate::subject::{Subject, atom_at, share_at, term_at};
+use crate::values::has_value;
+use filter_tree::{Atom, Column, Term, Tri};
+use std::alloc::Allocator;
+
+/// Whether no row at the end of the path has a value of the term, nor a null: its column would have to be null and not
+/// null, or no value is left to the term.
+fn is_empty<A: Allocator>(columns: &[Column], term: Term, path: &[(&Atom<A>, Tri)]) -> bool
+    ensures { result ≡ spec.is_empty columns.now term (path_of path.now) }
+{
+    let column = term.column();
+    (is_null(column, path) && is_present(columns, column, path))
+        || !has_value(kind_at(columns, column), term, path)
+}
+
+/// Checks a node that says that no row is there, since the term has no value.
+pub fn check_empty<A: Allocator>(
+    subject: &Subject<'_, A>,
+    path: &[(&Atom<A>, Tri)],
+    node: usize,
+    number: u32,
+) -> Result<(), CheckError>
+    ensures ok { OnOk result (spec.refusal (subject_view subject.now) (Void number) (path_of path.now) node ≡ None) }
+    ensures err { IfErr result (λ error. spec.refusal (subject_view subject.now) (Void number) (path_of path.now) node ≡ Some error) }
+{
+    let table = subject.table;
+    match term_at(subject.terms, number) {
+        None => Err(CheckError::BadIndex { table, node }),
+        Some(term) if is_empty(subject.columns, term, path) => Ok(()),
+        Some(_) => Err(CheckError::NotEmpty { table, node }),
+    }
+}
+
+/// Checks a node that says that no row is there, since the atom is never null.
+pub fn check_never_null<A: Allocator>(
+    subject: &Subject<'_, A>,
+    path: &[(&Atom<A>, Tri)],
+    node: usize,
+    number: u32,
+) -> Result<(), CheckError>
+    ensures ok { OnOk result (spec.refusal (subject_view subject.now) (Never number) (path_of path.now) node ≡ None) }
+    ensures err { IfErr result (λ error. spec.refusal (subject_view subject.now) (Never number) (path_of path.now) node ≡ Some error) }
+{
+    let table = subject.table;
+    match atom_at(subject.atoms, number) {
+        None => Err(CheckError::BadIndex { table, node }),
+        Some(atom) if is_never_null(subject.columns, atom, path) => Ok(()),
+        Some(_) => Err(CheckError::MayBeNull { table, node }),
+    }
+}
+
+/// Checks that no other share than the owner's may take a row.
+fn check_others<A: Allocator>(
+    subject: &Subject<'_, A>,
+    path: &[(&Atom<A>, Tri)],
+    node: usize,
+    owner: usize,
+) -> Result<(), CheckError>
+    ensures ok { OnOk result (spec.others_refusal (subject_view subject.now) (path_of path.now) node owner ≡ None) }
+    ensures err { IfErr result (λ error. spec.others_refusal (subject_view subject.now) (path_of path.now) node owner ≡ Some error) }
+{
+    match second_owner(owner, subject.shares, path) {
+        None => Ok(()),
+        Some(subscriber) => Err(CheckError::SecondOwner {
+            table: subject.table,
+            node,
+            subscriber,
+        }),
+    }
+}
+
+/// Checks a node that says that each row there passes to the subscriber, and to no other.
+pub fn check_owner<A: Allocator>(
+    subject: &Subject<'_, A>,
+    path: &[(&Atom<A>, Tri)],
+    node: usize,
+    number: u32,
+) -> Result<(), CheckError>
+    ensures ok { OnOk result (spec.refusal (subject_view subject.now) (Owned number) (path_of path.now) node ≡ None) }
+    ensures err { IfErr result (λ error. spec.refusal (subject_view subject.now) (Owned number) (path_of path.now) node ≡ Some error) }
+{
+    let table = subject.table;
+    match share_at(subject.shares, number) {
+        None => Err(CheckError::BadIndex { table, node }),
+        Some(share) if must_take(share, path) => check_others(subject, path, node, number as usize),
+        Some(_) => Err(CheckError::NotOwner { table, node }),
+    }
+}

@@ -1,0 +1,135 @@
+//! The atoms and the terms of a table, as certificates number them: share by share, in the order of first appearance.
+
+ghost use Rattle.std.specs.Prelude.{◌≡◌, IfOk, OnOk, fold, flat_map};
+ghost use Rattle.std.specs.List.{list_any};
+ghost use Rattle.filter_tree.specs.Lists.{with_item};
+ghost use Rattle.filter_tree.specs.Same.{same_term, same_condition};
+ghost use Rattle.filter_tree.specs.Shape.{condition_of, conditions_of};
+ghost use Rattle.replica_identity.specs.Shares.{share_of};
+ghost use Rattle.shard_checker.specs.Numbering as spec;
+ghost use Rattle.shard_checker.specs.Owners.{shares_of};
+
+use crate::same::same_term;
+use filter_tree::{Atom, Term, atoms_of, same_atom, terms_of};
+use replica_identity::Share;
+use std::alloc::{AllocError, Allocator, Global};
+
+fn has_atom<A: Allocator>(atoms: &[&Atom<A>], atom: &Atom<A>) -> bool
+    ensures { result ≡ list_any (same_condition (condition_of atom.now)) (conditions_of atoms.now) }
+{
+    for held in atoms {
+        if same_atom(atom, *held) {
+            return true;
+        }
+    }
+    false
+}
+
+fn add_atom<'a, A: Allocator>(
+    atoms: &mut Vec<&'a Atom<A>>,
+    atom: &'a Atom<A>,
+) -> Result<(), AllocError>
+    ensures { OnOk result (conditions_of atoms.new.items ≡ with_item same_condition (conditions_of atoms.old.items) (condition_of atom.now)) }
+{
+    if has_atom(atoms, atom) {
+        return Ok(());
+    }
+    atoms.push(atom)?;
+    Ok(())
+}
+
+fn add_atoms<'a, A: Allocator>(
+    atoms: &mut Vec<&'a Atom<A>>,
+    more: &[&'a Atom<A>],
+) -> Result<(), AllocError>
+    ensures { OnOk result (conditions_of atoms.new.items ≡ fold (with_item same_condition) (conditions_of atoms.old.items) (conditions_of more.now)) }
+{
+    for atom in more {
+        add_atom(atoms, *atom)?;
+    }
+    Ok(())
+}
+
+fn add_share_atoms<'a, A: Allocator>(
+    alloc: Global,
+    atoms: &mut Vec<&'a Atom<A>>,
+    share: &'a Share<A>,
+) -> Result<(), AllocError>
+    ensures { OnOk result (conditions_of atoms.new.items ≡ fold (with_item same_condition) (conditions_of atoms.old.items) (spec.share_conditions (share_of share.now))) }
+{
+    match share {
+        Share::Nothing | Share::Everything => Ok(()),
+        Share::Where(filter) => add_atoms(atoms, &atoms_of(alloc, filter)?),
+    }
+}
+
+/// The atoms of the shares' filters.
+pub fn numbered_atoms<'a, A: Allocator>(
+    alloc: Global,
+    shares: &[&'a Share<A>],
+) -> Result<Vec<&'a Atom<A>>, AllocError>
+    ensures { IfOk result (λ atoms. conditions_of atoms.items ≡ spec.numbered_conditions (shares_of shares.now)) }
+{
+    let mut atoms = Vec::new(alloc);
+    for share in shares {
+        add_share_atoms(alloc, &mut atoms, *share)?;
+    }
+    Ok(atoms)
+}
+
+fn has_term(terms: &[Term], term: Term) -> bool
+    ensures { result ≡ list_any (same_term term) terms.now }
+{
+    for held in terms {
+        if same_term(term, *held) {
+            return true;
+        }
+    }
+    false
+}
+
+fn add_term(terms: &mut Vec<Term>, term: Term) -> Result<(), AllocError>
+    ensures { OnOk result (terms.new.items ≡ with_item same_term terms.old.items term) }
+{
+    if has_term(terms, term) {
+        return Ok(());
+    }
+    terms.push(term)?;
+    Ok(())
+}
+
+fn add_terms(terms: &mut Vec<Term>, more: &[Term]) -> Result<(), AllocError>
+    ensures { OnOk result (terms.new.items ≡ fold (with_item same_term) terms.old.items more.now) }
+{
+    for term in more {
+        add_term(terms, *term)?;
+    }
+    Ok(())
+}
+
+fn add_share_terms<A: Allocator>(
+    alloc: Global,
+    terms: &mut Vec<Term>,
+    share: &Share<A>,
+) -> Result<(), AllocError>
+    ensures { OnOk result (terms.new.items ≡ fold (with_item same_term) terms.old.items (spec.share_terms (share_of share.now))) }
+{
+    match share {
+        Share::Nothing | Share::Everything => Ok(()),
+        Share::Where(filter) => add_terms(terms, &terms_of(alloc, filter)?),
+    }
+}
+
+/// The terms of the shares' filters.
+pub fn numbered_terms<A: Allocator>(
+    alloc: Global,
+    shares: &[&Share<A>],
+) -> Result<Vec<Term>, AllocError>
+    ensures { IfOk result (λ terms. terms.items ≡ spec.numbered_terms (shares_of shares.now)) }
+{
+    let mut terms = Vec::new(alloc);
+    for share in shares {
+        add_share_terms(alloc, &mut terms, *share)?;
+    }
+    Ok(terms)
+}

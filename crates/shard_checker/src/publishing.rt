@@ -1,0 +1,86 @@
+//! What the publications that are taken publish.
+
+ghost use Rattle.std.specs.Prelude.{◌≡◌, ◌==◌, OnOk, IfErr, None, Some, map};
+ghost use Rattle.std.specs.List.{list_any};
+ghost use Rattle.pub_reader.specs.CatalogView.{publication_of};
+ghost use Rattle.shard_checker.specs.CatalogRefusal as spec;
+ghost use Rattle.shard_checker.specs.Sound as sound;
+
+use crate::error::{CheckError, Operation};
+use pub_reader::{Operations, Publication, Subscription};
+
+/// Whether the subscription takes the publication of this number.
+fn is_listed(publication: usize, subscription: &Subscription) -> bool
+    ensures { result ≡ sound.is_listed publication subscription.now }
+{
+    subscription.publications.as_slice().contains(&publication)
+}
+
+/// Whether some subscription takes the publication of this number.
+pub fn is_taken(subscriptions: &[Subscription], publication: usize) -> bool
+    ensures { result ≡ sound.is_taken subscriptions.now publication }
+{
+    for subscription in subscriptions {
+        if is_listed(publication, subscription) {
+            return true;
+        }
+    }
+    false
+}
+
+/// The first of insert, update and delete that isn't published.
+fn missing_operation(publishes: Operations) -> Option<Operation>
+    ensures { result ≡ spec.missing_operation publishes }
+{
+    if !publishes.insert {
+        Some(Operation::Insert)
+    } else if !publishes.update {
+        Some(Operation::Update)
+    } else if !publishes.delete {
+        Some(Operation::Delete)
+    } else {
+        None
+    }
+}
+
+fn check_operations(publication: usize, publishes: Operations) -> Result<(), CheckError>
+    ensures ok { OnOk result (spec.missing_by publication (spec.missing_operation publishes) ≡ None) }
+    ensures err { IfErr result (λ error. spec.missing_by publication (spec.missing_operation publishes) ≡ Some error) }
+{
+    match missing_operation(publishes) {
+        None => Ok(()),
+        Some(operation) => Err(CheckError::PublishMissing {
+            publication,
+            operation,
+        }),
+    }
+}
+
+fn check_publication(
+    subscriptions: &[Subscription],
+    number: usize,
+    publishes: Operations,
+) -> Result<(), CheckError>
+    ensures ok { OnOk result (spec.publication_refusal subscriptions.now number publishes ≡ None) }
+    ensures err { IfErr result (λ error. spec.publication_refusal subscriptions.now number publishes ≡ Some error) }
+{
+    if is_taken(subscriptions, number) {
+        check_operations(number, publishes)
+    } else {
+        Ok(())
+    }
+}
+
+/// Checks that each publication that is taken publishes insert, update and delete.
+pub fn check_publishing(
+    subscriptions: &[Subscription],
+    publications: &[Publication],
+) -> Result<(), CheckError>
+    ensures ok { OnOk result (spec.publishing_refusal subscriptions.now 0 (map publication_of publications.now) ≡ None) }
+    ensures err { IfErr result (λ error. spec.publishing_refusal subscriptions.now 0 (map publication_of publications.now) ≡ Some error) }
+{
+    for (number, publication) in publications.iter().enumerate() {
+        check_publication(subscriptions, number, publication.publishes)?;
+    }
+    Ok(())
+}

@@ -1,0 +1,144 @@
+//! The check of a whole catalog.
+
+ghost use Rattle.std.specs.Prelude.{◌≡◌, ◌≢◌, OnOk, IfOk, IfErr, None, Some, map, length};
+ghost use Rattle.pub_reader.specs.CatalogView.{catalog_of};
+ghost use Rattle.replica_identity.specs.Plans.{plan_of};
+ghost use Rattle.replica_identity.specs.PlanView.{plan_view};
+ghost use Rattle.split_cert.specs.Where.{tree_of};
+ghost use Rattle.shard_checker.specs.CatalogRefusal as spec;
+ghost use Rattle.shard_checker.specs.CheckedView.{checked_of, checked_view};
+ghost use Rattle.shard_checker.specs.Owners.{shares_of};
+ghost use Rattle.shard_checker.specs.Refusal.{first_refusal};
+ghost use Rattle.shard_checker.specs.Sound.{IsSound};
+
+use crate::checked::Checked;
+use crate::checking::check_table;
+use crate::coverage::{check_coverage, check_identities};
+use crate::error::CheckError;
+use crate::publishing::check_publishing;
+use filter_tree::Table;
+use pub_reader::{Catalog, Subscription};
+use replica_identity::{Plan, Share};
+use split_cert::Cert;
+use std::alloc::{AllocError, Allocator, Global};
+
+/// What the subscribers take of the table of this number.
+fn shares_in<'a>(
+    alloc: Global,
+    plan: &'a Plan,
+    table: usize,
+    subscriptions: &[Subscription],
+) -> Result<Vec<&'a Share>, AllocError>
+    ensures { IfOk result (λ shares. shares_of shares.items ≡ spec.table_shares (plan_view plan.now) table 0 subscriptions.now) }
+{
+    let mut shares = Vec::new(alloc);
+    for (number, _) in subscriptions.iter().enumerate() {
+        shares.push(plan.share(number, table))?;
+    }
+    Ok(shares)
+}
+
+/// Checks the certificate of the table of this number.
+fn check_certificate<A: Allocator>(
+    alloc: Global,
+    plan: &Plan,
+    subscriptions: &[Subscription],
+    number: usize,
+    table: &Table,
+    cert: &Cert<A>,
+) -> Result<(), CheckError>
+    ensures ok { OnOk result (first_refusal number table.now (spec.table_shares (plan_view plan.now) number 0 subscriptions.now) (tree_of cert.now) ≡ None) }
+    ensures err { IfErr result (λ error. error ≢ CheckError.OutOfMemory → first_refusal number table.now (spec.table_shares (plan_view plan.now) number 0 subscriptions.now) (tree_of cert.now) ≡ Some error) }
+{
+    let shares = shares_in(alloc, plan, number, subscriptions)?;
+    check_table(alloc, number, table, &shares, cert)
+}
+
+/// Checks the certificates of the tables, of which there are as many.
+fn check_certificates<A: Allocator>(
+    alloc: Global,
+    plan: &Plan,
+    subscriptions: &[Subscription],
+    tables: &[Table],
+    certs: &[Cert<A>],
+) -> Result<(), CheckError>
+    requires { length certs.now ≡ length tables.now }
+    ensures ok { OnOk result (spec.certificates_refusal (plan_view plan.now) subscriptions.now 0 tables.now (map tree_of certs.now) ≡ None) }
+    ensures err { IfErr result (λ error. error ≢ CheckError.OutOfMemory → spec.certificates_refusal (plan_view plan.now) subscriptions.now 0 tables.now (map tree_of certs.now) ≡ Some error) }
+{
+    for (number, table) in tables.iter().enumerate() {
+        check_certificate(alloc, plan, subscriptions, number, table, &certs[number])?;
+    }
+    Ok(())
+}
+
+fn check_count(tables: usize, certificates: usize) -> Result<(), CheckError>
+    ensures ok { OnOk result (spec.count_refusal tables certificates ≡ None) }
+    ensures counted { OnOk result (certificates ≡ tables) }
+    ensures err { IfErr result (λ error. spec.count_refusal tables certificates ≡ Some error) }
+{
+    if certificates == tables {
+        Ok(())
+    } else {
+        Err(CheckError::CertCount)
+    }
+}
+
+/// Checks what the catalog says of publications and replica identities.
+fn check_catalog(alloc: Global, catalog: &Catalog) -> Result<(), CheckError>
+    ensures ok { OnOk result (spec.catalog_refusal (catalog_of catalog.now) ≡ None) }
+    ensures err { IfErr result (λ error. error ≢ CheckError.OutOfMemory → spec.catalog_refusal (catalog_of catalog.now) ≡ Some error) }
+{
+    let tables = catalog.tables.as_slice();
+    let publications = catalog.publications.as_slice();
+    let subscriptions = catalog.subscriptions.as_slice();
+    check_publishing(subscriptions, publications)?;
+    check_identities(tables)?;
+    check_coverage(alloc, tables, subscriptions, publications)?;
+    Ok(())
+}
+
+fn check_sharding<A: Allocator>(
+    alloc: Global,
+    catalog: &Catalog,
+    plan: &Plan,
+    certs: &[Cert<A>],
+) -> Result<(), CheckError>
+    ensures ok { OnOk result (spec.sharding_refusal (catalog_of catalog.now) (plan_view plan.now) (map tree_of certs.now) ≡ None) }
+    ensures err { IfErr result (λ error. error ≢ CheckError.OutOfMemory → spec.sharding_refusal (catalog_of catalog.now) (plan_view plan.now) (map tree_of certs.now) ≡ Some error) }
+{
+    check_catalog(alloc, catalog)?;
+    let tables = catalog.tables.as_slice();
+    check_count(tables.len(), certs.len())?;
+    check_certificates(alloc, plan, catalog.subscriptions.as_slice(), tables, certs)?;
+    Ok(())
+}
+
+/// Checks that the sharding of the catalog is sound: that each row that fits its table passes to exactly one subscriber,
+/// as the certificates of the tables, in their order, say it does; that each publication that a subscription takes
+/// publishes insert, update and delete, and its filters name only columns of the tables' replica identities; and that no
+/// replica identity is NOTHING. The plan is the catalog's own.
+///
+/// The error is the first of these: an operation that a publication which is taken doesn't publish, by publications; a
+/// table whose replica identity is NOTHING; a column that a filter names and the replica identity lacks, by publications
+/// that are taken, their entries, and columns in the order of first appearance; another number of certificates than of
+/// tables; and then that of the first certificate, as `check_one` has it, with the table's number; or `OutOfMemory`. With
+/// an error the catalog and the plan are dropped.
+///
+/// PostgreSQL 15, "Logical Replication", 31.3 Row Filters.
+#[tactic(auto, using(crate::proofs::ShardingLemmas::takes_own))]
+pub fn check<A: Allocator>(
+    alloc: Global,
+    catalog: Catalog,
+    plan: Plan,
+    certs: &[Cert<A>],
+) -> Result<Checked, CheckError>
+    requires { plan_view plan ≡ plan_of (catalog_of catalog) }
+    ensures sound { OnOk result (IsSound (catalog_of catalog)) }
+    ensures kept { IfOk result (λ checked. checked_view checked ≡ checked_of catalog plan) }
+    ensures ok { OnOk result (spec.sharding_refusal (catalog_of catalog) (plan_view plan) (map tree_of certs.now) ≡ None) }
+    ensures err { IfErr result (λ error. error ≢ CheckError.OutOfMemory → spec.sharding_refusal (catalog_of catalog) (plan_view plan) (map tree_of certs.now) ≡ Some error) }
+{
+    check_sharding(alloc, &catalog, &plan, certs)?;
+    Ok(Checked::new(catalog, plan))
+}

@@ -1,0 +1,51 @@
+//! What a certificate speaks of.
+
+ghost use Rattle.std.specs.Prelude.{◌≡◌, slice_get};
+ghost use Rattle.std.specs.Option.{option_map, option_copied};
+ghost use Rattle.filter_tree.specs.Shape.{condition_of, conditions_of};
+ghost use Rattle.replica_identity.specs.Shares.{share_of};
+ghost use Rattle.shard_checker.specs.Owners.{shares_of};
+
+use filter_tree::{Atom, Column, Term};
+use replica_identity::Share;
+use std::alloc::Allocator;
+
+/// A table, by its number and its columns, the share of each subscriber, and the atoms and the terms that certificates
+/// name by their numbers.
+#[derive(Drop)]
+pub struct Subject<'a, A: Allocator> {
+    pub table: usize,
+    pub columns: &'a [Column],
+    pub shares: &'a [&'a Share<A>],
+    pub atoms: &'a [&'a Atom<A>],
+    pub terms: &'a [Term],
+}
+
+/// The atom of this number.
+#[tactic(auto, using(crate::proofs::PlaceLemmas::places))]
+pub fn atom_at<'a, A: Allocator>(atoms: &[&'a Atom<A>], number: u32) -> Option<&'a Atom<A>>
+    ensures { option_map (λ atom. condition_of atom.now) result ≡ slice_get (conditions_of atoms.now) number }
+{
+    match atoms.get(number as usize) {
+        None => None,
+        Some(atom) => Some(*atom),
+    }
+}
+
+/// The share of this number.
+#[tactic(auto, using(crate::proofs::PlaceLemmas::places))]
+pub fn share_at<'a, A: Allocator>(shares: &[&'a Share<A>], number: u32) -> Option<&'a Share<A>>
+    ensures { option_map (λ share. share_of share.now) result ≡ slice_get (shares_of shares.now) number }
+{
+    match shares.get(number as usize) {
+        None => None,
+        Some(share) => Some(*share),
+    }
+}
+
+/// The term of this number.
+pub fn term_at(terms: &[Term], number: u32) -> Option<Term>
+    ensures { result ≡ slice_get terms.now number }
+{
+    terms.get(number as usize).copied()
+}

@@ -1,0 +1,157 @@
+use super::{ID, REGION, by_halves, number, owner, table, text};
+use crate::{CheckError, Operation, check};
+use filter_tree::{Filter, Identity, Items, Op, Text};
+use pub_reader::{Catalog, Entry, Operations, Publication, Subscription};
+use replica_identity::{Share, plan};
+use split_cert::Cert;
+use std::alloc::{AllocError, Global};
+use std::test::Fail;
+
+/// All operations but truncate, up to one.
+fn operations(insert: bool, update: bool, delete: bool) -> Operations {
+    Operations {
+        insert,
+        update,
+        delete,
+        truncate: false,
+    }
+}
+
+fn publication(
+    alloc: Global,
+    name: &str,
+    publishes: Operations,
+    filter: Filter,
+) -> Result<Publication, AllocError> {
+    let entry = Entry {
+        table: 0,
+        filter: Some(filter),
+    };
+    Ok(Publication {
+        name: Text::from_str(alloc, name)?,
+        publishes,
+        entries: vec![in alloc; entry]?,
+    })
+}
+
+fn subscription(alloc: Global, name: &str, publication: usize) -> Result<Subscription, AllocError> {
+    Ok(Subscription {
+        name: Text::from_str(alloc, name)?,
+        publications: Items::from_vec(vec![in alloc; publication]?),
+    })
+}
+
+/// `t` with this replica identity, and three publications of it, of which two subscribers take the first and the second:
+/// `pa` with these operations and this filter, `pb` for `id >= 100`, and `pc`, which nobody takes.
+fn catalog(
+    alloc: Global,
+    identity: Identity,
+    publishes: Operations,
+    filter: Filter,
+) -> Result<Catalog, AllocError> {
+    let whole = operations(true, true, true);
+    let none = operations(false, false, false);
+    let rest = text(alloc, REGION, Op::Eq, "us")?;
+    let first = publication(alloc, "pa", publishes, filter)?;
+    let second = publication(alloc, "pb", whole, number(ID, Op::Ge, 100))?;
+    let third = publication(alloc, "pc", none, rest)?;
+    let zero = subscription(alloc, "s0", 0)?;
+    let one = subscription(alloc, "s1", 1)?;
+    Ok(Catalog {
+        tables: vec![in alloc; table(alloc, identity)?]?,
+        publications: vec![in alloc; first, second, third]?,
+        subscriptions: vec![in alloc; zero, one]?,
+    })
+}
+
+fn low() -> Filter {
+    number(ID, Op::Lt, 100)
+}
+
+fn refusal(
+    alloc: Global,
+    catalog: Catalog,
+    certs: &[Cert],
+) -> Result<Option<CheckError>, AllocError> {
+    let plan = plan(alloc, &catalog)?;
+    Ok(check(alloc, catalog, plan, certs).err())
+}
+
+#[test]
+fn a_sound_sharding_is_accepted(rt: HostRuntime) -> Result<(), Fail> {
+    let alloc = rt.alloc();
+    for identity in [Identity::Default, Identity::Full] {
+        let catalog = catalog(alloc, identity, operations(true, true, true), low())?;
+        let plan = plan(alloc, &catalog)?;
+        let certs = vec![in alloc; by_halves(alloc)?]?;
+        let checked = check(alloc, catalog, plan, &certs)?;
+        assert_eq!(rt; checked.catalog().tables.len(), 1);
+        assert!(rt; matches!(checked.plan().share(1, 0), Share::Where(_)));
+        assert!(rt; matches!(checked.plan().share(2, 0), Share::Nothing));
+    }
+    Ok(())
+}
+
+#[test]
+fn publications_that_are_taken_publish_changes(rt: HostRuntime) -> Result<(), Fail> {
+    let alloc = rt.alloc();
+    let cases = [
+        ((false, false, false), Operation::Insert),
+        ((true, false, false), Operation::Update),
+        ((true, true, false), Operation::Delete),
+    ];
+    for ((insert, update, delete), operation) in cases {
+        let publishes = operations(insert, update, delete);
+        let filter = text(alloc, REGION, Op::Eq, "eu")?;
+        let catalog = catalog(alloc, Identity::Nothing, publishes, filter)?;
+        let missing = CheckError::PublishMissing {
+            publication: 0,
+            operation,
+        };
+        assert_eq!(rt; refusal(alloc, catalog, &[])?, Some(missing));
+    }
+    Ok(())
+}
+
+#[test]
+fn filters_name_identity_columns(rt: HostRuntime) -> Result<(), Fail> {
+    let alloc = rt.alloc();
+    let cases = [
+        (Identity::Nothing, CheckError::NoIdentity { table: 0 }),
+        (
+            Identity::Default,
+            CheckError::NotCovered {
+                publication: 0,
+                table: 0,
+                column: 1,
+            },
+        ),
+        (Identity::Full, CheckError::CertCount),
+    ];
+    for (identity, expected) in cases {
+        let filter = text(alloc, REGION, Op::Eq, "eu")?;
+        let catalog = catalog(alloc, identity, operations(true, true, true), filter)?;
+        assert_eq!(rt; refusal(alloc, catalog, &[])?, Some(expected));
+    }
+    Ok(())
+}
+
+#[test]
+fn certificates_are_counted_and_checked(rt: HostRuntime) -> Result<(), Fail> {
+    let alloc = rt.alloc();
+    let none = vec![in alloc;]?;
+    let not_owner = vec![in alloc; owner(0)]?;
+    let bad_index = vec![in alloc; owner(2)]?;
+    let two = vec![in alloc; by_halves(alloc)?, by_halves(alloc)?]?;
+    let cases = [
+        (none, CheckError::CertCount),
+        (not_owner, CheckError::NotOwner { table: 0, node: 0 }),
+        (bad_index, CheckError::BadIndex { table: 0, node: 0 }),
+        (two, CheckError::CertCount),
+    ];
+    for (certs, expected) in &cases {
+        let catalog = catalog(alloc, Identity::Full, operations(true, true, true), low())?;
+        assert_eq!(rt; refusal(alloc, catalog, certs)?, Some(*expected));
+    }
+    Ok(())
+}

@@ -1,0 +1,215 @@
+//! Whether some value is left to a term by what was found of the atoms on a path.
+
+ghost use Rattle.std.specs.Prelude.{◌≡◌, false, IsFalse, ◌<ℤ◌, ◌+ℤ◌, pos};
+ghost use Rattle.std.specs.Option.{option_map};
+ghost use Rattle.filter_tree.specs.Paths.{path_of};
+ghost use Rattle.filter_tree.specs.Shape.{condition_of};
+ghost use Rattle.filter_tree.specs.Values.{constant_of};
+ghost use Rattle.shard_checker.specs.Domain as domain;
+ghost use Rattle.shard_checker.specs.Facts as spec;
+
+use crate::domain::{Range, range_of};
+use crate::same::same_term;
+use filter_tree::{Atom, ColType, Literal, Op, Term, Tri, compare_literals};
+use std::alloc::{Allocator, Global};
+
+/// Whether the comparison holds of the value; `None` stands for a text that differs from every constant.
+fn holds<A: Allocator, B: Allocator>(
+    op: Op,
+    value: Option<&Literal<B>>,
+    constant: &Literal<A>,
+) -> bool
+    ensures { result ≡ spec.holds_of op (option_map (λ literal. constant_of literal.now) value.entry) (constant_of constant.now) }
+{
+    match value {
+        Some(value) => compare_literals(op, value, constant),
+        None => matches!((op, constant), (Op::Ne, Literal::Text(_))),
+    }
+}
+
+/// Whether the atom with this value leaves the value to the term.
+fn leaves<A: Allocator, B: Allocator>(
+    term: Term,
+    value: Option<&Literal<B>>,
+    atom: &Atom<A>,
+    found: Tri,
+) -> bool
+    ensures { result ≡ spec.leaves term (option_map (λ literal. constant_of literal.now) value.entry) (condition_of atom.now) found }
+{
+    match (atom, found) {
+        (Atom::Cmp(other, op, constant), Tri::True) => !same_term(*other, term)
+            || holds(*op, value, constant),
+        (Atom::Cmp(other, op, constant), Tri::False) => !same_term(*other, term)
+            || !holds(*op, value, constant),
+        (Atom::Cmp(_, _, _), Tri::Null) | (Atom::IsNull(_), _) => true,
+    }
+}
+
+/// Whether the last atom on the path leaves the value to the term.
+#[tactic(auto, using(crate::proofs::PlaceLemmas::last_leaves, crate::proofs::PlaceLemmas::places))]
+fn last_leaves<A: Allocator, B: Allocator>(
+    term: Term,
+    path: &[(&Atom<A>, Tri)],
+    value: Option<&Literal<B>>,
+) -> bool
+    ensures { IsFalse result → spec.may_be term (path_of path.now) (option_map (λ literal. constant_of literal.now) value.entry) ≡ false }
+{
+    match path.last() {
+        None => true,
+        Some((atom, found)) => leaves(term, value, *atom, *found),
+    }
+}
+
+fn all_leave<A: Allocator, B: Allocator>(
+    term: Term,
+    path: &[(&Atom<A>, Tri)],
+    value: Option<&Literal<B>>,
+) -> bool
+    ensures { result ≡ spec.may_be term (path_of path.now) (option_map (λ literal. constant_of literal.now) value.entry) }
+{
+    for (atom, found) in path {
+        if !leaves(term, value, *atom, *found) {
+            return false;
+        }
+    }
+    true
+}
+
+/// Whether all atoms on the path leave the value to the term. The last one goes first: where the path leaves nothing, that
+/// is mostly since the last split was made.
+fn may_be<A: Allocator, B: Allocator>(
+    term: Term,
+    path: &[(&Atom<A>, Tri)],
+    value: Option<&Literal<B>>,
+) -> bool
+    ensures { result ≡ spec.may_be term (path_of path.now) (option_map (λ literal. constant_of literal.now) value.entry) }
+{
+    last_leaves(term, path, value) && all_leave(term, path, value)
+}
+
+fn may_be_number<A: Allocator>(term: Term, path: &[(&Atom<A>, Tri)], number: i64) -> bool
+    ensures { result ≡ spec.may_be term (path_of path.now) (domain.a_number number) }
+{
+    may_be(term, path, Some(&Literal::<Global>::Int(number)))
+}
+
+fn may_be_truth<A: Allocator>(term: Term, path: &[(&Atom<A>, Tri)], truth: bool) -> bool
+    ensures { result ≡ spec.may_be term (path_of path.now) (domain.a_truth truth) }
+{
+    may_be(term, path, Some(&Literal::<Global>::Bool(truth)))
+}
+
+/// Whether the number is in the range, and left to the term.
+fn serves<A: Allocator>(range: Range, term: Term, path: &[(&Atom<A>, Tri)], number: i64) -> bool
+    ensures { result ≡ domain.serves range term (path_of path.now) number }
+{
+    range.least <= number && number <= range.greatest && may_be_number(term, path, number)
+}
+
+/// Whether the next number is in the range, and left to the term.
+fn next_serves<A: Allocator>(
+    range: Range,
+    term: Term,
+    path: &[(&Atom<A>, Tri)],
+    number: i64,
+) -> bool
+    ensures { result ≡ domain.serves range term (path_of path.now) (number +ℤ pos 1) }
+{
+    number < range.greatest && serves(range, term, path, number + 1)
+}
+
+/// Whether the number that the atom compares the term with serves, or the next one.
+fn names_number<A: Allocator>(
+    range: Range,
+    term: Term,
+    path: &[(&Atom<A>, Tri)],
+    atom: &Atom<A>,
+) -> bool
+    ensures { result ≡ domain.names_number range term (path_of path.now) (condition_of atom.now) }
+{
+    match atom {
+        Atom::Cmp(other, _, Literal::Int(number)) => {
+            same_term(*other, term)
+                && (serves(range, term, path, *number) || next_serves(range, term, path, *number))
+        }
+        Atom::Cmp(..) | Atom::IsNull(_) => false,
+    }
+}
+
+fn has_named_number<A: Allocator>(range: Range, term: Term, path: &[(&Atom<A>, Tri)]) -> bool
+    ensures { result ≡ domain.has_named_number range term (path_of path.now) (path_of path.now) }
+{
+    for (atom, _) in path {
+        if names_number(range, term, path, *atom) {
+            return true;
+        }
+    }
+    false
+}
+
+/// Whether a number of the range is left to the term.
+///
+/// Numbers between which no atom's constant stands are left or not together, so the least one of the range and those at
+/// the constants and directly after them speak for all.
+fn has_number<A: Allocator>(range: Range, term: Term, path: &[(&Atom<A>, Tri)]) -> bool
+    ensures { result ≡ domain.has_number range term (path_of path.now) }
+{
+    serves(range, term, path, range.least) || has_named_number(range, term, path)
+}
+
+/// Whether the text that the atom compares the term with is left to it.
+fn names_text<A: Allocator>(term: Term, path: &[(&Atom<A>, Tri)], atom: &Atom<A>) -> bool
+    ensures { result ≡ domain.names_text term (path_of path.now) (condition_of atom.now) }
+{
+    match atom {
+        Atom::Cmp(other, _, constant) => same_term(*other, term)
+            && is_text(constant)
+            && may_be(term, path, Some(constant)),
+        Atom::IsNull(_) => false,
+    }
+}
+
+fn is_text<A: Allocator>(constant: &Literal<A>) -> bool
+    ensures { result ≡ domain.is_text (constant_of constant.now) }
+{
+    matches!(constant, Literal::Text(_))
+}
+
+fn has_named_text<A: Allocator>(term: Term, path: &[(&Atom<A>, Tri)]) -> bool
+    ensures { result ≡ domain.has_named_text term (path_of path.now) (path_of path.now) }
+{
+    for (atom, _) in path {
+        if names_text(term, path, *atom) {
+            return true;
+        }
+    }
+    false
+}
+
+fn may_be_unnamed_text<A: Allocator>(term: Term, path: &[(&Atom<A>, Tri)]) -> bool
+    ensures { result ≡ spec.may_be term (path_of path.now) None }
+{
+    may_be(term, path, None::<&Literal>)
+}
+
+/// Whether a text is left to the term: one that no atom names, or one that an atom names.
+fn has_text<A: Allocator>(term: Term, path: &[(&Atom<A>, Tri)]) -> bool
+    ensures { result ≡ domain.has_text term (path_of path.now) }
+{
+    may_be_unnamed_text(term, path) || has_named_text(term, path)
+}
+
+/// Whether some value of the domain of the term, whose column has this type, is left to it by all atoms on the path.
+pub fn has_value<A: Allocator>(kind: ColType, term: Term, path: &[(&Atom<A>, Tri)]) -> bool
+    ensures { result ≡ domain.has_value kind term (path_of path.now) }
+{
+    match kind {
+        ColType::SmallInt | ColType::Integer | ColType::BigInt => has_number(
+            range_of(kind, term),
+            term,
+            path,
+        ),
+        ColType::Boolean => may_be_truth(term, path, true) || may_be_truth(term, path, false),
+        ColType::Text => has_text(term, path),
+    }
+}

@@ -1,0 +1,5 @@
+pub mod HeadLemmas
+pub mod NumberLemmas
+pub mod RoundTrip
+pub mod TreeLemmas
+pub mod WordLemmas

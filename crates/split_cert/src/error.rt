@@ -1,0 +1,46 @@
+//! Why a text is no certificate.
+
+ghost use Rattle.std.specs.Prelude.{◌≡◌};
+ghost use Rattle.split_cert.specs.declared.error.CertError.TheVariants.{OutOfMemory};
+
+use std::alloc::{AllocError, AllocFailed};
+use thiserror::Error;
+
+/// Why a text is not read as a certificate: the first fault from the left. Places are in bytes from the start of the
+/// text.
+#[derive(Clone, Copy, Debug, PartialEq, Eq, Error)]
+pub enum CertError {
+    /// A word or a space that does not fit begins here.
+    #[error("this is no word of a certificate, at byte {0}")]
+    BadToken(usize),
+    /// The text is over where a word or a space is due.
+    #[error("the certificate is not whole")]
+    Ended,
+    /// The certificate ends here, and something stands behind it.
+    #[error("something stands behind the certificate, at byte {0}")]
+    Trailing(usize),
+    /// There are more than 1,000,000 nodes.
+    #[error("the certificate has more than 1,000,000 nodes")]
+    TooLarge,
+    /// There are more than 64 splits on a path from the root.
+    #[error("the certificate has more than 64 splits on a path")]
+    TooDeep,
+    #[error("out of memory")]
+    OutOfMemory,
+}
+
+impl From<AllocError> for CertError {
+    ghost from_gives = { λ _ e. e ≡ OutOfMemory };
+
+    fn from(_: AllocError) -> CertError {
+        CertError::OutOfMemory
+    }
+}
+
+impl<T: Drop> From<AllocFailed<T>> for CertError {
+    ghost from_gives = { λ _ e. e ≡ OutOfMemory };
+
+    fn from(_: AllocFailed<T>) -> CertError {
+        CertError::OutOfMemory
+    }
+}

@@ -1,0 +1,20 @@
+//! Certificates that a table is sharded well, as trees, and their text.
+//!
+//! A certificate splits the rows of a table by what atoms of the filters say of them, until it can name the one
+//! subscriber whose filter a row passes.
+#![tactic(auto)]
+
+mod cert;
+mod cursor;
+mod error;
+mod head;
+mod number;
+mod reading;
+#[cfg(test)]
+mod tests;
+mod writing;
+
+pub use cert::{Cert, MAX_NODES, MAX_SPLITS};
+pub use error::CertError;
+pub use reading::read_in;
+pub use writing::write;

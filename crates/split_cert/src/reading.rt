@@ -1,0 +1,119 @@
+//! Certificates as they are read.
+
+ghost use Rattle.std.specs.Prelude.{◌≡◌, ◌<◌, ◌-◌, ◌++◌, ◌∷◌, ℕ, List, length, IfOk, Ok, Err};
+ghost use Rattle.split_cert.specs.declared.error.CertError.TheVariants.{Trailing};
+ghost use Rattle.split_cert.specs.declared.head.Kind.TheVariants.{Split};
+ghost use Rattle.split_cert.specs.Reading.{Reads, Gives};
+ghost use Rattle.split_cert.specs.Text as spec;
+ghost use Rattle.split_cert.specs.Tree.{Tree, IsWithinLimits};
+ghost use Rattle.split_cert.specs.Where.{here_of, tree_of};
+
+use crate::cert::{Cert, MAX_SPLITS};
+use crate::cursor::Cursor;
+use crate::error::CertError;
+use crate::head::{Head, Kind};
+use std::alloc::Allocator;
+
+/// Takes a tree, where so many splits may still open on its path.
+#[cycle(tree)]
+#[tactic(auto, using(crate::proofs::TreeLemmas::trees))]
+fn tree<A: Allocator + Clone>(
+    alloc: &A,
+    may_open: usize,
+    cursor: &mut Cursor<'_>,
+) -> Result<Cert<A>, CertError>
+    ensures { Reads tree_of (spec.tree may_open (here_of cursor.old)) result (here_of cursor.new) }
+{
+    let head = cursor.head(may_open)?;
+    node(alloc, may_open, head, cursor)
+}
+
+/// Takes what stands behind the head of a node.
+#[cycle(tree)]
+fn node<A: Allocator + Clone>(
+    alloc: &A,
+    may_open: usize,
+    head: Head,
+    cursor: &mut Cursor<'_>,
+) -> Result<Cert<A>, CertError>
+    requires { head.kind ≡ Split → 0 < may_open }
+    ensures { Reads tree_of (spec.node (spec.branch (may_open - 1)) head (here_of cursor.old)) result (here_of cursor.new) }
+{
+    match head.kind {
+        Kind::Split => split(alloc, may_open - 1, head.number, cursor),
+        Kind::Owner => Ok(Cert::Owner(head.number)),
+        Kind::Empty => Ok(Cert::Empty(head.number)),
+        Kind::NeverNull => Ok(Cert::NeverNull(head.number)),
+    }
+}
+
+/// Takes the branches of a split.
+#[cycle(tree)]
+#[tactic(auto, unfolding(crate::specs::Text::branches))]
+fn split<A: Allocator + Clone>(
+    alloc: &A,
+    may_open: usize,
+    atom: u32,
+    cursor: &mut Cursor<'_>,
+) -> Result<Cert<A>, CertError>
+    ensures { Reads tree_of (spec.branches (spec.branch may_open) atom (here_of cursor.old)) result (here_of cursor.new) }
+{
+    let if_true = branch(alloc, may_open, cursor)?;
+    let if_false = branch(alloc, may_open, cursor)?;
+    let if_null = branch(alloc, may_open, cursor)?;
+    Ok(Cert::Split(atom, if_true, if_false, if_null))
+}
+
+/// Takes a space and a branch.
+#[cycle(tree)]
+#[tactic(auto, unfolding(crate::specs::Text::branch))]
+fn branch<A: Allocator + Clone>(
+    alloc: &A,
+    may_open: usize,
+    cursor: &mut Cursor<'_>,
+) -> Result<Box<Cert<A>, A>, CertError>
+    ensures { Reads (λ branch. tree_of branch.value) (spec.branch may_open (here_of cursor.old)) result (here_of cursor.new) }
+{
+    cursor.space()?;
+    let branch = tree(alloc, may_open, cursor)?;
+    Ok(Box::new(alloc.clone()?, branch)?)
+}
+
+/// The certificate of a whole text.
+#[tactic(auto, unfolding(crate::specs::Text::certificate_of))]
+fn certificate<A: Allocator + Clone>(alloc: &A, text: &str) -> Result<Cert<A>, CertError>
+    ensures { Gives tree_of (spec.certificate_of text.now) result }
+{
+    let mut cursor = Cursor::new(text);
+    let cert = tree(alloc, MAX_SPLITS, &mut cursor)?;
+    if cursor.is_at_end() {
+        Ok(cert)
+    } else {
+        Err(CertError::Trailing(cursor.place()))
+    }
+}
+
+/// The certificate of a text, with its nodes in `alloc`. It takes time in proportion to the text, and stack for at most
+/// 65 nodes, one below the other.
+///
+/// The text has the nodes in preorder: `s` and an atom, and then the branches where that atom is true, false and null;
+/// `o` and a subscriber; `e` and a term; `n` and an atom. One space stands between two words. Numbers are decimal, at
+/// most 4294967295, without leading zeros. There are at most 1,000,000 nodes, and at most 64 splits on a path.
+///
+/// # Errors
+///
+/// The first fault of the text, or `OutOfMemory` where an allocation was refused.
+#[tactic(auto, using(crate::proofs::RoundTrip::round_trips))]
+pub fn read_in<A: Allocator + Clone>(alloc: A, text: &str) -> Result<Cert<A>, CertError>
+    // The answer is the certificate of the text, or its first fault.
+    ensures exact { Gives tree_of (spec.certificate_of text.now) result }
+    // What is read is within the limits, and the text is what `write` gives for it.
+    ensures found { IfOk result (λ cert. IsWithinLimits (tree_of cert) × (text.now ≡ spec.spelling_of (tree_of cert))) }
+    // What `write` gives for a certificate within the limits is read as that certificate.
+    ensures only { (tree : Tree) → IsWithinLimits tree → text.now ≡ spec.spelling_of tree → Gives tree_of (Ok tree) result }
+    // With a space and whatever else behind it, it is refused there.
+    ensures trailing { (tree : Tree) (more : List ℕ) → IsWithinLimits tree → text.now ≡ spec.spelling_of tree ++ 32 ∷ more
+        → Gives tree_of (Err (Trailing (length (spec.spelling_of tree)))) result }
+{
+    certificate(&alloc, text)
+}
