@@ -6,20 +6,20 @@ use Rattle.std.specs.Str.{str_eq_ignore_ascii_case}
 use Rattle.filter_tree.specs.declared.table.ColType.{ColType}
 use Rattle.filter_tree.specs.declared.table.ColType.TheVariants.{SmallInt, Integer, BigInt, Boolean, Text}
 use Rattle.filter_tree.specs.declared.table.Column.{Column}
-use Rattle.pub_reader.specs.declared.word.Keyword.TheVariants as k
-use Rattle.pub_reader.specs.declared.item.Item.{Item}
-use Rattle.pub_reader.specs.declared.item.Item.TheVariants as i
-use Rattle.pub_reader.specs.declared.name.PlacedName.{PlacedName}
-use Rattle.pub_reader.specs.declared.column.FoundColumn.{FoundColumn}
+use Rattle.sql_reader.specs.declared.word.Keyword.TheVariants as k
+use Rattle.sql_reader.specs.declared.item.Item.{Item}
+use Rattle.sql_reader.specs.declared.item.Item.TheVariants as i
+use Rattle.sql_reader.specs.declared.name.PlacedName.{PlacedName}
+use Rattle.sql_reader.specs.declared.column.FoundColumn.{FoundColumn}
+use Rattle.sql_reader.specs.declared.error.Omitted.TheVariants.{Constraint, DataType}
+use Rattle.sql_reader.specs.declared.error.Limit.TheVariants.{Columns}
+use Rattle.sql_reader.specs.Wrong as w
+use Rattle.sql_reader.specs.Expressions.{find_column, known_column}
+use Rattle.sql_reader.specs.Items.{Items, Broken}
+use Rattle.sql_reader.specs.Names.{name, name_ahead}
+use Rattle.sql_reader.specs.Reading.{Fault, Rule, Verdict, fault, place_ahead, ◌>>=◌, ◌>>◌, pure, check, refuse, refuse_as, refusal, advance, expect, item_ahead, written_ahead, rest_of}
+use Rattle.sql_reader.specs.Turns.{link, each, repeat}
 use Rattle.pub_reader.specs.declared.column_rule.Constraints.{Constraints}
-use Rattle.pub_reader.specs.declared.error.Omitted.TheVariants.{Constraint, DataType}
-use Rattle.pub_reader.specs.declared.error.Limit.TheVariants.{Columns}
-use Rattle.pub_reader.specs.Wrong as w
-use Rattle.pub_reader.specs.Expressions.{find_column, known_column}
-use Rattle.pub_reader.specs.Items.{Items, Broken}
-use Rattle.pub_reader.specs.Names.{name, name_ahead}
-use Rattle.pub_reader.specs.Reading.{Fault, Rule, Verdict, fault, place_ahead, ◌>>=◌, ◌>>◌, pure, check, refuse, refuse_as, refusal, advance, expect, item_ahead, written_ahead, rest_of}
-use Rattle.pub_reader.specs.Turns.{link, each, repeat}
 
 -- the elements read so far: the columns, and the numbers of the key's columns once there is a key
 pub record Parts : Type 0 where

@@ -1,20 +1,15 @@
 //! The columns and the primary key of CREATE TABLE.
 
 ghost use Rattle.std.specs.Prelude.{◌≡◌, ◌<◌, OnOk};
-ghost use Rattle.pub_reader.specs.Ahead.{to_read};
+ghost use Rattle.sql_reader.specs.Ahead.{to_read};
+ghost use Rattle.sql_reader.specs.Items.{size};
+ghost use Rattle.sql_reader.specs.Reading.{Reads, Answers};
 ghost use Rattle.pub_reader.specs.Columns as spec;
-ghost use Rattle.pub_reader.specs.Items.{size};
 ghost use Rattle.pub_reader.specs.PartsView.{parts_of};
-ghost use Rattle.pub_reader.specs.Reading.{Reads, Answers};
 
-use crate::column::{FoundColumn, find_column, known_column};
 use crate::column_rule::{Constraints, column_constraints, column_type, left_out};
-use crate::error::{ErrorKind, Limit, ReadError};
-use crate::item::Item;
-use crate::name::{PlacedName, read_name};
-use crate::reader::Reader;
-use crate::word::Keyword;
 use filter_tree::{ColType, Column};
+use sql_reader::{ErrorKind, FoundColumn, Item, Keyword, Limit, PlacedName, ReadError, Reader, find_column, known_column, read_name};
 use std::alloc::{AllocError, Global};
 
 /// How many columns a table may have.
@@ -140,7 +135,7 @@ fn key_column(r: &mut Reader<'_>, alloc: Global, parts: &mut TableParts) -> Resu
 }
 
 /// Takes the names of the key's columns, which commas part.
-#[tactic(auto, using(crate::proofs::Turning::chains), unfolding(crate::specs::Columns::key_columns))]
+#[tactic(auto, using(sql_reader::proofs::Turning::chains), unfolding(crate::specs::Columns::key_columns))]
 fn key_columns(r: &mut Reader<'_>, alloc: Global, parts: &mut TableParts) -> Result<(), ReadError>
     ensures reads { Reads (λ _. parts_of parts.new) (spec.key_columns (parts_of parts.old) (to_read r.old)) result (to_read r.new) }
     ensures fewer { OnOk result (size (to_read r.new) < size (to_read r.old)) }
@@ -196,7 +191,7 @@ fn element(r: &mut Reader<'_>, alloc: Global, parts: &mut TableParts) -> Result<
 }
 
 /// Takes the elements of CREATE TABLE, which commas part.
-#[tactic(auto, using(crate::proofs::Turning::chains), unfolding(crate::specs::Columns::elements))]
+#[tactic(auto, using(sql_reader::proofs::Turning::chains), unfolding(crate::specs::Columns::elements))]
 pub fn elements(r: &mut Reader<'_>, alloc: Global) -> Result<TableParts, ReadError>
     ensures reads { Reads (λ parts. parts_of parts) (spec.elements (to_read r.old)) result (to_read r.new) }
     ensures fewer { OnOk result (size (to_read r.new) < size (to_read r.old)) }

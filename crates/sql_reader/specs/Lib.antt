@@ -1,0 +1,17 @@
+pub mod Ahead
+pub mod Counting
+pub mod Expressions
+pub mod Items
+pub mod Keywords
+pub mod KindNames
+pub mod Limits
+pub mod Magnitude
+pub mod Names
+pub mod Numbers
+pub mod OperandView
+pub mod Operands
+pub mod Reading
+pub mod Rows
+pub mod Turns
+pub mod Written
+pub mod Wrong
