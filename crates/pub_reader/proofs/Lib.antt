@@ -3,5 +3,4 @@ pub mod CarryingDrafts
 pub mod CarryingObjects
 pub mod Listing
 pub mod Positions
-pub mod Required
 pub mod TableLemmas

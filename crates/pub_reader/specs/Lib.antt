@@ -1,13 +1,11 @@
 pub mod CatalogMeaning
 pub mod CatalogView
 pub mod Catalogs
-pub mod Columns
 pub mod DraftView
 pub mod Drafts
 pub mod Identities
 pub mod Objects
 pub mod Operations
-pub mod PartsView
 pub mod Publications
 pub mod Publishing
 pub mod Schemas

@@ -11,8 +11,8 @@ use Rattle.sql_reader.specs.declared.error.Limit.TheVariants.{Tables}
 use Rattle.sql_reader.specs.Wrong as w
 use Rattle.sql_reader.specs.Names.{name}
 use Rattle.sql_reader.specs.Reading.{Rule, Verdict, fault, ◌>>=◌, ◌>>◌, pure, check, look, expect, is_ahead, item_ahead}
+use Rattle.sql_reader.specs.Columns.{left_out}
 use Rattle.pub_reader.specs.declared.table_name.NewName.{NewName}
-use Rattle.pub_reader.specs.Columns.{left_out}
 use Rattle.pub_reader.specs.Drafts.{DraftOf, public_schema, find_table}
 use Rattle.pub_reader.specs.Schemas.{known, known_schema}
 

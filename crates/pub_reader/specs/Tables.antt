@@ -8,8 +8,8 @@ use Rattle.sql_reader.specs.declared.item.Item.TheVariants as i
 use Rattle.sql_reader.specs.declared.name.PlacedName.{PlacedName}
 use Rattle.sql_reader.specs.Wrong as w
 use Rattle.sql_reader.specs.Reading.{Rule, Verdict, fault, ◌>>=◌, ◌>>◌, pure, check, expect, item_ahead}
+use Rattle.sql_reader.specs.Columns.{Parts, elements, has_key, left_out}
 use Rattle.pub_reader.specs.declared.table_name.NewName.{NewName}
-use Rattle.pub_reader.specs.Columns.{Parts, elements, has_key, left_out}
 use Rattle.pub_reader.specs.Drafts.{DraftOf}
 use Rattle.pub_reader.specs.TableNames.{new_name}
 

@@ -3,10 +3,8 @@
 #![tactic(auto)]
 
 mod catalog;
-mod column_rule;
 mod coverage;
 mod draft;
-mod element;
 mod filter_clause;
 mod filters;
 mod identity;

@@ -5,5 +5,6 @@ pub mod Cuts
 pub mod Meanings
 pub mod Nesting
 pub mod OrderLemmas
+pub mod Required
 pub mod Turning
 pub mod Undoubling

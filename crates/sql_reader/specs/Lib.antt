@@ -1,4 +1,5 @@
 pub mod Ahead
+pub mod Columns
 pub mod Counting
 pub mod Expressions
 pub mod Items
@@ -10,6 +11,7 @@ pub mod Names
 pub mod Numbers
 pub mod OperandView
 pub mod Operands
+pub mod PartsView
 pub mod Reading
 pub mod Rows
 pub mod Turns

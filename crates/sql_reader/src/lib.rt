@@ -1,10 +1,12 @@
-//! Reads pieces of SQL as PostgreSQL 15 does ("SQL Syntax", chapter 4): names, the filters of WHERE clauses, and rows
-//! of values. A `Reader` goes through the tokens of a text and looks at one token before it takes it. Each function
+//! Reads pieces of SQL as PostgreSQL 15 does ("SQL Syntax", chapter 4): names, the filters of WHERE clauses, the
+//! columns of CREATE TABLE, and rows of values. A `Reader` goes through the tokens of a text and looks at one token before it takes it. Each function
 //! that takes tokens gives what its rule of the grammar reads, or the first fault with its place.
 #![tactic(auto)]
 
 mod column;
+mod column_rule;
 mod comparison;
+mod element;
 mod error;
 mod expression;
 mod item;
@@ -23,7 +25,8 @@ mod token;
 mod truth_test;
 mod word;
 
-pub use column::{FoundColumn, find_column, known_column};
+pub use column_rule::left_out_clause;
+pub use element::{TableParts, read_elements};
 pub use error::{ErrorKind, Later, Limit, Omitted, ReadError};
 pub use expression::read_filter;
 pub use item::Item;

@@ -23,7 +23,10 @@ const MAX_NODES: usize = 1000;
 /// memory. A filter may be a chain of ANDs and ORs of any length that leans to the left; stack is taken only for its
 /// right parts, and for at most `MAX_NODES` links.
 #[tactic(auto, unfolding(crate::specs::Limits::exceeded))]
-pub fn exceeded_limit<'a>(alloc: Global, filters: &[&'a Filter]) -> Result<Option<Limit>, AllocError>
+pub fn exceeded_limit<'a>(
+    alloc: Global,
+    filters: &[&'a Filter],
+) -> Result<Option<Limit>, AllocError>
     ensures { IfOk result (λ found. found ≡ exceeded_of (exprs_of filters.now)) }
 {
     if has_too_many_atoms(alloc, filters)? {

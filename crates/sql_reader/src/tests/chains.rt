@@ -34,7 +34,11 @@ fn chains_pass_the_limits(rt: HostRuntime) -> Result<(), Fail> {
     ];
     for (atoms, last, want) in cases {
         let filter = chain(rt.alloc(), atoms, 0, last)?;
-        assert_eq!(rt; exceeded_limit(rt.alloc(), &[&filter])?, want, "{atoms} atoms");
+        assert_eq!(rt;
+            exceeded_limit(rt.alloc(), &[&filter])?,
+            want,
+            "{atoms} atoms"
+        );
     }
     Ok(())
 }

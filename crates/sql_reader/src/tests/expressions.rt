@@ -44,7 +44,10 @@ fn reads_filters_or_their_first_fault(rt: HostRuntime) -> Result<(), Fail> {
         match ended_filter(rt.alloc(), text) {
             Ok(_) => assert_eq!(rt; *kind, "ok", "of {text:?}"),
             Err(error) => {
-                assert!(rt; is_error(rt.alloc(), &error, kind, *place)?, "{error:?} of {text:?}");
+                assert!(rt;
+                    is_error(rt.alloc(), &error, kind, *place)?,
+                    "{error:?} of {text:?}"
+                );
             }
         }
     }

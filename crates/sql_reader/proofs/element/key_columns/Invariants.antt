@@ -3,9 +3,9 @@ use Rattle.sql_reader.specs.declared.item.Item.TheVariants.{Comma}
 use Rattle.sql_reader.specs.Ahead.{to_read}
 use Rattle.sql_reader.specs.Items.{size}
 use Rattle.sql_reader.specs.Turns.{link, repeat}
-use Rattle.pub_reader.specs.Columns as spec
-use Rattle.pub_reader.specs.PartsView.{parts_of}
-use Rattle.pub_reader.proofs.element.key_columns.Given as goal
+use Rattle.sql_reader.specs.Columns as spec
+use Rattle.sql_reader.specs.PartsView.{parts_of}
+use Rattle.sql_reader.proofs.element.key_columns.Given as goal
 
 abbrev pub invariant-loop-r : goal.invariant-loop-r
 invariant-loop-r l = record {

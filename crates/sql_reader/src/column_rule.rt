@@ -4,11 +4,15 @@ ghost use Rattle.std.specs.Prelude.{◌≡◌, ◌<◌, ◌≤◌, IsSome, OnOk}
 ghost use Rattle.sql_reader.specs.Ahead.{to_read};
 ghost use Rattle.sql_reader.specs.Items.{size};
 ghost use Rattle.sql_reader.specs.Reading.{Reads, Answers, IsFault, item_ahead, written_ahead};
-ghost use Rattle.pub_reader.specs.Columns as spec;
-ghost use Rattle.pub_reader.specs.Columns.{left_out_at};
+ghost use Rattle.sql_reader.specs.Columns as spec;
+ghost use Rattle.sql_reader.specs.Columns.{left_out_at};
 
+use crate::error::{ErrorKind, Omitted, ReadError};
+use crate::item::Item;
+use crate::name::is_name_ahead;
+use crate::reader::Reader;
+use crate::word::{Keyword, same_word};
 use filter_tree::ColType;
-use sql_reader::{ErrorKind, Item, Keyword, Omitted, ReadError, Reader, is_name_ahead, same_word};
 
 /// The constraints that a column was given.
 #[derive(Clone, Copy)]
@@ -48,7 +52,7 @@ fn type_ahead(r: &Reader<'_>) -> Option<ColType>
 }
 
 /// Takes the name of a type.
-#[tactic(auto, using(sql_reader::proofs::Ahead::rest_is_no_more), unfolding(crate::specs::Columns::column_type))]
+#[tactic(auto, using(crate::proofs::Ahead::rest_is_no_more), unfolding(crate::specs::Columns::column_type))]
 pub fn column_type(r: &mut Reader<'_>) -> Result<ColType, ReadError>
     ensures reads { Reads (λ kind. kind) (spec.column_type (to_read r.old)) result (to_read r.new) }
     ensures fewer { OnOk result (size (to_read r.new) ≤ size (to_read r.old)) }
@@ -83,7 +87,7 @@ fn is_constraint(item: Option<Item>) -> bool
 }
 
 /// Whether a constraint of a column is ahead, where a faulty token is refused.
-#[tactic(auto, unfolding(crate::specs::Columns::constraint_ahead, sql_reader::specs::Reading::look))]
+#[tactic(auto, unfolding(crate::specs::Columns::constraint_ahead, crate::specs::Reading::look))]
 fn constraint_ahead(r: &Reader<'_>) -> Result<bool, ReadError>
     ensures { Answers (λ b. b) (spec.constraint_ahead (to_read r.now)) result }
 {
@@ -91,7 +95,7 @@ fn constraint_ahead(r: &Reader<'_>) -> Result<bool, ReadError>
     Ok(is_constraint(r.item()))
 }
 
-#[tactic(auto, using(sql_reader::proofs::Ahead::rest_is_no_more), unfolding(crate::specs::Columns::not_null))]
+#[tactic(auto, using(crate::proofs::Ahead::rest_is_no_more), unfolding(crate::specs::Columns::not_null))]
 fn not_null(r: &mut Reader<'_>, given: Constraints) -> Result<Constraints, ReadError>
     ensures reads { Reads (λ given. given) (spec.not_null given (to_read r.old)) result (to_read r.new) }
     ensures fewer { OnOk result (size (to_read r.new) < size (to_read r.old)) }
@@ -104,7 +108,7 @@ fn not_null(r: &mut Reader<'_>, given: Constraints) -> Result<Constraints, ReadE
     })
 }
 
-#[tactic(auto, using(sql_reader::proofs::Ahead::rest_is_no_more), unfolding(crate::specs::Columns::primary_key))]
+#[tactic(auto, using(crate::proofs::Ahead::rest_is_no_more), unfolding(crate::specs::Columns::primary_key))]
 fn primary_key(r: &mut Reader<'_>, given: Constraints) -> Result<Constraints, ReadError>
     ensures reads { Reads (λ given. given) (spec.primary_key given (to_read r.old)) result (to_read r.new) }
     ensures fewer { OnOk result (size (to_read r.new) < size (to_read r.old)) }
@@ -142,12 +146,12 @@ fn constraint(
                 primary_key(r, given)
             }
         }
-        _ => Err(left_out(r)),
+        _ => Err(left_out_clause(r)),
     }
 }
 
 /// Takes the constraints of a column.
-#[tactic(auto, using(sql_reader::proofs::Turning::turns), unfolding(crate::specs::Columns::constraints))]
+#[tactic(auto, using(crate::proofs::Turning::turns), unfolding(crate::specs::Columns::constraints))]
 pub fn column_constraints(r: &mut Reader<'_>, has_key: bool) -> Result<Constraints, ReadError>
     ensures reads { Reads (λ given. given) (spec.constraints has_key (to_read r.old)) result (to_read r.new) }
     ensures fewer { OnOk result (size (to_read r.new) ≤ size (to_read r.old)) }
@@ -162,8 +166,8 @@ pub fn column_constraints(r: &mut Reader<'_>, has_key: bool) -> Result<Constrain
     Ok(given)
 }
 
-/// A clause of CREATE TABLE that is left out, at the token ahead.
-pub fn left_out(r: &Reader<'_>) -> ReadError
+/// The error that the token ahead begins a clause of CREATE TABLE that is left out.
+pub fn left_out_clause(r: &Reader<'_>) -> ReadError
     ensures { IsFault result (left_out_at (to_read r.now)) }
 {
     r.refused(ErrorKind::LeftOut(Omitted::Constraint))

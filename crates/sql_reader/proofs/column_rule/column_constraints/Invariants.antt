@@ -2,8 +2,8 @@ use Rattle.std.proofs.Common.{◌≡◌, ◌≤◌}
 use Rattle.sql_reader.specs.Ahead.{to_read}
 use Rattle.sql_reader.specs.Items.{size}
 use Rattle.sql_reader.specs.Turns.{each, repeat}
-use Rattle.pub_reader.specs.Columns as spec
-use Rattle.pub_reader.proofs.column_rule.column_constraints.Given as goal
+use Rattle.sql_reader.specs.Columns as spec
+use Rattle.sql_reader.proofs.column_rule.column_constraints.Given as goal
 
 abbrev pub invariant-loop-r : goal.invariant-loop-r
 invariant-loop-r l = record {

@@ -19,7 +19,7 @@ use Rattle.sql_reader.specs.Items.{Items, Broken}
 use Rattle.sql_reader.specs.Names.{name, name_ahead}
 use Rattle.sql_reader.specs.Reading.{Fault, Rule, Verdict, fault, place_ahead, ◌>>=◌, ◌>>◌, pure, check, refuse, refuse_as, refusal, advance, expect, item_ahead, written_ahead, rest_of}
 use Rattle.sql_reader.specs.Turns.{link, each, repeat}
-use Rattle.pub_reader.specs.declared.column_rule.Constraints.{Constraints}
+use Rattle.sql_reader.specs.declared.column_rule.Constraints.{Constraints}
 
 -- the elements read so far: the columns, and the numbers of the key's columns once there is a key
 pub record Parts : Type 0 where

@@ -1,7 +1,7 @@
 -- Making one column of a list NOT NULL.
 use Rattle.std.proofs.Common.{◌≡◌, ℕ, zero, suc, ◌<◌, ◌≤◌, true, List, [], ◌∷◌, length, slice_index_or, slice_set, refl, ap, arith}
 use Rattle.filter_tree.specs.declared.table.Column.{Column}
-use Rattle.pub_reader.specs.Columns.{required}
+use Rattle.sql_reader.specs.Columns.{required}
 
 pub required-set : (columns : List Column) (number : ℕ) (column : Column) → number < length columns → column ≡ slice_index_or columns number column →
     slice_set columns number (record { name = column.name; kind = column.kind; not_null = true }) ≡ required columns number

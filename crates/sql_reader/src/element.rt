@@ -4,18 +4,24 @@ ghost use Rattle.std.specs.Prelude.{◌≡◌, ◌<◌, OnOk};
 ghost use Rattle.sql_reader.specs.Ahead.{to_read};
 ghost use Rattle.sql_reader.specs.Items.{size};
 ghost use Rattle.sql_reader.specs.Reading.{Reads, Answers};
-ghost use Rattle.pub_reader.specs.Columns as spec;
-ghost use Rattle.pub_reader.specs.PartsView.{parts_of};
+ghost use Rattle.sql_reader.specs.Columns as spec;
+ghost use Rattle.sql_reader.specs.PartsView.{parts_of};
 
-use crate::column_rule::{Constraints, column_constraints, column_type, left_out};
+use crate::column::{FoundColumn, find_column, known_column};
+use crate::column_rule::{Constraints, column_constraints, column_type, left_out_clause};
+use crate::error::{ErrorKind, Limit, ReadError};
+use crate::item::Item;
+use crate::name::{PlacedName, read_name};
+use crate::reader::Reader;
+use crate::word::Keyword;
 use filter_tree::{ColType, Column};
-use sql_reader::{ErrorKind, FoundColumn, Item, Keyword, Limit, PlacedName, ReadError, Reader, find_column, known_column, read_name};
 use std::alloc::{AllocError, Global};
 
 /// How many columns a table may have.
 const MAX_COLUMNS: usize = 100;
 
-/// The elements read so far: the columns, and the numbers of the key's columns once there is a key.
+/// The elements of a table that were read: the columns, and the numbers of the key's columns, from 0, once there is a
+/// key.
 #[derive(Drop)]
 pub struct TableParts {
     pub columns: Vec<Column>,
@@ -135,7 +141,7 @@ fn key_column(r: &mut Reader<'_>, alloc: Global, parts: &mut TableParts) -> Resu
 }
 
 /// Takes the names of the key's columns, which commas part.
-#[tactic(auto, using(sql_reader::proofs::Turning::chains), unfolding(crate::specs::Columns::key_columns))]
+#[tactic(auto, using(crate::proofs::Turning::chains), unfolding(crate::specs::Columns::key_columns))]
 fn key_columns(r: &mut Reader<'_>, alloc: Global, parts: &mut TableParts) -> Result<(), ReadError>
     ensures reads { Reads (λ _. parts_of parts.new) (spec.key_columns (parts_of parts.old) (to_read r.old)) result (to_read r.new) }
     ensures fewer { OnOk result (size (to_read r.new) < size (to_read r.old)) }
@@ -182,17 +188,22 @@ fn element(r: &mut Reader<'_>, alloc: Global, parts: &mut TableParts) -> Result<
 {
     match r.item() {
         Some(Item::Keyword(Keyword::Primary)) => key_element(r, alloc, parts),
-        Some(Item::Keyword(Keyword::Check)) => Err(left_out(r)),
-        Some(Item::Keyword(Keyword::Unique)) => Err(left_out(r)),
-        Some(Item::Keyword(Keyword::Foreign)) => Err(left_out(r)),
-        Some(Item::Keyword(Keyword::Constraint)) => Err(left_out(r)),
+        Some(Item::Keyword(Keyword::Check)) => Err(left_out_clause(r)),
+        Some(Item::Keyword(Keyword::Unique)) => Err(left_out_clause(r)),
+        Some(Item::Keyword(Keyword::Foreign)) => Err(left_out_clause(r)),
+        Some(Item::Keyword(Keyword::Constraint)) => Err(left_out_clause(r)),
         _ => column_element(r, alloc, parts),
     }
 }
 
-/// Takes the elements of CREATE TABLE, which commas part.
-#[tactic(auto, using(sql_reader::proofs::Turning::chains), unfolding(crate::specs::Columns::elements))]
-pub fn elements(r: &mut Reader<'_>, alloc: Global) -> Result<TableParts, ReadError>
+/// Takes the elements of CREATE TABLE, which commas part: columns, with their types and constraints, and the primary
+/// key. There are at most 100 columns, and those of the key are NOT NULL.
+///
+/// # Errors
+///
+/// The first fault of the elements, with its place, or `OutOfMemory`.
+#[tactic(auto, using(crate::proofs::Turning::chains), unfolding(crate::specs::Columns::elements))]
+pub fn read_elements(r: &mut Reader<'_>, alloc: Global) -> Result<TableParts, ReadError>
     ensures reads { Reads (λ parts. parts_of parts) (spec.elements (to_read r.old)) result (to_read r.new) }
     ensures fewer { OnOk result (size (to_read r.new) < size (to_read r.old)) }
 {
