@@ -5,21 +5,22 @@ use Rattle.std.specs.Prelude.{Option, Some, None, Ok, Err}
 use Rattle.std.specs.Option.{option_map}
 use Rattle.filter_tree.specs.declared.table.Table.{Table}
 use Rattle.filter_tree.specs.Expr.{Expr, meaning}
-use Rattle.pub_reader.specs.declared.word.Keyword.TheVariants as k
-use Rattle.pub_reader.specs.declared.item.Item.{Item}
-use Rattle.pub_reader.specs.declared.item.Item.TheVariants as i
+use Rattle.sql_reader.specs.declared.word.Keyword.TheVariants as k
+use Rattle.sql_reader.specs.declared.item.Item.{Item}
+use Rattle.sql_reader.specs.declared.item.Item.TheVariants as i
+use Rattle.sql_reader.specs.Expressions.{Forms}
+use Rattle.sql_reader.specs.Items.{Items, items_of}
+use Rattle.sql_reader.specs.Reading.{Outcome, Verdict, expect, item_ahead, more_ahead, rest_of}
+use Rattle.sql_reader.specs.Turns.{each, repeat}
+use Rattle.sql_reader.specs.Written.{Written, as_written, as_filter, filter_of, written_meaning}
+use Rattle.sql_reader.proofs.Carrying.{mapped, Carries, then-same, then-carried, repeat-carried, each-carried}
+use Rattle.sql_reader.proofs.Meanings.{filters_carry, meaning-filter_of}
+use Rattle.pub_reader.specs.CatalogMeaning.{MeansAsWritten}
 use Rattle.pub_reader.specs.Catalogs.{EntryOf, PublicationOf, CatalogOf, entry_map, publication_map, catalog_map}
 use Rattle.pub_reader.specs.Drafts.{CoverageOf, DraftPublicationOf, DraftOf, no_draft, is_covered, whole_from, resolved_entries, resolved_publication, resolved, coverage_map, draft_publication_map, draft_map}
-use Rattle.pub_reader.specs.Expressions.{Forms}
-use Rattle.pub_reader.specs.Items.{Items, items_of}
-use Rattle.pub_reader.specs.Reading.{Outcome, Verdict, expect, item_ahead, rest_of}
-use Rattle.pub_reader.specs.Statements.{created_by, created, create, statement_by, statement, ended_statement, more_ahead, statements, finished, catalog_by}
-use Rattle.pub_reader.specs.Turns.{each, repeat}
-use Rattle.pub_reader.specs.Written.{Written, as_written, as_filter, filter_of, written_meaning, MeansAsWritten}
-use Rattle.pub_reader.proofs.Carrying.{mapped, Carries, then-same, then-carried, repeat-carried, each-carried}
+use Rattle.pub_reader.specs.Statements.{created_by, created, create, statement_by, statement, ended_statement, statements, finished, catalog_by}
 use Rattle.pub_reader.proofs.CarryingDrafts.{verdict_map, create_schema-carried, create_table-carried, alter_table-carried, create_subscription-carried}
 use Rattle.pub_reader.proofs.CarryingObjects.{create_publication-carried}
-use Rattle.pub_reader.proofs.Meanings.{filters_carry, meaning-filter_of}
 
 -- ---- the end of the catalog
 

@@ -6,24 +6,24 @@ use Rattle.std.specs.List.{list_any}
 use Rattle.std.specs.Option.{is_some, option_map, option_to_list}
 use Rattle.std.specs.Str.{bytes_eq}
 use Rattle.filter_tree.specs.Expr.{Expr}
-use Rattle.pub_reader.specs.declared.word.Keyword.TheVariants as k
-use Rattle.pub_reader.specs.declared.item.Item.{Item}
-use Rattle.pub_reader.specs.declared.item.Item.TheVariants as i
-use Rattle.pub_reader.specs.declared.name.PlacedName.{PlacedName}
+use Rattle.sql_reader.specs.declared.word.Keyword.TheVariants as k
+use Rattle.sql_reader.specs.declared.item.Item.{Item}
+use Rattle.sql_reader.specs.declared.item.Item.TheVariants as i
+use Rattle.sql_reader.specs.declared.name.PlacedName.{PlacedName}
+use Rattle.sql_reader.specs.Items.{Items}
+use Rattle.sql_reader.specs.Names.{name}
+use Rattle.sql_reader.specs.Reading.{Verdict, with_rest, expect, item_ahead}
+use Rattle.sql_reader.specs.Turns.{link}
+use Rattle.sql_reader.proofs.Carrying.{mapped, then-same, then-carried, repeat-carried, link-carried}
 use Rattle.pub_reader.specs.Catalogs.{EntryOf, entry_map}
 use Rattle.pub_reader.specs.Drafts.{CoverageOf, DraftPublicationOf, DraftOf, find_schema, find_publication, filter_on, filters_in, filters_on, coverage_map, draft_publication_map, draft_map}
 use Rattle.pub_reader.specs.Identities.{replica_identity, alter_table}
-use Rattle.pub_reader.specs.Items.{Items}
-use Rattle.pub_reader.specs.Names.{name}
 use Rattle.pub_reader.specs.Objects.{ObjectsOf, is_of, is_filtered, schema_by, schema_mentioned, table_mentioned, named_schema, current_schema, schema_object_by, schema_object, in_schema, taken_schema}
 use Rattle.pub_reader.specs.Publications.{new_publication, publication_name}
-use Rattle.pub_reader.specs.Reading.{Verdict, with_rest, expect, item_ahead}
 use Rattle.pub_reader.specs.Schemas.{create_schema, new_schema}
 use Rattle.pub_reader.specs.Subscriptions.{new_subscription, subscription_name, once, subscribed, one_publication, publication_list, subscription_body, subscription_tail, create_subscription}
 use Rattle.pub_reader.specs.TableNames.{only_or_none, table_in_schema, table_named, table_number, new_name}
 use Rattle.pub_reader.specs.Tables.{table_body, create_table}
-use Rattle.pub_reader.specs.Turns.{link}
-use Rattle.pub_reader.proofs.Carrying.{mapped, then-same, then-carried, repeat-carried, link-carried}
 use Rattle.pub_reader.proofs.Positions.{position-map}
 
 by_test : {P : Type 0} (b : Bool) → (b ≡ true → P) → (b ≡ false → P) → P
@@ -64,7 +64,7 @@ create_schema-carried h draft ts =
 pub create_table-carried : {S T : Type 0} (h : S → T) (draft : DraftOf S) (ts : Items) → create_table (draft_map h draft) ts ≡ mapped (draft_map h) (create_table draft ts)
 unfolding create_table new_name
 create_table-carried h draft ts =
-    then-same (draft_map h) (new_name draft ts) _ _ (λ called ts2. then-same (draft_map h) (table_body called ts2) _ _ (λ table ts3. refl))
+    then-same (draft_map h) (new_name draft ts) _ _ (λ called ts2. then-same (draft_map h) (table_body called.name ts2) _ _ (λ parts ts3. refl))
 
 pub alter_table-carried : {S T : Type 0} (h : S → T) (draft : DraftOf S) (ts : Items) → alter_table (draft_map h draft) ts ≡ mapped (draft_map h) (alter_table draft ts)
 unfolding alter_table table_number table_named table_in_schema

@@ -3,24 +3,24 @@ use Rattle.std.proofs.Common.{◌≡◌, ℕ, List, [], ◌∷◌, ◌++◌, ref
 use Rattle.std.proofs.lemmas.List.{map-append}
 use Rattle.std.specs.Prelude.{Option, Some, Ok}
 use Rattle.std.specs.Option.{option_map}
+use Rattle.sql_reader.specs.declared.word.Keyword.TheVariants as k
+use Rattle.sql_reader.specs.declared.item.Item.{Item}
+use Rattle.sql_reader.specs.declared.item.Item.TheVariants as i
+use Rattle.sql_reader.specs.declared.name.PlacedName.{PlacedName}
+use Rattle.sql_reader.specs.Expressions.{Forms, expression}
+use Rattle.sql_reader.specs.Items.{Items}
+use Rattle.sql_reader.specs.Names.{name}
+use Rattle.sql_reader.specs.Reading.{with_rest, look, expect, item_ahead, rest_of}
+use Rattle.sql_reader.specs.Turns.{link}
+use Rattle.sql_reader.proofs.Carrying.{mapped, Carries, then-same, then-carried, repeat-carried, link-carried, expression-carried}
 use Rattle.pub_reader.specs.declared.coverage.ObjectKind.{ObjectKind}
 use Rattle.pub_reader.specs.declared.coverage.ObjectKind.TheVariants as o
-use Rattle.pub_reader.specs.declared.word.Keyword.TheVariants as k
-use Rattle.pub_reader.specs.declared.item.Item.{Item}
-use Rattle.pub_reader.specs.declared.item.Item.TheVariants as i
-use Rattle.pub_reader.specs.declared.name.PlacedName.{PlacedName}
 use Rattle.pub_reader.specs.Catalogs.{columns_at}
 use Rattle.pub_reader.specs.Drafts.{CoverageOf, DraftPublicationOf, DraftOf, nothing_covered, filters_in, filters_on, coverage_map, draft_publication_map, draft_map}
-use Rattle.pub_reader.specs.Expressions.{Forms, expression}
-use Rattle.pub_reader.specs.Items.{Items}
-use Rattle.pub_reader.specs.Names.{name}
-use Rattle.pub_reader.specs.Objects.{ObjectsOf, limited, table_mentioned, star_or_none, ended, where_clause, filter_by, filter_clause, taken_table, table_object, tables_by, behind_tables, tables_object, object_by, object, first_by, first_object, objects}
+use Rattle.pub_reader.specs.Objects.{ObjectsOf, limited, table_mentioned, star_or_none, ended, where_clause, filter_by, filter_clause, taken_table, table_object, taken_by, tables_by, behind_tables, tables_object, object_of, object_by, object, first_by, first_object, objects}
 use Rattle.pub_reader.specs.Publications.{publication_name, all_tables, published, scope_by, scope, for_by, for_clause, listed_objects, create_publication}
 use Rattle.pub_reader.specs.Publishing.{parameters_clause}
-use Rattle.pub_reader.specs.Reading.{with_rest, look, expect, item_ahead, rest_of}
 use Rattle.pub_reader.specs.TableNames.{only_or_none, table_named}
-use Rattle.pub_reader.specs.Turns.{link}
-use Rattle.pub_reader.proofs.Carrying.{mapped, Carries, then-same, then-carried, repeat-carried, link-carried, expression-carried}
 use Rattle.pub_reader.proofs.CarryingDrafts.{publication_name-same, table_named-same, filters_in-carried, filters_on-carried, checked-mapped, table_mentioned-carried, objects_map, taken_schema-carried, schema_object-carried, in_schema-carried}
 
 module _ {S T : Type 0} (from : Forms S) (to : Forms T) (h : S → T) (carries : Carries from to h) where
@@ -78,23 +78,31 @@ module _ {S T : Type 0} (from : Forms S) (to : Forms T) (h : S → T) (carries :
 
   -- ---- objects
 
+  taken_by-carried : (kind : ObjectKind) (draft : DraftOf S) (coverage : CoverageOf S) (called : PlacedName) (ts : Items) →
+      taken_by to kind (draft_map h draft) (coverage_map h coverage) called ts ≡ mapped (objects_map h) (taken_by from kind draft coverage called ts)
+  taken_by-carried o.Table draft coverage called ts = taken_table-carried draft coverage called ts
+  taken_by-carried o.Schema draft coverage called ts = taken_schema-carried h draft coverage called ts
+
   tables_by-carried : (item : Option Item) (kind : ObjectKind) (draft : DraftOf S) (coverage : CoverageOf S) (called : PlacedName) (ts : Items) →
       tables_by to item kind (draft_map h draft) (coverage_map h coverage) called ts ≡ mapped (objects_map h) (tables_by from item kind draft coverage called ts)
   tables_by-carried (Some (i.Keyword k.In)) kind draft coverage called ts = in_schema-carried h draft coverage ts
-  tables_by-carried _ o.Table draft coverage called ts = taken_table-carried draft coverage called ts
-  tables_by-carried _ o.Schema draft coverage called ts = taken_schema-carried h draft coverage called ts
+  tables_by-carried _ kind draft coverage called ts = taken_by-carried kind draft coverage called ts
 
   tables_object-carried : (draft : DraftOf S) (read : ObjectsOf S) (ts : Items) → tables_object to (draft_map h draft) (objects_map h read) ts ≡ mapped (objects_map h) (tables_object from draft read ts)
   unfolding tables_object behind_tables
   tables_object-carried draft read ts =
       then-same (objects_map h) (name ts) _ _ (λ called ts2. then-same (objects_map h) (look ts2) _ _ (λ u ts3. tables_by-carried (item_ahead ts3) read.kind draft read.coverage called ts3))
 
+  object_of-carried : (kind : ObjectKind) (draft : DraftOf S) (coverage : CoverageOf S) (ts : Items) →
+      object_of to kind (draft_map h draft) (coverage_map h coverage) ts ≡ mapped (objects_map h) (object_of from kind draft coverage ts)
+  object_of-carried o.Table draft coverage ts = table_object-carried draft coverage ts
+  object_of-carried o.Schema draft coverage ts = schema_object-carried h draft coverage ts
+
   object_by-carried : (item : Option Item) (kind : ObjectKind) (draft : DraftOf S) (read : ObjectsOf S) (ts : Items) →
       object_by to item kind (draft_map h draft) (objects_map h read) ts ≡ mapped (objects_map h) (object_by from item kind draft read ts)
   object_by-carried (Some (i.Keyword k.Table)) kind draft read ts = table_object-carried draft read.coverage (rest_of ts)
   object_by-carried (Some (i.Keyword k.Tables)) kind draft read ts = tables_object-carried draft read ts
-  object_by-carried _ o.Table draft read ts = table_object-carried draft read.coverage ts
-  object_by-carried _ o.Schema draft read ts = schema_object-carried h draft read.coverage ts
+  object_by-carried _ kind draft read ts = object_of-carried kind draft read.coverage ts
 
   object-carried : (draft : DraftOf S) (read : ObjectsOf S) (ts : Items) → object to (draft_map h draft) (objects_map h read) ts ≡ mapped (objects_map h) (object from draft read ts)
   unfolding object

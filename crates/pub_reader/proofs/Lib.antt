@@ -1,16 +1,6 @@
-pub mod Ahead
-pub mod Carrying
 pub mod CarryingCatalogs
 pub mod CarryingDrafts
 pub mod CarryingObjects
-pub mod CountingLemmas
-pub mod Cuts
 pub mod Listing
-pub mod Meanings
-pub mod Nesting
-pub mod OrderLemmas
 pub mod Positions
-pub mod Required
 pub mod TableLemmas
-pub mod Turning
-pub mod Undoubling

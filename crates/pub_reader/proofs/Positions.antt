@@ -4,8 +4,8 @@ use Rattle.std.proofs.lemmas.List.{length-map, map-append}
 use Rattle.std.specs.Prelude.{Some, None, nat_lt, position}
 use Rattle.std.specs.List.{list_any, position_or_len, prefix_len}
 use Rattle.std.specs.Str.{bytes_eq}
-use Rattle.pub_reader.specs.Drafts.{with_name}
 use Rattle.std.proofs.lemmas.Bool.Decides.{nat_tests}
+use Rattle.pub_reader.specs.Drafts.{with_name}
 
 prefix_len-map : {A B : Type 0} (p : B → Bool) (f : A → B) (xs : List A) → prefix_len p (map f xs) ≡ prefix_len (λ x. p (f x)) xs
 prefix_len-map p f [] = refl

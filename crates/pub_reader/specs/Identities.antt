@@ -2,15 +2,15 @@
 use Rattle.std.specs.Prelude.{ℕ, Option, Some}
 use Rattle.filter_tree.specs.declared.table.Identity.{Identity}
 use Rattle.filter_tree.specs.declared.table.Identity.TheVariants.{Default, Full, Nothing}
-use Rattle.pub_reader.specs.declared.word.Keyword.TheVariants as k
-use Rattle.pub_reader.specs.declared.item.Item.{Item}
-use Rattle.pub_reader.specs.declared.item.Item.TheVariants as i
-use Rattle.pub_reader.specs.declared.error.Omitted.TheVariants.{Clause}
-use Rattle.pub_reader.specs.declared.error.Later.TheVariants.{UsingIndex}
-use Rattle.pub_reader.specs.Wrong as w
+use Rattle.sql_reader.specs.declared.word.Keyword.TheVariants as k
+use Rattle.sql_reader.specs.declared.item.Item.{Item}
+use Rattle.sql_reader.specs.declared.item.Item.TheVariants as i
+use Rattle.sql_reader.specs.declared.error.Omitted.TheVariants.{Clause}
+use Rattle.sql_reader.specs.declared.error.Later.TheVariants.{UsingIndex}
+use Rattle.sql_reader.specs.Wrong as w
+use Rattle.sql_reader.specs.Reading.{Rule, ◌>>=◌, ◌>>◌, pure, refuse, refuse_as, advance, expect, item_ahead}
 use Rattle.pub_reader.specs.Catalogs.{identified}
 use Rattle.pub_reader.specs.Drafts.{DraftOf}
-use Rattle.pub_reader.specs.Reading.{Rule, ◌>>=◌, ◌>>◌, pure, refuse, refuse_as, advance, expect, item_ahead}
 use Rattle.pub_reader.specs.TableNames.{only_or_none, table_number}
 
 -- another action is left out

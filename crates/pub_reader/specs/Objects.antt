@@ -4,22 +4,22 @@ use Rattle.std.specs.List.{list_any}
 use Rattle.std.specs.Option.{is_some}
 use Rattle.filter_tree.specs.Expr.{Expr}
 use Rattle.sql_tokens.specs.declared.kinds.Operator.TheVariants.{Star}
-use Rattle.pub_reader.specs.declared.word.Keyword.TheVariants as k
-use Rattle.pub_reader.specs.declared.item.Item.{Item}
-use Rattle.pub_reader.specs.declared.item.Item.TheVariants as i
-use Rattle.pub_reader.specs.declared.name.PlacedName.{PlacedName}
+use Rattle.sql_reader.specs.declared.word.Keyword.TheVariants as k
+use Rattle.sql_reader.specs.declared.item.Item.{Item}
+use Rattle.sql_reader.specs.declared.item.Item.TheVariants as i
+use Rattle.sql_reader.specs.declared.name.PlacedName.{PlacedName}
+use Rattle.sql_reader.specs.declared.error.Limit.{Limit}
+use Rattle.sql_reader.specs.Wrong as w
+use Rattle.sql_reader.specs.Expressions.{Forms, expression}
+use Rattle.sql_reader.specs.Limits.{exceeded}
+use Rattle.sql_reader.specs.Names.{name}
+use Rattle.sql_reader.specs.Reading.{Rule, Verdict, fault, ◌>>=◌, ◌>>◌, pure, check, refuse, refuse_as, advance, look, expect, is_ahead, item_ahead}
+use Rattle.sql_reader.specs.Turns.{link, repeat}
 use Rattle.pub_reader.specs.declared.coverage.ObjectKind.{ObjectKind}
 use Rattle.pub_reader.specs.declared.coverage.ObjectKind.TheVariants as o
-use Rattle.pub_reader.specs.declared.error.Limit.{Limit}
-use Rattle.pub_reader.specs.Wrong as w
 use Rattle.pub_reader.specs.Catalogs.{EntryOf, columns_at}
 use Rattle.pub_reader.specs.Drafts.{CoverageOf, DraftOf, nothing_covered, public_schema, find_schema, with_name, filters_in, filters_on}
-use Rattle.pub_reader.specs.Expressions.{Forms, expression}
-use Rattle.pub_reader.specs.Limits.{exceeded}
-use Rattle.pub_reader.specs.Names.{name}
-use Rattle.pub_reader.specs.Reading.{Rule, Verdict, fault, ◌>>=◌, ◌>>◌, pure, check, refuse, refuse_as, advance, look, expect, is_ahead, item_ahead}
 use Rattle.pub_reader.specs.TableNames.{only_or_none, table_named}
-use Rattle.pub_reader.specs.Turns.{link, repeat}
 
 -- ---- what one more object adds
 
@@ -143,11 +143,15 @@ module _ {S : Type 0} (forms : Forms S) where
 
   -- ---- objects
 
+  -- an object of this kind whose name was taken
+  abbrev pub taken_by : ObjectKind → DraftOf S → CoverageOf S → PlacedName → Rule (ObjectsOf S)
+  taken_by o.Table draft coverage called = taken_table draft coverage called
+  taken_by o.Schema draft coverage called = taken_schema draft coverage called
+
   -- TABLES begins an object of its own before IN, and is a name otherwise
   abbrev pub tables_by : Option Item → ObjectKind → DraftOf S → CoverageOf S → PlacedName → Rule (ObjectsOf S)
   tables_by (Some (i.Keyword k.In)) kind draft coverage called = in_schema draft coverage
-  tables_by _ o.Table draft coverage called = taken_table draft coverage called
-  tables_by _ o.Schema draft coverage called = taken_schema draft coverage called
+  tables_by _ kind draft coverage called = taken_by kind draft coverage called
 
   unfoldable pub behind_tables : DraftOf S → ObjectsOf S → PlacedName → Rule (ObjectsOf S)
   behind_tables draft objects called = look >> (λ ts. tables_by (item_ahead ts) objects.kind draft objects.coverage called ts)
@@ -155,12 +159,16 @@ module _ {S : Type 0} (forms : Forms S) where
   unfoldable pub tables_object : DraftOf S → ObjectsOf S → Rule (ObjectsOf S)
   tables_object draft objects = name >>= behind_tables draft objects
 
+  -- an object of this kind
+  abbrev pub object_of : ObjectKind → DraftOf S → CoverageOf S → Rule (ObjectsOf S)
+  object_of o.Table draft coverage = table_object draft coverage
+  object_of o.Schema draft coverage = schema_object draft coverage
+
   -- one more object, which is of the kind of the one before unless it names its own
   abbrev pub object_by : Option Item → ObjectKind → DraftOf S → ObjectsOf S → Rule (ObjectsOf S)
   object_by (Some (i.Keyword k.Table)) kind draft objects = advance >> table_object draft objects.coverage
   object_by (Some (i.Keyword k.Tables)) kind draft objects = tables_object draft objects
-  object_by _ o.Table draft objects = table_object draft objects.coverage
-  object_by _ o.Schema draft objects = schema_object draft objects.coverage
+  object_by _ kind draft objects = object_of kind draft objects.coverage
 
   unfoldable pub object : DraftOf S → ObjectsOf S → Rule (ObjectsOf S)
   object draft objects ts = object_by (item_ahead ts) objects.kind draft objects ts

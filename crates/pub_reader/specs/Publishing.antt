@@ -3,18 +3,18 @@ use Rattle.std.specs.Prelude.{ℕ, Bool, true, false, ◌||◌, ◌==◌, if◌t
 use Rattle.std.specs.Option.{is_some}
 use Rattle.std.specs.Str.{str_eq_ignore_ascii_case}
 use Rattle.sql_tokens.specs.declared.kinds.Operator.TheVariants.{Equal}
+use Rattle.sql_reader.specs.declared.word.Keyword.TheVariants as k
+use Rattle.sql_reader.specs.declared.item.Item.{Item}
+use Rattle.sql_reader.specs.declared.item.Item.TheVariants as i
+use Rattle.sql_reader.specs.Wrong as w
+use Rattle.sql_reader.specs.Names.{name_ahead}
+use Rattle.sql_reader.specs.Reading.{Rule, ◌>>=◌, ◌>>◌, pure, refuse, refuse_as, advance, look, expect, is_ahead, item_ahead, written_ahead, rest_of}
+use Rattle.sql_reader.specs.Turns.{link, repeat}
 use Rattle.pub_reader.specs.declared.catalog.Operations.{Operations}
-use Rattle.pub_reader.specs.declared.word.Keyword.TheVariants as k
-use Rattle.pub_reader.specs.declared.item.Item.{Item}
-use Rattle.pub_reader.specs.declared.item.Item.TheVariants as i
 use Rattle.pub_reader.specs.declared.parameter.Parameter.{Parameter}
 use Rattle.pub_reader.specs.declared.parameter.Parameter.TheVariants as p
 use Rattle.pub_reader.specs.declared.parameter.Given.{Given}
-use Rattle.pub_reader.specs.Wrong as w
-use Rattle.pub_reader.specs.Names.{name_ahead}
 use Rattle.pub_reader.specs.Operations.{operations}
-use Rattle.pub_reader.specs.Reading.{Rule, ◌>>=◌, ◌>>◌, pure, refuse, refuse_as, advance, look, expect, is_ahead, item_ahead, written_ahead, rest_of}
-use Rattle.pub_reader.specs.Turns.{link, repeat}
 
 -- ---- publish
 

@@ -1,11 +1,11 @@
 -- Schemas: PostgreSQL 15, SQL Commands, CREATE SCHEMA, and "Data Definition", 5.9 Schemas.
 use Rattle.std.specs.Prelude.{ℕ, if◌then◌else◌, List, Option, Some, None, Ok, Err}
 use Rattle.std.specs.Option.{is_some}
-use Rattle.pub_reader.specs.declared.name.PlacedName.{PlacedName}
-use Rattle.pub_reader.specs.Wrong as w
+use Rattle.sql_reader.specs.declared.name.PlacedName.{PlacedName}
+use Rattle.sql_reader.specs.Wrong as w
+use Rattle.sql_reader.specs.Names.{name}
+use Rattle.sql_reader.specs.Reading.{Rule, Verdict, fault, ◌>>=◌, ◌>>◌, pure, check}
 use Rattle.pub_reader.specs.Drafts.{DraftOf, find_schema, with_name}
-use Rattle.pub_reader.specs.Names.{name}
-use Rattle.pub_reader.specs.Reading.{Rule, Verdict, fault, ◌>>=◌, ◌>>◌, pure, check}
 
 -- the position of what has a name, which has to be there
 abbrev pub known : PlacedName → Option ℕ → Verdict ℕ

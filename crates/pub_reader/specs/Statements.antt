@@ -1,21 +1,21 @@
 -- The statements of a catalog: PostgreSQL 15, "SQL Commands".
-use Rattle.std.specs.Prelude.{ℕ, Bool, true, false, List, Option, Some, Ok, Err}
-use Rattle.pub_reader.specs.declared.word.Keyword.TheVariants as k
-use Rattle.pub_reader.specs.declared.item.Item.{Item}
-use Rattle.pub_reader.specs.declared.item.Item.TheVariants as i
-use Rattle.pub_reader.specs.declared.error.Later.TheVariants.{UniqueIndex}
-use Rattle.pub_reader.specs.Wrong as w
+use Rattle.std.specs.Prelude.{ℕ, List, Option, Some, Ok, Err}
+use Rattle.sql_reader.specs.declared.word.Keyword.TheVariants as k
+use Rattle.sql_reader.specs.declared.item.Item.{Item}
+use Rattle.sql_reader.specs.declared.item.Item.TheVariants as i
+use Rattle.sql_reader.specs.declared.error.Later.TheVariants.{UniqueIndex}
+use Rattle.sql_reader.specs.Wrong as w
+use Rattle.sql_reader.specs.Expressions.{Forms}
+use Rattle.sql_reader.specs.Items.{items_of}
+use Rattle.sql_reader.specs.Reading.{Outcome, Rule, Verdict, ◌>>=◌, ◌>>◌, pure, refuse, refuse_as, advance, expect, item_ahead, more_ahead}
+use Rattle.sql_reader.specs.Turns.{each, repeat}
 use Rattle.pub_reader.specs.Catalogs.{CatalogOf}
 use Rattle.pub_reader.specs.Drafts.{DraftOf, no_draft, resolved}
-use Rattle.pub_reader.specs.Expressions.{Forms}
 use Rattle.pub_reader.specs.Identities.{alter_table}
-use Rattle.pub_reader.specs.Items.{Items, Stop, Broken, Then, items_of}
 use Rattle.pub_reader.specs.Publications.{create_publication}
-use Rattle.pub_reader.specs.Reading.{Outcome, Rule, Verdict, ◌>>=◌, ◌>>◌, pure, refuse, refuse_as, refusal, advance, expect, item_ahead}
 use Rattle.pub_reader.specs.Schemas.{create_schema}
 use Rattle.pub_reader.specs.Subscriptions.{create_subscription}
 use Rattle.pub_reader.specs.Tables.{create_table}
-use Rattle.pub_reader.specs.Turns.{each, repeat}
 
 module _ {S : Type 0} (forms : Forms S) where
   abbrev pub created_by : Option Item → DraftOf S → Rule (DraftOf S)
@@ -48,18 +48,9 @@ module _ {S : Type 0} (forms : Forms S) where
     expect i.Semicolon
     pure made
 
--- whether the text goes on
-abbrev pub more_looked : Items → Verdict Bool
-more_looked (Stop place) = Ok false
-more_looked (Broken place kind) = Err (refusal (Broken place kind))
-more_looked (Then token rest) = Ok true
-
-unfoldable pub more_ahead : Items → Verdict Bool
-more_ahead ts = more_looked ts
-
--- the statements of a text
-unfoldable pub statements : {S : Type 0} → Forms S → Rule (DraftOf S)
-statements forms = repeat (each more_ahead (ended_statement forms)) no_draft
+-- statements to the end of a text
+unfoldable pub statements : {S : Type 0} → Forms S → DraftOf S → Rule (DraftOf S)
+statements forms = repeat (each more_ahead (ended_statement forms))
 
 abbrev pub finished : {S : Type 0} → Outcome (DraftOf S) → Verdict (CatalogOf S)
 finished (Ok read) = Ok (resolved read.0)
@@ -67,4 +58,4 @@ finished (Err fault) = Err fault
 
 -- the catalog that a text spells, or the first fault of the text
 unfoldable pub catalog_by : {S : Type 0} → Forms S → List ℕ → Verdict (CatalogOf S)
-catalog_by forms text = finished (statements forms (items_of text))
+catalog_by forms text = finished (statements forms no_draft (items_of text))

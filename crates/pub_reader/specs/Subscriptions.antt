@@ -2,17 +2,17 @@
 use Rattle.std.specs.Prelude.{ℕ, ◌==◌, nat_le, if◌then◌else◌, List, [], ◌∷◌, ◌++◌, length, Option, Some, None, Ok, Err}
 use Rattle.std.specs.List.{list_any}
 use Rattle.std.specs.Option.{is_some}
-use Rattle.pub_reader.specs.declared.word.Keyword.TheVariants as k
-use Rattle.pub_reader.specs.declared.item.Item.{Item}
-use Rattle.pub_reader.specs.declared.item.Item.TheVariants as i
-use Rattle.pub_reader.specs.declared.name.PlacedName.{PlacedName}
-use Rattle.pub_reader.specs.declared.error.Omitted.TheVariants.{Clause}
-use Rattle.pub_reader.specs.declared.error.Limit.TheVariants.{Subscriptions}
-use Rattle.pub_reader.specs.Wrong as w
+use Rattle.sql_reader.specs.declared.word.Keyword.TheVariants as k
+use Rattle.sql_reader.specs.declared.item.Item.{Item}
+use Rattle.sql_reader.specs.declared.item.Item.TheVariants as i
+use Rattle.sql_reader.specs.declared.name.PlacedName.{PlacedName}
+use Rattle.sql_reader.specs.declared.error.Omitted.TheVariants.{Clause}
+use Rattle.sql_reader.specs.declared.error.Limit.TheVariants.{Subscriptions}
+use Rattle.sql_reader.specs.Wrong as w
+use Rattle.sql_reader.specs.Names.{name}
+use Rattle.sql_reader.specs.Reading.{Rule, Verdict, fault, ◌>>=◌, ◌>>◌, pure, check, refuse_as, expect, item_ahead}
+use Rattle.sql_reader.specs.Turns.{link, repeat}
 use Rattle.pub_reader.specs.Drafts.{DraftOf, find_publication, find_subscription}
-use Rattle.pub_reader.specs.Names.{name}
-use Rattle.pub_reader.specs.Reading.{Rule, Verdict, fault, ◌>>=◌, ◌>>◌, pure, check, refuse_as, expect, item_ahead}
-use Rattle.pub_reader.specs.Turns.{link, repeat}
 
 -- a new subscription has a new name, and there are at most 32
 unfoldable pub new_subscription : {S : Type 0} → DraftOf S → PlacedName → Verdict ℕ

@@ -2,18 +2,18 @@
 use Rattle.std.specs.Prelude.{ℕ, Bool, true, nat_le, if◌then◌else◌, List, length, Option, Some, Ok, Err}
 use Rattle.std.specs.Option.{is_some}
 use Rattle.filter_tree.specs.declared.table.Table.{Table}
-use Rattle.pub_reader.specs.declared.word.Keyword.TheVariants as k
-use Rattle.pub_reader.specs.declared.item.Item.{Item}
-use Rattle.pub_reader.specs.declared.item.Item.TheVariants as i
-use Rattle.pub_reader.specs.declared.name.PlacedName.{PlacedName}
+use Rattle.sql_reader.specs.declared.word.Keyword.TheVariants as k
+use Rattle.sql_reader.specs.declared.item.Item.{Item}
+use Rattle.sql_reader.specs.declared.item.Item.TheVariants as i
+use Rattle.sql_reader.specs.declared.name.PlacedName.{PlacedName}
+use Rattle.sql_reader.specs.declared.error.Omitted.TheVariants.{Constraint}
+use Rattle.sql_reader.specs.declared.error.Limit.TheVariants.{Tables}
+use Rattle.sql_reader.specs.Wrong as w
+use Rattle.sql_reader.specs.Names.{name}
+use Rattle.sql_reader.specs.Reading.{Rule, Verdict, fault, ◌>>=◌, ◌>>◌, pure, check, look, expect, is_ahead, item_ahead}
+use Rattle.sql_reader.specs.Columns.{left_out}
 use Rattle.pub_reader.specs.declared.table_name.NewName.{NewName}
-use Rattle.pub_reader.specs.declared.error.Omitted.TheVariants.{Constraint}
-use Rattle.pub_reader.specs.declared.error.Limit.TheVariants.{Tables}
-use Rattle.pub_reader.specs.Wrong as w
-use Rattle.pub_reader.specs.Columns.{left_out}
 use Rattle.pub_reader.specs.Drafts.{DraftOf, public_schema, find_table}
-use Rattle.pub_reader.specs.Names.{name}
-use Rattle.pub_reader.specs.Reading.{Rule, Verdict, fault, ◌>>=◌, ◌>>◌, pure, check, look, expect, is_ahead, item_ahead}
 use Rattle.pub_reader.specs.Schemas.{known, known_schema}
 
 -- ---- a table that was made before

@@ -2,15 +2,15 @@
 use Rattle.std.specs.Prelude.{ℕ, if◌then◌else◌, [], ◌∷◌, ◌++◌, Option, Some, Ok, Err}
 use Rattle.filter_tree.specs.declared.table.Identity.TheVariants.{Default}
 use Rattle.filter_tree.specs.declared.table.Table.{Table}
-use Rattle.pub_reader.specs.declared.word.Keyword.TheVariants as k
-use Rattle.pub_reader.specs.declared.item.Item.{Item}
-use Rattle.pub_reader.specs.declared.item.Item.TheVariants as i
-use Rattle.pub_reader.specs.declared.name.PlacedName.{PlacedName}
+use Rattle.sql_reader.specs.declared.word.Keyword.TheVariants as k
+use Rattle.sql_reader.specs.declared.item.Item.{Item}
+use Rattle.sql_reader.specs.declared.item.Item.TheVariants as i
+use Rattle.sql_reader.specs.declared.name.PlacedName.{PlacedName}
+use Rattle.sql_reader.specs.Wrong as w
+use Rattle.sql_reader.specs.Reading.{Rule, Verdict, fault, ◌>>=◌, ◌>>◌, pure, check, expect, item_ahead}
+use Rattle.sql_reader.specs.Columns.{Parts, elements, has_key, left_out}
 use Rattle.pub_reader.specs.declared.table_name.NewName.{NewName}
-use Rattle.pub_reader.specs.Wrong as w
-use Rattle.pub_reader.specs.Columns.{Parts, elements, has_key, left_out}
 use Rattle.pub_reader.specs.Drafts.{DraftOf}
-use Rattle.pub_reader.specs.Reading.{Rule, Verdict, fault, ◌>>=◌, ◌>>◌, pure, check, expect, item_ahead}
 use Rattle.pub_reader.specs.TableNames.{new_name}
 
 -- every table has a primary key
@@ -29,17 +29,17 @@ tail_by _ = pure 0
 unfoldable pub table_tail : Rule ℕ
 table_tail ts = tail_by (item_ahead ts) ts
 
-unfoldable pub table_body : NewName → Rule Table
+unfoldable pub table_body : PlacedName → Rule Parts
 table_body called = do
   expect i.Open
   parts ← elements
   expect i.Close
-  check (keyed called.name parts)
+  check (keyed called parts)
   table_tail
-  pure (table_of called parts)
+  pure parts
 
 unfoldable pub create_table : {S : Type 0} → DraftOf S → Rule (DraftOf S)
 create_table draft = do
   called ← new_name draft
-  table ← table_body called
-  pure (record draft { tables = draft.tables ++ table ∷ [] })
+  parts ← table_body called.name
+  pure (record draft { tables = draft.tables ++ table_of called parts ∷ [] })

@@ -1,9 +1,9 @@
 //! What a publication covers, while the catalog is read.
 
 use crate::catalog::Entry;
-use crate::error::{ErrorKind, ReadError};
 use crate::names::Names;
 use filter_tree::{Table, Text};
+use sql_reader::{ErrorKind, ReadError};
 use std::alloc::{AllocError, Global};
 
 /// The kind of an object of a publication.
@@ -25,11 +25,11 @@ pub struct Coverage {
 impl Coverage {
     ghost use Rattle.std.specs.Prelude.{◌≡◌, OnOk};
     ghost use Rattle.std.specs.List.{list_any};
+    ghost use Rattle.sql_reader.specs.Reading.{Answers};
     ghost use Rattle.pub_reader.specs.CatalogView.{entry_of};
     ghost use Rattle.pub_reader.specs.Drafts.{nothing_covered, is_covered};
     ghost use Rattle.pub_reader.specs.DraftView.{coverage_of};
     ghost use Rattle.pub_reader.specs.Objects as spec;
-    ghost use Rattle.pub_reader.specs.Reading.{Answers};
 
     /// Nothing.
     pub fn new(alloc: Global) -> Coverage

@@ -4,13 +4,12 @@ ghost use Rattle.std.specs.Prelude.{◌≡◌, List, ℕ, map};
 
 use crate::catalog::{Catalog, Operations, Publication, Subscription};
 use crate::coverage::Coverage;
-use crate::error::{ErrorKind, Limit, ReadError};
 use crate::filters::add_filters;
-use crate::name::PlacedName;
 use crate::names::Names;
 use crate::resolution::resolved;
 use crate::table_name::NewName;
 use filter_tree::{Column, Filter, Identity, Table, Text};
+use sql_reader::{ErrorKind, Limit, PlacedName, ReadError};
 use std::alloc::{AllocError, Global};
 
 /// How many tables, publications and subscriptions a catalog may have.
@@ -47,12 +46,12 @@ pub struct Draft {
 impl Draft {
     ghost use Rattle.std.specs.Prelude.{◌≡◌, ◌<◌, ◌∷◌, ◌++◌, [], length, map, IfOk, IfSome, None, OnOk};
     ghost use Rattle.filter_tree.specs.Shape.{expr_of};
+    ghost use Rattle.sql_reader.specs.Reading.{Answers};
     ghost use Rattle.pub_reader.specs.Catalogs.{columns_at, identified};
     ghost use Rattle.pub_reader.specs.CatalogView.{catalog_of};
     ghost use Rattle.pub_reader.specs.Drafts as spec;
     ghost use Rattle.pub_reader.specs.DraftView.{draft_of, draft_publication_of};
     ghost use Rattle.pub_reader.specs.Publications.{new_publication};
-    ghost use Rattle.pub_reader.specs.Reading.{Answers};
     ghost use Rattle.pub_reader.specs.Schemas.{known, new_schema, known_schema};
     ghost use Rattle.pub_reader.specs.Subscriptions.{new_subscription};
     ghost use Rattle.pub_reader.specs.TableNames.{new_table, known_table};

@@ -3,24 +3,19 @@
 ghost use Rattle.std.specs.Prelude.{◌≡◌, ◌<◌, ◌≤◌, ◌∷◌, ◌++◌, [], OnOk, length, map};
 ghost use Rattle.std.specs.Option.{option_map};
 ghost use Rattle.filter_tree.specs.Shape.{expr_of};
-ghost use Rattle.pub_reader.specs.Ahead.{to_read};
+ghost use Rattle.sql_reader.specs.Ahead.{to_read};
+ghost use Rattle.sql_reader.specs.Items.{size};
+ghost use Rattle.sql_reader.specs.Reading.{Reads, Answers};
+ghost use Rattle.sql_reader.specs.Written.{as_filter};
 ghost use Rattle.pub_reader.specs.Drafts.{filters_in, filters_on};
 ghost use Rattle.pub_reader.specs.DraftView.{coverage_of, draft_of};
-ghost use Rattle.pub_reader.specs.Items.{size};
 ghost use Rattle.pub_reader.specs.Objects as spec;
-ghost use Rattle.pub_reader.specs.Reading.{Reads, Answers};
-ghost use Rattle.pub_reader.specs.Written.{as_filter};
 
 use crate::coverage::Coverage;
 use crate::draft::Draft;
-use crate::error::{ErrorKind, ReadError};
-use crate::expression::expression;
 use crate::filters::add_filters;
-use crate::item::Item;
-use crate::limits::exceeded;
-use crate::reader::Reader;
-use crate::word::Keyword;
 use filter_tree::Filter;
+use sql_reader::{ErrorKind, Item, Keyword, ReadError, Reader, exceeded_limit, read_filter};
 use std::alloc::Global;
 
 /// Refuses a filter with which the filters on its table pass a limit.
@@ -28,7 +23,7 @@ use std::alloc::Global;
 fn limited(alloc: Global, place: usize, filters: &[&Filter]) -> Result<usize, ReadError>
     ensures { Answers (λ n. n) (spec.limited place (map (λ f. expr_of f.now) filters.now)) result }
 {
-    match exceeded(alloc, filters)? {
+    match exceeded_limit(alloc, filters)? {
         None => Ok(0),
         Some(limit) => Err(ReadError {
             place,
@@ -88,7 +83,7 @@ fn where_clause(
 {
     let place = r.expect(Item::Keyword(Keyword::Where), "WHERE")?;
     r.expect(Item::Open, "`(`")?;
-    let filter = expression(r, alloc, draft.columns(number))?;
+    let filter = read_filter(r, alloc, draft.columns(number))?;
     Ok(ended(r, alloc, draft, coverage, number, place, filter)?)
 }
 

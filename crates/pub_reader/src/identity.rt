@@ -1,19 +1,16 @@
 //! ALTER TABLE .. REPLICA IDENTITY.
 
 ghost use Rattle.std.specs.Prelude.{◌≡◌, ◌<◌, ◌≤◌, OnOk};
-ghost use Rattle.pub_reader.specs.Ahead.{to_read};
+ghost use Rattle.sql_reader.specs.Ahead.{to_read};
+ghost use Rattle.sql_reader.specs.Items.{size};
+ghost use Rattle.sql_reader.specs.Reading.{Reads};
 ghost use Rattle.pub_reader.specs.DraftView.{draft_of};
 ghost use Rattle.pub_reader.specs.Identities as spec;
-ghost use Rattle.pub_reader.specs.Items.{size};
-ghost use Rattle.pub_reader.specs.Reading.{Reads};
 
 use crate::draft::Draft;
-use crate::error::{ErrorKind, Later, Omitted, ReadError};
-use crate::item::Item;
-use crate::reader::Reader;
 use crate::table_name::{only_or_none, table_number};
-use crate::word::Keyword;
 use filter_tree::Identity;
+use sql_reader::{ErrorKind, Item, Keyword, Later, Omitted, ReadError, Reader};
 use std::alloc::Global;
 
 /// Takes the word REPLICA.
@@ -34,7 +31,7 @@ fn action(r: &mut Reader<'_>) -> Result<usize, ReadError>
 }
 
 /// Takes DEFAULT, FULL or NOTHING.
-#[tactic(auto, using(crate::proofs::Ahead::rest_is_no_more), unfolding(crate::specs::Identities::identity))]
+#[tactic(auto, using(sql_reader::proofs::Ahead::rest_is_no_more), unfolding(crate::specs::Identities::identity))]
 fn identity(r: &mut Reader<'_>) -> Result<Identity, ReadError>
     ensures reads { Reads (λ identity. identity) (spec.identity (to_read r.old)) result (to_read r.new) }
     ensures fewer { OnOk result (size (to_read r.new) ≤ size (to_read r.old)) }

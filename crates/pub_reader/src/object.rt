@@ -3,25 +3,21 @@
 ghost use Rattle.std.specs.Prelude.{◌≡◌, ◌<◌, ◌≤◌, ◌∷◌, ◌++◌, [], IfOk, IsSome, OnOk, length, map};
 ghost use Rattle.std.specs.Option.{option_map};
 ghost use Rattle.filter_tree.specs.Shape.{expr_of};
-ghost use Rattle.pub_reader.specs.Ahead.{to_read};
+ghost use Rattle.sql_reader.specs.Ahead.{to_read};
+ghost use Rattle.sql_reader.specs.Items.{size};
+ghost use Rattle.sql_reader.specs.Reading.{Reads, Answers};
+ghost use Rattle.sql_reader.specs.Written.{as_filter};
 ghost use Rattle.pub_reader.specs.Drafts.{filters_in, filters_on, nothing_covered};
 ghost use Rattle.pub_reader.specs.DraftView.{coverage_of, draft_of, objects_of};
-ghost use Rattle.pub_reader.specs.Items.{size};
 ghost use Rattle.pub_reader.specs.Objects as spec;
-ghost use Rattle.pub_reader.specs.Reading.{Reads, Answers};
-ghost use Rattle.pub_reader.specs.Written.{as_filter};
 
 use crate::catalog::Entry;
 use crate::coverage::{Coverage, ObjectKind};
 use crate::draft::{Draft, PUBLIC};
-use crate::error::{ErrorKind, ReadError};
 use crate::filter_clause::filter_clause;
-use crate::item::Item;
-use crate::name::{PlacedName, read_name};
-use crate::reader::Reader;
 use crate::table_name::{only_or_none, table_named};
-use crate::word::Keyword;
 use filter_tree::Text;
+use sql_reader::{ErrorKind, Item, Keyword, PlacedName, ReadError, Reader, read_name};
 use sql_tokens::Operator;
 use std::alloc::Global;
 
@@ -167,6 +163,24 @@ fn table_object(
     Ok(taken_table(r, alloc, draft, coverage, &name)?)
 }
 
+/// Takes the rest of an object of this kind, once the first part of its name is taken.
+fn taken_object(
+    r: &mut Reader<'_>,
+    alloc: Global,
+    draft: &Draft,
+    kind: ObjectKind,
+    coverage: &mut Coverage,
+    name: PlacedName,
+) -> Result<ObjectKind, ReadError>
+    ensures reads { Reads (λ kind. objects_of kind coverage.new) (spec.taken_by as_filter kind (draft_of draft.now) (coverage_of coverage.old) name (to_read r.old)) result (to_read r.new) }
+    ensures fewer { OnOk result (size (to_read r.new) ≤ size (to_read r.old)) }
+{
+    match kind {
+        ObjectKind::Table => taken_table(r, alloc, draft, coverage, &name),
+        ObjectKind::Schema => taken_schema(r, draft, coverage, name),
+    }
+}
+
 /// Takes the rest of an object, once the word TABLES at its front is taken: it begins TABLES IN SCHEMA, or is a name.
 #[tactic(auto, unfolding(crate::specs::Objects::behind_tables))]
 fn behind_tables(
@@ -181,10 +195,9 @@ fn behind_tables(
     ensures fewer { OnOk result (size (to_read r.new) ≤ size (to_read r.old)) }
 {
     r.look()?;
-    match (r.item(), kind) {
-        (Some(Item::Keyword(Keyword::In)), _) => Ok(in_schema(r, alloc, draft, coverage)?),
-        (_, ObjectKind::Table) => Ok(taken_table(r, alloc, draft, coverage, &name)?),
-        (_, ObjectKind::Schema) => Ok(taken_schema(r, draft, coverage, name)?),
+    match r.item() {
+        Some(Item::Keyword(Keyword::In)) => Ok(in_schema(r, alloc, draft, coverage)?),
+        _ => Ok(taken_object(r, alloc, draft, kind, coverage, name)?),
     }
 }
 
@@ -204,8 +217,25 @@ fn tables_object(
     Ok(behind_tables(r, alloc, draft, kind, coverage, name)?)
 }
 
+/// Takes an object of this kind.
+fn object_of(
+    r: &mut Reader<'_>,
+    alloc: Global,
+    draft: &Draft,
+    kind: ObjectKind,
+    coverage: &mut Coverage,
+) -> Result<ObjectKind, ReadError>
+    ensures reads { Reads (λ kind. objects_of kind coverage.new) (spec.object_of as_filter kind (draft_of draft.now) (coverage_of coverage.old) (to_read r.old)) result (to_read r.new) }
+    ensures fewer { OnOk result (size (to_read r.new) < size (to_read r.old)) }
+{
+    match kind {
+        ObjectKind::Table => table_object(r, alloc, draft, coverage),
+        ObjectKind::Schema => schema_object(r, alloc, draft, coverage),
+    }
+}
+
 /// Takes one more object, which is of the kind of the one before unless it names its own.
-#[tactic(auto, using(crate::proofs::Ahead::rest_is_no_more), unfolding(crate::specs::Objects::object))]
+#[tactic(auto, using(sql_reader::proofs::Ahead::rest_is_no_more), unfolding(crate::specs::Objects::object))]
 fn object(
     r: &mut Reader<'_>,
     alloc: Global,
@@ -216,19 +246,18 @@ fn object(
     ensures reads { Reads (λ kind. objects_of kind coverage.new) (spec.object as_filter (draft_of draft.now) (objects_of kind coverage.old) (to_read r.old)) result (to_read r.new) }
     ensures fewer { OnOk result (size (to_read r.new) < size (to_read r.old)) }
 {
-    match (r.item(), kind) {
-        (Some(Item::Keyword(Keyword::Table)), _) => {
+    match r.item() {
+        Some(Item::Keyword(Keyword::Table)) => {
             r.advance();
             table_object(r, alloc, draft, coverage)
         }
-        (Some(Item::Keyword(Keyword::Tables)), _) => tables_object(r, alloc, draft, kind, coverage),
-        (_, ObjectKind::Table) => table_object(r, alloc, draft, coverage),
-        (_, ObjectKind::Schema) => schema_object(r, alloc, draft, coverage),
+        Some(Item::Keyword(Keyword::Tables)) => tables_object(r, alloc, draft, kind, coverage),
+        _ => object_of(r, alloc, draft, kind, coverage),
     }
 }
 
 /// Takes the first object, which names its kind.
-#[tactic(auto, using(crate::proofs::Ahead::rest_is_no_more), unfolding(crate::specs::Objects::first_object))]
+#[tactic(auto, using(sql_reader::proofs::Ahead::rest_is_no_more), unfolding(crate::specs::Objects::first_object))]
 fn first_object(
     r: &mut Reader<'_>,
     alloc: Global,
@@ -252,7 +281,7 @@ fn first_object(
 }
 
 /// Takes objects, which commas part.
-#[tactic(auto, using(crate::proofs::Turning::chains), unfolding(crate::specs::Objects::objects))]
+#[tactic(auto, using(sql_reader::proofs::Turning::chains), unfolding(crate::specs::Objects::objects))]
 pub fn objects(
     r: &mut Reader<'_>,
     alloc: Global,

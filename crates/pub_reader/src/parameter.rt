@@ -1,19 +1,15 @@
 //! The parameters of a publication.
 
 ghost use Rattle.std.specs.Prelude.{◌≡◌, ◌<◌, ◌≤◌, IsSome, OnOk};
-ghost use Rattle.pub_reader.specs.Ahead.{to_read};
-ghost use Rattle.pub_reader.specs.Items.{size};
+ghost use Rattle.sql_reader.specs.Ahead.{to_read};
+ghost use Rattle.sql_reader.specs.Items.{size};
+ghost use Rattle.sql_reader.specs.Reading.{Reads, item_ahead, written_ahead};
 ghost use Rattle.pub_reader.specs.Operations.{operations as operations_of};
 ghost use Rattle.pub_reader.specs.Publishing as spec;
-ghost use Rattle.pub_reader.specs.Reading.{Reads, item_ahead, written_ahead};
 
 use crate::catalog::Operations;
-use crate::error::{ErrorKind, ReadError};
-use crate::item::Item;
-use crate::name::is_name_ahead;
 use crate::publish::operations;
-use crate::reader::Reader;
-use crate::word::{Keyword, same_word};
+use sql_reader::{ErrorKind, Item, Keyword, ReadError, Reader, is_name_ahead, same_word};
 use sql_tokens::Operator;
 
 /// A parameter of CREATE PUBLICATION.
@@ -36,7 +32,7 @@ const NONE_GIVEN: Given = Given {
 };
 
 /// Takes the list of operations ahead.
-#[tactic(auto, using(crate::proofs::Ahead::rest_is_no_more))]
+#[tactic(auto, using(sql_reader::proofs::Ahead::rest_is_no_more))]
 fn operations_taken(r: &mut Reader<'_>) -> Result<Operations, ReadError>
     requires { IsSome (item_ahead (to_read r.old)) }
     ensures reads { Reads (λ listed. listed) (spec.operations_taken (operations_of (written_ahead (to_read r.old))) (to_read r.old)) result (to_read r.new) }
@@ -66,7 +62,7 @@ fn operations_value(r: &mut Reader<'_>) -> Result<Operations, ReadError>
 }
 
 /// Takes `publish` and its value.
-#[tactic(auto, using(crate::proofs::Ahead::rest_is_no_more), unfolding(crate::specs::Publishing::publish))]
+#[tactic(auto, using(sql_reader::proofs::Ahead::rest_is_no_more), unfolding(crate::specs::Publishing::publish))]
 fn publish(r: &mut Reader<'_>, given: Given) -> Result<Given, ReadError>
     ensures reads { Reads (λ given. given) (spec.publish given (to_read r.old)) result (to_read r.new) }
     ensures fewer { OnOk result (size (to_read r.new) < size (to_read r.old)) }
@@ -91,7 +87,7 @@ fn is_boolean(word: &str) -> bool
 }
 
 /// Takes the value ahead, if it is a truth value.
-#[tactic(auto, using(crate::proofs::Ahead::rest_is_no_more))]
+#[tactic(auto, using(sql_reader::proofs::Ahead::rest_is_no_more))]
 fn boolean_taken(r: &mut Reader<'_>, is_boolean: bool) -> Result<usize, ReadError>
     ensures reads { Reads (λ n. n) (spec.boolean_taken is_boolean (to_read r.old)) result (to_read r.new) }
     ensures fewer { OnOk result (size (to_read r.new) ≤ size (to_read r.old)) }
@@ -142,7 +138,7 @@ fn boolean_or_none(r: &mut Reader<'_>) -> Result<usize, ReadError>
 }
 
 /// Takes `publish_via_partition_root`.
-#[tactic(auto, using(crate::proofs::Ahead::rest_of_some_is_fewer), unfolding(crate::specs::Publishing::partition_root))]
+#[tactic(auto, using(sql_reader::proofs::Ahead::rest_of_some_is_fewer), unfolding(crate::specs::Publishing::partition_root))]
 fn partition_root(r: &mut Reader<'_>, given: Given) -> Result<Given, ReadError>
     requires { IsSome (item_ahead (to_read r.old)) }
     ensures reads { Reads (λ given. given) (spec.partition_root given (to_read r.old)) result (to_read r.new) }
@@ -222,7 +218,7 @@ fn one_parameter(r: &mut Reader<'_>, given: Given) -> Result<Given, ReadError>
 }
 
 /// Takes parameters, which commas part.
-#[tactic(auto, using(crate::proofs::Turning::chains), unfolding(crate::specs::Publishing::parameters))]
+#[tactic(auto, using(sql_reader::proofs::Turning::chains), unfolding(crate::specs::Publishing::parameters))]
 fn parameters(r: &mut Reader<'_>) -> Result<Given, ReadError>
     ensures reads { Reads (λ given. given) (spec.parameters (to_read r.old)) result (to_read r.new) }
     ensures fewer { OnOk result (size (to_read r.new) < size (to_read r.old)) }

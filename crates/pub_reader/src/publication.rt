@@ -1,24 +1,20 @@
 //! CREATE PUBLICATION.
 
 ghost use Rattle.std.specs.Prelude.{◌≡◌, ◌<◌, ◌≤◌, IfOk, None, OnOk};
-ghost use Rattle.pub_reader.specs.Ahead.{to_read};
+ghost use Rattle.sql_reader.specs.Ahead.{to_read};
+ghost use Rattle.sql_reader.specs.Items.{size};
+ghost use Rattle.sql_reader.specs.Reading.{Reads};
+ghost use Rattle.sql_reader.specs.Written.{as_filter};
 ghost use Rattle.pub_reader.specs.Drafts.{find_publication};
 ghost use Rattle.pub_reader.specs.DraftView.{coverage_of, draft_of};
-ghost use Rattle.pub_reader.specs.Items.{size};
 ghost use Rattle.pub_reader.specs.Publications as spec;
-ghost use Rattle.pub_reader.specs.Reading.{Reads};
-ghost use Rattle.pub_reader.specs.Written.{as_filter};
 
 use crate::catalog::Operations;
 use crate::coverage::Coverage;
 use crate::draft::{Draft, DraftPublication};
-use crate::error::ReadError;
-use crate::item::Item;
-use crate::name::{PlacedName, read_name};
 use crate::object::objects;
 use crate::parameter::{Given, parameters_clause};
-use crate::reader::Reader;
-use crate::word::Keyword;
+use sql_reader::{Item, Keyword, PlacedName, ReadError, Reader, read_name};
 use std::alloc::{AllocError, Global};
 
 /// What a publication publishes unless it says otherwise.
@@ -82,7 +78,7 @@ fn scope(r: &mut Reader<'_>, alloc: Global, draft: &Draft) -> Result<Coverage, R
 }
 
 /// Takes FOR and what the publication is for; without FOR it has no tables.
-#[tactic(auto, using(crate::proofs::Ahead::rest_is_no_more), unfolding(crate::specs::Publications::for_clause))]
+#[tactic(auto, using(sql_reader::proofs::Ahead::rest_is_no_more), unfolding(crate::specs::Publications::for_clause))]
 fn for_clause(r: &mut Reader<'_>, alloc: Global, draft: &Draft) -> Result<Coverage, ReadError>
     ensures reads { Reads (λ coverage. coverage_of coverage) (spec.for_clause as_filter (draft_of draft.now) (to_read r.old)) result (to_read r.new) }
     ensures fewer { OnOk result (size (to_read r.new) ≤ size (to_read r.old)) }

@@ -1,16 +1,14 @@
 //! CREATE SCHEMA.
 
 ghost use Rattle.std.specs.Prelude.{◌≡◌, ◌<◌, OnOk};
-ghost use Rattle.pub_reader.specs.Ahead.{to_read};
+ghost use Rattle.sql_reader.specs.Ahead.{to_read};
+ghost use Rattle.sql_reader.specs.Items.{size};
+ghost use Rattle.sql_reader.specs.Reading.{Reads};
 ghost use Rattle.pub_reader.specs.DraftView.{draft_of};
-ghost use Rattle.pub_reader.specs.Items.{size};
-ghost use Rattle.pub_reader.specs.Reading.{Reads};
 ghost use Rattle.pub_reader.specs.Schemas as spec;
 
 use crate::draft::Draft;
-use crate::error::ReadError;
-use crate::name::read_name;
-use crate::reader::Reader;
+use sql_reader::{ReadError, Reader, read_name};
 use std::alloc::Global;
 
 /// Takes what stands behind CREATE SCHEMA, and makes the schema.

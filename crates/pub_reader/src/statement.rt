@@ -1,29 +1,27 @@
 //! The statements of a catalog.
 
 ghost use Rattle.std.specs.Prelude.{◌≡◌, ◌<◌, ◌≤◌, IfOk, OnOk};
-ghost use Rattle.pub_reader.specs.Ahead.{to_read};
+ghost use Rattle.sql_reader.specs.Ahead.{to_read};
+ghost use Rattle.sql_reader.specs.Items.{size};
+ghost use Rattle.sql_reader.specs.Reading.{Reads, Answers};
+ghost use Rattle.sql_reader.specs.Written.{as_filter, as_written};
+ghost use Rattle.pub_reader.specs.CatalogMeaning.{MeansAsWritten};
 ghost use Rattle.pub_reader.specs.CatalogView.{catalog_of};
 ghost use Rattle.pub_reader.specs.DraftView.{draft_of};
-ghost use Rattle.pub_reader.specs.Items.{size};
-ghost use Rattle.pub_reader.specs.Reading.{Reads, Answers};
 ghost use Rattle.pub_reader.specs.Statements as spec;
-ghost use Rattle.pub_reader.specs.Written.{as_filter, as_written, MeansAsWritten};
 
 use crate::catalog::Catalog;
 use crate::draft::Draft;
-use crate::error::{ErrorKind, Later, ReadError};
 use crate::identity::alter_table;
-use crate::item::Item;
 use crate::publication::create_publication;
-use crate::reader::Reader;
 use crate::schema::create_schema;
 use crate::subscription::create_subscription;
 use crate::table::create_table;
-use crate::word::Keyword;
+use sql_reader::{ErrorKind, Item, Keyword, Later, ReadError, Reader};
 use std::alloc::Global;
 
 /// Takes what is made, behind CREATE.
-#[tactic(auto, using(crate::proofs::Ahead::rest_is_no_more), unfolding(crate::specs::Statements::created))]
+#[tactic(auto, using(sql_reader::proofs::Ahead::rest_is_no_more), unfolding(crate::specs::Statements::created))]
 fn created(r: &mut Reader<'_>, alloc: Global, draft: &mut Draft) -> Result<(), ReadError>
     ensures reads { Reads (λ _. draft_of draft.new) (spec.created as_filter (draft_of draft.old) (to_read r.old)) result (to_read r.new) }
     ensures fewer { OnOk result (size (to_read r.new) < size (to_read r.old)) }
@@ -86,16 +84,15 @@ fn ended_statement(r: &mut Reader<'_>, alloc: Global, draft: &mut Draft) -> Resu
     Ok(())
 }
 
-/// Takes the statements of a text to its end.
-#[tactic(auto, using(crate::proofs::Turning::turns), unfolding(crate::specs::Statements::statements))]
-fn statements(r: &mut Reader<'_>, alloc: Global) -> Result<Draft, ReadError>
-    ensures { Reads (λ draft. draft_of draft) (spec.statements as_filter (to_read r.old)) result (to_read r.new) }
+/// Takes statements to the end of a text.
+#[tactic(auto, using(sql_reader::proofs::Turning::turns), unfolding(crate::specs::Statements::statements))]
+fn statements(r: &mut Reader<'_>, alloc: Global, draft: &mut Draft) -> Result<(), ReadError>
+    ensures { Reads (λ _. draft_of draft.new) (spec.statements as_filter (draft_of draft.old) (to_read r.old)) result (to_read r.new) }
 {
-    let mut draft = Draft::new(alloc)?;
     while r.more_ahead()? {
-        ended_statement(r, alloc, &mut draft)?;
+        ended_statement(r, alloc, draft)?;
     }
-    Ok(draft)
+    Ok(())
 }
 
 /// Reads a catalog: CREATE SCHEMA, CREATE TABLE, ALTER TABLE .. REPLICA IDENTITY, CREATE PUBLICATION and CREATE
@@ -117,6 +114,7 @@ pub fn read_catalog(alloc: Global, text: &str) -> Result<Catalog, ReadError>
 fn whole_catalog(alloc: Global, text: &str) -> Result<Catalog, ReadError>
     ensures { Answers catalog_of (spec.catalog_by as_filter text.now) result }
 {
-    let draft = statements(&mut Reader::new(text), alloc)?;
+    let mut draft = Draft::new(alloc)?;
+    statements(&mut Reader::new(text), alloc, &mut draft)?;
     Ok(draft.finish(alloc)?)
 }

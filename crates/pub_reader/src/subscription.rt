@@ -1,21 +1,17 @@
 //! CREATE SUBSCRIPTION.
 
 ghost use Rattle.std.specs.Prelude.{◌≡◌, ◌<◌, IfOk, None, OnOk};
-ghost use Rattle.pub_reader.specs.Ahead.{to_read};
+ghost use Rattle.sql_reader.specs.Ahead.{to_read};
+ghost use Rattle.sql_reader.specs.Items.{size};
+ghost use Rattle.sql_reader.specs.Reading.{Reads, Answers};
 ghost use Rattle.pub_reader.specs.Drafts.{find_subscription};
 ghost use Rattle.pub_reader.specs.DraftView.{draft_of};
-ghost use Rattle.pub_reader.specs.Items.{size};
-ghost use Rattle.pub_reader.specs.Reading.{Reads, Answers};
 ghost use Rattle.pub_reader.specs.Subscriptions as spec;
 
 use crate::catalog::Subscription;
 use crate::draft::Draft;
-use crate::error::{ErrorKind, Omitted, ReadError};
-use crate::item::Item;
-use crate::name::{PlacedName, read_name};
-use crate::reader::Reader;
-use crate::word::Keyword;
 use filter_tree::Items;
+use sql_reader::{ErrorKind, Item, Keyword, Omitted, PlacedName, ReadError, Reader, read_name};
 use std::alloc::Global;
 
 /// Takes the name of a new subscription.
@@ -67,7 +63,7 @@ fn one_publication(
 }
 
 /// Takes the names of publications, which commas part.
-#[tactic(auto, using(crate::proofs::Turning::chains), unfolding(crate::specs::Subscriptions::publication_list))]
+#[tactic(auto, using(sql_reader::proofs::Turning::chains), unfolding(crate::specs::Subscriptions::publication_list))]
 fn publication_list(
     r: &mut Reader<'_>,
     alloc: Global,

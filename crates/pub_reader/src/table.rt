@@ -1,23 +1,20 @@
 //! CREATE TABLE.
 
 ghost use Rattle.std.specs.Prelude.{◌≡◌, ◌<◌, OnOk};
-ghost use Rattle.pub_reader.specs.Ahead.{to_read};
+ghost use Rattle.sql_reader.specs.Ahead.{to_read};
+ghost use Rattle.sql_reader.specs.Items.{size};
+ghost use Rattle.sql_reader.specs.Reading.{Reads, Answers};
+ghost use Rattle.sql_reader.specs.PartsView.{parts_of};
 ghost use Rattle.pub_reader.specs.DraftView.{draft_of};
-ghost use Rattle.pub_reader.specs.Items.{size};
-ghost use Rattle.pub_reader.specs.PartsView.{parts_of};
-ghost use Rattle.pub_reader.specs.Reading.{Reads, Answers};
 ghost use Rattle.pub_reader.specs.Tables as spec;
 
-use crate::column_rule::left_out;
 use crate::draft::Draft;
-use crate::element::{TableParts, elements};
-use crate::error::{ErrorKind, ReadError};
-use crate::item::Item;
-use crate::name::PlacedName;
-use crate::reader::Reader;
 use crate::table_name::{NewName, new_name};
-use crate::word::Keyword;
 use filter_tree::{Identity, Items, Table};
+use sql_reader::{
+    ErrorKind, Item, Keyword, PlacedName, ReadError, Reader, TableParts, left_out_clause,
+    read_elements,
+};
 use std::alloc::Global;
 
 /// Refuses a table without a primary key.
@@ -40,8 +37,8 @@ fn table_tail(r: &Reader<'_>) -> Result<usize, ReadError>
     ensures { Reads (λ n. n) (spec.table_tail (to_read r.now)) result (to_read r.now) }
 {
     match r.item() {
-        Some(Item::Keyword(Keyword::Inherits)) => Err(left_out(r)),
-        Some(Item::Keyword(Keyword::Partition)) => Err(left_out(r)),
+        Some(Item::Keyword(Keyword::Inherits)) => Err(left_out_clause(r)),
+        Some(Item::Keyword(Keyword::Partition)) => Err(left_out_clause(r)),
         _ => Ok(0),
     }
 }
@@ -63,16 +60,16 @@ fn table_of(name: NewName, parts: TableParts) -> Table
 
 /// Takes what stands behind the name of a new table.
 #[tactic(auto, unfolding(crate::specs::Tables::table_body))]
-fn table_body(r: &mut Reader<'_>, alloc: Global, name: NewName) -> Result<Table, ReadError>
-    ensures reads { Reads (λ table. table) (spec.table_body name (to_read r.old)) result (to_read r.new) }
+fn table_body(r: &mut Reader<'_>, alloc: Global, name: &PlacedName) -> Result<TableParts, ReadError>
+    ensures reads { Reads parts_of (spec.table_body name.now (to_read r.old)) result (to_read r.new) }
     ensures fewer { OnOk result (size (to_read r.new) < size (to_read r.old)) }
 {
     r.expect(Item::Open, "`(`")?;
-    let parts = elements(r, alloc)?;
+    let parts = read_elements(r, alloc)?;
     r.expect(Item::Close, "`,` or `)`")?;
-    keyed(&name.name, &parts)?;
+    keyed(name, &parts)?;
     table_tail(r)?;
-    Ok(table_of(name, parts))
+    Ok(parts)
 }
 
 /// Takes what stands behind CREATE TABLE, and makes the table.
@@ -82,7 +79,7 @@ pub fn create_table(r: &mut Reader<'_>, alloc: Global, draft: &mut Draft) -> Res
     ensures fewer { OnOk result (size (to_read r.new) < size (to_read r.old)) }
 {
     let name = new_name(r, alloc, draft)?;
-    let table = table_body(r, alloc, name)?;
-    draft.add_table(table)?;
+    let parts = table_body(r, alloc, &name.name)?;
+    draft.add_table(table_of(name, parts))?;
     Ok(())
 }

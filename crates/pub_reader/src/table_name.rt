@@ -1,20 +1,17 @@
 //! The names of tables, with their schemas.
 
 ghost use Rattle.std.specs.Prelude.{◌≡◌, ◌<◌, ◌≤◌, IfOk, OnOk, length};
-ghost use Rattle.pub_reader.specs.Ahead.{to_read};
+ghost use Rattle.sql_reader.specs.Ahead.{to_read};
+ghost use Rattle.sql_reader.specs.Items.{size};
+ghost use Rattle.sql_reader.specs.Reading.{Reads};
 ghost use Rattle.pub_reader.specs.DraftView.{draft_of};
-ghost use Rattle.pub_reader.specs.Items.{size};
-ghost use Rattle.pub_reader.specs.Reading.{Reads};
 ghost use Rattle.pub_reader.specs.TableNames as spec;
 
-use crate::column_rule::left_out;
 use crate::draft::{Draft, PUBLIC};
-use crate::error::{ErrorKind, Omitted, ReadError};
-use crate::item::Item;
-use crate::name::{PlacedName, read_name};
-use crate::reader::Reader;
-use crate::word::Keyword;
 use filter_tree::Text;
+use sql_reader::{
+    ErrorKind, Item, Keyword, Omitted, PlacedName, ReadError, Reader, left_out_clause, read_name,
+};
 use std::alloc::Global;
 
 /// The name of a new table, and its schema.
@@ -136,7 +133,7 @@ fn table_head(r: &Reader<'_>) -> Result<usize, ReadError>
     ensures { Reads (λ n. n) (spec.table_head (to_read r.now)) result (to_read r.now) }
 {
     match r.item() {
-        Some(Item::Keyword(Keyword::Partition)) => Err(left_out(r)),
+        Some(Item::Keyword(Keyword::Partition)) => Err(left_out_clause(r)),
         _ => Ok(0),
     }
 }

@@ -1,20 +1,15 @@
 mod catalog_cases;
-mod chains;
-mod expression_cases;
-mod expressions;
 mod parameter_cases;
 mod publication_cases;
 mod resolution;
-mod row_cases;
 mod statement_cases;
 
 use self::catalog_cases::{BEHIND_A_TABLE, Case, FILTERS, WHOLE};
 use self::parameter_cases::PARAMETERS;
 use self::publication_cases::{BEHIND_PUBLICATIONS, BEHIND_TABLES};
-use self::row_cases::ROWS;
 use self::statement_cases::STATEMENTS;
-use crate::{Catalog, ErrorKind, ReadError, read_catalog, read_row};
-use filter_tree::{Identity, Row, Tri, Value, eval};
+use crate::{Catalog, ReadError, read_catalog, read_row};
+use filter_tree::{Identity, Tri, eval};
 use std::alloc::{AllocError, Global};
 use std::process::Abort;
 use std::test::Fail;
@@ -74,47 +69,6 @@ fn reads_statements_or_their_first_fault(rt: HostRuntime) -> Result<(), Fail> {
     check_catalogs(&rt, rt.alloc(), TABLES, BEHIND_TABLES)?;
     check_catalogs(&rt, rt.alloc(), TABLES, PARAMETERS)?;
     check_catalogs(&rt, rt.alloc(), publications.as_str(), BEHIND_PUBLICATIONS)?;
-    Ok(())
-}
-
-/// A row as the cases show it.
-fn shown(alloc: Global, row: &Row) -> Result<String, AllocError> {
-    let mut text = String::new(alloc);
-    for value in row.values() {
-        if !text.is_empty() {
-            text.push_str(" ")?;
-        }
-        let word = match value {
-            Value::Null => format!(in alloc; "NULL")?,
-            Value::Int(number) => format!(in alloc; "{number}")?,
-            Value::Bool(true) => format!(in alloc; "TRUE")?,
-            Value::Bool(false) => format!(in alloc; "FALSE")?,
-            Value::Text(text) => format!(in alloc; "'{}'", text.as_str())?,
-        };
-        text.push_str(word.as_str())?;
-    }
-    Ok(text)
-}
-
-#[test]
-fn reads_rows_or_their_first_fault(rt: HostRuntime) -> Result<(), Fail> {
-    for (text, expected, place) in ROWS {
-        match (read_row(rt.alloc(), text), place) {
-            (Ok(row), None) => assert_eq!(rt;
-                shown(rt.alloc(), &row)?.as_str(),
-                *expected,
-                "of {text:?}"
-            ),
-            (Err(error), Some(place)) => {
-                assert!(rt;
-                    is_error(rt.alloc(), &error, expected, *place)?,
-                    "{error:?} of {text:?}"
-                );
-            }
-            (Ok(_), Some(_)) => panic!(rt; "{text:?} was read"),
-            (Err(error), None) => panic!(rt; "{error:?} of {text:?}"),
-        }
-    }
     Ok(())
 }
 
@@ -326,10 +280,4 @@ fn gives_the_filters_as_they_are_written(rt: HostRuntime) -> Result<(), Fail> {
         assert_eq!(rt; eval(filter, &row), expected, "of {text}");
     }
     Ok(())
-}
-
-#[test]
-fn names_kinds_without_what_they_carry(rt: HostRuntime) {
-    assert_eq!(rt; ErrorKind::Expected("`;`").name(), "Expected");
-    assert_eq!(rt; ErrorKind::OutOfMemory.name(), "OutOfMemory");
 }

@@ -13,7 +13,7 @@ use Rattle.pub_reader.specs.Statements.{catalog_by}
 use Rattle.pub_reader.specs.Written.{as_filter}
 use Rattle.pub_reader.specs.declared.catalog.Catalog.{Catalog}
 use Rattle.pub_reader.specs.declared.catalog.Publication.{Publication}
-use Rattle.pub_reader.specs.declared.error.ReadError.{ReadError}
+use Rattle.sql_reader.specs.declared.error.ReadError.{ReadError}
 use Rattle.publisher_main.specs.Answers.{line_of}
 use Rattle.publisher_main.specs.BadRows.{is_answered}
 use Rattle.publisher_main.specs.CommandLine.{Asks}

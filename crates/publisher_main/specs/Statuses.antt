@@ -1,6 +1,6 @@
 -- Why the program stops early, and the exit status.
 use Rattle.std.specs.Prelude.{if◌then◌else◌}
-use Rattle.pub_reader.specs.declared.error.ReadError.{ReadError}
+use Rattle.sql_reader.specs.declared.error.ReadError.{ReadError}
 use Rattle.publisher_main.specs.Memory.{is_memory}
 use Rattle.publisher_main.specs.declared.failure.Failure.{Failure}
 use Rattle.publisher_main.specs.declared.failure.Failure.TheVariants as f

@@ -1,11 +1,11 @@
 use Rattle.std.proofs.Common.{◌≡◌, ◌<◌}
-use Rattle.pub_reader.specs.declared.item.Item.TheVariants.{Comma}
-use Rattle.pub_reader.specs.Ahead.{to_read}
+use Rattle.sql_reader.specs.declared.item.Item.TheVariants.{Comma}
+use Rattle.sql_reader.specs.Ahead.{to_read}
+use Rattle.sql_reader.specs.Items.{size}
+use Rattle.sql_reader.specs.Turns.{link, repeat}
+use Rattle.sql_reader.specs.Written.{as_filter}
 use Rattle.pub_reader.specs.DraftView.{draft_of, objects_of}
-use Rattle.pub_reader.specs.Items.{size}
 use Rattle.pub_reader.specs.Objects as spec
-use Rattle.pub_reader.specs.Turns.{link, repeat}
-use Rattle.pub_reader.specs.Written.{as_filter}
 use Rattle.pub_reader.proofs.object.objects.Given as goal
 
 abbrev pub invariant-loop-r : goal.invariant-loop-r

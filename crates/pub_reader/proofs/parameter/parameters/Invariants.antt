@@ -1,9 +1,9 @@
 use Rattle.std.proofs.Common.{◌≡◌, ◌<◌}
-use Rattle.pub_reader.specs.declared.item.Item.TheVariants.{Comma}
-use Rattle.pub_reader.specs.Ahead.{to_read}
-use Rattle.pub_reader.specs.Items.{size}
+use Rattle.sql_reader.specs.declared.item.Item.TheVariants.{Comma}
+use Rattle.sql_reader.specs.Ahead.{to_read}
+use Rattle.sql_reader.specs.Items.{size}
+use Rattle.sql_reader.specs.Turns.{link, repeat}
 use Rattle.pub_reader.specs.Publishing as spec
-use Rattle.pub_reader.specs.Turns.{link, repeat}
 use Rattle.pub_reader.proofs.parameter.parameters.Given as goal
 
 abbrev pub invariant-loop-r : goal.invariant-loop-r

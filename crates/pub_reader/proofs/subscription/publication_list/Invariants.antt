@@ -1,10 +1,10 @@
 use Rattle.std.proofs.Common.{◌≡◌, ◌<◌}
-use Rattle.pub_reader.specs.declared.item.Item.TheVariants.{Comma}
-use Rattle.pub_reader.specs.Ahead.{to_read}
+use Rattle.sql_reader.specs.declared.item.Item.TheVariants.{Comma}
+use Rattle.sql_reader.specs.Ahead.{to_read}
+use Rattle.sql_reader.specs.Items.{size}
+use Rattle.sql_reader.specs.Turns.{link, repeat}
 use Rattle.pub_reader.specs.DraftView.{draft_of}
-use Rattle.pub_reader.specs.Items.{size}
 use Rattle.pub_reader.specs.Subscriptions as spec
-use Rattle.pub_reader.specs.Turns.{link, repeat}
 use Rattle.pub_reader.proofs.subscription.publication_list.Given as goal
 
 abbrev pub invariant-loop-numbers : goal.invariant-loop-numbers

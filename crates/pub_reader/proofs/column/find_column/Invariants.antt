@@ -1,6 +1,0 @@
-use Rattle.std.proofs.Common.{◌≡◌, drop}
-use Rattle.pub_reader.specs.Expressions.{found_from}
-use Rattle.pub_reader.proofs.column.find_column.Given as goal
-
-abbrev pub invariant-loop-number : goal.invariant-loop-number
-invariant-loop-number l = found_from l.number l.name (drop l.number l.columns) ≡ found_from 0 l.name l.columns

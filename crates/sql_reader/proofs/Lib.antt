@@ -1,0 +1,10 @@
+pub mod Ahead
+pub mod Carrying
+pub mod CountingLemmas
+pub mod Cuts
+pub mod Meanings
+pub mod Nesting
+pub mod OrderLemmas
+pub mod Required
+pub mod Turning
+pub mod Undoubling

@@ -1,0 +1,293 @@
+-- Filters as they are written: PostgreSQL 15, "Value Expressions", 4.2, with the precedences of 4.1.6 Operator Precedence: `%` binds tighter than comparisons, these tighter than IS tests, then NOT, AND and OR; AND and OR build to the left.
+use Rattle.std.specs.Prelude.{ℕ, zero, suc, ◌+◌, Bool, true, false, if◌then◌else◌, List, [], ◌∷◌, Option, Some, None, Ok, Err}
+use Rattle.std.specs.Str.{bytes_eq}
+use Rattle.sql_tokens.specs.declared.kinds.Operator.TheVariants as o
+use Rattle.filter_tree.specs.declared.table.Column.{Column}
+use Rattle.filter_tree.specs.declared.filter.Op.{Op}
+use Rattle.filter_tree.specs.declared.filter.Term.TheVariants.{Col}
+use Rattle.filter_tree.specs.declared.filter.Test.TheVariants as t
+use Rattle.filter_tree.specs.Datum.{Number, Truth, Bytes}
+use Rattle.sql_reader.specs.declared.word.Keyword.TheVariants as k
+use Rattle.sql_reader.specs.declared.item.Item.{Item}
+use Rattle.sql_reader.specs.declared.item.Item.TheVariants as i
+use Rattle.sql_reader.specs.declared.name.PlacedName.{PlacedName}
+use Rattle.sql_reader.specs.declared.column.FoundColumn.{FoundColumn}
+use Rattle.sql_reader.specs.declared.truth_test.Asked.{Asked}
+use Rattle.sql_reader.specs.declared.truth_test.Asked.TheVariants as a
+use Rattle.sql_reader.specs.declared.truth_test.Question.{Question}
+use Rattle.sql_reader.specs.declared.error.Omitted.TheVariants as l
+use Rattle.sql_reader.specs.declared.error.Later.TheVariants as y
+use Rattle.sql_reader.specs.Wrong as w
+use Rattle.sql_reader.specs.Items.{is_name}
+use Rattle.sql_reader.specs.Names.{name, string_meant}
+use Rattle.sql_reader.specs.Numbers.{placed_number}
+use Rattle.sql_reader.specs.Operands.{PartOf, OfTerm, OfLiteral, part, wanted, negated, joined, dividend, remainder, comparison_by, compared_part, tested as tested_part}
+pub use Rattle.sql_reader.specs.Operands.{Forms}
+use Rattle.sql_reader.specs.Reading.{Rule, Verdict, fault, ◌>>=◌, ◌>>◌, pure, check, here, refuse, refuse_as, advance, look, expect, next_is, is_ahead, item_ahead, place_ahead, written_ahead, rest_of}
+use Rattle.sql_reader.specs.Turns.{link, repeat}
+
+-- ---- columns
+
+-- the column of this name, of those that begin at this number
+abbrev pub found_from : ℕ → List ℕ → List Column → Option FoundColumn
+found_from number text [] = None
+found_from number text (column ∷ columns) =
+    if bytes_eq text column.name then Some (record { number = number; kind = column.kind })
+    else found_from (number + 1) text columns
+
+unfoldable pub find_column : List ℕ → List Column → Option FoundColumn
+find_column text columns = found_from 0 text columns
+
+abbrev pub known : PlacedName → Option FoundColumn → Verdict FoundColumn
+known called (Some column) = Ok column
+known called None = Err (fault called.place w.UnknownName)
+
+unfoldable pub known_column : List Column → PlacedName → Verdict FoundColumn
+known_column columns called = known called (find_column called.text columns)
+
+-- a name that a parenthesis or a point follows is no column
+abbrev pub no_call_by : Option Item → PlacedName → Verdict ℕ
+no_call_by (Some i.Open) called = Err (fault called.place (w.LeftOut l.Function))
+no_call_by (Some i.Dot) called = Err (fault called.place (w.LeftOut l.Qualified))
+no_call_by _ called = Ok 0
+
+unfoldable pub no_call : PlacedName → Rule ℕ
+no_call called = look >> (λ ts. check (no_call_by (item_ahead ts) called) ts)
+
+unfoldable pub column : List Column → Rule FoundColumn
+column columns = do
+  called ← name
+  no_call called
+  check (known_column columns called)
+
+-- ---- literals and columns
+
+-- a cast is left out. This does not look at a faulty token: where nothing can continue an operand, the checks of what it ends come before that token
+unfoldable pub no_cast : Rule (Unit {0})
+no_cast ts = if is_ahead i.DoubleColon ts then refuse_as (w.LeftOut l.Cast) ts else Ok (tt, ts)
+
+unfoldable pub column_part : {S : Type 0} → List Column → Rule (PartOf S)
+column_part columns = do
+  place ← here
+  found ← column columns
+  no_cast
+  pure (part place (OfTerm (Col found.number) found.kind))
+
+unfoldable pub number_part : {S : Type 0} → Rule (PartOf S)
+number_part = do
+  place ← here
+  digits ← placed_number
+  pure (part place (OfLiteral digits.place (Number digits.number)))
+
+-- the type behind `::`, which stands at this place, is the word text: another is left out
+abbrev pub text_type_by : ℕ → Option Item → Rule (Unit {0})
+text_type_by place (Some (i.Keyword k.Text)) = advance
+text_type_by place (Some item) = if is_name item then check (Err (fault place (w.LeftOut l.Cast))) else refuse
+text_type_by place None = refuse
+
+unfoldable pub text_type : ℕ → Rule (Unit {0})
+text_type place ts = text_type_by place (item_ahead ts) ts
+
+unfoldable pub text_cast : Rule (Unit {0})
+text_cast = expect i.DoubleColon >>= text_type
+
+-- behind a string, `:: text` changes nothing
+unfoldable pub cast_or_none : Rule (Unit {0})
+cast_or_none = do
+  has_cast ← next_is i.DoubleColon
+  if has_cast then text_cast else pure tt
+
+unfoldable pub string_part : {S : Type 0} → Rule (PartOf S)
+string_part = λ ts. (advance >> cast_or_none >> pure (part (place_ahead ts) (OfLiteral (place_ahead ts) (Bytes (string_meant (written_ahead ts)))))) ts
+
+unfoldable pub truth_part : {S : Type 0} → Bool → Rule (PartOf S)
+truth_part known = λ ts. (advance >> pure (part (place_ahead ts) (OfLiteral (place_ahead ts) (Truth known)))) ts
+
+-- NULL and CASE are no operands here, and no names
+abbrev pub simple_by : {S : Type 0} → List Column → Option Item → Rule (PartOf S)
+simple_by columns (Some (i.Operator o.Minus)) = number_part
+simple_by columns (Some (i.Number number)) = number_part
+simple_by columns (Some i.Text) = string_part
+simple_by columns (Some (i.Keyword k.True)) = truth_part true
+simple_by columns (Some (i.Keyword k.False)) = truth_part false
+simple_by columns (Some (i.Keyword k.Null)) = refuse_as (w.LeftOut l.Constant)
+simple_by columns (Some (i.Keyword k.Case)) = refuse_as (w.LeftOut l.Function)
+simple_by columns _ = column_part columns
+
+unfoldable pub simple : {S : Type 0} → List Column → Rule (PartOf S)
+simple columns ts = simple_by columns (item_ahead ts) ts
+
+-- ---- operators behind an operand that are not read: all bind tighter than comparisons
+
+abbrev pub no_word_by : Option Item → Rule (Unit {0})
+no_word_by (Some (i.Keyword k.Like)) = refuse_as (w.LeftOut l.Operator)
+no_word_by (Some (i.Keyword k.Ilike)) = refuse_as (w.LeftOut l.Operator)
+no_word_by (Some (i.Keyword k.Similar)) = refuse_as (w.LeftOut l.Operator)
+no_word_by (Some (i.Keyword k.In)) = refuse_as (w.NotYet y.In)
+no_word_by (Some (i.Keyword k.Between)) = refuse_as (w.NotYet y.Between)
+no_word_by _ = pure tt
+
+unfoldable pub no_word_operator : Rule (Unit {0})
+no_word_operator ts = no_word_by (item_ahead ts) ts
+
+-- NOT behind an operand begins one of these words' operators
+unfoldable pub no_negated_operator : Rule (Unit {0})
+no_negated_operator = advance >> no_word_operator >> refuse
+
+abbrev pub no_operator_by : Option Item → Rule (Unit {0})
+no_operator_by (Some i.DoubleColon) = refuse_as (w.LeftOut l.Cast)
+no_operator_by (Some (i.Operator o.Minus)) = refuse_as (w.LeftOut l.Operator)
+no_operator_by (Some (i.Operator o.Star)) = refuse_as (w.LeftOut l.Operator)
+no_operator_by (Some (i.Keyword k.Not)) = no_negated_operator
+no_operator_by _ = no_word_operator
+
+unfoldable pub no_operator : Rule (Unit {0})
+no_operator = look >> (λ ts. no_operator_by (item_ahead ts) ts)
+
+-- ---- IS tests
+
+unfoldable pub not_or_none : Rule Bool
+not_or_none ts = if is_ahead (i.Keyword k.Not) ts then Ok (true, rest_of ts) else Ok (false, ts)
+
+abbrev pub asked_by : Option Item → Rule Asked
+asked_by (Some (i.Keyword k.Null)) = advance >> pure a.Null
+asked_by (Some (i.Keyword k.True)) = advance >> pure (a.Truth t.True)
+asked_by (Some (i.Keyword k.False)) = advance >> pure (a.Truth t.False)
+asked_by (Some (i.Keyword k.Unknown)) = advance >> pure (a.Truth t.Unknown)
+asked_by (Some (i.Keyword k.Distinct)) = refuse_as (w.NotYet y.DistinctFrom)
+asked_by _ = refuse
+
+unfoldable pub asked_for : Rule Asked
+asked_for ts = asked_by (item_ahead ts) ts
+
+unfoldable pub is_question : Rule (Option Question)
+is_question = do
+  place ← expect (i.Keyword k.Is)
+  is_negated ← not_or_none
+  what ← asked_for
+  pure (Some (record { place = place; is_negated = is_negated; asked = what }))
+
+-- ISNULL and NOTNULL
+unfoldable pub null_question : Bool → Rule (Option Question)
+null_question is_negated = λ ts. (advance >> pure (Some (record { place = place_ahead ts; is_negated = is_negated; asked = a.Null }))) ts
+
+abbrev pub question_by : Option Item → Rule (Option Question)
+question_by (Some (i.Keyword k.Is)) = is_question
+question_by (Some (i.Keyword k.IsNull)) = null_question false
+question_by (Some (i.Keyword k.NotNull)) = null_question true
+question_by _ = pure None
+
+-- a test, if one is ahead
+unfoldable pub question_or_none : Rule (Option Question)
+question_or_none ts = question_by (item_ahead ts) ts
+
+unfoldable pub tested : {S : Type 0} → Forms S → PartOf S → Rule (PartOf S)
+tested forms asked_part = do
+  asking ← question_or_none
+  check (tested_part forms asking asked_part)
+
+-- ---- expressions
+
+-- a look at what stands behind a side of a comparison
+abbrev pub side_ended : {S : Type 0} → PartOf S → Rule (PartOf S)
+side_ended read = no_operator >> pure read
+
+-- the parenthesis behind a part; with its parentheses the part begins at this place
+abbrev pub closed : {S : Type 0} → ℕ → PartOf S → Rule (PartOf S)
+closed place inner = expect i.Close >> pure (part place inner.operand)
+
+module _ {S : Type 0} (forms : Forms S) (columns : List Column) where
+  -- What stands in parentheses, and behind NOT. Each adds one to the nesting, which is refused at the parenthesis or the NOT that passes the limit.
+  abbrev Below : Type 0
+  Below = Bool → Rule (PartOf S)
+
+  unfoldable pub primary : Below → Rule (PartOf S)
+  primary below ts = if is_ahead i.Open ts then below false ts else simple columns ts
+
+  -- `%` and the divisor, behind what begins at this place
+  unfoldable pub divisor : Below → ℕ → Option FoundColumn → Rule (PartOf S)
+  divisor below first column = do
+    place ← expect (i.Operator o.Percent)
+    right ← primary below
+    check (remainder place first column right.operand)
+
+  unfoldable pub divisor_or_none : Below → PartOf S → Rule (PartOf S)
+  divisor_or_none below left = do
+    is_divided ← next_is (i.Operator o.Percent)
+    if is_divided then divisor below left.place (dividend left.operand) else pure left
+
+  unfoldable pub term : Below → Rule (PartOf S)
+  term below = primary below >>= divisor_or_none below
+
+  -- a side of a comparison
+  unfoldable pub side : Below → Rule (PartOf S)
+  side below = term below >>= side_ended
+
+  -- a comparison is checked before what stands behind it, but for a cast
+  unfoldable pub right_side : Below → PartOf S → Op → Rule (PartOf S)
+  right_side below left operator = do
+    place ← here
+    advance
+    right ← term below
+    no_cast
+    whole ← check (compared_part forms place left operator right)
+    side_ended whole
+
+  abbrev pub right_side_by : Below → PartOf S → Option Op → Rule (PartOf S)
+  right_side_by below left (Some operator) = right_side below left operator
+  right_side_by below left None = pure left
+
+  unfoldable pub right_side_or_none : Below → PartOf S → Rule (PartOf S)
+  right_side_or_none below left ts = right_side_by below left (comparison_by (item_ahead ts)) ts
+
+  unfoldable pub comparison : Below → Rule (PartOf S)
+  comparison below = side below >>= right_side_or_none below
+
+  unfoldable pub test : Below → Rule (PartOf S)
+  test below = comparison below >>= tested forms
+
+  unfoldable pub negation : Below → Rule (PartOf S)
+  negation below ts = if is_ahead (i.Keyword k.Not) ts then below true ts else test below ts
+
+  unfoldable pub behind_not : Below → Rule (PartOf S)
+  behind_not below = do
+    place ← expect (i.Keyword k.Not)
+    right ← negation below
+    check (negated forms place right)
+
+  -- AND wants filters: the one before it once it is seen, and the one behind it once that has ended
+  unfoldable pub one_more_negation : Below → PartOf S → Rule (PartOf S)
+  one_more_negation below left = do
+    filter ← check (wanted forms left)
+    right ← negation below
+    check (joined forms forms.both left.place filter right)
+
+  unfoldable pub conjunction : Below → Rule (PartOf S)
+  conjunction below = negation below >>= repeat (link (i.Keyword k.And) (one_more_negation below))
+
+  unfoldable pub one_more_conjunction : Below → PartOf S → Rule (PartOf S)
+  one_more_conjunction below left = do
+    filter ← check (wanted forms left)
+    right ← conjunction below
+    check (joined forms forms.either left.place filter right)
+
+  unfoldable pub disjunction : Below → Rule (PartOf S)
+  disjunction below = conjunction below >>= repeat (link (i.Keyword k.Or) (one_more_conjunction below))
+
+  unfoldable pub in_parentheses : Below → Rule (PartOf S)
+  in_parentheses below = do
+    place ← expect i.Open
+    inner ← disjunction below
+    closed place inner
+
+  -- NOT and what it negates, or an expression in parentheses, where so many more may nest
+  unfoldable pub nested : ℕ → Below
+  nested zero is_not = refuse_as w.TooDeep
+  nested (suc n) true = behind_not (nested n)
+  nested (suc n) false = in_parentheses (nested n)
+
+  -- a filter
+  unfoldable pub expression : Rule S
+  expression = do
+    whole ← disjunction (nested 64)
+    check (wanted forms whole)

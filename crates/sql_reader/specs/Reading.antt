@@ -1,0 +1,151 @@
+-- How the grammar is read: each rule takes tokens from the front of a list and gives what it reads and the tokens that are left, or the first fault of the text.
+use Rattle.std.specs.Prelude.{◌≡◌, ℕ, Bool, true, false, if◌then◌else◌, List, [], Option, Some, None, Result, Ok, Err}
+use Rattle.sql_reader.specs.declared.error.ReadError.{ReadError}
+use Rattle.sql_reader.specs.declared.item.Item.{Item}
+use Rattle.sql_reader.specs.Items.{Items, Stop, Broken, Then, is_like}
+use Rattle.sql_reader.specs.Wrong.{Wrong, wrong_of, wrong_token}
+use Rattle.sql_reader.specs.Wrong as w
+
+-- what is wrong, and where in the text
+pub record Fault : Type 0 where
+  pub place : ℕ
+  pub wrong : Wrong
+
+abbrev pub fault : ℕ → Wrong → Fault
+fault place wrong = record { place = place; wrong = wrong }
+
+-- ---- rules
+
+abbrev pub Outcome : Type 0 → Type 0
+Outcome A = Result (A × Items) Fault
+
+abbrev pub Rule : Type 0 → Type 0
+Rule A = Items → Outcome A
+
+abbrev pub and_then : {A B : Type 0} → Outcome A → (A → Rule B) → Outcome B
+and_then (Ok read) more = more read.0 read.1
+and_then (Err fault) more = Err fault
+
+infixl 10 ◌>>=◌
+abbrev pub ◌>>=◌ : {A B : Type 0} → Rule A → (A → Rule B) → Rule B
+rule >>= more = λ ts. and_then (rule ts) more
+
+infixl 10 ◌>>◌
+abbrev pub ◌>>◌ : {A B : Type 0} → Rule A → Rule B → Rule B
+rule >> next_rule = rule >>= (λ _. next_rule)
+
+abbrev pub pure : {A : Type 0} → A → Rule A
+pure a = λ ts. Ok (a, ts)
+
+-- what a check of something that was read answers
+abbrev pub Verdict : Type 0 → Type 0
+Verdict A = Result A Fault
+
+abbrev pub with_rest : {A : Type 0} → Verdict A → Items → Outcome A
+with_rest (Ok a) ts = Ok (a, ts)
+with_rest (Err fault) ts = Err fault
+
+-- a check, which takes no token
+abbrev pub check : {A : Type 0} → Verdict A → Rule A
+check verdict = λ ts. with_rest verdict ts
+
+-- ---- the next token
+
+-- its place; the end of the text counts as a token at the text's length
+abbrev pub place_ahead : Items → ℕ
+place_ahead (Stop place) = place
+place_ahead (Broken place kind) = place
+place_ahead (Then token rest) = token.place
+
+abbrev pub item_ahead : Items → Option Item
+item_ahead (Stop place) = None
+item_ahead (Broken place kind) = None
+item_ahead (Then token rest) = Some token.item
+
+abbrev pub written_ahead : Items → List ℕ
+written_ahead (Stop place) = []
+written_ahead (Broken place kind) = []
+written_ahead (Then token rest) = token.written
+
+-- the tokens behind it
+abbrev pub rest_of : Items → Items
+rest_of (Stop place) = Stop place
+rest_of (Broken place kind) = Broken place kind
+rest_of (Then token rest) = rest
+
+-- why no rule takes it: it is faulty, or it fits none
+abbrev pub refusal : Items → Fault
+refusal (Stop place) = fault place w.Expected
+refusal (Broken place kind) = fault place (wrong_token kind)
+refusal (Then token rest) = fault token.place w.Expected
+
+abbrev pub refuse : {A : Type 0} → Rule A
+refuse = λ ts. Err (refusal ts)
+
+-- something else is wrong at it
+abbrev pub refuse_as : {A : Type 0} → Wrong → Rule A
+refuse_as wrong = λ ts. Err (fault (place_ahead ts) wrong)
+
+abbrev pub here : Rule ℕ
+here = λ ts. Ok (place_ahead ts, ts)
+
+abbrev pub is_like_ahead : Item → Option Item → Bool
+is_like_ahead item None = false
+is_like_ahead item (Some found) = is_like found item
+
+unfoldable pub is_ahead : Item → Items → Bool
+is_ahead item ts = is_like_ahead item (item_ahead ts)
+
+-- a look at it, which a faulty one does not stand
+abbrev pub looked : Rule (Unit {0})
+looked (Stop place) = Ok (tt, Stop place)
+looked (Broken place kind) = Err (fault place (wrong_token kind))
+looked (Then token rest) = Ok (tt, Then token rest)
+
+unfoldable pub look : Rule (Unit {0})
+look ts = looked ts
+
+-- after a look at it, whether it is this one
+unfoldable pub next_is : Item → Rule Bool
+next_is item = look >> (λ ts. Ok (is_ahead item ts, ts))
+
+-- whether the text goes on, where a faulty token is refused
+abbrev pub more_looked : Items → Verdict Bool
+more_looked (Stop place) = Ok false
+more_looked (Broken place kind) = Err (fault place (wrong_token kind))
+more_looked (Then token rest) = Ok true
+
+unfoldable pub more_ahead : Items → Verdict Bool
+more_ahead ts = more_looked ts
+
+-- takes it, whatever it is
+abbrev pub advance : Rule (Unit {0})
+advance = λ ts. Ok (tt, rest_of ts)
+
+-- takes this one, and tells its place
+unfoldable pub expect : Item → Rule ℕ
+expect item = λ ts. if is_ahead item ts then Ok (place_ahead ts, rest_of ts) else Err (refusal ts)
+
+-- ---- what a function that reads ensures
+
+-- an error tells the fault of the text; for want of memory it may stand for any outcome
+abbrev pub TellsOf : ℕ → Option Wrong → {A : Type 0} → Result A Fault → Type 0
+TellsOf place None outcome = Unit {0}
+TellsOf place (Some wrong) outcome = outcome ≡ Err (fault place wrong)
+
+abbrev pub Tells : {A : Type 0} → ReadError → Result A Fault → Type 0
+Tells e outcome = TellsOf e.place (wrong_of e.kind) outcome
+
+-- the function's answer is the rule's, where `view` is what the value read stands for and `rest` are the tokens left
+abbrev pub Reads : {A B : Type 0} → (A → B) → Outcome B → Result A ReadError → Items → Type 0
+Reads view outcome (Ok a) rest = outcome ≡ Ok (view a, rest)
+Reads view outcome (Err e) rest = Tells e outcome
+
+-- the same of a check
+abbrev pub Answers : {A B : Type 0} → (A → B) → Verdict B → Result A ReadError → Type 0
+Answers view verdict (Ok a) = verdict ≡ Ok (view a)
+Answers view verdict (Err e) = Tells e verdict
+
+-- an error tells a fault
+abbrev pub IsFault : ReadError → Fault → Type 0
+IsFault e fault = (e.place ≡ fault.place) × (wrong_of e.kind ≡ Some fault.wrong)

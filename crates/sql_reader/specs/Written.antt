@@ -1,0 +1,97 @@
+-- The meaning of a filter as it is written, by the forms of its grammar: PostgreSQL 15, "Value Expressions", 4.2, by the tables of "9.1 Logical Operators", "9.2 Comparison Functions and Operators" and `%` of "9.3 Mathematical Functions and Operators".
+use Rattle.std.specs.Prelude.{ℕ, Bool, true, List}
+use Rattle.filter_tree.specs.declared.tri.Tri.{Tri}
+use Rattle.filter_tree.specs.declared.tri.Tri.TheVariants.{False, Null}
+use Rattle.filter_tree.specs.declared.filter.Op.{Op}
+use Rattle.filter_tree.specs.declared.filter.Op.TheVariants.{Eq, Ne, Lt, Le, Gt, Ge}
+use Rattle.filter_tree.specs.declared.filter.Term.{Term}
+use Rattle.filter_tree.specs.declared.filter.Term.TheVariants.{Col}
+use Rattle.filter_tree.specs.declared.filter.Test.{Test}
+use Rattle.filter_tree.specs.Datum.{Constant, Truth, Datum, Missing, Known, value_at}
+use Rattle.filter_tree.specs.Compare.{compare_known}
+use Rattle.filter_tree.specs.Lists.{column_of}
+use Rattle.filter_tree.specs.Logic.{and_of, or_of, not_of, asks_of, tri_of}
+use Rattle.filter_tree.specs.Expr.{Expr, Always, Compares, Lacks, Holds, Negation, Both, Either, Asks, term_value, is_missing}
+use Rattle.sql_reader.specs.Operands.{Forms}
+
+-- an expression as it is written
+pub data Written : Type 0 where
+  Told : Bool → Written
+  Column : ℕ → Written
+  Compared : Term → Op → Constant → Written
+  ComparedFrom : Constant → Op → Term → Written
+  IsNull : Term → Written
+  Is : Test → Written → Written
+  Negated : Written → Written
+  And : Written → Written → Written
+  Or : Written → Written → Written
+
+-- ---- its value on a row
+
+-- the comparison of two values, which is null if one of them is
+abbrev pub compare_values : Op → Datum → Datum → Tri
+compare_values op Missing right = Null
+compare_values op left Missing = Null
+compare_values op (Known left) (Known right) = tri_of (compare_known op left right)
+
+-- the value of a boolean column; it has no others than null and truth values
+abbrev pub truth_value : Datum → Tri
+truth_value Missing = Null
+truth_value (Known (Truth truth)) = tri_of truth
+truth_value (Known other) = False
+
+abbrev pub written_meaning : Written → List Datum → Tri
+written_meaning (Told truth) row = tri_of truth
+written_meaning (Column column) row = truth_value (value_at row column)
+written_meaning (Compared term op constant) row = compare_values op (term_value term row) (Known constant)
+written_meaning (ComparedFrom constant op term) row = compare_values op (Known constant) (term_value term row)
+written_meaning (IsNull term) row = is_missing (term_value term row)
+written_meaning (Is test part) row = asks_of test (written_meaning part row)
+written_meaning (Negated part) row = not_of (written_meaning part row)
+written_meaning (And left right) row = and_of (written_meaning left row) (written_meaning right row)
+written_meaning (Or left right) row = or_of (written_meaning left row) (written_meaning right row)
+
+-- ---- its filter tree
+
+-- a boolean column is compared with TRUE
+abbrev pub held_expr : ℕ → Expr
+held_expr column = Holds (Compares (Col column) Eq (Truth true))
+
+abbrev pub compared_expr : Term → Op → Constant → Expr
+compared_expr term op constant = Holds (Compares term op constant)
+
+-- the comparison with its sides changed over
+abbrev pub turned : Op → Op
+turned Eq = Eq
+turned Ne = Ne
+turned Lt = Gt
+turned Le = Ge
+turned Gt = Lt
+turned Ge = Le
+
+-- a literal on the left is turned round
+abbrev pub compared_from_expr : Constant → Op → Term → Expr
+compared_from_expr constant op term = Holds (Compares term (turned op) constant)
+
+-- a remainder is null if its column is
+abbrev pub lacking_expr : Term → Expr
+lacking_expr term = Holds (Lacks (column_of term))
+
+abbrev pub filter_of : Written → Expr
+filter_of (Told truth) = Always truth
+filter_of (Column column) = held_expr column
+filter_of (Compared term op constant) = compared_expr term op constant
+filter_of (ComparedFrom constant op term) = compared_from_expr constant op term
+filter_of (IsNull term) = lacking_expr term
+filter_of (Is test part) = Asks test (filter_of part)
+filter_of (Negated part) = Negation (filter_of part)
+filter_of (And left right) = Both (filter_of left) (filter_of right)
+filter_of (Or left right) = Either (filter_of left) (filter_of right)
+
+-- ---- the grammar read as expressions as they are written, and as filter trees
+
+abbrev pub as_written : Forms Written
+as_written = record { known = Told; held = Column; compared = Compared; compared_from = ComparedFrom; lacking = IsNull; asked = Is; negated = Negated; both = And; either = Or; tree = filter_of }
+
+abbrev pub as_filter : Forms Expr
+as_filter = record { known = Always; held = held_expr; compared = compared_expr; compared_from = compared_from_expr; lacking = lacking_expr; asked = Asks; negated = Negation; both = Both; either = Either; tree = λ filter. filter }

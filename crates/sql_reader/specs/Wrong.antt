@@ -1,0 +1,57 @@
+-- What may be wrong with a text, without the words that say what was expected there.
+use Rattle.std.specs.Prelude.{Option, Some, None}
+use Rattle.sql_tokens.specs.declared.kinds.FaultKind.{FaultKind}
+use Rattle.sql_tokens.specs.declared.kinds.FaultKind.TheVariants as f
+use Rattle.sql_reader.specs.declared.error.ErrorKind.{ErrorKind}
+use Rattle.sql_reader.specs.declared.error.ErrorKind.TheVariants as e
+use Rattle.sql_reader.specs.declared.error.Later.{Later}
+use Rattle.sql_reader.specs.declared.error.Omitted.{Omitted}
+use Rattle.sql_reader.specs.declared.error.Omitted.TheVariants.{Number, StringForm, Operator}
+use Rattle.sql_reader.specs.declared.error.Limit.{Limit}
+use Rattle.sql_reader.specs.declared.error.Limit.TheVariants.{LiteralBytes}
+
+pub data Wrong : Type 0 where
+  BadToken : Wrong
+  Expected : Wrong
+  NameTooLong : Wrong
+  UnknownName : Wrong
+  NameTwice : Wrong
+  ColumnList : Wrong
+  NotYet : Later → Wrong
+  LeftOut : Omitted → Wrong
+  TypeClash : Wrong
+  NumberTooLarge : Wrong
+  ZeroDivisor : Wrong
+  TooDeep : Wrong
+  TooMany : Limit → Wrong
+  NoKey : Wrong
+  TableTwice : Wrong
+
+-- what an error says is wrong: want of memory says nothing of the text
+abbrev pub wrong_of : ErrorKind → Option Wrong
+wrong_of e.BadToken = Some BadToken
+wrong_of (e.Expected what) = Some Expected
+wrong_of e.NameTooLong = Some NameTooLong
+wrong_of e.UnknownName = Some UnknownName
+wrong_of e.NameTwice = Some NameTwice
+wrong_of e.ColumnList = Some ColumnList
+wrong_of (e.NotYet form) = Some (NotYet form)
+wrong_of (e.LeftOut form) = Some (LeftOut form)
+wrong_of e.TypeClash = Some TypeClash
+wrong_of e.NumberTooLarge = Some NumberTooLarge
+wrong_of e.ZeroDivisor = Some ZeroDivisor
+wrong_of e.TooDeep = Some TooDeep
+wrong_of (e.TooMany limit) = Some (TooMany limit)
+wrong_of e.NoKey = Some NoKey
+wrong_of e.TableTwice = Some TableTwice
+wrong_of e.OutOfMemory = None
+
+-- what is wrong where a token is faulty
+abbrev pub wrong_token : FaultKind → Wrong
+wrong_token f.BadToken = BadToken
+wrong_token f.NameTooLong = NameTooLong
+wrong_token f.NumberTooLarge = NumberTooLarge
+wrong_token f.LiteralBytes = TooMany LiteralBytes
+wrong_token f.Number = LeftOut Number
+wrong_token f.StringForm = LeftOut StringForm
+wrong_token f.Operator = LeftOut Operator

@@ -1,0 +1,174 @@
+//! The type and the constraints of a column.
+
+ghost use Rattle.std.specs.Prelude.{◌≡◌, ◌<◌, ◌≤◌, IsSome, OnOk};
+ghost use Rattle.sql_reader.specs.Ahead.{to_read};
+ghost use Rattle.sql_reader.specs.Items.{size};
+ghost use Rattle.sql_reader.specs.Reading.{Reads, Answers, IsFault, item_ahead, written_ahead};
+ghost use Rattle.sql_reader.specs.Columns as spec;
+ghost use Rattle.sql_reader.specs.Columns.{left_out_at};
+
+use crate::error::{ErrorKind, Omitted, ReadError};
+use crate::item::Item;
+use crate::name::is_name_ahead;
+use crate::reader::Reader;
+use crate::word::{Keyword, same_word};
+use filter_tree::ColType;
+
+/// The constraints that a column was given.
+#[derive(Clone, Copy)]
+pub struct Constraints {
+    pub not_null: bool,
+    pub key: bool,
+}
+
+/// The type that a word names.
+fn type_named(word: &str) -> Option<ColType>
+    ensures { result ≡ spec.type_named word.now }
+{
+    if same_word(word, "smallint") || same_word(word, "int2") {
+        Some(ColType::SmallInt)
+    } else if same_word(word, "integer") || same_word(word, "int") || same_word(word, "int4") {
+        Some(ColType::Integer)
+    } else if same_word(word, "bigint") || same_word(word, "int8") {
+        Some(ColType::BigInt)
+    } else if same_word(word, "boolean") || same_word(word, "bool") {
+        Some(ColType::Boolean)
+    } else if same_word(word, "text") {
+        Some(ColType::Text)
+    } else {
+        None
+    }
+}
+
+/// The type that the name ahead names.
+fn type_ahead(r: &Reader<'_>) -> Option<ColType>
+    requires { IsSome (item_ahead (to_read r.now)) }
+    ensures { result ≡ spec.type_by (item_ahead (to_read r.now)) (written_ahead (to_read r.now)) }
+{
+    match r.item() {
+        Some(Item::QuotedName) => None,
+        _ => type_named(r.written()),
+    }
+}
+
+/// Takes the name of a type.
+#[tactic(auto, using(crate::proofs::Ahead::rest_is_no_more), unfolding(crate::specs::Columns::column_type))]
+pub fn column_type(r: &mut Reader<'_>) -> Result<ColType, ReadError>
+    ensures reads { Reads (λ kind. kind) (spec.column_type (to_read r.old)) result (to_read r.new) }
+    ensures fewer { OnOk result (size (to_read r.new) ≤ size (to_read r.old)) }
+{
+    if !is_name_ahead(r) {
+        return Err(r.refusal("a data type"));
+    }
+    match type_ahead(r) {
+        Some(kind) => {
+            r.advance();
+            Ok(kind)
+        }
+        None => Err(r.refused(ErrorKind::LeftOut(Omitted::DataType))),
+    }
+}
+
+/// Whether a constraint of a column begins so.
+fn is_constraint(item: Option<Item>) -> bool
+    ensures { result ≡ spec.is_constraint item }
+{
+    match item {
+        Some(Item::Keyword(Keyword::Not)) => true,
+        Some(Item::Keyword(Keyword::Primary)) => true,
+        Some(Item::Keyword(Keyword::Null)) => true,
+        Some(Item::Keyword(Keyword::Default)) => true,
+        Some(Item::Keyword(Keyword::Check)) => true,
+        Some(Item::Keyword(Keyword::Unique)) => true,
+        Some(Item::Keyword(Keyword::References)) => true,
+        Some(Item::Keyword(Keyword::Constraint)) => true,
+        _ => false,
+    }
+}
+
+/// Whether a constraint of a column is ahead, where a faulty token is refused.
+#[tactic(auto, unfolding(crate::specs::Columns::constraint_ahead, crate::specs::Reading::look))]
+fn constraint_ahead(r: &Reader<'_>) -> Result<bool, ReadError>
+    ensures { Answers (λ b. b) (spec.constraint_ahead (to_read r.now)) result }
+{
+    r.look()?;
+    Ok(is_constraint(r.item()))
+}
+
+#[tactic(auto, using(crate::proofs::Ahead::rest_is_no_more), unfolding(crate::specs::Columns::not_null))]
+fn not_null(r: &mut Reader<'_>, given: Constraints) -> Result<Constraints, ReadError>
+    ensures reads { Reads (λ given. given) (spec.not_null given (to_read r.old)) result (to_read r.new) }
+    ensures fewer { OnOk result (size (to_read r.new) < size (to_read r.old)) }
+{
+    r.advance();
+    r.expect(Item::Keyword(Keyword::Null), "NULL")?;
+    Ok(Constraints {
+        not_null: true,
+        key: given.key,
+    })
+}
+
+#[tactic(auto, using(crate::proofs::Ahead::rest_is_no_more), unfolding(crate::specs::Columns::primary_key))]
+fn primary_key(r: &mut Reader<'_>, given: Constraints) -> Result<Constraints, ReadError>
+    ensures reads { Reads (λ given. given) (spec.primary_key given (to_read r.old)) result (to_read r.new) }
+    ensures fewer { OnOk result (size (to_read r.new) < size (to_read r.old)) }
+{
+    r.advance();
+    r.expect(Item::Keyword(Keyword::Key), "KEY")?;
+    Ok(Constraints {
+        not_null: given.not_null,
+        key: true,
+    })
+}
+
+/// Takes a constraint of a column, where the table has a key already or not.
+#[tactic(auto, unfolding(crate::specs::Columns::constraint))]
+fn constraint(
+    r: &mut Reader<'_>,
+    has_key: bool,
+    given: Constraints,
+) -> Result<Constraints, ReadError>
+    ensures reads { Reads (λ given. given) (spec.constraint has_key given (to_read r.old)) result (to_read r.new) }
+    ensures fewer { OnOk result (size (to_read r.new) < size (to_read r.old)) }
+{
+    match r.item() {
+        Some(Item::Keyword(Keyword::Not)) => {
+            if given.not_null {
+                Err(r.refusal("no second NOT NULL"))
+            } else {
+                not_null(r, given)
+            }
+        }
+        Some(Item::Keyword(Keyword::Primary)) => {
+            if has_key || given.key {
+                Err(r.refusal("no second PRIMARY KEY"))
+            } else {
+                primary_key(r, given)
+            }
+        }
+        _ => Err(left_out_clause(r)),
+    }
+}
+
+/// Takes the constraints of a column.
+#[tactic(auto, using(crate::proofs::Turning::turns), unfolding(crate::specs::Columns::constraints))]
+pub fn column_constraints(r: &mut Reader<'_>, has_key: bool) -> Result<Constraints, ReadError>
+    ensures reads { Reads (λ given. given) (spec.constraints has_key (to_read r.old)) result (to_read r.new) }
+    ensures fewer { OnOk result (size (to_read r.new) ≤ size (to_read r.old)) }
+{
+    let mut given = Constraints {
+        not_null: false,
+        key: false,
+    };
+    while constraint_ahead(r)? {
+        given = constraint(r, has_key, given)?;
+    }
+    Ok(given)
+}
+
+/// The error that the token ahead begins a clause of CREATE TABLE that is left out.
+pub fn left_out_clause(r: &Reader<'_>) -> ReadError
+    ensures { IsFault result (left_out_at (to_read r.now)) }
+{
+    r.refused(ErrorKind::LeftOut(Omitted::Constraint))
+}

@@ -1,0 +1,176 @@
+//! Why a text is not read, and where.
+
+use std::alloc::{AllocError, AllocFailed};
+use thiserror::Error;
+
+/// Why a text is not read.
+#[derive(Clone, Copy, Debug, Error)]
+#[error("{kind}, at byte {place}")]
+pub struct ReadError {
+    /// Where, in bytes from the start of the text. It says nothing where memory ran out.
+    pub place: usize,
+    pub kind: ErrorKind,
+}
+
+/// What is wrong with a text.
+#[derive(Clone, Copy, Debug, Error)]
+pub enum ErrorKind {
+    #[error("this is no token of SQL")]
+    BadToken,
+    #[error("expected {0}")]
+    Expected(&'static str),
+    #[error("a name has more than 63 bytes")]
+    NameTooLong,
+    #[error("this name was not made before")]
+    UnknownName,
+    #[error("this name is taken, or stands twice in a list")]
+    NameTwice,
+    #[error("lists of columns are not read after a table of a publication")]
+    ColumnList,
+    #[error("{0} is not read yet")]
+    NotYet(Later),
+    #[error("{0} is left out here")]
+    LeftOut(Omitted),
+    #[error("the types of the operands do not fit")]
+    TypeClash,
+    #[error("a number is above 9223372036854775807")]
+    NumberTooLarge,
+    #[error("the divisor is 0")]
+    ZeroDivisor,
+    #[error("parentheses and NOT nest deeper than 64")]
+    TooDeep,
+    #[error("there are more {0} than are read")]
+    TooMany(Limit),
+    #[error("this table has no primary key")]
+    NoKey,
+    #[error("this table stands twice in the publication, once with a filter")]
+    TableTwice,
+    #[error("out of memory")]
+    OutOfMemory,
+}
+
+/// Forms that are not read yet.
+#[derive(Clone, Copy, Debug, PartialEq, Eq, Error)]
+pub enum Later {
+    #[error("IN")]
+    In,
+    #[error("BETWEEN")]
+    Between,
+    #[error("IS DISTINCT FROM")]
+    DistinctFrom,
+    #[error("TRUNCATE")]
+    Truncate,
+    #[error("CREATE UNIQUE INDEX")]
+    UniqueIndex,
+    #[error("REPLICA IDENTITY USING INDEX")]
+    UsingIndex,
+}
+
+/// Forms of PostgreSQL that are left out.
+#[derive(Clone, Copy, Debug, PartialEq, Eq, Error)]
+pub enum Omitted {
+    #[error("this operator")]
+    Operator,
+    #[error("a call of a function, or CASE,")]
+    Function,
+    #[error("a number with a fraction")]
+    Number,
+    #[error("this form of string")]
+    StringForm,
+    #[error("a cast")]
+    Cast,
+    #[error("a quoted literal beside a number or a truth value")]
+    Literal,
+    #[error("an order of texts or truth values")]
+    Order,
+    #[error("a test of constants alone")]
+    Constant,
+    #[error("a comparison of two columns")]
+    TwoColumns,
+    #[error("a qualified column name")]
+    Qualified,
+    #[error("this clause of CREATE TABLE")]
+    Constraint,
+    #[error("this clause")]
+    Clause,
+    #[error("this data type")]
+    DataType,
+}
+
+/// Things of which a catalog or a script may have only so many.
+#[derive(Clone, Copy, Debug, PartialEq, Eq, Error)]
+pub enum Limit {
+    #[error("tables (64)")]
+    Tables,
+    #[error("columns of a table (100)")]
+    Columns,
+    #[error("publications (64)")]
+    Publications,
+    #[error("subscriptions (32)")]
+    Subscriptions,
+    #[error("different atoms in the filters of a table (64)")]
+    Atoms,
+    #[error("parts in the filters of a table (1,000)")]
+    Nodes,
+    #[error("bytes in a string (65,535)")]
+    LiteralBytes,
+    #[error("steps (100,000)")]
+    Steps,
+}
+
+impl ErrorKind {
+    ghost use Rattle.std.specs.Prelude.{◌≡◌};
+    ghost use Rattle.sql_reader.specs.KindNames.{kind_name};
+
+    /// The name of the kind, without what it carries.
+    pub fn name(&self) -> &'static str
+        ensures { result.now ≡ kind_name self.now }
+    {
+        match self {
+            ErrorKind::BadToken => "BadToken",
+            ErrorKind::Expected(_) => "Expected",
+            ErrorKind::NameTooLong => "NameTooLong",
+            ErrorKind::UnknownName => "UnknownName",
+            ErrorKind::NameTwice => "NameTwice",
+            ErrorKind::ColumnList => "ColumnList",
+            ErrorKind::NotYet(_) => "NotYet",
+            ErrorKind::LeftOut(_) => "LeftOut",
+            ErrorKind::TypeClash => "TypeClash",
+            ErrorKind::NumberTooLarge => "NumberTooLarge",
+            ErrorKind::ZeroDivisor => "ZeroDivisor",
+            ErrorKind::TooDeep => "TooDeep",
+            ErrorKind::TooMany(_) => "TooMany",
+            ErrorKind::NoKey => "NoKey",
+            ErrorKind::TableTwice => "TableTwice",
+            ErrorKind::OutOfMemory => "OutOfMemory",
+        }
+    }
+}
+
+impl From<AllocError> for ReadError {
+    ghost use Rattle.std.specs.Prelude.{◌≡◌};
+    ghost use Rattle.sql_reader.specs.declared.error.ErrorKind.TheVariants.{OutOfMemory};
+
+    ghost from_gives = { λ _ e. e.kind ≡ OutOfMemory };
+
+    fn from(_: AllocError) -> ReadError {
+        ReadError {
+            place: 0,
+            kind: ErrorKind::OutOfMemory,
+        }
+    }
+}
+
+impl<T: Drop> From<AllocFailed<T>> for ReadError {
+    ghost use Rattle.std.specs.Prelude.{◌≡◌};
+    ghost use Rattle.sql_reader.specs.declared.error.ErrorKind.TheVariants.{OutOfMemory};
+
+    ghost from_gives = { λ _ e. e.kind ≡ OutOfMemory };
+
+    fn from(_: AllocFailed<T>) -> ReadError {
+        ReadError {
+            place: 0,
+            kind: ErrorKind::OutOfMemory,
+        }
+    }
+}

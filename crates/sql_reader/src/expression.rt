@@ -1,0 +1,364 @@
+//! The filters of WHERE clauses.
+
+ghost use Rattle.std.specs.Prelude.{◌≡◌, ◌<◌, ◌≤◌, OnOk, false, true};
+ghost use Rattle.filter_tree.specs.Shape.{expr_of};
+ghost use Rattle.sql_reader.specs.Ahead.{to_read};
+ghost use Rattle.sql_reader.specs.Expressions as spec;
+ghost use Rattle.sql_reader.specs.Items.{size};
+ghost use Rattle.sql_reader.specs.OperandView.{part_of};
+ghost use Rattle.sql_reader.specs.Reading.{Reads};
+ghost use Rattle.sql_reader.specs.Written.{as_filter};
+
+use crate::column::FoundColumn;
+use crate::comparison::{compared_part, comparison_by};
+use crate::error::{ErrorKind, ReadError};
+use crate::item::Item;
+use crate::operand::{Part, both, dividend, either, negated, remainder, wanted};
+use crate::operator::{no_cast, no_operator};
+use crate::reader::Reader;
+use crate::simple::simple;
+use crate::truth_test::tested;
+use crate::word::Keyword;
+use filter_tree::{Column, Filter, Op};
+use sql_tokens::Operator;
+use std::alloc::Global;
+
+/// How deep parentheses and NOT may nest.
+const MAX_NESTING: u32 = 64;
+
+/// Takes the parenthesis behind a part, which begins at the one before it.
+fn closed(r: &mut Reader<'_>, place: usize, inner: Part) -> Result<Part, ReadError>
+    ensures reads { Reads part_of (spec.closed place (part_of inner) (to_read r.old)) result (to_read r.new) }
+    ensures fewer { OnOk result (size (to_read r.new) < size (to_read r.old)) }
+{
+    r.expect(Item::Close, "AND, OR or `)`")?;
+    Ok(Part {
+        place,
+        operand: inner.operand,
+    })
+}
+
+/// Takes an expression in parentheses.
+#[cycle(expression)]
+#[tactic(auto, using(crate::proofs::Nesting::nests), unfolding(crate::specs::Expressions::in_parentheses))]
+fn in_parentheses(
+    r: &mut Reader<'_>,
+    alloc: Global,
+    columns: &[Column],
+    depth: u32,
+) -> Result<Part, ReadError>
+    ensures reads { Reads part_of (spec.nested as_filter columns.now depth false (to_read r.old)) result (to_read r.new) }
+    ensures fewer { OnOk result (size (to_read r.new) < size (to_read r.old)) }
+{
+    if depth == 0 {
+        return Err(r.refused(ErrorKind::TooDeep));
+    }
+    let place = r.expect(Item::Open, "`(`")?;
+    let inner = disjunction(r, alloc, columns, depth - 1)?;
+    Ok(closed(r, place, inner)?)
+}
+
+/// Takes an expression in parentheses, a literal or a column.
+#[cycle(expression)]
+#[tactic(auto, unfolding(crate::specs::Expressions::primary))]
+fn primary(
+    r: &mut Reader<'_>,
+    alloc: Global,
+    columns: &[Column],
+    depth: u32,
+) -> Result<Part, ReadError>
+    ensures reads { Reads part_of (spec.primary as_filter columns.now (spec.nested as_filter columns.now depth) (to_read r.old)) result (to_read r.new) }
+    ensures fewer { OnOk result (size (to_read r.new) < size (to_read r.old)) }
+{
+    if r.is(Item::Open) {
+        return Ok(in_parentheses(r, alloc, columns, depth)?);
+    }
+    simple(r, alloc, columns)
+}
+
+/// Takes `%` and the divisor of a column, behind what begins at `first`.
+#[cycle(expression)]
+#[tactic(auto, unfolding(crate::specs::Expressions::divisor))]
+fn divisor(
+    r: &mut Reader<'_>,
+    alloc: Global,
+    columns: &[Column],
+    depth: u32,
+    first: usize,
+    column: Option<FoundColumn>,
+) -> Result<Part, ReadError>
+    ensures reads { Reads part_of (spec.divisor as_filter columns.now (spec.nested as_filter columns.now depth) first column (to_read r.old)) result (to_read r.new) }
+    ensures fewer { OnOk result (size (to_read r.new) < size (to_read r.old)) }
+{
+    let place = r.expect(Item::Operator(Operator::Percent), "`%`")?;
+    let right = primary(r, alloc, columns, depth)?;
+    Ok(remainder(place, first, column, right.operand)?)
+}
+
+/// Takes `%` and a divisor behind an operand, if they follow.
+#[cycle(expression)]
+#[tactic(auto, unfolding(crate::specs::Expressions::divisor_or_none))]
+fn divisor_or_none(
+    r: &mut Reader<'_>,
+    alloc: Global,
+    columns: &[Column],
+    depth: u32,
+    left: Part,
+) -> Result<Part, ReadError>
+    ensures reads { Reads part_of (spec.divisor_or_none as_filter columns.now (spec.nested as_filter columns.now depth) (part_of left) (to_read r.old)) result (to_read r.new) }
+    ensures fewer { OnOk result (size (to_read r.new) ≤ size (to_read r.old)) }
+{
+    if r.next_is(Item::Operator(Operator::Percent))? {
+        let first = left.place;
+        return Ok(divisor(r, alloc, columns, depth, first, dividend(left.operand))?);
+    }
+    Ok(left)
+}
+
+/// Takes an operand, or a remainder of one.
+#[cycle(expression)]
+#[tactic(auto, unfolding(crate::specs::Expressions::term))]
+fn term(
+    r: &mut Reader<'_>,
+    alloc: Global,
+    columns: &[Column],
+    depth: u32,
+) -> Result<Part, ReadError>
+    ensures reads { Reads part_of (spec.term as_filter columns.now (spec.nested as_filter columns.now depth) (to_read r.old)) result (to_read r.new) }
+    ensures fewer { OnOk result (size (to_read r.new) < size (to_read r.old)) }
+{
+    let left = primary(r, alloc, columns, depth)?;
+    Ok(divisor_or_none(r, alloc, columns, depth, left)?)
+}
+
+/// Looks behind a side of a comparison.
+fn side_ended(r: &mut Reader<'_>, part: Part) -> Result<Part, ReadError>
+    ensures reads { Reads part_of (spec.side_ended (part_of part) (to_read r.old)) result (to_read r.new) }
+    ensures fewer { OnOk result (size (to_read r.new) ≤ size (to_read r.old)) }
+{
+    no_operator(r)?;
+    Ok(part)
+}
+
+/// Takes a side of a comparison.
+#[cycle(expression)]
+#[tactic(auto, unfolding(crate::specs::Expressions::side))]
+fn side(
+    r: &mut Reader<'_>,
+    alloc: Global,
+    columns: &[Column],
+    depth: u32,
+) -> Result<Part, ReadError>
+    ensures reads { Reads part_of (spec.side as_filter columns.now (spec.nested as_filter columns.now depth) (to_read r.old)) result (to_read r.new) }
+    ensures fewer { OnOk result (size (to_read r.new) < size (to_read r.old)) }
+{
+    let part = term(r, alloc, columns, depth)?;
+    Ok(side_ended(r, part)?)
+}
+
+/// Takes a comparison operator and the side behind it.
+#[cycle(expression)]
+#[tactic(auto, using(crate::proofs::Ahead::rest_is_no_more), unfolding(crate::specs::Expressions::right_side))]
+fn right_side(
+    r: &mut Reader<'_>,
+    alloc: Global,
+    columns: &[Column],
+    depth: u32,
+    left: Part,
+    op: Op,
+) -> Result<Part, ReadError>
+    ensures reads { Reads part_of (spec.right_side as_filter columns.now (spec.nested as_filter columns.now depth) (part_of left) op (to_read r.old)) result (to_read r.new) }
+    ensures fewer { OnOk result (size (to_read r.new) ≤ size (to_read r.old)) }
+{
+    let place = r.place();
+    r.advance();
+    let right = term(r, alloc, columns, depth)?;
+    no_cast(r)?;
+    let whole = compared_part(place, left, op, right)?;
+    Ok(side_ended(r, whole)?)
+}
+
+/// Takes a comparison operator and the side behind it, if they follow.
+#[cycle(expression)]
+#[tactic(auto, unfolding(crate::specs::Expressions::right_side_or_none))]
+fn right_side_or_none(
+    r: &mut Reader<'_>,
+    alloc: Global,
+    columns: &[Column],
+    depth: u32,
+    left: Part,
+) -> Result<Part, ReadError>
+    ensures reads { Reads part_of (spec.right_side_or_none as_filter columns.now (spec.nested as_filter columns.now depth) (part_of left) (to_read r.old)) result (to_read r.new) }
+    ensures fewer { OnOk result (size (to_read r.new) ≤ size (to_read r.old)) }
+{
+    match comparison_by(r.item()) {
+        Some(op) => Ok(right_side(r, alloc, columns, depth, left, op)?),
+        None => Ok(left),
+    }
+}
+
+/// Takes a comparison, or an operand alone.
+#[cycle(expression)]
+#[tactic(auto, unfolding(crate::specs::Expressions::comparison))]
+fn comparison(
+    r: &mut Reader<'_>,
+    alloc: Global,
+    columns: &[Column],
+    depth: u32,
+) -> Result<Part, ReadError>
+    ensures reads { Reads part_of (spec.comparison as_filter columns.now (spec.nested as_filter columns.now depth) (to_read r.old)) result (to_read r.new) }
+    ensures fewer { OnOk result (size (to_read r.new) < size (to_read r.old)) }
+{
+    let left = side(r, alloc, columns, depth)?;
+    Ok(right_side_or_none(r, alloc, columns, depth, left)?)
+}
+
+/// Takes a comparison with a test behind it or none.
+#[cycle(expression)]
+#[tactic(auto, unfolding(crate::specs::Expressions::test))]
+fn test(
+    r: &mut Reader<'_>,
+    alloc: Global,
+    columns: &[Column],
+    depth: u32,
+) -> Result<Part, ReadError>
+    ensures reads { Reads part_of (spec.test as_filter columns.now (spec.nested as_filter columns.now depth) (to_read r.old)) result (to_read r.new) }
+    ensures fewer { OnOk result (size (to_read r.new) < size (to_read r.old)) }
+{
+    let part = comparison(r, alloc, columns, depth)?;
+    Ok(tested(r, alloc, part)?)
+}
+
+/// Takes NOT and what it negates.
+#[cycle(expression)]
+#[tactic(auto, using(crate::proofs::Nesting::nests), unfolding(crate::specs::Expressions::behind_not))]
+fn behind_not(
+    r: &mut Reader<'_>,
+    alloc: Global,
+    columns: &[Column],
+    depth: u32,
+) -> Result<Part, ReadError>
+    ensures reads { Reads part_of (spec.nested as_filter columns.now depth true (to_read r.old)) result (to_read r.new) }
+    ensures fewer { OnOk result (size (to_read r.new) < size (to_read r.old)) }
+{
+    if depth == 0 {
+        return Err(r.refused(ErrorKind::TooDeep));
+    }
+    let place = r.expect(Item::Keyword(Keyword::Not), "NOT")?;
+    let part = negation(r, alloc, columns, depth - 1)?;
+    Ok(negated(alloc, place, part)?)
+}
+
+/// Takes a part of an AND.
+#[cycle(expression)]
+#[tactic(auto, unfolding(crate::specs::Expressions::negation))]
+fn negation(
+    r: &mut Reader<'_>,
+    alloc: Global,
+    columns: &[Column],
+    depth: u32,
+) -> Result<Part, ReadError>
+    ensures reads { Reads part_of (spec.negation as_filter columns.now (spec.nested as_filter columns.now depth) (to_read r.old)) result (to_read r.new) }
+    ensures fewer { OnOk result (size (to_read r.new) < size (to_read r.old)) }
+{
+    if r.is(Item::Keyword(Keyword::Not)) {
+        return Ok(behind_not(r, alloc, columns, depth)?);
+    }
+    test(r, alloc, columns, depth)
+}
+
+/// Takes one more part of an AND.
+#[cycle(expression)]
+#[tactic(auto, unfolding(crate::specs::Expressions::one_more_negation))]
+fn one_more_negation(
+    r: &mut Reader<'_>,
+    alloc: Global,
+    columns: &[Column],
+    depth: u32,
+    left: Part,
+) -> Result<Part, ReadError>
+    ensures reads { Reads part_of (spec.one_more_negation as_filter columns.now (spec.nested as_filter columns.now depth) (part_of left) (to_read r.old)) result (to_read r.new) }
+    ensures fewer { OnOk result (size (to_read r.new) < size (to_read r.old)) }
+{
+    let place = left.place;
+    let filter = wanted(left)?;
+    let right = negation(r, alloc, columns, depth)?;
+    Ok(both(alloc, place, filter, right)?)
+}
+
+/// Takes a chain of ANDs, which builds to the left.
+#[cycle(expression)]
+#[tactic(auto, using(crate::proofs::Turning::chains), unfolding(crate::specs::Expressions::conjunction))]
+fn conjunction(
+    r: &mut Reader<'_>,
+    alloc: Global,
+    columns: &[Column],
+    depth: u32,
+) -> Result<Part, ReadError>
+    ensures reads { Reads part_of (spec.conjunction as_filter columns.now (spec.nested as_filter columns.now depth) (to_read r.old)) result (to_read r.new) }
+    ensures fewer { OnOk result (size (to_read r.new) < size (to_read r.old)) }
+{
+    let mut left = negation(r, alloc, columns, depth)?;
+    while r.next_is(Item::Keyword(Keyword::And))? {
+        r.advance();
+        left = one_more_negation(r, alloc, columns, depth, left)?;
+    }
+    Ok(left)
+}
+
+/// Takes one more part of an OR.
+#[cycle(expression)]
+#[tactic(auto, unfolding(crate::specs::Expressions::one_more_conjunction))]
+fn one_more_conjunction(
+    r: &mut Reader<'_>,
+    alloc: Global,
+    columns: &[Column],
+    depth: u32,
+    left: Part,
+) -> Result<Part, ReadError>
+    ensures reads { Reads part_of (spec.one_more_conjunction as_filter columns.now (spec.nested as_filter columns.now depth) (part_of left) (to_read r.old)) result (to_read r.new) }
+    ensures fewer { OnOk result (size (to_read r.new) < size (to_read r.old)) }
+{
+    let place = left.place;
+    let filter = wanted(left)?;
+    let right = conjunction(r, alloc, columns, depth)?;
+    Ok(either(alloc, place, filter, right)?)
+}
+
+/// Takes a chain of ORs, which builds to the left.
+#[cycle(expression)]
+#[tactic(auto, using(crate::proofs::Turning::chains), unfolding(crate::specs::Expressions::disjunction))]
+fn disjunction(
+    r: &mut Reader<'_>,
+    alloc: Global,
+    columns: &[Column],
+    depth: u32,
+) -> Result<Part, ReadError>
+    ensures reads { Reads part_of (spec.disjunction as_filter columns.now (spec.nested as_filter columns.now depth) (to_read r.old)) result (to_read r.new) }
+    ensures fewer { OnOk result (size (to_read r.new) < size (to_read r.old)) }
+{
+    let mut left = conjunction(r, alloc, columns, depth)?;
+    while r.next_is(Item::Keyword(Keyword::Or))? {
+        r.advance();
+        left = one_more_conjunction(r, alloc, columns, depth, left)?;
+    }
+    Ok(left)
+}
+
+/// Takes a filter over these columns (PostgreSQL 15, "31.3 Row Filters"). Parentheses and NOT nest at most 64 deep.
+///
+/// # Errors
+///
+/// The first fault of the filter, with its place, or `OutOfMemory`.
+#[tactic(auto, unfolding(crate::specs::Expressions::expression))]
+pub fn read_filter(
+    r: &mut Reader<'_>,
+    alloc: Global,
+    columns: &[Column],
+) -> Result<Filter, ReadError>
+    ensures reads { Reads (λ f. expr_of f) (spec.expression as_filter columns.now (to_read r.old)) result (to_read r.new) }
+    ensures fewer { OnOk result (size (to_read r.new) < size (to_read r.old)) }
+{
+    let whole = disjunction(r, alloc, columns, MAX_NESTING)?;
+    Ok(wanted(whole)?)
+}

@@ -1,0 +1,93 @@
+//! Tokens as the grammar tells them apart.
+
+ghost use Rattle.std.specs.Prelude.{◌≡◌};
+ghost use Rattle.sql_reader.specs.Items as spec;
+
+use crate::word::{Keyword, keyword_of};
+use sql_tokens::{Operator, TokenKind};
+
+/// What a token is to the grammar (PostgreSQL 15, "4.1 Lexical Structure").
+#[derive(Clone, Copy)]
+pub enum Item {
+    Keyword(Keyword),
+    /// A word that is no keyword.
+    Word,
+    /// A name between double quotes.
+    QuotedName,
+    /// A number with no sign.
+    Number(u64),
+    /// A string between single quotes.
+    Text,
+    Operator(Operator),
+    /// `(`
+    Open,
+    /// `)`
+    Close,
+    Comma,
+    Semicolon,
+    Dot,
+    /// `::`
+    DoubleColon,
+}
+
+impl Item {
+    /// The item that a token of this kind is, where `written` is the token as it is written.
+    pub(crate) fn of(kind: TokenKind, written: &str) -> Item
+        ensures { result ≡ spec.item_of kind written.now }
+    {
+        match kind {
+            TokenKind::Word => match keyword_of(written) {
+                Some(keyword) => Item::Keyword(keyword),
+                None => Item::Word,
+            },
+            TokenKind::QuotedName => Item::QuotedName,
+            TokenKind::Number(number) => Item::Number(number),
+            TokenKind::Text => Item::Text,
+            TokenKind::Operator(operator) => Item::Operator(operator),
+            TokenKind::Open => Item::Open,
+            TokenKind::Close => Item::Close,
+            TokenKind::Comma => Item::Comma,
+            TokenKind::Semicolon => Item::Semicolon,
+            TokenKind::Dot => Item::Dot,
+            TokenKind::DoubleColon => Item::DoubleColon,
+        }
+    }
+
+    /// A number for each sort of item.
+    fn sort(self) -> u8
+        ensures { result ≡ spec.sort_of self }
+    {
+        match self {
+            Item::Word => 0,
+            Item::QuotedName => 1,
+            Item::Number(_) => 2,
+            Item::Text => 3,
+            Item::Open => 4,
+            Item::Close => 5,
+            Item::Comma => 6,
+            Item::Semicolon => 7,
+            Item::Dot => 8,
+            Item::DoubleColon => 9,
+            Item::Operator(operator) => 10 + operator as u8,
+            Item::Keyword(keyword) => 30 + keyword as u8,
+        }
+    }
+
+    /// Whether two items are of one sort: the same keyword, operator or mark, two numbers, two names or two strings.
+    pub(crate) fn is_like(self, other: Item) -> bool
+        ensures { result ≡ spec.is_like self other }
+    {
+        self.sort() == other.sort()
+    }
+
+    /// Whether a name may be written so.
+    pub(crate) fn is_name(self) -> bool
+        ensures { result ≡ spec.is_name self }
+    {
+        match self {
+            Item::Word | Item::QuotedName => true,
+            Item::Keyword(keyword) => !crate::word::is_reserved(keyword),
+            _ => false,
+        }
+    }
+}

@@ -1,0 +1,37 @@
+//! Reads pieces of SQL as PostgreSQL 15 does ("SQL Syntax", chapter 4): names, the filters of WHERE clauses, the
+//! columns of CREATE TABLE, and rows of values. A `Reader` goes through the tokens of a text and looks at one token before it takes it. Each function
+//! that takes tokens gives what its rule of the grammar reads, or the first fault with its place.
+#![tactic(auto)]
+
+mod column;
+mod column_rule;
+mod comparison;
+mod element;
+mod error;
+mod expression;
+mod item;
+mod limits;
+mod name;
+mod number;
+mod operand;
+mod operator;
+mod quoted;
+mod reader;
+mod row;
+mod simple;
+#[cfg(test)]
+mod tests;
+mod token;
+mod truth_test;
+mod word;
+
+pub use column_rule::left_out_clause;
+pub use element::{TableParts, read_elements};
+pub use error::{ErrorKind, Later, Limit, Omitted, ReadError};
+pub use expression::read_filter;
+pub use item::Item;
+pub use limits::exceeded_limit;
+pub use name::{PlacedName, is_name_ahead, read_name};
+pub use reader::Reader;
+pub use row::read_row;
+pub use word::{Keyword, same_word};

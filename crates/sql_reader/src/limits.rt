@@ -1,0 +1,131 @@
+//! The limits on the filters of a table.
+
+ghost use Rattle.std.specs.Prelude.{◌≡◌, IfOk, OnOk, fold, length, nat_lt};
+ghost use Rattle.std.specs.List.{list_any};
+ghost use Rattle.filter_tree.specs.Shape.{condition_of, conditions_of, expr_of};
+ghost use Rattle.filter_tree.specs.Lists.{with_item};
+ghost use Rattle.filter_tree.specs.Same.{same_condition};
+ghost use Rattle.sql_reader.specs.Limits.{nodes, all_nodes, distinct_count, exprs_of};
+ghost use Rattle.sql_reader.specs.Limits.{exceeded as exceeded_of};
+ghost use Rattle.sql_reader.specs.Counting.{conditions_backwards, gathered, left_after};
+
+use crate::error::Limit;
+use filter_tree::{Atom, Filter, same_atom};
+use std::alloc::{AllocError, Global};
+
+/// How many distinct atoms the filters of a table may have together.
+const MAX_ATOMS: usize = 64;
+
+/// How many nodes the filters of a table may have together. Each constant, atom, NOT, AND, OR and IS test is a node.
+const MAX_NODES: usize = 1000;
+
+/// Which limit the filters of a table pass together, if any. Atoms are looked at first. The only error is want of
+/// memory. A filter may be a chain of ANDs and ORs of any length that leans to the left; stack is taken only for its
+/// right parts, and for at most `MAX_NODES` links.
+#[tactic(auto, unfolding(crate::specs::Limits::exceeded))]
+pub fn exceeded_limit<'a>(
+    alloc: Global,
+    filters: &[&'a Filter],
+) -> Result<Option<Limit>, AllocError>
+    ensures { IfOk result (λ found. found ≡ exceeded_of (exprs_of filters.now)) }
+{
+    if has_too_many_atoms(alloc, filters)? {
+        return Ok(Some(Limit::Atoms));
+    }
+    if has_too_many_nodes(filters) {
+        return Ok(Some(Limit::Nodes));
+    }
+    Ok(None)
+}
+
+#[tactic(auto, using(std::proofs::lemmas::Grind::common_steps, crate::proofs::CountingLemmas::gathered_passes))]
+fn has_too_many_atoms<'a>(alloc: Global, filters: &[&'a Filter]) -> Result<bool, AllocError>
+    ensures { IfOk result (λ many. many ≡ nat_lt 64 (distinct_count (exprs_of filters.now))) }
+{
+    let mut atoms = Vec::new(alloc);
+    for filter in filters {
+        gather_atoms(&mut atoms, *filter)?;
+    }
+    Ok(are_too_many(&atoms))
+}
+
+fn are_too_many(atoms: &[&Atom]) -> bool
+    ensures { result ≡ nat_lt 64 (length (conditions_of atoms.now)) }
+{
+    atoms.len() > MAX_ATOMS
+}
+
+/// Goes down the left side in a loop, and into the right parts by recursion. It stops once the list is too long, so
+/// each atom is compared with at most `MAX_ATOMS` others.
+#[tactic(auto, using(crate::proofs::CountingLemmas::full_stays))]
+fn gather_atoms<'a>(atoms: &mut Vec<&'a Atom, Global>, filter: &'a Filter) -> Result<(), AllocError>
+    ensures { OnOk result (conditions_of atoms.new.items
+        ≡ fold gathered (conditions_of atoms.old.items) (conditions_backwards (expr_of filter.now))) }
+{
+    let mut part = filter;
+    loop {
+        if are_too_many(atoms) {
+            return Ok(());
+        }
+        match part {
+            Filter::Const(_) => return Ok(()),
+            Filter::Atom(atom) => return add_atom(atoms, atom),
+            Filter::Not(inner) | Filter::Is(_, inner) => part = inner,
+            Filter::And(left, right) | Filter::Or(left, right) => {
+                gather_atoms(atoms, right)?;
+                part = left;
+            }
+        }
+    }
+}
+
+fn add_atom<'a>(atoms: &mut Vec<&'a Atom, Global>, atom: &'a Atom) -> Result<(), AllocError>
+    ensures { OnOk result (conditions_of atoms.new.items
+        ≡ with_item same_condition (conditions_of atoms.old.items) (condition_of atom.now)) }
+{
+    if has_atom(atoms, atom) {
+        return Ok(());
+    }
+    atoms.push(atom)?;
+    Ok(())
+}
+
+fn has_atom(atoms: &[&Atom], atom: &Atom) -> bool
+    ensures { result ≡ list_any (same_condition (condition_of atom.now)) (conditions_of atoms.now) }
+{
+    for held in atoms {
+        if same_atom(atom, *held) {
+            return true;
+        }
+    }
+    false
+}
+
+fn has_too_many_nodes(filters: &[&Filter]) -> bool
+    ensures { result ≡ nat_lt 1000 (all_nodes (exprs_of filters.now)) }
+{
+    let mut left = MAX_NODES;
+    for filter in filters {
+        match nodes_left(*filter, left) {
+            Some(rest) => left = rest,
+            None => return true,
+        }
+    }
+    false
+}
+
+/// How many of `left` nodes are left after those of the filter; nothing if it has more. So it takes at most `left`
+/// steps.
+#[tactic(auto, using(crate::proofs::CountingLemmas::nodes_positive))]
+fn nodes_left(filter: &Filter, left: usize) -> Option<usize>
+    ensures { result ≡ left_after (nodes (expr_of filter.now)) left }
+{
+    let rest = left.checked_sub(1)?;
+    match filter {
+        Filter::Const(_) | Filter::Atom(_) => Some(rest),
+        Filter::Not(part) | Filter::Is(_, part) => nodes_left(part, rest),
+        Filter::And(one, other) | Filter::Or(one, other) => {
+            nodes_left(other, nodes_left(one, rest)?)
+        }
+    }
+}

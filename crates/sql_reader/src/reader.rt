@@ -1,0 +1,250 @@
+//! The tokens of a text, with one token ahead.
+
+ghost use Rattle.std.specs.Prelude.{◌≡◌, ◌<◌, ◌^◌};
+ghost use Rattle.sql_tokens.specs.Left.{text_of};
+ghost use Rattle.sql_reader.specs.Magnitude.{magnitude};
+
+use crate::error::{ErrorKind, ReadError};
+use crate::item::Item;
+use crate::token::{token_kind, whole, within_quotes};
+use sql_tokens::{FaultKind, Tokens};
+
+/// What stands ahead of a reader.
+#[derive(Clone, Copy)]
+pub enum Ahead {
+    End,
+    Fault(FaultKind),
+    Item(Item),
+}
+
+/// A reader of the tokens of a text, which looks at one token before it takes it.
+#[derive(Drop)]
+pub struct Reader<'a> {
+    text: &'a str,
+    tokens: Tokens<'a>,
+    ahead: Ahead,
+    place: usize,
+    written: &'a str,
+    ghost same: { text_of tokens ≡ text.now },
+    ghost within: { magnitude ahead < 2 ^ 63 },
+}
+
+impl<'a> Reader<'a> {
+    ghost use Rattle.std.specs.Prelude.{◌≡◌, ◌<◌, IsSome, OnOk};
+    ghost use Rattle.sql_tokens.specs.Left.{text_of, left};
+    ghost use Rattle.sql_reader.specs.Items.{items, items_of, size};
+    ghost use Rattle.sql_reader.specs.Ahead.{to_read};
+    ghost use Rattle.sql_reader.specs.Numbers.{number_ahead};
+    ghost use Rattle.sql_reader.specs.Rows.{end};
+    ghost use Rattle.sql_reader.specs.Reading as spec;
+    ghost use Rattle.sql_reader.specs.Reading.{Reads, Answers, IsFault};
+
+    /// A reader before the first token of a text.
+    #[tactic(auto, unfolding(crate::specs::Items::items_of))]
+    pub fn new(text: &'a str) -> Reader<'a>
+        ensures { to_read result ≡ items_of text.now }
+    {
+        Reader::look_at(text, Tokens::new(text))
+    }
+
+    /// A reader whose token ahead is the next of `tokens`.
+    #[tactic(auto, unfolding(crate::specs::Ahead::to_read, crate::specs::Items::items))]
+    fn look_at(text: &'a str, mut tokens: Tokens<'a>) -> Reader<'a>
+        requires { text_of tokens ≡ text.now }
+        ensures { to_read result ≡ items (left tokens.entry) }
+    {
+        match tokens.next() {
+            Err(fault) => {
+                return Reader {
+                    text,
+                    tokens,
+                    ahead: Ahead::Fault(fault.kind),
+                    place: fault.place,
+                    written: "",
+                };
+            }
+            Ok(None) => {
+                return Reader {
+                    text,
+                    tokens,
+                    ahead: Ahead::End,
+                    place: text.len(),
+                    written: "",
+                };
+            }
+            Ok(Some(token)) => {
+                return Reader {
+                    text,
+                    tokens,
+                    ahead: Ahead::Item(Item::of(token.kind, whole(text, token))),
+                    place: token.place,
+                    written: within_quotes(text, token),
+                };
+            }
+        }
+    }
+
+    /// Takes the token ahead, if there is one that is not faulty.
+    #[tactic(auto, unfolding(crate::specs::Ahead::to_read))]
+    pub fn advance(&mut self)
+        ensures { to_read self.new ≡ spec.rest_of (to_read self.old) }
+    {
+        if let Ahead::Item(_) = self.ahead {
+            *self = Reader::look_at(self.text, self.tokens);
+        }
+    }
+
+    /// The token ahead; `None` at the end of the text and at a faulty token.
+    #[tactic(auto, unfolding(crate::specs::Ahead::to_read))]
+    pub fn item(&self) -> Option<Item>
+        ensures { result ≡ spec.item_ahead (to_read self.now) }
+    {
+        match self.ahead {
+            Ahead::Item(item) => Some(item),
+            Ahead::End | Ahead::Fault(_) => None,
+        }
+    }
+
+    /// The place of the token ahead, in bytes from the start of the text; at its end, the text's length.
+    #[tactic(auto, unfolding(crate::specs::Ahead::to_read))]
+    pub(crate) fn place(&self) -> usize
+        ensures { result ≡ spec.place_ahead (to_read self.now) }
+    {
+        self.place
+    }
+
+    /// The token ahead as it is written, without the quotes of a quoted name or a string.
+    #[tactic(auto, unfolding(crate::specs::Ahead::to_read))]
+    pub fn written(&self) -> &'a str
+        requires { IsSome (spec.item_ahead (to_read self.now)) }
+        ensures { result.now ≡ spec.written_ahead (to_read self.now) }
+    {
+        self.written
+    }
+
+    /// Why the token ahead is not taken: it is faulty, or it is not what was expected.
+    #[tactic(auto, unfolding(crate::specs::Ahead::to_read))]
+    pub fn refusal(&self, what: &'static str) -> ReadError
+        ensures { IsFault result (spec.refusal (to_read self.now)) }
+    {
+        ReadError {
+            place: self.place,
+            kind: match self.ahead {
+                Ahead::Fault(kind) => token_kind(kind),
+                Ahead::End | Ahead::Item(_) => ErrorKind::Expected(what),
+            },
+        }
+    }
+
+    /// Something else that is wrong at the token ahead.
+    pub fn refused(&self, kind: ErrorKind) -> ReadError
+        ensures place { result.place ≡ spec.place_ahead (to_read self.now) }
+        ensures kind { result.kind ≡ kind }
+    {
+        ReadError {
+            place: self.place(),
+            kind,
+        }
+    }
+
+    /// Whether this token is ahead: not at a faulty one.
+    #[tactic(auto, unfolding(crate::specs::Reading::is_ahead))]
+    pub fn is(&self, item: Item) -> bool
+        ensures { result ≡ spec.is_ahead item (to_read self.now) }
+    {
+        match self.item() {
+            Some(found) => found.is_like(item),
+            None => false,
+        }
+    }
+
+    /// Refuses a faulty token ahead.
+    ///
+    /// # Errors
+    ///
+    /// The fault of that token.
+    #[tactic(auto, unfolding(crate::specs::Reading::look, crate::specs::Ahead::to_read))]
+    pub fn look(&self) -> Result<(), ReadError>
+        ensures { Reads (λ u. u) (spec.look (to_read self.now)) result (to_read self.now) }
+    {
+        match self.ahead {
+            Ahead::Fault(kind) => Err(ReadError {
+                place: self.place,
+                kind: token_kind(kind),
+            }),
+            Ahead::End | Ahead::Item(_) => Ok(()),
+        }
+    }
+
+    /// Whether this token is ahead, where a faulty one is refused.
+    ///
+    /// # Errors
+    ///
+    /// The fault of that token.
+    #[tactic(auto, unfolding(crate::specs::Reading::next_is))]
+    pub fn next_is(&self, item: Item) -> Result<bool, ReadError>
+        ensures { Reads (λ b. b) (spec.next_is item (to_read self.now)) result (to_read self.now) }
+    {
+        self.look()?;
+        Ok(self.is(item))
+    }
+
+    /// Takes this token and tells its place, in bytes from the start of the text.
+    ///
+    /// # Errors
+    ///
+    /// The fault of the token ahead, or `Expected` where it is another token; then nothing is taken.
+    #[tactic(auto, using(crate::proofs::Ahead::rest_is_fewer), unfolding(crate::specs::Reading::expect))]
+    pub fn expect(&mut self, item: Item, what: &'static str) -> Result<usize, ReadError>
+        ensures reads { Reads (λ place. place) (spec.expect item (to_read self.old)) result (to_read self.new) }
+        ensures fewer { OnOk result (size (to_read self.new) < size (to_read self.old)) }
+    {
+        if !self.is(item) {
+            return Err(self.refusal(what));
+        }
+        let place = self.place();
+        self.advance();
+        Ok(place)
+    }
+
+    /// The number ahead, as the negative one where `negative` says so.
+    #[tactic(auto, unfolding(crate::specs::Ahead::to_read))]
+    pub(crate) fn number(&self, negative: bool) -> Option<i64>
+        ensures { result ≡ number_ahead negative (spec.item_ahead (to_read self.now)) }
+    {
+        match self.ahead {
+            Ahead::Item(Item::Number(number)) => {
+                let number = number as i64;
+                Some(if negative { -number } else { number })
+            }
+            _ => None,
+        }
+    }
+
+    /// Refuses all but the end of the text, and tells its place.
+    #[tactic(auto, unfolding(crate::specs::Rows::end, crate::specs::Ahead::to_read))]
+    pub(crate) fn end(&self, what: &'static str) -> Result<usize, ReadError>
+        ensures { Reads (λ place. place) (end (to_read self.now)) result (to_read self.now) }
+    {
+        match self.ahead {
+            Ahead::End => Ok(self.place),
+            Ahead::Fault(_) | Ahead::Item(_) => Err(self.refusal(what)),
+        }
+    }
+
+    /// Whether the text goes on, where a faulty token is refused.
+    ///
+    /// # Errors
+    ///
+    /// The fault of that token.
+    #[tactic(auto, unfolding(crate::specs::Reading::more_ahead, crate::specs::Ahead::to_read))]
+    pub fn more_ahead(&self) -> Result<bool, ReadError>
+        ensures { Answers (λ b. b) (spec.more_ahead (to_read self.now)) result }
+    {
+        match self.ahead {
+            Ahead::End => Ok(false),
+            Ahead::Item(_) => Ok(true),
+            Ahead::Fault(_) => Err(self.refusal("a token")),
+        }
+    }
+}

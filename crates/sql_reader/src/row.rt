@@ -1,0 +1,136 @@
+//! Rows as they are written.
+
+ghost use Rattle.std.specs.Prelude.{◌≡◌, ◌<◌, ◌≤◌, IsSome, OnOk, map};
+ghost use Rattle.filter_tree.specs.Values.{datum_of};
+ghost use Rattle.sql_reader.specs.Ahead.{to_read};
+ghost use Rattle.sql_reader.specs.Items.{size};
+ghost use Rattle.sql_reader.specs.Reading.{Reads, Answers, item_ahead};
+ghost use Rattle.sql_reader.specs.Rows as spec;
+
+use crate::error::ReadError;
+use crate::item::Item;
+use crate::name::string_text;
+use crate::number::signed_number;
+use crate::reader::Reader;
+use crate::word::Keyword;
+use filter_tree::{Row, Value};
+use sql_tokens::Operator;
+use std::alloc::Global;
+
+/// Takes `:: text`.
+#[tactic(auto, using(crate::proofs::Ahead::rest_is_no_more), unfolding(crate::specs::Rows::text_cast))]
+fn text_cast(r: &mut Reader<'_>) -> Result<usize, ReadError>
+    ensures reads { Reads (λ place. place) (spec.text_cast (to_read r.old)) result (to_read r.new) }
+    ensures fewer { OnOk result (size (to_read r.new) < size (to_read r.old)) }
+{
+    r.advance();
+    r.expect(Item::Keyword(Keyword::Text), "`text`")
+}
+
+/// Takes `:: text`, if it follows.
+#[tactic(auto, unfolding(crate::specs::Rows::cast_or_none))]
+fn cast_or_none(r: &mut Reader<'_>) -> Result<usize, ReadError>
+    ensures reads { Reads (λ place. place) (spec.cast_or_none (to_read r.old)) result (to_read r.new) }
+    ensures fewer { OnOk result (size (to_read r.new) ≤ size (to_read r.old)) }
+{
+    if r.next_is(Item::DoubleColon)? {
+        return Ok(text_cast(r)?);
+    }
+    Ok(0)
+}
+
+/// Takes a string, with `:: text` behind it or nothing.
+#[tactic(auto, using(crate::proofs::Ahead::rest_of_some_is_fewer), unfolding(crate::specs::Rows::string_value))]
+fn string_value(r: &mut Reader<'_>, alloc: Global) -> Result<Value, ReadError>
+    requires { IsSome (item_ahead (to_read r.old)) }
+    ensures reads { Reads datum_of (spec.string_value (to_read r.old)) result (to_read r.new) }
+    ensures fewer { OnOk result (size (to_read r.new) < size (to_read r.old)) }
+{
+    let text = string_text(r, alloc)?;
+    r.advance();
+    cast_or_none(r)?;
+    Ok(Value::Text(text))
+}
+
+#[tactic(auto, unfolding(crate::specs::Rows::number_value))]
+fn number_value(r: &mut Reader<'_>) -> Result<Value, ReadError>
+    ensures reads { Reads datum_of (spec.number_value (to_read r.old)) result (to_read r.new) }
+    ensures fewer { OnOk result (size (to_read r.new) < size (to_read r.old)) }
+{
+    Ok(Value::Int(signed_number(r)?))
+}
+
+/// Takes a value of a row.
+#[tactic(auto, using(crate::proofs::Ahead::rest_of_some_is_fewer), unfolding(crate::specs::Rows::value))]
+fn value(r: &mut Reader<'_>, alloc: Global) -> Result<Value, ReadError>
+    ensures reads { Reads datum_of (spec.value (to_read r.old)) result (to_read r.new) }
+    ensures fewer { OnOk result (size (to_read r.new) < size (to_read r.old)) }
+{
+    match r.item() {
+        Some(Item::Keyword(Keyword::Null)) => {
+            r.advance();
+            Ok(Value::Null)
+        }
+        Some(Item::Keyword(Keyword::True)) => {
+            r.advance();
+            Ok(Value::Bool(true))
+        }
+        Some(Item::Keyword(Keyword::False)) => {
+            r.advance();
+            Ok(Value::Bool(false))
+        }
+        Some(Item::Operator(Operator::Minus)) => number_value(r),
+        Some(Item::Number(_)) => number_value(r),
+        Some(Item::Text) => string_value(r, alloc),
+        _ => Err(r.refusal("a value")),
+    }
+}
+
+/// Takes one more value.
+#[tactic(auto, unfolding(crate::specs::Rows::one_value))]
+fn one_value(r: &mut Reader<'_>, alloc: Global, row: &mut Vec<Value>) -> Result<(), ReadError>
+    ensures reads { Reads (λ _. map datum_of row.new.items) (spec.one_value (map datum_of row.old.items) (to_read r.old)) result (to_read r.new) }
+    ensures fewer { OnOk result (size (to_read r.new) < size (to_read r.old)) }
+{
+    let cell = value(r, alloc)?;
+    row.push(cell)?;
+    Ok(())
+}
+
+/// Takes the values of a row, which commas part.
+#[tactic(auto, using(crate::proofs::Turning::chains), unfolding(crate::specs::Rows::values))]
+fn values(r: &mut Reader<'_>, alloc: Global) -> Result<Vec<Value>, ReadError>
+    ensures { Reads (λ row. map datum_of row.items) (spec.values (to_read r.old)) result (to_read r.new) }
+{
+    let mut row = Vec::new(alloc);
+    one_value(r, alloc, &mut row)?;
+    while r.next_is(Item::Comma)? {
+        r.advance();
+        one_value(r, alloc, &mut row)?;
+    }
+    Ok(row)
+}
+
+#[tactic(auto, unfolding(crate::specs::Rows::row))]
+fn row(r: &mut Reader<'_>, alloc: Global) -> Result<Row, ReadError>
+    ensures { Reads (λ row. row) (spec.row (to_read r.old)) result (to_read r.new) }
+{
+    r.expect(Item::Open, "`(`")?;
+    let values = values(r, alloc)?;
+    r.expect(Item::Close, "`,` or `)`")?;
+    r.end("the end of the row")?;
+    Ok(Row::from_values(values))
+}
+
+/// Reads a row: `( value , .. )`, where a value is NULL, TRUE, FALSE, a number with a minus or none, or a string with
+/// `:: text` or without. Its values are not held against a table here.
+///
+/// # Errors
+///
+/// The first fault of the text, or `OutOfMemory` where an allocation was refused.
+#[tactic(auto, unfolding(crate::specs::Rows::row_of))]
+pub fn read_row(alloc: Global, text: &str) -> Result<Row, ReadError>
+    ensures { Answers (λ row. row) (spec.row_of text.now) result }
+{
+    row(&mut Reader::new(text), alloc)
+}

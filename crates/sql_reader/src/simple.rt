@@ -1,0 +1,171 @@
+//! Operands of an expression that are no parentheses: literals and columns.
+
+ghost use Rattle.std.specs.Prelude.{◌≡◌, ◌<◌, ◌≤◌, IsSome, OnOk};
+ghost use Rattle.sql_reader.specs.Ahead.{to_read};
+ghost use Rattle.sql_reader.specs.Expressions as spec;
+ghost use Rattle.sql_reader.specs.Items.{size};
+ghost use Rattle.sql_reader.specs.OperandView.{part_of};
+ghost use Rattle.sql_reader.specs.Reading.{Reads, item_ahead};
+
+use crate::column::{FoundColumn, known_column};
+use crate::error::{ErrorKind, Omitted, ReadError};
+use crate::item::Item;
+use crate::name::{PlacedName, read_name, string_text};
+use crate::number::placed_number;
+use crate::operand::{Operand, Part};
+use crate::operator::no_cast;
+use crate::reader::Reader;
+use crate::word::Keyword;
+use filter_tree::{Column, Literal, Term};
+use sql_tokens::Operator;
+use std::alloc::Global;
+
+/// Refuses a name that a parenthesis or a point follows.
+#[tactic(auto, unfolding(crate::specs::Expressions::no_call))]
+fn no_call(r: &Reader<'_>, name: &PlacedName) -> Result<usize, ReadError>
+    ensures { Reads (λ n. n) (spec.no_call name.now (to_read r.now)) result (to_read r.now) }
+{
+    r.look()?;
+    match r.item() {
+        Some(Item::Open) => Err(ReadError {
+            place: name.place,
+            kind: ErrorKind::LeftOut(Omitted::Function),
+        }),
+        Some(Item::Dot) => Err(ReadError {
+            place: name.place,
+            kind: ErrorKind::LeftOut(Omitted::Qualified),
+        }),
+        _ => Ok(0),
+    }
+}
+
+/// Takes the name of a column.
+#[tactic(auto, unfolding(crate::specs::Expressions::column))]
+fn column(r: &mut Reader<'_>, alloc: Global, columns: &[Column]) -> Result<FoundColumn, ReadError>
+    ensures reads { Reads (λ column. column) (spec.column columns.now (to_read r.old)) result (to_read r.new) }
+    ensures fewer { OnOk result (size (to_read r.new) < size (to_read r.old)) }
+{
+    let name = read_name(r, alloc, "a column, a literal, NOT or `(`")?;
+    no_call(r, &name)?;
+    Ok(known_column(columns, &name)?)
+}
+
+/// Takes a column.
+#[tactic(auto, unfolding(crate::specs::Expressions::column_part))]
+fn column_part(r: &mut Reader<'_>, alloc: Global, columns: &[Column]) -> Result<Part, ReadError>
+    ensures reads { Reads part_of (spec.column_part columns.now (to_read r.old)) result (to_read r.new) }
+    ensures fewer { OnOk result (size (to_read r.new) < size (to_read r.old)) }
+{
+    let place = r.place();
+    let found = column(r, alloc, columns)?;
+    no_cast(r)?;
+    Ok(Part {
+        place,
+        operand: Operand::Term(Term::Col(found.number), found.kind),
+    })
+}
+
+/// Takes a number, with a minus before it or none.
+#[tactic(auto, unfolding(crate::specs::Expressions::number_part))]
+fn number_part(r: &mut Reader<'_>) -> Result<Part, ReadError>
+    ensures reads { Reads part_of (spec.number_part (to_read r.old)) result (to_read r.new) }
+    ensures fewer { OnOk result (size (to_read r.new) < size (to_read r.old)) }
+{
+    let place = r.place();
+    let digits = placed_number(r)?;
+    Ok(Part {
+        place,
+        operand: Operand::Literal(digits.place, Literal::Int(digits.number)),
+    })
+}
+
+/// Takes the type behind `::`, which stands at `place`.
+#[tactic(auto, using(crate::proofs::Ahead::rest_is_no_more), unfolding(crate::specs::Expressions::text_type))]
+fn text_type(r: &mut Reader<'_>, place: usize) -> Result<(), ReadError>
+    ensures reads { Reads (λ u. u) (spec.text_type place (to_read r.old)) result (to_read r.new) }
+    ensures fewer { OnOk result (size (to_read r.new) ≤ size (to_read r.old)) }
+{
+    match r.item() {
+        Some(Item::Keyword(Keyword::Text)) => {
+            r.advance();
+            Ok(())
+        }
+        Some(item) if item.is_name() => Err(ReadError {
+            place,
+            kind: ErrorKind::LeftOut(Omitted::Cast),
+        }),
+        _ => Err(r.refusal("`text`")),
+    }
+}
+
+/// Takes `::` and the type behind it.
+#[tactic(auto, unfolding(crate::specs::Expressions::text_cast))]
+fn text_cast(r: &mut Reader<'_>) -> Result<(), ReadError>
+    ensures reads { Reads (λ u. u) (spec.text_cast (to_read r.old)) result (to_read r.new) }
+    ensures fewer { OnOk result (size (to_read r.new) < size (to_read r.old)) }
+{
+    let place = r.expect(Item::DoubleColon, "`::`")?;
+    text_type(r, place)
+}
+
+/// Takes the cast behind a string, if there is one.
+#[tactic(auto, unfolding(crate::specs::Expressions::cast_or_none))]
+fn cast_or_none(r: &mut Reader<'_>) -> Result<(), ReadError>
+    ensures reads { Reads (λ u. u) (spec.cast_or_none (to_read r.old)) result (to_read r.new) }
+    ensures fewer { OnOk result (size (to_read r.new) ≤ size (to_read r.old)) }
+{
+    if r.next_is(Item::DoubleColon)? {
+        return Ok(text_cast(r)?);
+    }
+    Ok(())
+}
+
+/// Takes a string, with `:: text` behind it or nothing.
+#[tactic(auto, using(crate::proofs::Ahead::rest_of_some_is_fewer), unfolding(crate::specs::Expressions::string_part))]
+fn string_part(r: &mut Reader<'_>, alloc: Global) -> Result<Part, ReadError>
+    requires { IsSome (item_ahead (to_read r.old)) }
+    ensures reads { Reads part_of (spec.string_part (to_read r.old)) result (to_read r.new) }
+    ensures fewer { OnOk result (size (to_read r.new) < size (to_read r.old)) }
+{
+    let place = r.place();
+    let text = string_text(r, alloc)?;
+    r.advance();
+    cast_or_none(r)?;
+    Ok(Part {
+        place,
+        operand: Operand::Literal(place, Literal::Text(text)),
+    })
+}
+
+/// Takes TRUE or FALSE.
+#[tactic(auto, using(crate::proofs::Ahead::rest_of_some_is_fewer), unfolding(crate::specs::Expressions::truth_part))]
+fn truth_part(r: &mut Reader<'_>, known: bool) -> Result<Part, ReadError>
+    requires { IsSome (item_ahead (to_read r.old)) }
+    ensures reads { Reads part_of (spec.truth_part known (to_read r.old)) result (to_read r.new) }
+    ensures fewer { OnOk result (size (to_read r.new) < size (to_read r.old)) }
+{
+    let place = r.place();
+    r.advance();
+    Ok(Part {
+        place,
+        operand: Operand::Literal(place, Literal::Bool(known)),
+    })
+}
+
+/// Takes a literal or a column.
+#[tactic(auto, unfolding(crate::specs::Expressions::simple))]
+pub fn simple(r: &mut Reader<'_>, alloc: Global, columns: &[Column]) -> Result<Part, ReadError>
+    ensures reads { Reads part_of (spec.simple columns.now (to_read r.old)) result (to_read r.new) }
+    ensures fewer { OnOk result (size (to_read r.new) < size (to_read r.old)) }
+{
+    match r.item() {
+        Some(Item::Operator(Operator::Minus)) => number_part(r),
+        Some(Item::Number(_)) => number_part(r),
+        Some(Item::Text) => string_part(r, alloc),
+        Some(Item::Keyword(Keyword::True)) => truth_part(r, true),
+        Some(Item::Keyword(Keyword::False)) => truth_part(r, false),
+        Some(Item::Keyword(Keyword::Null)) => Err(r.refused(ErrorKind::LeftOut(Omitted::Constant))),
+        Some(Item::Keyword(Keyword::Case)) => Err(r.refused(ErrorKind::LeftOut(Omitted::Function))),
+        _ => column_part(r, alloc, columns),
+    }
+}

@@ -1,0 +1,68 @@
+mod chains;
+mod expression_cases;
+mod expressions;
+mod row_cases;
+
+use self::row_cases::ROWS;
+use crate::{ErrorKind, ReadError, read_row};
+use filter_tree::{Row, Value};
+use std::alloc::{AllocError, Global};
+use std::test::Fail;
+
+/// Whether an error is this one: its kind as it is shown for debugging, up to what was expected, and its place.
+fn is_error(
+    alloc: Global,
+    error: &ReadError,
+    kind: &str,
+    place: usize,
+) -> Result<bool, AllocError> {
+    let found = format!(in alloc; "{:?}", error.kind)?;
+    Ok(error.place == place && found.as_str().starts_with(kind))
+}
+
+/// A row as the cases show it.
+fn shown(alloc: Global, row: &Row) -> Result<String, AllocError> {
+    let mut text = String::new(alloc);
+    for value in row.values() {
+        if !text.is_empty() {
+            text.push_str(" ")?;
+        }
+        let word = match value {
+            Value::Null => format!(in alloc; "NULL")?,
+            Value::Int(number) => format!(in alloc; "{number}")?,
+            Value::Bool(true) => format!(in alloc; "TRUE")?,
+            Value::Bool(false) => format!(in alloc; "FALSE")?,
+            Value::Text(text) => format!(in alloc; "'{}'", text.as_str())?,
+        };
+        text.push_str(word.as_str())?;
+    }
+    Ok(text)
+}
+
+#[test]
+fn reads_rows_or_their_first_fault(rt: HostRuntime) -> Result<(), Fail> {
+    for (text, expected, place) in ROWS {
+        match (read_row(rt.alloc(), text), place) {
+            (Ok(row), None) => assert_eq!(rt;
+                shown(rt.alloc(), &row)?.as_str(),
+                *expected,
+                "of {text:?}"
+            ),
+            (Err(error), Some(place)) => {
+                assert!(rt;
+                    is_error(rt.alloc(), &error, expected, *place)?,
+                    "{error:?} of {text:?}"
+                );
+            }
+            (Ok(_), Some(_)) => panic!(rt; "{text:?} was read"),
+            (Err(error), None) => panic!(rt; "{error:?} of {text:?}"),
+        }
+    }
+    Ok(())
+}
+
+#[test]
+fn names_kinds_without_what_they_carry(rt: HostRuntime) {
+    assert_eq!(rt; ErrorKind::Expected("`;`").name(), "Expected");
+    assert_eq!(rt; ErrorKind::OutOfMemory.name(), "OutOfMemory");
+}

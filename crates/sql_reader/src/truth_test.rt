@@ -1,0 +1,216 @@
+//! The tests IS NULL, IS TRUE, IS FALSE and IS UNKNOWN.
+
+ghost use Rattle.std.specs.Prelude.{◌≡◌, ◌<◌, ◌≤◌, IfOk, OnOk, Some};
+ghost use Rattle.std.specs.Option.{option_map};
+ghost use Rattle.filter_tree.specs.Shape.{expr_of};
+ghost use Rattle.sql_reader.specs.Ahead.{to_read};
+ghost use Rattle.sql_reader.specs.Expressions as grammar;
+ghost use Rattle.sql_reader.specs.Items.{size};
+ghost use Rattle.sql_reader.specs.Operands as spec;
+ghost use Rattle.sql_reader.specs.OperandView.{operand_of, part_of};
+ghost use Rattle.sql_reader.specs.Reading.{Reads, Answers};
+ghost use Rattle.sql_reader.specs.Written.{as_filter};
+ghost use Rattle.sql_reader.specs.declared.truth_test.Asked.TheVariants.{Null, Truth};
+
+use crate::error::{ErrorKind, Later, Omitted, ReadError};
+use crate::item::Item;
+use crate::operand::{Operand, Part, truth};
+use crate::reader::Reader;
+use crate::word::Keyword;
+use filter_tree::{Atom, Filter, Literal, Test};
+use std::alloc::{AllocError, Global};
+
+/// What a test asks for: null, or one of the three truth values.
+#[derive(Clone, Copy)]
+pub enum Asked {
+    Null,
+    Truth(Test),
+}
+
+/// A test that was read, and the place of its first word.
+#[derive(Clone, Copy)]
+pub struct Question {
+    pub place: usize,
+    pub is_negated: bool,
+    pub asked: Asked,
+}
+
+/// Takes NOT, if it is ahead.
+#[tactic(auto, using(crate::proofs::Ahead::rest_is_no_more), unfolding(crate::specs::Expressions::not_or_none))]
+fn not_or_none(r: &mut Reader<'_>) -> Result<bool, ReadError>
+    ensures reads { Reads (λ b. b) (grammar.not_or_none (to_read r.old)) result (to_read r.new) }
+    ensures fewer { OnOk result (size (to_read r.new) ≤ size (to_read r.old)) }
+{
+    let is_negated = r.is(Item::Keyword(Keyword::Not));
+    if is_negated {
+        r.advance();
+    }
+    Ok(is_negated)
+}
+
+/// Takes what stands behind IS.
+#[tactic(auto, using(crate::proofs::Ahead::rest_is_no_more), unfolding(crate::specs::Expressions::asked_for))]
+fn asked_for(r: &mut Reader<'_>) -> Result<Asked, ReadError>
+    ensures reads { Reads (λ asked. asked) (grammar.asked_for (to_read r.old)) result (to_read r.new) }
+    ensures fewer { OnOk result (size (to_read r.new) ≤ size (to_read r.old)) }
+{
+    let asked = match r.item() {
+        Some(Item::Keyword(Keyword::Null)) => Asked::Null,
+        Some(Item::Keyword(Keyword::True)) => Asked::Truth(Test::True),
+        Some(Item::Keyword(Keyword::False)) => Asked::Truth(Test::False),
+        Some(Item::Keyword(Keyword::Unknown)) => Asked::Truth(Test::Unknown),
+        Some(Item::Keyword(Keyword::Distinct)) => {
+            return Err(r.refused(ErrorKind::NotYet(Later::DistinctFrom)));
+        }
+        _ => return Err(r.refusal("NULL, TRUE, FALSE or UNKNOWN")),
+    };
+    r.advance();
+    Ok(asked)
+}
+
+/// Takes IS and what is asked.
+#[tactic(auto, unfolding(crate::specs::Expressions::is_question))]
+fn is_question(r: &mut Reader<'_>) -> Result<Option<Question>, ReadError>
+    ensures reads { Reads (λ question. question) (grammar.is_question (to_read r.old)) result (to_read r.new) }
+    ensures fewer { OnOk result (size (to_read r.new) < size (to_read r.old)) }
+{
+    let place = r.expect(Item::Keyword(Keyword::Is), "IS")?;
+    let is_negated = not_or_none(r)?;
+    let asked = asked_for(r)?;
+    Ok(Some(Question {
+        place,
+        is_negated,
+        asked,
+    }))
+}
+
+/// Takes ISNULL or NOTNULL.
+#[tactic(auto, using(crate::proofs::Ahead::rest_is_no_more), unfolding(crate::specs::Expressions::null_question))]
+fn null_question(r: &mut Reader<'_>, is_negated: bool) -> Result<Option<Question>, ReadError>
+    ensures reads { Reads (λ question. question) (grammar.null_question is_negated (to_read r.old)) result (to_read r.new) }
+    ensures fewer { OnOk result (size (to_read r.new) ≤ size (to_read r.old)) }
+{
+    let place = r.place();
+    r.advance();
+    Ok(Some(Question {
+        place,
+        is_negated,
+        asked: Asked::Null,
+    }))
+}
+
+/// Takes a test, if one is ahead.
+#[tactic(auto, unfolding(crate::specs::Expressions::question_or_none))]
+fn question_or_none(r: &mut Reader<'_>) -> Result<Option<Question>, ReadError>
+    ensures reads { Reads (λ question. question) (grammar.question_or_none (to_read r.old)) result (to_read r.new) }
+    ensures fewer { OnOk result (size (to_read r.new) ≤ size (to_read r.old)) }
+{
+    match r.item() {
+        Some(Item::Keyword(Keyword::Is)) => is_question(r),
+        Some(Item::Keyword(Keyword::IsNull)) => null_question(r, false),
+        Some(Item::Keyword(Keyword::NotNull)) => null_question(r, true),
+        _ => Ok(None),
+    }
+}
+
+/// The test of a truth value, if there is one.
+fn asking(
+    alloc: Global,
+    place: usize,
+    test: Test,
+    part: Option<Filter>,
+) -> Result<Filter, ReadError>
+    ensures { Answers expr_of (spec.asking as_filter place test (option_map expr_of part)) result }
+{
+    match part {
+        Some(filter) => Ok(Filter::Is(test, Box::new(alloc, filter)?)),
+        None => Err(ReadError {
+            place,
+            kind: ErrorKind::TypeClash,
+        }),
+    }
+}
+
+/// IS NULL of an operand.
+fn is_null(alloc: Global, place: usize, operand: Operand) -> Result<Filter, ReadError>
+    ensures { Answers expr_of (spec.answered as_filter place Null (operand_of operand)) result }
+{
+    match operand {
+        Operand::Term(term, _) => Ok(Filter::Atom(Atom::IsNull(term.column()))),
+        Operand::Literal(_, Literal::Bool(known)) => {
+            asking(alloc, place, Test::Unknown, Some(Filter::Const(known)))
+        }
+        Operand::Literal(_, _) => Err(ReadError {
+            place,
+            kind: ErrorKind::LeftOut(Omitted::Constant),
+        }),
+        Operand::Formula(filter) => asking(alloc, place, Test::Unknown, Some(filter)),
+    }
+}
+
+/// IS TRUE, IS FALSE or IS UNKNOWN of an operand.
+fn is_truth(alloc: Global, place: usize, test: Test, operand: Operand) -> Result<Filter, ReadError>
+    ensures { Answers expr_of (spec.answered as_filter place (Truth test) (operand_of operand)) result }
+{
+    match operand {
+        Operand::Term(term, kind) => asking(alloc, place, test, truth(Operand::Term(term, kind))),
+        Operand::Literal(_, Literal::Bool(known)) => {
+            asking(alloc, place, test, Some(Filter::Const(known)))
+        }
+        Operand::Literal(_, _) => Err(ReadError {
+            place,
+            kind: ErrorKind::LeftOut(Omitted::Constant),
+        }),
+        Operand::Formula(filter) => asking(alloc, place, test, Some(filter)),
+    }
+}
+
+/// The test of an operand.
+fn answered(
+    alloc: Global,
+    place: usize,
+    asked: Asked,
+    operand: Operand,
+) -> Result<Filter, ReadError>
+    ensures { Answers expr_of (spec.answered as_filter place asked (operand_of operand)) result }
+{
+    match asked {
+        Asked::Null => is_null(alloc, place, operand),
+        Asked::Truth(test) => is_truth(alloc, place, test, operand),
+    }
+}
+
+/// NOT of a filter, where it is negated.
+fn negated_if(alloc: Global, is_negated: bool, filter: Filter) -> Result<Filter, AllocError>
+    ensures { IfOk result (λ f. expr_of f ≡ spec.negated_if as_filter is_negated (expr_of filter)) }
+{
+    if is_negated {
+        return Ok(Filter::Not(Box::new(alloc, filter)?));
+    }
+    Ok(filter)
+}
+
+/// The test of a part.
+#[tactic(auto, unfolding(crate::specs::Operands::tested))]
+fn tested_by(alloc: Global, question: Question, part: Part) -> Result<Part, ReadError>
+    ensures { Answers part_of (spec.tested as_filter (Some question) (part_of part)) result }
+{
+    let place = part.place;
+    let filter = answered(alloc, question.place, question.asked, part.operand)?;
+    Ok(Part {
+        place,
+        operand: Operand::Formula(negated_if(alloc, question.is_negated, filter)?),
+    })
+}
+
+/// Takes the test behind a part, if there is one.
+#[tactic(auto, unfolding(crate::specs::Expressions::tested, crate::specs::Operands::tested))]
+pub fn tested(r: &mut Reader<'_>, alloc: Global, part: Part) -> Result<Part, ReadError>
+    ensures reads { Reads part_of (grammar.tested as_filter (part_of part) (to_read r.old)) result (to_read r.new) }
+    ensures fewer { OnOk result (size (to_read r.new) ≤ size (to_read r.old)) }
+{
+    match question_or_none(r)? {
+        Some(question) => Ok(tested_by(alloc, question, part)?),
+        None => Ok(part),
+    }
+}
