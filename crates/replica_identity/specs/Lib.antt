@@ -5,3 +5,5 @@ pub mod PlanView
 pub mod Plans
 pub mod Setting
 pub mod Shares
+pub mod Standing
+pub mod Tables
