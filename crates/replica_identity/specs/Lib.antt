@@ -1,3 +1,4 @@
+pub mod Changes
 pub mod Identities
 pub mod Joining
 pub mod Passes
