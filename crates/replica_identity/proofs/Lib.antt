@@ -1,3 +1,4 @@
+pub mod ChangeLemmas
 pub mod JoiningLemmas
 pub mod NumberLemmas
 pub mod PassingLemmas

@@ -1,3 +1,4 @@
+pub mod Changes
 pub mod Identities
 pub mod Joining
 pub mod Passes
@@ -5,3 +6,5 @@ pub mod PlanView
 pub mod Plans
 pub mod Setting
 pub mod Shares
+pub mod Standing
+pub mod Tables

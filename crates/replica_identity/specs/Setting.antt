@@ -1,5 +1,5 @@
 -- What changes of tables depend on, told apart from the catalog that says it: which tables there are, which rows fit them, a row's primary key, what of it the replica identity records, and to whom it passes: PostgreSQL 15, "Logical Replication", 31.1 Publication and 31.3 Row Filters.
-use Rattle.std.specs.Prelude.{ℕ, ◌+◌, ◌==◌, Bool, false, nat_lt, List, [], ◌∷◌, map, length, slice_get, is_none, Option, Some, None, if◌then◌else◌}
+use Rattle.std.specs.Prelude.{ℕ, ◌+◌, ◌==◌, Bool, ◌&&◌, nat_lt, List, [], ◌∷◌, map, length, slice_get, is_none, Option, Some, None, if◌then◌else◌}
 use Rattle.std.specs.List.{list_any}
 use Rattle.filter_tree.specs.Datum.{Datum, Missing, value_at}
 use Rattle.filter_tree.specs.Expr.{Expr}
@@ -7,6 +7,7 @@ use Rattle.filter_tree.specs.Valid.{row_fault}
 use Rattle.filter_tree.specs.declared.table.Identity.{Identity}
 use Rattle.filter_tree.specs.declared.table.Identity.TheVariants.{Default, Full, Nothing}
 use Rattle.filter_tree.specs.declared.table.Table.{Table}
+use Rattle.filter_tree.specs.declared.validity.RowFault.{RowFault}
 use Rattle.pub_reader.specs.Catalogs.{CatalogOf}
 use Rattle.replica_identity.specs.Identities.{identity_columns}
 use Rattle.replica_identity.specs.Plans.{PlanOf, share_at}
@@ -22,8 +23,8 @@ pub data Recorded : Type 0 where
 pub record Setting : Type 0 where
   -- the table is there
   pub known : ℕ → Bool
-  -- the row may stand in it
-  pub fits : ℕ → List Datum → Bool
+  -- what first keeps the row from standing in it
+  pub fault : ℕ → List Datum → Option RowFault
   -- the row's primary key
   pub key : ℕ → List Datum → List Datum
   pub recorded : ℕ → Recorded
@@ -33,6 +34,10 @@ pub record Setting : Type 0 where
   pub blanked : ℕ → List Datum → List Datum
   -- the row passes to the subscriber: subscriber, table, row
   pub passes : ℕ → ℕ → List Datum → Bool
+
+-- the table is there, and the row may stand in it
+abbrev pub fits : Setting → ℕ → List Datum → Bool
+fits setting table row = setting.known table && is_none (setting.fault table row)
 
 abbrev pub values_at : List ℕ → List Datum → List Datum
 values_at columns row = map (value_at row) columns
@@ -48,18 +53,18 @@ recorded_as Default = Columns
 recorded_as Full = Whole
 recorded_as Nothing = Nowhere
 
--- ---- of a table that is there, or is not
+-- ---- of a table that is there; where there is none, a row has no fault and is its own identity
 
-abbrev pub fits_in : Option Table → List Datum → Bool
-fits_in None row = false
-fits_in (Some table) row = is_none (row_fault table.columns row)
+abbrev pub fault_in : Option Table → List Datum → Option RowFault
+fault_in None row = None
+fault_in (Some table) row = row_fault table.columns row
 
 abbrev pub key_in : Option Table → List Datum → List Datum
 key_in None row = []
 key_in (Some table) row = values_at table.key row
 
 abbrev pub recorded_in : Option Table → Recorded
-recorded_in None = Nowhere
+recorded_in None = Whole
 recorded_in (Some table) = recorded_as table.identity
 
 -- under FULL the row itself identifies it
@@ -68,7 +73,7 @@ identity_by Whole table row = row
 identity_by _ table row = values_at (identity_columns table) row
 
 abbrev pub identity_in : Option Table → List Datum → List Datum
-identity_in None row = []
+identity_in None row = row
 identity_in (Some table) row = identity_by (recorded_as table.identity) table row
 
 abbrev pub blanked_by : Recorded → Table → List Datum → List Datum
@@ -76,14 +81,14 @@ blanked_by Whole table row = row
 blanked_by _ table row = blanked_from (identity_columns table) 0 row
 
 abbrev pub blanked_in : Option Table → List Datum → List Datum
-blanked_in None row = []
+blanked_in None row = row
 blanked_in (Some table) row = blanked_by (recorded_as table.identity) table row
 
 -- what a catalog and its plan say
 abbrev pub setting_of : CatalogOf Expr → PlanOf → Setting
 setting_of catalog plan = record {
   known = λ table. nat_lt table (length catalog.tables);
-  fits = λ table. fits_in (slice_get catalog.tables table);
+  fault = λ table. fault_in (slice_get catalog.tables table);
   key = λ table. key_in (slice_get catalog.tables table);
   recorded = λ table. recorded_in (slice_get catalog.tables table);
   identity = λ table. identity_in (slice_get catalog.tables table);

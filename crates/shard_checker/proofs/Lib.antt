@@ -4,8 +4,10 @@ pub mod FactLemmas
 pub mod OwnerLemmas
 pub mod PlaceLemmas
 pub mod RangeLemmas
+pub mod ReasonLemmas
 pub mod ShardingLemmas
 pub mod SoundLemmas
+pub mod StandingLemmas
 pub mod Testing
 pub mod TruthLemmas
 pub mod ValueLemmas

@@ -27,20 +27,11 @@ use Rattle.shard_checker.specs.declared.error.CheckError.TheVariants.{NotCovered
 use Rattle.shard_checker.specs.declared.error.Operation.{Operation}
 use Rattle.shard_checker.specs.declared.error.Operation.TheVariants.{Insert, Update, Delete}
 use Rattle.shard_checker.proofs.SoundLemmas.{certificate_sound}
-use Rattle.shard_checker.proofs.Testing.{two_true, same_number}
+use Rattle.shard_checker.proofs.Testing.{two_true, same_number, at_zero, zero_more, at_next}
 
 none_first : (one next : Option CheckError) → first_of one next ≡ None → (one ≡ None) × (next ≡ None)
 none_first None next h = (refl, h)
 none_first (Some error) next h = absurd cc
-
-at_zero : (number : ℕ) → number + 0 ≡ number
-at_zero number = omega arith
-
-zero_more : (number : ℕ) → 0 + number ≡ number
-zero_more number = omega arith
-
-at_next : (number k : ℕ) → number + suc k ≡ number + 1 + k
-at_next number k = omega arith
 
 -- ---- what is published
 

@@ -1,5 +1,5 @@
--- Tests and their answers.
-use Rattle.std.proofs.Common.{◌≡◌, ℕ, Bool, true, false, not, ◌&&◌, ◌||◌, refl, ap}
+-- Tests and their answers, and the places of lists.
+use Rattle.std.proofs.Common.{◌≡◌, ℕ, suc, ◌+◌, Bool, true, false, not, ◌&&◌, ◌||◌, refl, ap, arith}
 use Rattle.std.specs.Prelude.{T, nat_eq, ◌==◌}
 use Rattle.std.specs.Ordering.{int_eq}
 use Rattle.std.specs.Cmp.{unsigned_Decides, signed_Decides}
@@ -54,6 +54,18 @@ from_test false t = absurd t
 
 pub same_number : (m n : ℕ) → (m == n) ≡ true → m ≡ n
 same_number m n h = (unsigned_Decides m n).0 h
+
+pub number_itself : (n : ℕ) → (n == n) ≡ true
+number_itself n = (unsigned_Decides n n).1 refl
+
+pub at_zero : (number : ℕ) → number + 0 ≡ number
+at_zero number = omega arith
+
+pub zero_more : (number : ℕ) → 0 + number ≡ number
+zero_more number = omega arith
+
+pub at_next : (number k : ℕ) → number + suc k ≡ number + 1 + k
+at_next number k = omega arith
 
 pub same_term_is : (s t : Term) → same_term s t ≡ true → s ≡ t
 same_term_is (Col c) (Col d) h = ap Col ((unsigned_Decides c d).0 h)

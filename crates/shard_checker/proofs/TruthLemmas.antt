@@ -21,11 +21,11 @@ use Rattle.shard_checker.proofs.ExistingLemmas.{value_exists}
 use Rattle.shard_checker.proofs.OwnerLemmas.{only_owner}
 use Rattle.shard_checker.proofs.Testing.{by_test, both_true, both_false, not_true, clash}
 
-same_some : (one other : CheckError) → Some one ≡ Some other → other ≡ one
+pub same_some : (one other : CheckError) → Some one ≡ Some other → other ≡ one
 same_some one other h = cc
 
 -- a test that decides whether there is a refusal
-failed : (b : Bool) (one error : CheckError) → (if b then None else Some one) ≡ Some error → (b ≡ false) × (error ≡ one)
+pub failed : (b : Bool) (one error : CheckError) → (if b then None else Some one) ≡ Some error → (b ≡ false) × (error ≡ one)
 failed true one error h = absurd cc
 failed false one error h = (refl, same_some one error h)
 

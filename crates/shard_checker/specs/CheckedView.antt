@@ -5,6 +5,7 @@ use Rattle.pub_reader.specs.Catalogs.{CatalogOf}
 use Rattle.pub_reader.specs.declared.catalog.Catalog.{Catalog}
 use Rattle.replica_identity.specs.Plans.{PlanOf}
 use Rattle.replica_identity.specs.PlanView.{plan_view}
+use Rattle.replica_identity.specs.Setting.{Setting, setting_of}
 use Rattle.replica_identity.specs.declared.shares.Plan.{Plan}
 use Rattle.shard_checker.specs.declared.checked.Checked.{Checked}
 
@@ -17,3 +18,7 @@ checked_of catalog plan = record { catalog = catalog_of catalog; plan = plan_vie
 
 abbrev pub checked_view : Checked → CheckedOf
 checked_view checked = checked_of checked.catalog checked.plan
+
+-- the setting in which changes of its tables stand
+abbrev pub setting_in : CheckedOf → Setting
+setting_in checked = setting_of checked.catalog checked.plan

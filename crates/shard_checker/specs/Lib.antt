@@ -1,9 +1,11 @@
 pub mod CatalogRefusal
+pub mod CatalogTruth
 pub mod CheckedView
 pub mod Domain
 pub mod Facts
 pub mod Numbering
 pub mod Owners
+pub mod PlanFacts
 pub mod Refusal
 pub mod Sound
 pub mod SoundFacts

@@ -2,53 +2,64 @@
 
 ghost use Rattle.std.specs.Prelude.{◌≡◌};
 ghost use Rattle.pub_reader.specs.CatalogView.{catalog_of};
-ghost use Rattle.replica_identity.specs.Plans.{TakesWhatPasses};
+ghost use Rattle.replica_identity.specs.Plans.{plan_of};
 ghost use Rattle.replica_identity.specs.PlanView.{plan_view};
+ghost use Rattle.shard_checker.specs.PlanFacts.{PlanOf-set};
 ghost use Rattle.shard_checker.specs.Sound.{IsSound};
 ghost use Rattle.shard_checker.specs.SoundFacts.{IsSound-prop};
 
 use pub_reader::Catalog;
 use replica_identity::Plan;
 
-/// A catalog and its plan that the check accepted. Whoever holds one knows that the catalog's sharding is sound, and that
-/// the plan's shares take what passes by the catalog.
+/// A catalog and its own plan that the check accepted. Whoever holds one knows that the catalog's sharding is sound, and
+/// of changes of its tables what the laws about them ask: that a row's replica identity tells to whom the row passes,
+/// that no two rows of a table have one identity, and that each row that fits its table passes to exactly one subscriber.
 #[derive(Drop)]
 pub struct Checked {
     catalog: Catalog,
     plan: Plan,
-    ghost own: { TakesWhatPasses (catalog_of catalog) (plan_view plan) },
+    ghost own: { plan_view plan ≡ plan_of (catalog_of catalog) } by { PlanOf-set (plan_view plan) (plan_of (catalog_of catalog)) },
     ghost sound: { IsSound (catalog_of catalog) } by { IsSound-prop (catalog_of catalog) },
 }
 
 impl Checked {
     ghost use Rattle.std.specs.Prelude.{◌≡◌};
     ghost use Rattle.pub_reader.specs.CatalogView.{catalog_of};
-    ghost use Rattle.replica_identity.specs.Plans.{TakesWhatPasses};
+    ghost use Rattle.replica_identity.specs.Plans.{TakesWhatPasses, plan_of};
     ghost use Rattle.replica_identity.specs.PlanView.{plan_view};
-    ghost use Rattle.shard_checker.specs.CheckedView.{checked_of, checked_view};
+    ghost use Rattle.replica_identity.specs.Standing.{Covered, KeepsApart, Sound};
+    ghost use Rattle.shard_checker.specs.CheckedView.{checked_of, checked_view, setting_in};
     ghost use Rattle.shard_checker.specs.Sound.{IsSound};
 
     /// A catalog whose sharding is sound, with its plan.
     pub(crate) fn new(catalog: Catalog, plan: Plan) -> Checked
-        requires own { TakesWhatPasses (catalog_of catalog) (plan_view plan) }
+        requires own { plan_view plan ≡ plan_of (catalog_of catalog) }
         requires sound { IsSound (catalog_of catalog) }
         ensures { checked_view result ≡ checked_of catalog plan }
     {
         Checked { catalog, plan }
     }
 
-    /// The catalog, whose sharding is sound.
+    /// The catalog, whose sharding is sound. In the setting that it makes with its plan a row's replica identity tells to
+    /// whom the row passes (`covered`), commands that are accepted leave no two rows of a table with one identity
+    /// (`apart`), and each row that fits its table passes to exactly one subscriber (`divided`).
+    #[tactic(auto, using(crate::proofs::StandingLemmas::standing))]
     pub fn catalog(&self) -> &Catalog
         ensures shows { catalog_of result.now ≡ (checked_view self.now).catalog }
         ensures sound { IsSound (catalog_of result.now) }
+        ensures covered { Covered (setting_in (checked_view self.now)) }
+        ensures apart { KeepsApart (setting_in (checked_view self.now)) }
+        ensures divided { Sound (setting_in (checked_view self.now)) }
     {
         &self.catalog
     }
 
-    /// The catalog's plan: each subscriber's share of a table takes the rows that pass to it.
+    /// The catalog's own plan: each subscriber's share of a table takes the rows that pass to it.
+    #[tactic(auto, using(crate::proofs::ShardingLemmas::takes_own))]
     pub fn plan(&self) -> &Plan
         ensures shows { plan_view result.now ≡ (checked_view self.now).plan }
-        ensures own { TakesWhatPasses (checked_view self.now).catalog (plan_view result.now) }
+        ensures own { plan_view result.now ≡ plan_of (checked_view self.now).catalog }
+        ensures passes { TakesWhatPasses (checked_view self.now).catalog (plan_view result.now) }
     {
         &self.plan
     }

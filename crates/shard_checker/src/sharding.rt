@@ -4,8 +4,11 @@ ghost use Rattle.std.specs.Prelude.{◌≡◌, ◌≢◌, OnOk, IfOk, IfErr, Non
 ghost use Rattle.pub_reader.specs.CatalogView.{catalog_of};
 ghost use Rattle.replica_identity.specs.Plans.{plan_of};
 ghost use Rattle.replica_identity.specs.PlanView.{plan_view};
+ghost use Rattle.replica_identity.specs.Setting.{setting_of};
+ghost use Rattle.replica_identity.specs.Standing.{Covered, KeepsApart, Sound};
 ghost use Rattle.split_cert.specs.Where.{tree_of};
 ghost use Rattle.shard_checker.specs.CatalogRefusal as spec;
+ghost use Rattle.shard_checker.specs.CatalogTruth.{ShardingIsWrong};
 ghost use Rattle.shard_checker.specs.CheckedView.{checked_of, checked_view};
 ghost use Rattle.shard_checker.specs.Owners.{shares_of};
 ghost use Rattle.shard_checker.specs.Refusal.{first_refusal};
@@ -119,14 +122,18 @@ fn check_sharding<A: Allocator>(
 /// publishes insert, update and delete, and its filters name only columns of the tables' replica identities; and that no
 /// replica identity is NOTHING. The plan is the catalog's own.
 ///
+/// In the setting of a catalog that is accepted and its plan a row's replica identity tells to whom the row passes
+/// (`covered`), commands that are accepted leave no two rows of a table with one identity (`apart`), and each row that
+/// fits its table passes to exactly one subscriber (`divided`). A `Checked` keeps that.
+///
 /// The error is the first of these: an operation that a publication which is taken doesn't publish, by publications; a
 /// table whose replica identity is NOTHING; a column that a filter names and the replica identity lacks, by publications
 /// that are taken, their entries, and columns in the order of first appearance; another number of certificates than of
-/// tables; and then that of the first certificate, as `check_one` has it, with the table's number; or `OutOfMemory`. With
-/// an error the catalog and the plan are dropped.
+/// tables; and then that of the first certificate, as `check_one` has it, with the table's number; or `OutOfMemory`. What
+/// it says of what it names is so (`wrong`). With an error the catalog and the plan are dropped.
 ///
 /// PostgreSQL 15, "Logical Replication", 31.3 Row Filters.
-#[tactic(auto, using(crate::proofs::ShardingLemmas::takes_own))]
+#[tactic(auto, using(crate::proofs::StandingLemmas::standing, crate::proofs::ReasonLemmas::sharding_wrong))]
 pub fn check<A: Allocator>(
     alloc: Global,
     catalog: Catalog,
@@ -135,9 +142,13 @@ pub fn check<A: Allocator>(
 ) -> Result<Checked, CheckError>
     requires { plan_view plan ≡ plan_of (catalog_of catalog) }
     ensures sound { OnOk result (IsSound (catalog_of catalog)) }
+    ensures covered { OnOk result (Covered (setting_of (catalog_of catalog) (plan_view plan))) }
+    ensures apart { OnOk result (KeepsApart (setting_of (catalog_of catalog) (plan_view plan))) }
+    ensures divided { OnOk result (Sound (setting_of (catalog_of catalog) (plan_view plan))) }
     ensures kept { IfOk result (λ checked. checked_view checked ≡ checked_of catalog plan) }
     ensures ok { OnOk result (spec.sharding_refusal (catalog_of catalog) (plan_view plan) (map tree_of certs.now) ≡ None) }
     ensures err { IfErr result (λ error. error ≢ CheckError.OutOfMemory → spec.sharding_refusal (catalog_of catalog) (plan_view plan) (map tree_of certs.now) ≡ Some error) }
+    ensures wrong { IfErr result (λ error. error ≢ CheckError.OutOfMemory → ShardingIsWrong (catalog_of catalog) (plan_view plan) (map tree_of certs.now) error) }
 {
     check_sharding(alloc, &catalog, &plan, certs)?;
     Ok(Checked::new(catalog, plan))

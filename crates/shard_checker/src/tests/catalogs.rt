@@ -1,6 +1,10 @@
+ghost use Rattle.std.specs.Prelude.{◌≡◌, true, false, IsTrue};
+ghost use Rattle.replica_identity.specs.Setting.{fits};
+ghost use Rattle.shard_checker.specs.CheckedView.{checked_view, setting_in};
+
 use super::{ID, REGION, by_halves, number, owner, table, text};
-use crate::{CheckError, Operation, check};
-use filter_tree::{Filter, Identity, Items, Op, Text};
+use crate::{CheckError, Checked, Operation, check};
+use filter_tree::{Filter, Identity, Items, Op, Row, Text, Value};
 use pub_reader::{Catalog, Entry, Operations, Publication, Subscription};
 use replica_identity::{Share, plan};
 use split_cert::Cert;
@@ -75,6 +79,54 @@ fn refusal(
 ) -> Result<Option<CheckError>, AllocError> {
     let plan = plan(alloc, &catalog)?;
     Ok(check(alloc, catalog, plan, certs).err())
+}
+
+/// Whether a subscriber takes one of two rows alone, as it does of no two rows of a table with one replica identity.
+fn takes_one_alone(
+    checked: &Checked,
+    subscriber: usize,
+    table: usize,
+    one: &Row,
+    other: &Row,
+) -> bool
+    ensures { (setting_in (checked_view checked.now)).identity table one.now ≡ (setting_in (checked_view checked.now)).identity table other.now → result ≡ false }
+{
+    let _catalog = checked.catalog();
+    let share = checked.plan().share(subscriber, table);
+    share.takes(one) != share.takes(other)
+}
+
+/// Whether two subscribers take the row. Of a row that fits its table they are one subscriber.
+fn both_take(checked: &Checked, table: usize, row: &Row, one: usize, other: usize) -> bool
+    ensures { fits (setting_in (checked_view checked.now)) table row.now ≡ true → IsTrue result → one ≡ other }
+{
+    let _catalog = checked.catalog();
+    let plan = checked.plan();
+    plan.share(one, table).takes(row) && plan.share(other, table).takes(row)
+}
+
+fn row(alloc: Global, id: i64) -> Result<Row, AllocError> {
+    Ok(Row::from_values(vec![in alloc; Value::Int(id), Value::Null]?))
+}
+
+#[test]
+fn rows_of_a_checked_catalog_have_one_subscriber(rt: HostRuntime) -> Result<(), Fail> {
+    let alloc = rt.alloc();
+    let catalog = catalog(
+        alloc,
+        Identity::Default,
+        operations(true, true, true),
+        low(),
+    )?;
+    let plan = plan(alloc, &catalog)?;
+    let certs = vec![in alloc; by_halves(alloc)?]?;
+    let checked = check(alloc, catalog, plan, &certs)?;
+    let (low, high) = (row(alloc, 99)?, row(alloc, 100)?);
+    assert!(rt; takes_one_alone(&checked, 0, 0, &low, &high));
+    assert!(rt; !takes_one_alone(&checked, 0, 0, &low, &row(alloc, 99)?));
+    assert!(rt; both_take(&checked, 0, &low, 0, 0));
+    assert!(rt; !both_take(&checked, 0, &low, 0, 1));
+    Ok(())
 }
 
 #[test]

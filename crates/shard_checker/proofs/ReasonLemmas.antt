@@ -1,0 +1,376 @@
+-- The first refusal of a sharding says something that is so of what it names.
+use Rattle.std.proofs.Common.{◌≡◌, ℕ, suc, ◌+◌, Bool, true, false, List, [], ◌∷◌, length, refl, sym, ◌∙◌, ap, subst, inl, inr, arith}
+use Rattle.std.specs.Prelude.{Option, Some, None, if◌then◌else◌, ◌==◌, ◌⊎◌, Contains, slice_get}
+use Rattle.std.specs.Cmp.{unsigned_Decides}
+use Rattle.filter_tree.specs.Expr.{Expr, Condition}
+use Rattle.filter_tree.specs.Lists.{distinct_columns}
+use Rattle.filter_tree.specs.Paths.{Path}
+use Rattle.filter_tree.specs.declared.filter.Term.{Term}
+use Rattle.filter_tree.specs.declared.table.Identity.{Identity}
+use Rattle.filter_tree.specs.declared.table.Identity.TheVariants.{Default, Full, Nothing}
+use Rattle.filter_tree.specs.declared.table.Table.{Table}
+use Rattle.pub_reader.specs.Catalogs.{CatalogOf, PublicationOf, EntryOf}
+use Rattle.pub_reader.specs.declared.catalog.Operations.{Operations}
+use Rattle.pub_reader.specs.declared.catalog.Subscription.{Subscription}
+use Rattle.replica_identity.specs.Plans.{PlanOf}
+use Rattle.replica_identity.specs.Shares.{ShareOf}
+use Rattle.split_cert.specs.Tree.{Tree, Branches, Owned, Void, Never, nodes}
+use Rattle.shard_checker.specs.CatalogRefusal.{missing_operation, missing_by, publication_refusal, publishing_refusal, table_refusal, identity_refusal, column_refusal, filter_refusal, entry_refusal, entries_refusal, taken_refusal, coverage_refusal, table_shares, certificates_refusal, count_refusal, catalog_refusal, sharding_refusal}
+use Rattle.shard_checker.specs.CatalogTruth.{has_operation, NamesUncovered, HasWrongCertificate, ShardingIsWrong}
+use Rattle.shard_checker.specs.Refusal.{Subject, later, first_of, first_refusal}
+use Rattle.shard_checker.specs.Sound.{is_taken, covers}
+use Rattle.shard_checker.specs.Truth.{EmptyIsWrong, NeverNullIsWrong, OwnerIsWrong, SplitIsWrong, IsWrong}
+use Rattle.shard_checker.specs.declared.error.CheckError.{CheckError}
+use Rattle.shard_checker.specs.declared.error.CheckError.TheVariants.{PublishMissing, NoIdentity, NotCovered, CertCount, BadIndex, NotEmpty, MayBeNull, NotOwner, SecondOwner, OutOfMemory}
+use Rattle.shard_checker.specs.declared.error.Operation.{Operation}
+use Rattle.shard_checker.specs.declared.error.Operation.TheVariants.{Insert, Update, Delete}
+use Rattle.shard_checker.proofs.Testing.{clash, at_zero, zero_more, at_next}
+use Rattle.shard_checker.proofs.TruthLemmas.{same_some, failed, certificate_wrong}
+
+-- what one of two refusals leads to
+by_first : {P : Type 0} (one next : Option CheckError) (error : CheckError) → first_of one next ≡ Some error → (one ≡ Some error → P) → (next ≡ Some error → P) → P
+by_first None next error h at_one at_next = at_next h
+by_first (Some one) next error h at_one at_next = at_one h
+
+-- a refusal that stands under a test
+under_test : (b : Bool) (refusal : Option CheckError) (error : CheckError) → (if b then refusal else None) ≡ Some error → (b ≡ true) × (refusal ≡ Some error)
+under_test true refusal error h = (refl, h)
+under_test false refusal error h = absurd cc
+
+contains_first : {X : Type 0} (xs : List X) (x : X) → Contains (x ∷ xs) x
+contains_first xs x = (0, omega arith, refl)
+
+contains_later : {X : Type 0} (xs : List X) (first x : X) → Contains xs x → Contains (first ∷ xs) x
+contains_later xs first x h = (suc h.0, omega (arith, h.1), h.2)
+
+-- ---- what is published
+
+missing_in : (insert update delete : Bool) (operation : Operation) → (if insert then (if update then (if delete then None else Some Delete) else Some Update) else Some Insert) ≡ Some operation
+    → ((operation ≡ Insert) × (insert ≡ false)) ⊎ (((operation ≡ Update) × (update ≡ false)) ⊎ ((operation ≡ Delete) × (delete ≡ false)))
+missing_in true true true operation h = absurd cc
+missing_in true true false operation h = inr (inr (cc, refl))
+missing_in true false delete operation h = inr (inl (cc, refl))
+missing_in false update delete operation h = inl (cc, refl)
+
+missing_named : (publishes : Operations) (operation : Operation)
+    → ((operation ≡ Insert) × (publishes.insert ≡ false)) ⊎ (((operation ≡ Update) × (publishes.update ≡ false)) ⊎ ((operation ≡ Delete) × (publishes.delete ≡ false)))
+    → has_operation publishes operation ≡ false
+missing_named publishes operation (inl h) = ap (has_operation publishes) h.0 ∙ h.1
+missing_named publishes operation (inr (inl h)) = ap (has_operation publishes) h.0 ∙ h.1
+missing_named publishes operation (inr (inr h)) = ap (has_operation publishes) h.0 ∙ h.1
+
+missing_is : (publishes : Operations) (operation : Operation) → missing_operation publishes ≡ Some operation → has_operation publishes operation ≡ false
+missing_is publishes operation h = missing_named publishes operation (missing_in publishes.insert publishes.update publishes.delete operation h)
+
+-- a publication of a list whose first has this number
+record IsUnpublished (subscriptions : List Subscription) (number : ℕ) (publications : List (PublicationOf Expr)) (error : CheckError) : Type 0 where
+  place : ℕ
+  operation : Operation
+  is : error ≡ PublishMissing (number + place) operation
+  publication : PublicationOf Expr
+  there : slice_get publications place ≡ Some publication
+  taken : is_taken subscriptions (number + place) ≡ true
+  missing : has_operation publication.publishes operation ≡ false
+
+first_unpublished : (subscriptions : List Subscription) (number : ℕ) (publication : PublicationOf Expr) (publications : List (PublicationOf Expr)) (error : CheckError) (found : Option Operation)
+    → missing_operation publication.publishes ≡ found → is_taken subscriptions number ≡ true → missing_by number found ≡ Some error
+    → IsUnpublished subscriptions number (publication ∷ publications) error
+first_unpublished subscriptions number publication publications error None e taken h = absurd cc
+first_unpublished subscriptions number publication publications error (Some operation) e taken h = record {
+  place = 0;
+  operation = operation;
+  is = same_some (PublishMissing number operation) error h ∙ ap (λ n. PublishMissing n operation) (sym (at_zero number));
+  publication = publication;
+  there = refl;
+  taken = subst (λ n. is_taken subscriptions n ≡ true) (sym (at_zero number)) taken;
+  missing = missing_is publication.publishes operation e;
+}
+
+unpublished : (subscriptions : List Subscription) (number : ℕ) (publications : List (PublicationOf Expr)) (error : CheckError) → publishing_refusal subscriptions number publications ≡ Some error
+    → IsUnpublished subscriptions number publications error
+unpublished subscriptions number [] error h = absurd cc
+unpublished subscriptions number (publication ∷ publications) error h =
+    by_first (publication_refusal subscriptions number publication.publishes) (publishing_refusal subscriptions (number + 1) publications) error h
+    (λ here. let both = under_test (is_taken subscriptions number) (missing_by number (missing_operation publication.publishes)) error here in
+    first_unpublished subscriptions number publication publications error (missing_operation publication.publishes) refl both.0 both.1)
+    (λ there. let rest = unpublished subscriptions (number + 1) publications error there in record {
+      place = suc rest.place;
+      operation = rest.operation;
+      is = rest.is ∙ ap (λ n. PublishMissing n rest.operation) (sym (at_next number rest.place));
+      publication = rest.publication;
+      there = rest.there;
+      taken = subst (λ n. is_taken subscriptions n ≡ true) (sym (at_next number rest.place)) rest.taken;
+      missing = rest.missing;
+    })
+
+-- ---- what is recorded of old rows
+
+records_nothing : (number : ℕ) (identity : Identity) (error : CheckError) → table_refusal number identity ≡ Some error → (identity ≡ Nothing) × (error ≡ NoIdentity number)
+records_nothing number Nothing error h = (refl, same_some (NoIdentity number) error h)
+records_nothing number Default error h = absurd cc
+records_nothing number Full error h = absurd cc
+
+record IsUnrecorded (number : ℕ) (tables : List Table) (error : CheckError) : Type 0 where
+  place : ℕ
+  is : error ≡ NoIdentity (number + place)
+  table : Table
+  there : slice_get tables place ≡ Some table
+  nothing : table.identity ≡ Nothing
+
+unrecorded : (number : ℕ) (tables : List Table) (error : CheckError) → identity_refusal number tables ≡ Some error → IsUnrecorded number tables error
+unrecorded number [] error h = absurd cc
+unrecorded number (table ∷ tables) error h =
+    by_first (table_refusal number table.identity) (identity_refusal (number + 1) tables) error h
+    (λ here. let both = records_nothing number table.identity error here in
+    record { place = 0; is = both.1 ∙ ap NoIdentity (sym (at_zero number)); table = table; there = refl; nothing = both.0 })
+    (λ there. let rest = unrecorded (number + 1) tables error there in
+    record { place = suc rest.place; is = rest.is ∙ ap NoIdentity (sym (at_next number rest.place)); table = rest.table; there = rest.there; nothing = rest.nothing })
+
+-- ---- which columns filters name
+
+record IsUncovered (publication table : ℕ) (found : Option Table) (columns : List ℕ) (error : CheckError) : Type 0 where
+  column : ℕ
+  is : error ≡ NotCovered publication table column
+  names : Contains columns column
+  lacks : covers found column ≡ false
+
+column_failed : (b : Bool) (rest : Option CheckError) (one error : CheckError) → (if b then rest else Some one) ≡ Some error → ((b ≡ false) × (error ≡ one)) ⊎ (rest ≡ Some error)
+column_failed true rest one error h = inr h
+column_failed false rest one error h = inl (refl, same_some one error h)
+
+uncovered_from : (publication table : ℕ) (found : Option Table) (column : ℕ) (columns : List ℕ) (error : CheckError)
+    → (column_refusal publication table found columns ≡ Some error → IsUncovered publication table found columns error)
+    → ((covers found column ≡ false) × (error ≡ NotCovered publication table column)) ⊎ (column_refusal publication table found columns ≡ Some error)
+    → IsUncovered publication table found (column ∷ columns) error
+uncovered_from publication table found column columns error later (inl h) = record { column = column; is = h.1; names = contains_first columns column; lacks = h.0 }
+uncovered_from publication table found column columns error later (inr h) =
+    let rest = later h in record { column = rest.column; is = rest.is; names = contains_later columns column rest.column rest.names; lacks = rest.lacks }
+
+uncovered : (publication table : ℕ) (found : Option Table) (columns : List ℕ) (error : CheckError) → column_refusal publication table found columns ≡ Some error
+    → IsUncovered publication table found columns error
+uncovered publication table found [] error h = absurd cc
+uncovered publication table found (column ∷ columns) error h =
+    uncovered_from publication table found column columns error (λ rest. uncovered publication table found columns error rest)
+    (column_failed (covers found column) (column_refusal publication table found columns) (NotCovered publication table column) error h)
+
+-- an entry of a list whose filter names a column that isn't covered
+record HasUncoveredEntry (tables : List Table) (publication : ℕ) (entries : List (EntryOf Expr)) (error : CheckError) : Type 0 where
+  table : ℕ
+  column : ℕ
+  is : error ≡ NotCovered publication table column
+  entry : EntryOf Expr
+  has_entry : Contains entries entry
+  uncovered_by : NamesUncovered tables entry table column
+
+entry_uncovered : (tables : List Table) (publication : ℕ) (entry : EntryOf Expr) (entries : List (EntryOf Expr)) (error : CheckError) (filter : Option Expr) → entry.filter ≡ filter
+    → filter_refusal publication entry.table (slice_get tables entry.table) filter ≡ Some error → HasUncoveredEntry tables publication (entry ∷ entries) error
+entry_uncovered tables publication entry entries error None e h = absurd cc
+entry_uncovered tables publication entry entries error (Some filter) e h =
+    let found = uncovered publication entry.table (slice_get tables entry.table) (distinct_columns filter) error h in
+    record {
+      table = entry.table;
+      column = found.column;
+      is = found.is;
+      entry = entry;
+      has_entry = contains_first entries entry;
+      uncovered_by = record { of_table = refl; filter = filter; filters = e; names = found.names; lacks = found.lacks };
+    }
+
+entries_uncovered : (tables : List Table) (publication : ℕ) (entries : List (EntryOf Expr)) (error : CheckError) → entries_refusal tables publication entries ≡ Some error
+    → HasUncoveredEntry tables publication entries error
+entries_uncovered tables publication [] error h = absurd cc
+entries_uncovered tables publication (entry ∷ entries) error h =
+    by_first (entry_refusal tables publication entry) (entries_refusal tables publication entries) error h
+    (λ here. entry_uncovered tables publication entry entries error entry.filter refl here)
+    (λ there. let rest = entries_uncovered tables publication entries error there in record {
+      table = rest.table;
+      column = rest.column;
+      is = rest.is;
+      entry = rest.entry;
+      has_entry = contains_later entries entry rest.entry rest.has_entry;
+      uncovered_by = rest.uncovered_by;
+    })
+
+record HasUncoveredPublication (tables : List Table) (subscriptions : List Subscription) (number : ℕ) (publications : List (PublicationOf Expr)) (error : CheckError) : Type 0 where
+  place : ℕ
+  publication : PublicationOf Expr
+  there : slice_get publications place ≡ Some publication
+  taken : is_taken subscriptions (number + place) ≡ true
+  uncovered_entry : HasUncoveredEntry tables (number + place) publication.entries error
+
+publications_uncovered : (tables : List Table) (subscriptions : List Subscription) (number : ℕ) (publications : List (PublicationOf Expr)) (error : CheckError)
+    → coverage_refusal tables subscriptions number publications ≡ Some error → HasUncoveredPublication tables subscriptions number publications error
+publications_uncovered tables subscriptions number [] error h = absurd cc
+publications_uncovered tables subscriptions number (publication ∷ publications) error h =
+    by_first (taken_refusal tables subscriptions number publication.entries) (coverage_refusal tables subscriptions (number + 1) publications) error h
+    (λ here. let both = under_test (is_taken subscriptions number) (entries_refusal tables number publication.entries) error here in record {
+      place = 0;
+      publication = publication;
+      there = refl;
+      taken = subst (λ n. is_taken subscriptions n ≡ true) (sym (at_zero number)) both.0;
+      uncovered_entry = subst (λ n. HasUncoveredEntry tables n publication.entries error) (sym (at_zero number)) (entries_uncovered tables number publication.entries error both.1);
+    })
+    (λ there. let rest = publications_uncovered tables subscriptions (number + 1) publications error there in record {
+      place = suc rest.place;
+      publication = rest.publication;
+      there = rest.there;
+      taken = subst (λ n. is_taken subscriptions n ≡ true) (sym (at_next number rest.place)) rest.taken;
+      uncovered_entry = subst (λ n. HasUncoveredEntry tables n rest.publication.entries error) (sym (at_next number rest.place)) rest.uncovered_entry;
+    })
+
+-- ---- certificates
+
+record HasRefusedCertificate (plan : PlanOf) (subscriptions : List Subscription) (number : ℕ) (tables : List Table) (trees : List Tree) (error : CheckError) : Type 0 where
+  place : ℕ
+  table : Table
+  there : slice_get tables place ≡ Some table
+  tree : Tree
+  given : slice_get trees place ≡ Some tree
+  refused : first_refusal (number + place) table (table_shares plan (number + place) 0 subscriptions) tree ≡ Some error
+
+refused_certificate : (plan : PlanOf) (subscriptions : List Subscription) (number : ℕ) (tables : List Table) (trees : List Tree) (error : CheckError)
+    → certificates_refusal plan subscriptions number tables trees ≡ Some error → HasRefusedCertificate plan subscriptions number tables trees error
+refused_certificate plan subscriptions number [] trees error h = absurd cc
+refused_certificate plan subscriptions number (table ∷ tables) [] error h = absurd cc
+refused_certificate plan subscriptions number (table ∷ tables) (tree ∷ trees) error h =
+    by_first (first_refusal number table (table_shares plan number 0 subscriptions) tree) (certificates_refusal plan subscriptions (number + 1) tables trees) error h
+    (λ here. record {
+      place = 0;
+      table = table;
+      there = refl;
+      tree = tree;
+      given = refl;
+      refused = subst (λ n. first_refusal n table (table_shares plan n 0 subscriptions) tree ≡ Some error) (sym (at_zero number)) here;
+    })
+    (λ there. let rest = refused_certificate plan subscriptions (number + 1) tables trees error there in record {
+      place = suc rest.place;
+      table = rest.table;
+      there = rest.there;
+      tree = rest.tree;
+      given = rest.given;
+      refused = subst (λ n. first_refusal n rest.table (table_shares plan n 0 subscriptions) rest.tree ≡ Some error) (sym (at_next number rest.place)) rest.refused;
+    })
+
+-- the error names a node of the certificate of the table of this number
+abbrev NamesNode : ℕ → CheckError → Type 0
+NamesNode number (BadIndex table node) = number ≡ table
+NamesNode number (NotEmpty table node) = number ≡ table
+NamesNode number (MayBeNull table node) = number ≡ table
+NamesNode number (NotOwner table node) = number ≡ table
+NamesNode number (SecondOwner table node subscriber) = number ≡ table
+NamesNode number _ = ⊥
+
+empty_names : (subject : Subject) (path : Path) (node : ℕ) (found : Option Term) (error : CheckError) → EmptyIsWrong subject path node found error → NamesNode subject.table error
+empty_names subject path node None error h = subst (NamesNode subject.table) (sym h) refl
+empty_names subject path node (Some term) error h = subst (NamesNode subject.table) (sym h.0) refl
+
+never_null_names : (subject : Subject) (path : Path) (node : ℕ) (found : Option Condition) (error : CheckError) → NeverNullIsWrong subject path node found error → NamesNode subject.table error
+never_null_names subject path node None error h = subst (NamesNode subject.table) (sym h) refl
+never_null_names subject path node (Some condition) error h = subst (NamesNode subject.table) (sym h.0) refl
+
+owner_names : (subject : Subject) (path : Path) (node owner : ℕ) (found : Option ShareOf) (error : CheckError) → OwnerIsWrong subject path node owner found error → NamesNode subject.table error
+owner_names subject path node owner None error h = subst (NamesNode subject.table) (sym h) refl
+owner_names subject path node owner (Some share) error (inl h) = subst (NamesNode subject.table) (sym h.0) refl
+owner_names subject path node owner (Some share) error (inr h) = subst (NamesNode subject.table) (sym h.is) refl
+
+split_names : (subject : Subject) (path : Path) (node : ℕ) (found : Option Condition) (if_true if_false if_null : Path → Type 0) (error : CheckError)
+    → ((longer : Path) → if_true longer → NamesNode subject.table error) → ((longer : Path) → if_false longer → NamesNode subject.table error) → ((longer : Path) → if_null longer → NamesNode subject.table error)
+    → SplitIsWrong subject path node found if_true if_false if_null error → NamesNode subject.table error
+split_names subject path node None if_true if_false if_null error at_true at_false at_null h = subst (NamesNode subject.table) (sym h) refl
+split_names subject path node (Some condition) if_true if_false if_null error at_true at_false at_null (inl h) = at_true _ h
+split_names subject path node (Some condition) if_true if_false if_null error at_true at_false at_null (inr (inl h)) = at_false _ h
+split_names subject path node (Some condition) if_true if_false if_null error at_true at_false at_null (inr (inr h)) = at_null _ h
+
+names_node : (subject : Subject) (tree : Tree) (path : Path) (node : ℕ) (error : CheckError) → IsWrong subject tree path node error → NamesNode subject.table error
+names_node subject (Branches atom if_true if_false if_null) path node error h =
+    split_names subject path node (slice_get subject.conditions atom)
+    (λ longer. IsWrong subject if_true longer (later node 1) error)
+    (λ longer. IsWrong subject if_false longer (later (later node 1) (nodes if_true)) error)
+    (λ longer. IsWrong subject if_null longer (later (later (later node 1) (nodes if_true)) (nodes if_false)) error)
+    error
+    (λ longer wrong. names_node subject if_true longer (later node 1) error wrong)
+    (λ longer wrong. names_node subject if_false longer (later (later node 1) (nodes if_true)) error wrong)
+    (λ longer wrong. names_node subject if_null longer (later (later (later node 1) (nodes if_true)) (nodes if_false)) error wrong)
+    h
+names_node subject (Owned subscriber) path node error h = owner_names subject path node subscriber (slice_get subject.shares subscriber) error h
+names_node subject (Void term) path node error h = empty_names subject path node (slice_get subject.terms term) error h
+names_node subject (Never atom) path node error h = never_null_names subject path node (slice_get subject.conditions atom) error h
+
+wrong_by_table : (catalog : CatalogOf Expr) (plan : PlanOf) (trees : List Tree) (number : ℕ) (error : CheckError) → NamesNode number error
+    → HasWrongCertificate catalog plan trees number error → ShardingIsWrong catalog plan trees error
+wrong_by_table catalog plan trees number (BadIndex table node) names h = subst (λ n. HasWrongCertificate catalog plan trees n (BadIndex table node)) names h
+wrong_by_table catalog plan trees number (NotEmpty table node) names h = subst (λ n. HasWrongCertificate catalog plan trees n (NotEmpty table node)) names h
+wrong_by_table catalog plan trees number (MayBeNull table node) names h = subst (λ n. HasWrongCertificate catalog plan trees n (MayBeNull table node)) names h
+wrong_by_table catalog plan trees number (NotOwner table node) names h = subst (λ n. HasWrongCertificate catalog plan trees n (NotOwner table node)) names h
+wrong_by_table catalog plan trees number (SecondOwner table node subscriber) names h = subst (λ n. HasWrongCertificate catalog plan trees n (SecondOwner table node subscriber)) names h
+wrong_by_table catalog plan trees number (PublishMissing publication operation) names h = absurd names
+wrong_by_table catalog plan trees number (NoIdentity table) names h = absurd names
+wrong_by_table catalog plan trees number (NotCovered publication table column) names h = absurd names
+wrong_by_table catalog plan trees number CertCount names h = absurd names
+wrong_by_table catalog plan trees number OutOfMemory names h = absurd names
+
+-- ---- the first of all
+
+publishing_wrong : (catalog : CatalogOf Expr) (plan : PlanOf) (trees : List Tree) (error : CheckError) → publishing_refusal catalog.subscriptions 0 catalog.publications ≡ Some error
+    → ShardingIsWrong catalog plan trees error
+publishing_wrong catalog plan trees error h =
+    let found = unpublished catalog.subscriptions 0 catalog.publications error h in
+    let is : error ≡ PublishMissing found.place found.operation = found.is ∙ ap (λ n. PublishMissing n found.operation) (zero_more found.place) in
+    subst (ShardingIsWrong catalog plan trees) (sym is) (record {
+      publication = found.publication;
+      there = found.there;
+      taken = subst (λ n. is_taken catalog.subscriptions n ≡ true) (zero_more found.place) found.taken;
+      missing = found.missing;
+    })
+
+identity_wrong : (catalog : CatalogOf Expr) (plan : PlanOf) (trees : List Tree) (error : CheckError) → identity_refusal 0 catalog.tables ≡ Some error → ShardingIsWrong catalog plan trees error
+identity_wrong catalog plan trees error h =
+    let found = unrecorded 0 catalog.tables error h in
+    let is : error ≡ NoIdentity found.place = found.is ∙ ap NoIdentity (zero_more found.place) in
+    subst (ShardingIsWrong catalog plan trees) (sym is) (record { table = found.table; there = found.there; nothing = found.nothing })
+
+coverage_wrong : (catalog : CatalogOf Expr) (plan : PlanOf) (trees : List Tree) (error : CheckError) → coverage_refusal catalog.tables catalog.subscriptions 0 catalog.publications ≡ Some error
+    → ShardingIsWrong catalog plan trees error
+coverage_wrong catalog plan trees error h =
+    let found = publications_uncovered catalog.tables catalog.subscriptions 0 catalog.publications error h in
+    let entry = found.uncovered_entry in
+    let is : error ≡ NotCovered found.place entry.table entry.column = entry.is ∙ ap (λ n. NotCovered n entry.table entry.column) (zero_more found.place) in
+    subst (ShardingIsWrong catalog plan trees) (sym is) (record {
+      publication = found.publication;
+      there = found.there;
+      taken = subst (λ n. is_taken catalog.subscriptions n ≡ true) (zero_more found.place) found.taken;
+      entry = entry.entry;
+      has_entry = entry.has_entry;
+      uncovered = entry.uncovered_by;
+    })
+
+count_wrong : (catalog : CatalogOf Expr) (plan : PlanOf) (trees : List Tree) (error : CheckError) → count_refusal (length catalog.tables) (length trees) ≡ Some error
+    → ShardingIsWrong catalog plan trees error
+count_wrong catalog plan trees error h =
+    let both = failed (length trees == length catalog.tables) CertCount error h in
+    subst (ShardingIsWrong catalog plan trees) (sym both.1)
+    (λ same. clash (length trees == length catalog.tables) ((unsigned_Decides (length trees) (length catalog.tables)).1 same) both.0)
+
+certificates_wrong : (catalog : CatalogOf Expr) (plan : PlanOf) (trees : List Tree) (error : CheckError) → certificates_refusal plan catalog.subscriptions 0 catalog.tables trees ≡ Some error
+    → ShardingIsWrong catalog plan trees error
+certificates_wrong catalog plan trees error h =
+    let found = refused_certificate plan catalog.subscriptions 0 catalog.tables trees error h in
+    let shares = table_shares plan found.place 0 catalog.subscriptions in
+    let refused : first_refusal found.place found.table shares found.tree ≡ Some error =
+    subst (λ n. first_refusal n found.table (table_shares plan n 0 catalog.subscriptions) found.tree ≡ Some error) (zero_more found.place) found.refused in
+    let wrong = certificate_wrong found.place found.table shares found.tree error refused in
+    wrong_by_table catalog plan trees found.place error (names_node _ found.tree [] 0 error wrong)
+    (record { table = found.table; there = found.there; tree = found.tree; given = found.given; wrong = wrong })
+
+pub sharding_wrong : (catalog : CatalogOf Expr) (plan : PlanOf) (trees : List Tree) (error : CheckError) → sharding_refusal catalog plan trees ≡ Some error → ShardingIsWrong catalog plan trees error
+sharding_wrong catalog plan trees error h =
+    by_first (catalog_refusal catalog) (first_of (count_refusal (length catalog.tables) (length trees)) (certificates_refusal plan catalog.subscriptions 0 catalog.tables trees)) error h
+    (λ of_catalog. by_first (publishing_refusal catalog.subscriptions 0 catalog.publications)
+    (first_of (identity_refusal 0 catalog.tables) (coverage_refusal catalog.tables catalog.subscriptions 0 catalog.publications)) error of_catalog
+    (λ publishing. publishing_wrong catalog plan trees error publishing)
+    (λ rest. by_first (identity_refusal 0 catalog.tables) (coverage_refusal catalog.tables catalog.subscriptions 0 catalog.publications) error rest
+    (λ identity. identity_wrong catalog plan trees error identity)
+    (λ coverage. coverage_wrong catalog plan trees error coverage)))
+    (λ of_certificates. by_first (count_refusal (length catalog.tables) (length trees)) (certificates_refusal plan catalog.subscriptions 0 catalog.tables trees) error of_certificates
+    (λ count. count_wrong catalog plan trees error count)
+    (λ certificates. certificates_wrong catalog plan trees error certificates))
