@@ -81,7 +81,7 @@ Expr-set : IsSet Expr
 Expr-set = hedberg Expr-discrete
 
 ShareOf-set : IsSet ShareOf
-ShareOf-set = hlevel (Expr-set, ⊎_set, prop→set (Unit-prop {0}))
+ShareOf-set = Prim.hlevel (Expr-set, ⊎_set, prop→set (Unit-prop {0}))
 
 pub PlanOf-set : IsSet PlanOf
 PlanOf-set = is_set (is_set ShareOf-set)

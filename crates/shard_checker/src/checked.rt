@@ -13,7 +13,8 @@ use replica_identity::Plan;
 
 /// A catalog and its own plan that the check accepted. Whoever holds one knows that the catalog's sharding is sound, and
 /// of changes of its tables what the laws about them ask: that a row's replica identity tells to whom the row passes,
-/// that no two rows of a table have one identity, and that each row that fits its table passes to exactly one subscriber.
+/// that commands that are accepted leave no two rows of a table with one identity, and that each row that fits its table
+/// passes to exactly one subscriber.
 #[derive(Drop)]
 pub struct Checked {
     catalog: Catalog,
