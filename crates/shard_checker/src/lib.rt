@@ -22,5 +22,7 @@ mod walk;
 
 pub use checked::Checked;
 pub use checking::check_one;
+pub use domain::{Range, kind_at, range_of};
 pub use error::{CheckError, Operation};
-pub use sharding::check;
+pub use numbering::{numbered_atoms, numbered_terms};
+pub use sharding::{check, shares_in};

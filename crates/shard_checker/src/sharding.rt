@@ -25,8 +25,8 @@ use replica_identity::{Plan, Share};
 use split_cert::Cert;
 use std::alloc::{AllocError, Allocator, Global};
 
-/// What the subscribers take of the table of this number.
-fn shares_in<'a>(
+/// What the subscribers take of the table of this number, as `check_one` has it. The only error is want of memory.
+pub fn shares_in<'a>(
     alloc: Global,
     plan: &'a Plan,
     table: usize,

@@ -1,0 +1,60 @@
+-- What an answer of the maker says: of a certificate, that the check of its table accepts it; of a row, that it fits the table and to which subscribers it passes, of whom there is not exactly one. PostgreSQL 15, "Logical Replication", 31.3 Row Filters.
+use Rattle.std.specs.Prelude.{◌≡◌, ◌≢◌, ℕ, ◌+◌, List, [], ◌∷◌, length, filter, Some, None, slice_get}
+use Rattle.filter_tree.specs.Datum.{Datum}
+use Rattle.filter_tree.specs.Expr.{Expr}
+use Rattle.filter_tree.specs.Valid.{IsValid}
+use Rattle.filter_tree.specs.declared.table.Table.{Table}
+use Rattle.pub_reader.specs.Catalogs.{CatalogOf}
+use Rattle.pub_reader.specs.declared.catalog.Subscription.{Subscription}
+use Rattle.replica_identity.specs.Passes.{passes}
+use Rattle.replica_identity.specs.Plans.{PlanOf, plan_of}
+use Rattle.shard_checker.specs.CatalogRefusal.{table_shares}
+use Rattle.shard_checker.specs.Refusal.{first_refusal}
+use Rattle.split_cert.specs.Tree.{Tree}
+use Rattle.split_cert.specs.Where.{tree_of}
+use Rattle.cert_maker.specs.declared.made.Made.{Made}
+use Rattle.cert_maker.specs.declared.made.Made.TheVariants.{Cert, Counter, Unknown, TooLarge, OutOfMemory}
+
+-- a fact about the certificate, where the answer is one
+abbrev pub IfCert : Made → (Tree → Type 0) → Type 0
+IfCert (Cert cert) Fact = Fact (tree_of cert)
+IfCert (Counter cells owners) Fact = Unit {0}
+IfCert Unknown Fact = Unit {0}
+IfCert TooLarge Fact = Unit {0}
+IfCert OutOfMemory Fact = Unit {0}
+
+-- a fact about the row and the owners, where the answer is a counterexample
+abbrev pub IfCounter : Made → (List Datum → List ℕ → Type 0) → Type 0
+IfCounter (Cert cert) Fact = Unit {0}
+IfCounter (Counter cells owners) Fact = Fact cells owners.items
+IfCounter Unknown Fact = Unit {0}
+IfCounter TooLarge Fact = Unit {0}
+IfCounter OutOfMemory Fact = Unit {0}
+
+-- the check accepts the certificate of the table of this number, with the shares that the plan gives to the subscribers
+pub record IsAccepted (catalog : CatalogOf Expr) (plan : PlanOf) (number : ℕ) (tree : Tree) : Type 0 where
+  pub table : Table
+  pub there : slice_get catalog.tables number ≡ Some table
+  pub accepted : first_refusal 0 table (table_shares plan number 0 catalog.subscriptions) tree ≡ None
+
+-- the numbers of subscribers, who begin at this number
+abbrev pub numbers_from : ℕ → List Subscription → List ℕ
+numbers_from number [] = []
+numbers_from number (subscription ∷ subscriptions) = number ∷ numbers_from (number + 1) subscriptions
+
+-- the subscribers to whom the row of the table passes, in ascending order
+abbrev pub owners_of : CatalogOf Expr → ℕ → List Datum → List ℕ
+owners_of catalog number cells = filter (λ subscriber. passes catalog subscriber number cells) (numbers_from 0 catalog.subscriptions)
+
+-- the row shows that the table of this number is not sharded well: it fits the table, and not exactly one subscriber takes it
+pub record IsCounter (catalog : CatalogOf Expr) (plan : PlanOf) (number : ℕ) (cells : List Datum) (owners : List ℕ) : Type 0 where
+  pub table : Table
+  pub there : slice_get catalog.tables number ≡ Some table
+  pub valid : IsValid table.columns cells
+  pub passing : plan ≡ plan_of catalog → owners ≡ owners_of catalog number cells
+  pub not_one : length owners ≢ 1
+
+-- what the answer for the table of this number says is so
+pub record IsAnswer (catalog : CatalogOf Expr) (plan : PlanOf) (number : ℕ) (made : Made) : Type 0 where
+  pub cert : IfCert made (IsAccepted catalog plan number)
+  pub counter : IfCounter made (IsCounter catalog plan number)

@@ -1,0 +1,25 @@
+-- Which shares of a table take a row, and what an answer of the maker says of a table's shares: PostgreSQL 15, "Logical Replication", 31.3 Row Filters.
+use Rattle.std.specs.Prelude.{◌≡◌, ◌≢◌, ℕ, ◌+◌, if◌then◌else◌, List, [], ◌∷◌, length, None}
+use Rattle.filter_tree.specs.Datum.{Datum}
+use Rattle.filter_tree.specs.Valid.{IsValid}
+use Rattle.filter_tree.specs.declared.table.Table.{Table}
+use Rattle.replica_identity.specs.Shares.{ShareOf, takes}
+use Rattle.shard_checker.specs.Refusal.{first_refusal}
+use Rattle.cert_maker.specs.Answers.{IfCert, IfCounter}
+use Rattle.cert_maker.specs.declared.made.Made.{Made}
+
+-- the numbers of the shares that take the row, of which the first has this number
+abbrev pub takers : ℕ → List ShareOf → List Datum → List ℕ
+takers number [] cells = []
+takers number (share ∷ shares) cells = if takes share cells then number ∷ takers (number + 1) shares cells else takers (number + 1) shares cells
+
+-- the row fits the table, and its takers, who are the owners, are not one
+pub record IsCounterOf (table : Table) (shares : List ShareOf) (cells : List Datum) (owners : List ℕ) : Type 0 where
+  pub valid : IsValid table.columns cells
+  pub takers : owners ≡ takers 0 shares cells
+  pub not_one : length owners ≢ 1
+
+-- what the answer says of the table with these shares is so
+pub record IsRight (table : Table) (shares : List ShareOf) (made : Made) : Type 0 where
+  pub cert : IfCert made (λ tree. first_refusal 0 table shares tree ≡ None)
+  pub counter : IfCounter made (IsCounterOf table shares)

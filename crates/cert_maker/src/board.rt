@@ -1,0 +1,164 @@
+//! What is known at a node of the tree that is looked for.
+
+use crate::facts::Facts;
+use crate::masks::{ANY, NOT_NULL, is_sure, mask_at, put, settled};
+use crate::question::{Asks, Claim, Question};
+use filter_tree::{Mask, Tri};
+use std::alloc::{AllocError, Global};
+
+/// How a share stands to the rows at a node.
+#[derive(Clone, Copy, PartialEq, Eq)]
+pub enum Standing {
+    /// By the atoms on the path it takes none of them.
+    Closed,
+    /// By the facts it takes none of them.
+    Excluded,
+    /// By the facts it takes them all.
+    Sure,
+    Undecided,
+}
+
+/// The values of atoms: those on the path, and those that the facts leave.
+#[derive(Drop)]
+pub struct Board {
+    pub known: Vec<Mask>,
+    pub likely: Vec<Mask>,
+    pub facts: Facts,
+    pub standings: Vec<Standing>,
+    pub votes: Vec<u64>,
+    /// How many atoms were looked at.
+    pub steps: u64,
+}
+
+/// Which values an atom may have of which nothing is known.
+fn open(asks: Asks) -> Mask {
+    match asks {
+        Asks::IsNull => NOT_NULL,
+        Asks::Compares(..) => ANY,
+    }
+}
+
+/// An item for each of the atoms.
+fn for_atoms<T: Copy + Drop>(alloc: Global, question: &Question<'_>, item: T) -> Result<Vec<T>, AllocError> {
+    let mut items = Vec::new(alloc);
+    for _ in &question.atoms {
+        items.push(item)?;
+    }
+    Ok(items)
+}
+
+fn open_masks(alloc: Global, question: &Question<'_>) -> Result<Vec<Mask>, AllocError> {
+    let mut masks = Vec::new(alloc);
+    for condition in &question.atoms {
+        masks.push(open(condition.asks))?;
+    }
+    Ok(masks)
+}
+
+fn standings(alloc: Global, question: &Question<'_>) -> Result<Vec<Standing>, AllocError> {
+    let mut standings = Vec::new(alloc);
+    for _ in &question.claims {
+        standings.push(Standing::Undecided)?;
+    }
+    Ok(standings)
+}
+
+impl Board {
+    /// Nothing is known of any atom.
+    pub fn new(alloc: Global, question: &Question<'_>) -> Result<Board, AllocError> {
+        Ok(Board {
+            known: open_masks(alloc, question)?,
+            likely: open_masks(alloc, question)?,
+            facts: Facts::new(alloc, question)?,
+            standings: standings(alloc, question)?,
+            votes: for_atoms(alloc, question, 0)?,
+            steps: 0,
+        })
+    }
+
+    /// Takes the atom's value to be this.
+    pub fn decide(&mut self, atom: usize, value: Tri) {
+        put(&mut self.known, atom, Mask::single(value));
+    }
+
+    /// Forgets the atom's value.
+    pub fn forget(&mut self, question: &Question<'_>, atom: usize) {
+        if let Some(condition) = question.condition(atom) {
+            put(&mut self.known, atom, open(condition.asks));
+        }
+    }
+
+    /// Counts the atoms that a claim has.
+    pub fn count(&mut self, claim: &Claim) {
+        let atoms = u64::try_from(claim.atoms.len()).unwrap_or(u64::MAX);
+        self.steps = self.steps.saturating_add(atoms).saturating_add(1);
+    }
+
+    /// Finds the facts, and what they leave to each atom.
+    pub fn look(&mut self, question: &Question<'_>) {
+        self.facts.find(question, &self.known);
+        for (atom, condition) in question.atoms.iter().enumerate() {
+            let mask = self.facts.expected(&self.known, atom, *condition);
+            put(&mut self.likely, atom, mask);
+        }
+    }
+
+    /// Finds how each share stands, by what was found of the atoms.
+    pub fn judge(&mut self, question: &Question<'_>) {
+        for (share, claim) in question.claims.iter().enumerate() {
+            let standing = self.standing(claim);
+            put(&mut self.standings, share, standing);
+        }
+    }
+
+    fn standing(&mut self, claim: &Claim) -> Standing {
+        self.count(claim);
+        if !claim.formula.mask(&self.known).truth {
+            return Standing::Closed;
+        }
+        let likely = claim.formula.mask(&self.likely);
+        if !likely.truth {
+            Standing::Excluded
+        } else if is_sure(likely) {
+            Standing::Sure
+        } else {
+            Standing::Undecided
+        }
+    }
+
+    /// How the share of this number stands.
+    pub fn standing_of(&self, share: usize) -> Standing {
+        self.standings.get(share).copied().unwrap_or(Standing::Closed)
+    }
+
+    /// How many shares stand so.
+    pub fn how_many(&self, standing: Standing) -> usize {
+        let mut found = 0usize;
+        for held in &self.standings {
+            if *held == standing {
+                found = found.saturating_add(1);
+            }
+        }
+        found
+    }
+
+    /// The first share that stands so.
+    pub fn first(&self, standing: Standing) -> Option<usize> {
+        for (share, held) in self.standings.iter().enumerate() {
+            if *held == standing {
+                return Some(share);
+            }
+        }
+        None
+    }
+
+    /// Whether the atom has one value on the path.
+    pub fn is_known(&self, atom: usize) -> bool {
+        settled(mask_at(&self.known, atom)).is_some()
+    }
+
+    /// Whether the facts leave the atom one value, which it doesn't have on the path.
+    pub fn is_forced(&self, atom: usize) -> bool {
+        !self.is_known(atom) && settled(mask_at(&self.likely, atom)).is_some()
+    }
+}

@@ -1,0 +1,21 @@
+//! What the maker answers.
+
+use bumpalo::Bump;
+use filter_tree::Row;
+use split_cert::Cert;
+
+/// What is made for a table.
+#[derive(Drop)]
+pub enum Made<'b> {
+    /// A certificate that the check accepts. Its nodes are in the arena.
+    Cert(Cert<&'b Bump>),
+    /// A row that fits the table, and the numbers of the subscribers to whom it passes, in ascending order, of whom there is
+    /// not exactly one.
+    Counter(Row, Vec<usize>),
+    /// Neither was found.
+    Unknown,
+    /// The certificate that was looked for has more than 1,000,000 nodes, or more than 64 splits on a path, and no row was
+    /// found that shows that there is none.
+    TooLarge,
+    OutOfMemory,
+}

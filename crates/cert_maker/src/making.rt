@@ -1,0 +1,111 @@
+//! The test of what was found, which alone is answered.
+
+ghost use Rattle.std.specs.Prelude.{◌≡◌, IfOk};
+ghost use Rattle.pub_reader.specs.CatalogView.{catalog_of};
+ghost use Rattle.replica_identity.specs.PlanView.{plan_view};
+ghost use Rattle.shard_checker.specs.CatalogRefusal.{table_shares};
+ghost use Rattle.shard_checker.specs.Owners.{shares_of};
+ghost use Rattle.cert_maker.specs.Answers.{IfCert, IfCounter, IsAccepted, IsCounter};
+ghost use Rattle.cert_maker.specs.Takers.{IsRight};
+
+use crate::made::Made;
+use crate::search::{Found, look};
+use crate::tested::owners_of;
+use bumpalo::Bump;
+use filter_tree::{Row, Table, valid};
+use pub_reader::Catalog;
+use replica_identity::{Plan, Share};
+use shard_checker::{CheckError, check_one, shares_in};
+use split_cert::Cert;
+use std::alloc::{AllocError, Global};
+
+/// The answer with a certificate, if the check accepts it.
+fn tested_cert<'b>(
+    alloc: Global,
+    table: &Table,
+    shares: &[&Share],
+    cert: Cert<&'b Bump>,
+) -> Made<'b>
+    ensures { IsRight table.now (shares_of shares.now) result }
+{
+    match check_one(alloc, table, shares, &cert) {
+        Ok(()) => Made::Cert(cert),
+        Err(CheckError::OutOfMemory) => Made::OutOfMemory,
+        Err(_) => Made::Unknown,
+    }
+}
+
+/// The answer with a row, if it fits the table and not exactly one share takes it.
+fn tested_row<'b>(
+    alloc: Global,
+    table: &Table,
+    shares: &[&Share],
+    row: Row,
+) -> Result<Made<'b>, AllocError>
+    ensures { IfOk result (IsRight table.now (shares_of shares.now)) }
+{
+    let owners = owners_of(alloc, shares, &row)?;
+    match valid(table, &row) {
+        Ok(()) if owners.len() != 1 => Ok(Made::Counter(row, owners)),
+        Ok(()) | Err(_) => Ok(Made::Unknown),
+    }
+}
+
+/// The answer for a table with these shares.
+fn tested<'b>(
+    alloc: Global,
+    arena: &'b Bump,
+    table: &Table,
+    shares: &[&Share],
+) -> Result<Made<'b>, AllocError>
+    ensures { IfOk result (IsRight table.now (shares_of shares.now)) }
+{
+    match look(alloc, arena, &*table, &*shares)? {
+        Found::Cert(cert) => Ok(tested_cert(alloc, table, shares, cert)),
+        Found::Row(row) => tested_row(alloc, table, shares, row),
+        Found::Unknown => Ok(Made::Unknown),
+        Found::TooLarge => Ok(Made::TooLarge),
+    }
+}
+
+/// The answer for a table, with its number.
+fn answer<'b>(
+    alloc: Global,
+    arena: &'b Bump,
+    catalog: &Catalog,
+    plan: &Plan,
+    number: usize,
+    table: &Table,
+) -> Result<Made<'b>, AllocError>
+    ensures { IfOk result (IsRight table.now (table_shares (plan_view plan.now) number 0 (catalog_of catalog.now).subscriptions)) }
+{
+    let shares = shares_in(alloc, plan, number, catalog.subscriptions.as_slice())?;
+    Ok(tested(alloc, arena, table, &shares)?)
+}
+
+/// A certificate of the catalog's table of this number, from 0, or a row that shows that there is none. The plan is the
+/// catalog's own.
+///
+/// A certificate is answered only if `check_one` accepts it with the table and its shares, and a row only if it fits the
+/// table and not exactly one subscriber takes it. `Unknown` is answered where neither was found, and of a table that isn't
+/// there. The search takes at most `MAX_STEPS` steps, and looks for certificates of at most 1,000,000 nodes and at most 64
+/// splits on a path.
+#[tactic(auto, using(crate::proofs::AnswerLemmas::right_answer))]
+pub fn make<'b>(
+    alloc: Global,
+    arena: &'b Bump,
+    catalog: &Catalog,
+    plan: &Plan,
+    table: usize,
+) -> Made<'b>
+    ensures cert { IfCert result (IsAccepted (catalog_of catalog.now) (plan_view plan.now) table) }
+    ensures counter { IfCounter result (IsCounter (catalog_of catalog.now) (plan_view plan.now) table) }
+{
+    match catalog.tables.get(table) {
+        None => Made::Unknown,
+        Some(found) => match answer(alloc, arena, catalog, plan, table, found) {
+            Ok(made) => made,
+            Err(_) => Made::OutOfMemory,
+        },
+    }
+}

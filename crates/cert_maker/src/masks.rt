@@ -1,0 +1,49 @@
+//! Sets of truth values that stand for atoms, by the atoms' numbers.
+
+use filter_tree::{Mask, Tri};
+
+/// All three truth values.
+pub const ANY: Mask = Mask {
+    truth: true,
+    falsity: true,
+    null: true,
+};
+
+/// True and false.
+pub const NOT_NULL: Mask = Mask {
+    truth: true,
+    falsity: true,
+    null: false,
+};
+
+/// The truth value of a set that has just one.
+pub fn settled(mask: Mask) -> Option<Tri> {
+    match (mask.truth, mask.falsity, mask.null) {
+        (true, false, false) => Some(Tri::True),
+        (false, true, false) => Some(Tri::False),
+        (false, false, true) => Some(Tri::Null),
+        _ => None,
+    }
+}
+
+/// Whether the set has true alone.
+pub fn is_sure(mask: Mask) -> bool {
+    mask.truth && !mask.falsity && !mask.null
+}
+
+/// The set at a number; past the end any value.
+pub fn mask_at(masks: &[Mask], number: usize) -> Mask {
+    masks.get(number).copied().unwrap_or(ANY)
+}
+
+/// The truth value of the atom of this number, where it is settled.
+pub fn value_at(masks: &[Mask], number: usize) -> Option<Tri> {
+    settled(mask_at(masks, number))
+}
+
+/// Puts a value in the place of this number, if there is one.
+pub fn put<T: Copy>(items: &mut [T], number: usize, item: T) {
+    if let Some(place) = items.get_mut(number) {
+        *place = item;
+    }
+}

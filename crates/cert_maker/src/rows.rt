@@ -1,0 +1,212 @@
+//! Rows, and the simple ones that are tried first.
+
+use crate::choices::{Choice, empty_text};
+use crate::question::{Asks, Question, number};
+use crate::tested::is_counter;
+use filter_tree::{ColType, Column, Row, Table, Text, Value};
+use replica_identity::Share;
+use std::alloc::{AllocError, Global};
+
+/// How many simple rows are tried.
+const MAX_SIMPLE_ROWS: u64 = 4_096;
+
+/// A text that no atom names: the empty one, or one of letters a.
+fn unnamed_text(alloc: Global, question: &Question<'_>) -> Result<Text, AllocError> {
+    let mut text = String::new(alloc);
+    for _ in &question.texts {
+        if !is_named(question, text.as_str()) {
+            break;
+        }
+        text.push('a')?;
+    }
+    Ok(Text::new(text))
+}
+
+fn is_named(question: &Question<'_>, text: &str) -> bool {
+    for named in &question.texts {
+        if *named == text {
+            return true;
+        }
+    }
+    false
+}
+
+fn text_of(alloc: Global, question: &Question<'_>, chosen: i64) -> Result<Text, AllocError> {
+    let place = usize::try_from(chosen).unwrap_or(usize::MAX);
+    match question.texts.get(place) {
+        None => unnamed_text(alloc, question),
+        Some(text) => Text::from_str(alloc, *text),
+    }
+}
+
+fn value_of(
+    alloc: Global,
+    question: &Question<'_>,
+    column: &Column,
+    choice: Choice,
+) -> Result<Value, AllocError> {
+    match (choice, column.kind) {
+        (None, _) => Ok(Value::Null),
+        (Some(chosen), ColType::Boolean) => Ok(Value::Bool(chosen == 1)),
+        (Some(chosen), ColType::Text) => Ok(Value::Text(text_of(alloc, question, chosen)?)),
+        (Some(chosen), ColType::SmallInt | ColType::Integer | ColType::BigInt) => {
+            Ok(Value::Int(chosen))
+        }
+    }
+}
+
+/// The row of the values that were chosen.
+pub fn row_of(
+    alloc: Global,
+    question: &Question<'_>,
+    choices: &[Choice],
+) -> Result<Row, AllocError> {
+    let mut values = Vec::new(alloc);
+    for (place, column) in question.columns.iter().enumerate() {
+        let choice = choices.get(place).copied().unwrap_or(None);
+        values.push(value_of(alloc, question, column, choice)?)?;
+    }
+    Ok(Row::from_values(values))
+}
+
+/// Adds a number to those of a list, if it isn't there.
+fn add(numbers: &mut Vec<Choice>, chosen: i64) -> Result<(), AllocError> {
+    let choice = Some(chosen);
+    if !numbers.contains(&choice) {
+        numbers.push(choice)?;
+    }
+    Ok(())
+}
+
+/// Adds the numbers at a boundary and beside it.
+fn add_around(numbers: &mut Vec<Choice>, boundary: i64) -> Result<(), AllocError> {
+    add(numbers, boundary)?;
+    add(numbers, boundary.saturating_sub(1))?;
+    add(numbers, boundary.saturating_add(1))?;
+    add(numbers, boundary.saturating_neg())
+}
+
+/// Adds the numbers that conditions of the column name.
+fn add_named(
+    numbers: &mut Vec<Choice>,
+    question: &Question<'_>,
+    column: usize,
+) -> Result<(), AllocError> {
+    for condition in &question.atoms {
+        if let Asks::Compares(_, boundary) = condition.asks {
+            if condition.column == column {
+                add_around(numbers, boundary)?;
+            }
+        }
+    }
+    Ok(())
+}
+
+fn add_texts(numbers: &mut Vec<Choice>, question: &Question<'_>) -> Result<(), AllocError> {
+    add(numbers, empty_text(question))?;
+    add(numbers, number(question.texts.len()))?;
+    for (place, _) in question.texts.iter().enumerate() {
+        add(numbers, number(place))?;
+    }
+    Ok(())
+}
+
+/// Whether a filter looks at the column.
+fn is_used(question: &Question<'_>, column: usize) -> bool {
+    for condition in &question.atoms {
+        if condition.column == column {
+            return true;
+        }
+    }
+    false
+}
+
+/// The simple values of a column, of which the first is the simplest.
+fn simple_values(
+    alloc: Global,
+    question: &Question<'_>,
+    place: usize,
+    column: &Column,
+) -> Result<Vec<Choice>, AllocError> {
+    let mut numbers = Vec::new(alloc);
+    if !column.not_null {
+        numbers.push(None)?;
+    }
+    if !is_used(question, place) && !column.not_null {
+        return Ok(numbers);
+    }
+    match column.kind {
+        ColType::Text => add_texts(&mut numbers, question)?,
+        ColType::Boolean => {
+            add(&mut numbers, 0)?;
+            add(&mut numbers, 1)?;
+        }
+        ColType::SmallInt | ColType::Integer | ColType::BigInt => {
+            add(&mut numbers, 0)?;
+            add_named(&mut numbers, question, place)?;
+        }
+    }
+    Ok(numbers)
+}
+
+fn all_simple_values(
+    alloc: Global,
+    question: &Question<'_>,
+) -> Result<Vec<Vec<Choice>>, AllocError> {
+    let mut values = Vec::new(alloc);
+    for (place, column) in question.columns.iter().enumerate() {
+        values.push(simple_values(alloc, question, place, column)?)?;
+    }
+    Ok(values)
+}
+
+/// The choice of this number from the values, and how often it went through them.
+fn picked(values: &[Choice], number: u64) -> (Choice, u64) {
+    let count = u64::try_from(values.len()).unwrap_or(u64::MAX);
+    if count == 0 {
+        return (None, number);
+    }
+    let place = usize::try_from(number % count).unwrap_or(0);
+    (values.get(place).copied().unwrap_or(None), number / count)
+}
+
+/// The row of this number, of the rows of simple values; where there are fewer rows, nothing.
+fn simple_choices(
+    alloc: Global,
+    values: &[Vec<Choice>],
+    number: u64,
+) -> Result<Option<Vec<Choice>>, AllocError> {
+    let mut choices = Vec::new(alloc);
+    let mut rest = number;
+    for of_column in values {
+        let (choice, round) = picked(of_column, rest);
+        choices.push(choice)?;
+        rest = round;
+    }
+    if rest > 0 {
+        return Ok(None);
+    }
+    Ok(Some(choices))
+}
+
+/// A simple row that not one share takes, if there is one among those that are tried.
+pub fn simple_counter(
+    alloc: Global,
+    question: &Question<'_>,
+    table: &Table,
+    shares: &[&Share],
+) -> Result<Option<Row>, AllocError> {
+    let values = all_simple_values(alloc, question)?;
+    for number in 0..MAX_SIMPLE_ROWS {
+        match simple_choices(alloc, &values, number)? {
+            None => return Ok(None),
+            Some(choices) => {
+                let row = row_of(alloc, question, &choices)?;
+                if is_counter(table, shares, &row) {
+                    return Ok(Some(row));
+                }
+            }
+        }
+    }
+    Ok(None)
+}

@@ -1,0 +1,276 @@
+//! The search for a certificate, from the root, and for a row where there is none.
+
+use crate::board::{Board, Standing};
+use crate::choices::choices;
+use crate::masks::{is_sure, mask_at};
+use crate::question::{Asks, Condition, Question};
+use crate::rows::{row_of, simple_counter};
+use crate::scores::Aim;
+use crate::tested::is_counter;
+use bumpalo::Bump;
+use filter_tree::{Mask, Row, Table, Tri};
+use replica_identity::Share;
+use shard_checker::{numbered_atoms, numbered_terms};
+use split_cert::{Cert, MAX_NODES, MAX_SPLITS};
+use std::alloc::{AllocError, AllocFailed, Global};
+
+/// The most steps of a search: each time that a share's filter is looked at counts its atoms, and one more.
+pub const MAX_STEPS: u64 = 1_000_000_000;
+
+/// Why the search for a certificate ends without one.
+#[derive(Clone, Copy, Debug)]
+enum Stop {
+    /// A row was found that shows that there is none.
+    Counter,
+    TooLarge,
+    TooLong,
+    OutOfMemory,
+}
+
+impl From<AllocError> for Stop {
+    fn from(_: AllocError) -> Stop {
+        Stop::OutOfMemory
+    }
+}
+
+impl<T: Drop> From<AllocFailed<T>> for Stop {
+    fn from(_: AllocFailed<T>) -> Stop {
+        Stop::OutOfMemory
+    }
+}
+
+/// What to do at a node.
+#[derive(Clone, Copy)]
+enum Step {
+    Owner(usize),
+    /// A split by this atom, to which the facts leave these values.
+    Split(usize, Mask),
+    /// The facts leave rows that no share takes, or several.
+    Fault,
+}
+
+/// A search for a certificate of a table.
+#[derive(Drop)]
+struct Search<'a, 'q> {
+    alloc: Global,
+    table: &'a Table,
+    shares: &'a [&'a Share],
+    question: &'q Question<'a>,
+    board: Board,
+    nodes: usize,
+    /// Some leaf has rows that not one share takes, but none was found.
+    is_broken: bool,
+    /// A row that not one share takes.
+    counter: Option<Row>,
+}
+
+/// The number of an atom, a term or a share, as a certificate has it.
+fn number(place: usize) -> Result<u32, Stop> {
+    match u32::try_from(place) {
+        Ok(number) => Ok(number),
+        Err(_) => Err(Stop::TooLarge),
+    }
+}
+
+impl<'a, 'q> Search<'a, 'q> {
+    /// A search that has not begun.
+    fn new(
+        alloc: Global,
+        table: &'a Table,
+        shares: &'a [&'a Share],
+        question: &'q Question<'a>,
+    ) -> Result<Search<'a, 'q>, AllocError> {
+        Ok(Search {
+            alloc,
+            table,
+            shares,
+            question,
+            board: Board::new(alloc, question)?,
+            nodes: 0,
+            is_broken: false,
+            counter: None,
+        })
+    }
+
+    /// A certificate whose nodes are in the arena, if the search ends with one that isn't broken.
+    fn find<'b>(&mut self, arena: &'b Bump) -> Result<Cert<&'b Bump>, Stop> {
+        self.grow(arena, MAX_SPLITS)
+    }
+
+    fn count_node(&mut self) -> Result<(), Stop> {
+        if self.nodes >= MAX_NODES {
+            return Err(Stop::TooLarge);
+        }
+        if self.board.steps > MAX_STEPS {
+            return Err(Stop::TooLong);
+        }
+        self.nodes += 1;
+        Ok(())
+    }
+
+    /// A tree for the rows at the end of the path, on which so many splits may still stand.
+    #[cycle(tree)]
+    fn grow<'b>(&mut self, arena: &'b Bump, may_split: usize) -> Result<Cert<&'b Bump>, Stop> {
+        self.count_node()?;
+        match self.step()? {
+            Step::Owner(share) => Ok(Cert::Owner(number(share)?)),
+            Step::Split(atom, left) => {
+                if may_split == 0 {
+                    return Err(Stop::TooLarge);
+                }
+                self.split(arena, may_split - 1, atom, left)
+            }
+            Step::Fault => self.fault(),
+        }
+    }
+
+    #[cycle(tree)]
+    fn split<'b>(
+        &mut self,
+        arena: &'b Bump,
+        may_split: usize,
+        atom: usize,
+        left: Mask,
+    ) -> Result<Cert<&'b Bump>, Stop> {
+        let if_true = self.branch(arena, may_split, atom, left, Tri::True)?;
+        let if_false = self.branch(arena, may_split, atom, left, Tri::False)?;
+        let if_null = self.branch(arena, may_split, atom, left, Tri::Null)?;
+        Ok(Cert::Split(number(atom)?, if_true, if_false, if_null))
+    }
+
+    /// The branch where the atom has this value.
+    #[cycle(tree)]
+    fn branch<'b>(
+        &mut self,
+        arena: &'b Bump,
+        may_split: usize,
+        atom: usize,
+        left: Mask,
+        value: Tri,
+    ) -> Result<Box<Cert<&'b Bump>, &'b Bump>, Stop> {
+        let cert = if left.has(value) {
+            self.board.decide(atom, value);
+            let grown = self.grow(arena, may_split)?;
+            self.board.forget(self.question, atom);
+            grown
+        } else {
+            self.impossible(atom, value)?
+        };
+        Ok(Box::new(arena, cert)?)
+    }
+
+    /// A leaf without rows, since the facts don't leave the atom this value.
+    fn impossible<'b>(&mut self, atom: usize, value: Tri) -> Result<Cert<&'b Bump>, Stop> {
+        self.count_node()?;
+        let condition = self.question.condition(atom).ok_or(Stop::TooLarge)?;
+        if value == Tri::Null && self.is_never_null(condition) {
+            Ok(Cert::NeverNull(number(atom)?))
+        } else {
+            Ok(Cert::Empty(number(condition.term)?))
+        }
+    }
+
+    fn is_never_null(&self, condition: Condition) -> bool {
+        let declared = match self.question.columns.get(condition.column) {
+            None => false,
+            Some(column) => column.not_null,
+        };
+        declared || matches!(condition.asks, Asks::IsNull)
+    }
+
+    /// What to do at the end of the path.
+    fn step(&mut self) -> Result<Step, Stop> {
+        self.board.look(self.question);
+        self.board.judge(self.question);
+        let sure = self.board.how_many(Standing::Sure);
+        let undecided = self.board.how_many(Standing::Undecided);
+        if sure > 1 || (sure == 0 && undecided == 0) {
+            return Ok(Step::Fault);
+        }
+        if let Some(share) = self.board.first(Standing::Excluded) {
+            let atom = self.board.closing(self.alloc, self.question, share)?;
+            return self.split_by(atom);
+        }
+        if undecided > 0 {
+            return self.halve();
+        }
+        self.settle()
+    }
+
+    fn split_by(&self, atom: Option<usize>) -> Result<Step, Stop> {
+        match atom {
+            None => Err(Stop::TooLong),
+            Some(atom) => Ok(Step::Split(atom, mask_at(&self.board.likely, atom))),
+        }
+    }
+
+    fn halve(&mut self) -> Result<Step, Stop> {
+        let atom = self.board.halving(self.alloc, self.question)?;
+        self.board.look(self.question);
+        self.split_by(atom)
+    }
+
+    /// One share takes all rows, and no other does: a leaf, once the path tells so.
+    fn settle(&mut self) -> Result<Step, Stop> {
+        let share = self.board.first(Standing::Sure).ok_or(Stop::TooLong)?;
+        let claim = self.question.claims.get(share).ok_or(Stop::TooLong)?;
+        if is_sure(claim.formula.mask(&self.board.known)) {
+            return Ok(Step::Owner(share));
+        }
+        let atom = self.board.needed(self.alloc, claim, Aim::TakesAll)?;
+        self.split_by(atom)
+    }
+
+    /// Looks for a row here, which not one share takes; without one, something that only stands for a leaf.
+    fn fault<'b>(&mut self) -> Result<Cert<&'b Bump>, Stop> {
+        if let Some(chosen) = choices(self.alloc, self.question, &self.board)? {
+            let row = row_of(self.alloc, self.question, &chosen)?;
+            if is_counter(self.table, self.shares, &row) {
+                self.counter = Some(row);
+                return Err(Stop::Counter);
+            }
+        }
+        self.is_broken = true;
+        Ok(Cert::Owner(0))
+    }
+}
+
+/// What a search ends with.
+#[derive(Drop)]
+pub enum Found<'b> {
+    Cert(Cert<&'b Bump>),
+    Row(Row),
+    Unknown,
+    TooLarge,
+}
+
+/// A row instead of a certificate: a simple one, or else the one that the search came upon.
+fn row_instead<'b>(search: Search<'_, '_>, otherwise: Found<'b>) -> Result<Found<'b>, AllocError> {
+    let simple = simple_counter(search.alloc, search.question, search.table, search.shares)?;
+    match (simple, search.counter) {
+        (Some(row), _) | (None, Some(row)) => Ok(Found::Row(row)),
+        (None, None) => Ok(otherwise),
+    }
+}
+
+fn ended<'b>(mut search: Search<'_, '_>, arena: &'b Bump) -> Result<Found<'b>, AllocError> {
+    match search.find(arena) {
+        Ok(cert) if !search.is_broken => Ok(Found::Cert(cert)),
+        Ok(_) | Err(Stop::Counter | Stop::TooLong) => row_instead(search, Found::Unknown),
+        Err(Stop::TooLarge) => row_instead(search, Found::TooLarge),
+        Err(Stop::OutOfMemory) => Err(AllocError),
+    }
+}
+
+/// Looks for a certificate of the table with these shares, and for a row that shows that there is none.
+pub fn look<'a, 'b>(
+    alloc: Global,
+    arena: &'b Bump,
+    table: &'a Table,
+    shares: &'a [&'a Share],
+) -> Result<Found<'b>, AllocError> {
+    let atoms = numbered_atoms(alloc, shares)?;
+    let terms = numbered_terms(alloc, shares)?;
+    let question = Question::new(alloc, table.columns.as_slice(), shares, &atoms, &terms)?;
+    ended(Search::new(alloc, table, shares, &question)?, arena)
+}
