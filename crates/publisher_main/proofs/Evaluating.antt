@@ -21,6 +21,7 @@ stopped input word f.WordNotUtf8 h = absurd h
 stopped input word f.Input h = absurd h
 stopped input word (f.Catalog error) h = absurd h
 stopped input word (f.Table name) h = absurd h
+stopped input word (f.Certificate line error) h = absurd h
 stopped input word f.Output h = tt
 stopped input word f.OutOfMemory h = tt
 
