@@ -3,7 +3,7 @@ use Rattle.std.proofs.Common.{◌≡◌, ℕ, List, Option, Some, Result, Ok, Er
 use Rattle.filter_tree.specs.declared.table.Table.{Table}
 use Rattle.pub_reader.specs.CatalogView.{catalog_of}
 use Rattle.pub_reader.specs.Statements.{catalog_by}
-use Rattle.pub_reader.specs.Written.{as_filter}
+use Rattle.sql_reader.specs.Written.{as_filter}
 use Rattle.pub_reader.specs.declared.catalog.Catalog.{Catalog}
 use Rattle.pub_reader.specs.declared.catalog.Publication.{Publication}
 use Rattle.publisher_main.specs.Evaluation.{status_of, Writes, IsEvaluated, IsStopped}
@@ -21,6 +21,7 @@ stopped input word f.WordNotUtf8 h = absurd h
 stopped input word f.Input h = absurd h
 stopped input word (f.Catalog error) h = absurd h
 stopped input word (f.Table name) h = absurd h
+stopped input word (f.Certificate line error) h = absurd h
 stopped input word f.Output h = tt
 stopped input word f.OutOfMemory h = tt
 

@@ -1,10 +1,18 @@
 -- What is known of the input and the output holds of the exit status, once the output is flushed.
-use Rattle.std.proofs.Common.{◌≡◌, ℕ, List, Option, Some, None, arith, ◌∙◌}
+use Rattle.std.proofs.Common.{◌≡◌, ℕ, List, Option, Some, None, arith, ◌∙◌, [], ◌∷◌, ◌++◌, codes}
 use Rattle.std.specs.Io.KnownBytes.{Appends, Keeps}
 use denote.Enum.Declared.{tag_of}
-use Rattle.publisher_main.specs.Evaluation.{IsAnswered, AnswersWords, AnswersSome, IsOutcome}
+use Rattle.pub_reader.specs.Catalogs.{CatalogOf}
+use Rattle.filter_tree.specs.Expr.{Expr}
+use Rattle.split_cert.specs.Tree.{Tree}
+use Rattle.publisher_main.specs.Checking.{IsVerdict, IsChecked}
+use Rattle.publisher_main.specs.Evaluation.{IsAnswered}
+use Rattle.publisher_main.specs.Refusals.{refused_line}
+use Rattle.publisher_main.specs.Requests.{IsAnswerTo, AnswersWords, AnswersSome, IsOutcome}
 use Rattle.publisher_main.specs.contracts.failure.Status.{the_type}
 use Rattle.publisher_main.specs.declared.arguments.Question.{Question}
+use Rattle.publisher_main.specs.declared.arguments.Request.{Request}
+use Rattle.publisher_main.specs.declared.arguments.Request.TheVariants.{Eval, Check}
 use Rattle.publisher_main.specs.declared.failure.Status.{Status}
 use Rattle.publisher_main.specs.declared.failure.Status.TheVariants.{Done, Refused, CommandLine, Input, Output, OutOfMemory}
 
@@ -32,12 +40,42 @@ answered_kept question input word old new newer status now keeps = record {
   };
 }
 
+verdict_kept : (catalog : CatalogOf Expr) (trees : List Tree) (old new newer : Option (List ℕ)) (status : Status) → IsVerdict catalog trees old new status → Keeps new newer → IsVerdict catalog trees old newer status
+verdict_kept catalog trees old new newer Done now keeps = record {
+  sound = now.sound;
+  unrefused = now.unrefused;
+  writes = appends_kept old new newer (codes "accepted" ++ 10 ∷ []) now.writes keeps;
+}
+verdict_kept catalog trees old new newer Refused now keeps = record {
+  error = now.error;
+  refusal = now.refusal;
+  writes = appends_kept old new newer (refused_line catalog now.error ++ 10 ∷ []) now.writes keeps;
+}
+verdict_kept catalog trees old new newer CommandLine now keeps = absurd now
+verdict_kept catalog trees old new newer Input now keeps = absurd now
+verdict_kept catalog trees old new newer Output now keeps = absurd now
+verdict_kept catalog trees old new newer OutOfMemory now keeps = absurd now
+
+checked_kept : (input : List ℕ) (old new newer : Option (List ℕ)) (status : Status) → IsChecked input old new status → Keeps new newer → IsChecked input old newer status
+checked_kept input old new newer status now keeps = record {
+  cut = now.cut;
+  catalog = now.catalog;
+  trees = now.trees;
+  parts = now.parts;
+  reads = now.reads;
+  certificates = now.certificates;
+  verdict = verdict_kept now.catalog now.trees old new newer status now.verdict keeps;
+}
+
+answer_kept : (request : Request) (input : List ℕ) (old new newer : Option (List ℕ)) (status : Status) → IsAnswerTo request input old new status → Keeps new newer → IsAnswerTo request input old newer status
+answer_kept (Eval table question) input old new newer status now keeps = answered_kept question input table.now old new newer status now keeps
+answer_kept Check input old new newer status now keeps = checked_kept input old new newer status now keeps
+
 words_kept : (words : List (List ℕ)) (input : List ℕ) (old new newer : Option (List ℕ)) (status : Status) → AnswersWords words input old new status → Keeps new newer → AnswersWords words input old newer status
 words_kept words input old new newer status now keeps = record {
-  word = now.word;
-  question = now.question;
+  request = now.request;
   asks = now.asks;
-  answers = answered_kept now.question input now.word old new newer status now.answers keeps;
+  answers = answer_kept now.request input old new newer status now.answers keeps;
 }
 
 some_kept : (words : List (List ℕ)) (known old new newer : Option (List ℕ)) (status : Status) → AnswersSome words known old new status → Keeps new newer → AnswersSome words known old newer status

@@ -3,8 +3,8 @@ use Rattle.std.specs.Prelude.{◌≡◌, ℕ, Bool, false, List, Some, None, Res
 use Rattle.filter_tree.specs.Datum.{Datum}
 use Rattle.filter_tree.specs.Valid.{row_fault}
 use Rattle.filter_tree.specs.declared.table.Column.{Column}
-use Rattle.pub_reader.specs.Reading.{Fault, Tells}
-use Rattle.pub_reader.specs.Rows.{row_of}
+use Rattle.sql_reader.specs.Reading.{Fault, Tells}
+use Rattle.sql_reader.specs.Rows.{row_of}
 use Rattle.publisher_main.specs.Memory.{is_memory}
 use Rattle.publisher_main.specs.declared.bad_row.BadRow.{BadRow}
 use Rattle.publisher_main.specs.declared.bad_row.BadRow.TheVariants.{Unreadable, Invalid}

@@ -1,5 +1,5 @@
 -- What `eval` answers: the first part of its input is a catalog, and the second has rows of one of its tables, one a line.
-use Rattle.std.specs.Prelude.{◌≡◌, ℕ, if◌then◌else◌, List, [], ◌∷◌, ◌++◌, Option, Some, None, IfNone, IfSome, slice_get, Result, Ok, Err}
+use Rattle.std.specs.Prelude.{◌≡◌, ℕ, if◌then◌else◌, List, [], ◌∷◌, ◌++◌, Option, Some, None, IfNone, slice_get, Result, Ok, Err}
 use Rattle.std.specs.List.{list_all}
 use Rattle.std.specs.Io.KnownBytes.{Appends}
 use Rattle.filter_tree.specs.Datum.{Datum}
@@ -7,16 +7,15 @@ use Rattle.filter_tree.specs.Valid.{row_fault}
 use Rattle.filter_tree.specs.declared.table.Column.{Column}
 use Rattle.filter_tree.specs.declared.table.Table.{Table}
 use Rattle.pub_reader.specs.CatalogView.{catalog_of}
-use Rattle.pub_reader.specs.Reading.{Fault, Tells}
-use Rattle.pub_reader.specs.Rows.{row_of}
+use Rattle.sql_reader.specs.Reading.{Fault, Tells}
+use Rattle.sql_reader.specs.Rows.{row_of}
 use Rattle.pub_reader.specs.Statements.{catalog_by}
-use Rattle.pub_reader.specs.Written.{as_filter}
+use Rattle.sql_reader.specs.Written.{as_filter}
 use Rattle.pub_reader.specs.declared.catalog.Catalog.{Catalog}
 use Rattle.pub_reader.specs.declared.catalog.Publication.{Publication}
 use Rattle.sql_reader.specs.declared.error.ReadError.{ReadError}
 use Rattle.publisher_main.specs.Answers.{line_of}
 use Rattle.publisher_main.specs.BadRows.{is_answered}
-use Rattle.publisher_main.specs.CommandLine.{Asks}
 use Rattle.publisher_main.specs.Inserts.{insert_line}
 use Rattle.publisher_main.specs.Parts.{Cut, two_parts, lines_of}
 use Rattle.publisher_main.specs.Tables.{table_of}
@@ -94,26 +93,10 @@ IsStopped input word f.WordNotUtf8 = ⊥
 IsStopped input word f.Input = two_parts input ≡ None
 IsStopped input word (f.Catalog error) = IsBadCatalog input error
 IsStopped input word (f.Table name) = IsUnknown input word × (name.now ≡ word)
+IsStopped input word (f.Certificate line error) = ⊥
 IsStopped input word f.Output = Unit {0}
 IsStopped input word f.OutOfMemory = Unit {0}
 
 abbrev pub IsEvaluated : Question → List ℕ → List ℕ → Option (List ℕ) → Option (List ℕ) → Result Status Failure → Type 0
 IsEvaluated question input word old new (Ok status) = IsAnswered question input word old new status
 IsEvaluated question input word old new (Err failure) = IsStopped input word failure
-
--- the words ask a question, and it is answered of this input
-pub record AnswersWords (words : List (List ℕ)) (input : List ℕ) (old new : Option (List ℕ)) (status : Status) : Type 0 where
-  pub word : List ℕ
-  pub question : Question
-  pub asks : Asks words word question
-  pub answers : IsAnswered question input word old new status
-
--- the same of an input that is known
-abbrev pub AnswersSome : List (List ℕ) → Option (List ℕ) → Option (List ℕ) → Option (List ℕ) → Status → Type 0
-AnswersSome words known old new status = IfSome known (λ input. AnswersWords words input old new status)
-
--- what a status says of the words, the input and the output
-abbrev pub IsOutcome : List (List ℕ) → Option (List ℕ) → Option (List ℕ) → Option (List ℕ) → Status → Type 0
-IsOutcome words known old new Done = AnswersSome words known old new Done
-IsOutcome words known old new Refused = AnswersSome words known old new Refused
-IsOutcome words known old new _ = Unit {0}

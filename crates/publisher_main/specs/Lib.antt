@@ -1,6 +1,8 @@
 pub mod Answers
 pub mod BadRows
 pub mod BoundedView
+pub mod Certificates
+pub mod Checking
 pub mod CommandLine
 pub mod Evaluation
 pub mod Hexadecimal
@@ -8,5 +10,7 @@ pub mod Inserts
 pub mod LinesView
 pub mod Memory
 pub mod Parts
+pub mod Refusals
+pub mod Requests
 pub mod Statuses
 pub mod Tables

@@ -13,6 +13,7 @@ status_of_failure f.WordNotUtf8 = s.CommandLine
 status_of_failure f.Input = s.Input
 status_of_failure (f.Catalog error) = s.Input
 status_of_failure (f.Table word) = s.Input
+status_of_failure (f.Certificate line error) = s.Input
 status_of_failure f.Output = s.Output
 status_of_failure f.OutOfMemory = s.OutOfMemory
 

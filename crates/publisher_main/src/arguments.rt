@@ -1,8 +1,9 @@
 //! The command line.
 
-ghost use Rattle.std.specs.Prelude.{◌≡◌, IfErr, IfOk, map};
+ghost use Rattle.std.specs.Prelude.{◌≡◌, false, IfErr, IfOk, map};
 ghost use Rattle.clap.specs.Words.{app_of};
-ghost use Rattle.publisher_main.specs.CommandLine.{pgshard, IsRequest};
+ghost use Rattle.clap.specs.declared.builder.command.Command.TheViews.{out-Command};
+ghost use Rattle.publisher_main.specs.CommandLine.{eval, pgshard, IsRequest};
 ghost use Rattle.publisher_main.specs.Statuses.{IsOfWords};
 
 use crate::failure::Failure;
@@ -25,10 +26,13 @@ pub enum Question {
 pub enum Request<'a> {
     /// Answer a question about each row of this table.
     Eval { table: &'a str, question: Question },
+    /// Tell whether a sharding is sound, by certificates.
+    Check,
 }
 
-fn command<'a>(alloc: Global) -> Result<Command<'a>, AllocError>
-    ensures { IfOk result (λ command. app_of command ≡ pgshard) }
+fn eval_command<'a>(alloc: Global) -> Result<Command<'a>, AllocError>
+    ensures shape { IfOk result (λ command. app_of command ≡ eval) }
+    ensures local { IfOk result (λ command. (out-Command command).has_globals ≡ false) }
 {
     let table = Arg::new(alloc, "TABLE")
         .help("a table of the schema public, or SCHEMA.TABLE")
@@ -38,22 +42,32 @@ fn command<'a>(alloc: Global) -> Result<Command<'a>, AllocError>
         .long("insert")
         .help("print the Insert message of each row that some publication carries, in hexadecimal")
         .action(ArgAction::SetTrue);
-    let eval = Command::new(alloc, "eval")
+    Command::new(alloc, "eval")
         .about("reads a catalog, a line %% and rows, and tells which publications carry each row")
         .arg(table)?
-        .arg(insert)?;
+        .arg(insert)
+}
+
+fn command<'a>(alloc: Global) -> Result<Command<'a>, AllocError>
+    ensures { IfOk result (λ command. app_of command ≡ pgshard) }
+{
+    let eval = eval_command(alloc)?;
+    let check = Command::new(alloc, "check").about(
+        "reads a catalog, a line %% and certificates, and tells whether each row has one subscriber",
+    );
     Command::new(alloc, "pgshard")
         .about("checks a sharding of PostgreSQL tables by the row filters of publications")
         .subcommand_required(true)
-        .subcommand(eval)
+        .subcommand(eval)?
+        .subcommand(check)
 }
 
 /// Reads the words of a command line, the program's name first.
 ///
 /// # Errors
 ///
-/// `CommandLine` where the words are not `eval`, a table's name and at most one `--insert`, with a text for the user;
-/// `OutOfMemory`.
+/// `CommandLine` where the words are neither `check` alone, nor `eval`, a table's name and at most one `--insert`, with a
+/// text for the user; `OutOfMemory`.
 pub fn parse<'a, S: AsStr>(alloc: Global, words: &'a [S]) -> Result<Request<'a>, Failure<'a>>
     ensures request { IfOk result (IsRequest (map S.text words.entry.now)) }
     ensures stopped { IfErr result IsOfWords }
@@ -70,6 +84,12 @@ pub fn parse<'a, S: AsStr>(alloc: Global, words: &'a [S]) -> Result<Request<'a>,
             return Ok(Request::Eval { table, question });
         }
     }
-    let error = command.error(ErrorKind::MissingRequiredArgument, "expected eval TABLE")?;
+    if matches.subcommand_matches("check").is_some() {
+        return Ok(Request::Check);
+    }
+    let error = command.error(
+        ErrorKind::MissingRequiredArgument,
+        "expected eval TABLE or check",
+    )?;
     Err(Failure::CommandLine(error))
 }

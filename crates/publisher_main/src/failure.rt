@@ -1,14 +1,15 @@
 //! Why the program ends, and with which status.
 
 use pub_reader::{ErrorKind, ReadError};
-use std::alloc::AllocError;
+use split_cert::CertError;
+use std::alloc::{AllocError, AllocFailed};
 use thiserror::Error;
 
 /// How the program ended. As a number it is the exit status.
 #[derive(Clone, Copy, Debug, PartialEq, Eq)]
 pub enum Status {
     Done = 0,
-    /// The answer is a refusal: some row is not read, or does not fit its table.
+    /// The answer is a refusal: some row is not read, or does not fit its table, or the sharding is refused.
     Refused = 1,
     CommandLine = 2,
     Input = 3,
@@ -30,6 +31,9 @@ pub enum Failure<'a> {
     /// There is no table of this name, which is shown as it was given.
     #[error("table {0}")]
     Table(&'a str),
+    /// The line of this number, from 1, of the certificates is none.
+    #[error("certificate {line} {}", .error.name())]
+    Certificate { line: usize, error: CertError },
     #[error("output")]
     Output,
     #[error("out of memory")]
@@ -46,7 +50,10 @@ impl Failure<'_> {
     {
         match self {
             Failure::CommandLine(_) | Failure::WordNotUtf8 => Status::CommandLine,
-            Failure::Input | Failure::Catalog(_) | Failure::Table(_) => Status::Input,
+            Failure::Input
+            | Failure::Catalog(_)
+            | Failure::Table(_)
+            | Failure::Certificate { .. } => Status::Input,
             Failure::Output => Status::Output,
             Failure::OutOfMemory => Status::OutOfMemory,
         }
@@ -60,6 +67,17 @@ impl From<AllocError> for Failure<'_> {
     ghost from_gives = { λ _ failure. failure ≡ OutOfMemory };
 
     fn from(_: AllocError) -> Self {
+        Failure::OutOfMemory
+    }
+}
+
+impl<T: Drop> From<AllocFailed<T>> for Failure<'_> {
+    ghost use Rattle.std.specs.Prelude.{◌≡◌};
+    ghost use Rattle.publisher_main.specs.declared.failure.Failure.TheVariants.{OutOfMemory};
+
+    ghost from_gives = { λ _ failure. failure ≡ OutOfMemory };
+
+    fn from(_: AllocFailed<T>) -> Self {
         Failure::OutOfMemory
     }
 }

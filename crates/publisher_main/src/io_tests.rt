@@ -165,6 +165,36 @@ fn nothing_is_written_behind_a_failed_write(rt: HostRuntime) -> Result<(), Fail>
 }
 
 #[test]
+fn a_failing_writer_stops_a_check(rt: HostRuntime) -> Result<(), Fail> {
+    let accepted = "%%\n";
+    let refused = "%%\no 0\n";
+    let cases = [
+        (accepted, 0, true, 4, ""),
+        (accepted, 1, false, 4, "accepted\n"),
+        (accepted, 1, true, 0, "accepted\n"),
+        (refused, 0, true, 4, ""),
+        (refused, 1, false, 4, "refused CertCount\n"),
+        (refused, 1, true, 1, "refused CertCount\n"),
+    ];
+    for (input, left, flushes, expected_status, expected) in cases {
+        let mut writer = Full {
+            taken: Vec::new(rt.alloc()),
+            left,
+            flushes,
+        };
+        let words = ["pgshard", "check"];
+        let status = run(rt.alloc(), words.as_slice(), input.as_bytes(), &mut writer);
+        assert_eq!(rt; status, expected_status, "{input} after {left}");
+        assert_eq!(rt;
+            writer.taken.as_slice(),
+            expected.as_bytes(),
+            "{input} after {left}"
+        );
+    }
+    Ok(())
+}
+
+#[test]
 fn failures_have_a_line_and_a_status(rt: HostRuntime) -> Result<(), Fail> {
     let cases = [
         (

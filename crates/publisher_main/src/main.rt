@@ -5,6 +5,10 @@
 mod answers;
 mod arguments;
 mod bad_row;
+mod certificates;
+#[cfg(test)]
+mod check_tests;
+mod checking;
 mod evaluation;
 mod failure;
 mod hexadecimal;
@@ -17,6 +21,7 @@ mod language_tests;
 mod output;
 mod parts;
 mod program;
+mod refusals;
 mod tables;
 #[cfg(test)]
 mod tests;
@@ -35,7 +40,7 @@ fn words(rt: &HostRuntime) -> Result<Vec<String>, Failure<'static>> {
     })?;
     let mut words = Vec::new(rt.alloc());
     for word in arguments {
-        words.push(word).map_err(|_| Failure::OutOfMemory)?;
+        words.push(word)?;
     }
     Ok(words)
 }

@@ -1,11 +1,12 @@
 //! The program, over any reader and writer.
 
 ghost use Rattle.std.specs.Prelude.{◌≡◌, ◌≤◌, ◌⊎◌, IfOk, map};
-ghost use Rattle.publisher_main.specs.Evaluation.{AnswersSome, IsOutcome};
+ghost use Rattle.publisher_main.specs.Requests.{AnswersSome, IsOutcome};
 ghost use Rattle.publisher_main.specs.Statuses.{IsEarly, status_of_failure};
 ghost use Rattle.publisher_main.specs.declared.failure.Status.TheVariants.{Done, Refused, Output};
 
 use crate::arguments::{Request, parse};
+use crate::checking::check_input;
 use crate::evaluation::evaluate;
 use crate::failure::{Failure, Status};
 use crate::input::read_input;
@@ -21,11 +22,17 @@ fn answer<'a, S: AsStr, R: Read + Drop, W: Write>(
 ) -> Result<Status, Failure<'a>>
     ensures { IfOk result (AnswersSome (map S.text words.entry.now) (R.remaining reader) (W.contents writer.old) (W.contents writer.new)) }
 {
-    match parse(alloc, words)? {
-        Request::Eval { table, question } => {
-            let input = read_input(alloc, reader)?;
-            evaluate(alloc, table, question, input.as_str(), writer)
-        }
+    let request = parse(alloc, words)?;
+    let input = read_input(alloc, reader)?;
+    match request {
+        Request::Eval { table, question } => evaluate(
+            alloc,
+            table,
+            question,
+            input.as_str(),
+            writer,
+        ),
+        Request::Check => check_input(alloc, input.as_str(), writer),
     }
 }
 
@@ -62,8 +69,9 @@ fn outcome<S: AsStr, R: Read + Drop, W: Write>(
 }
 
 /// Runs the program on the words of a command line, the program's name first, and gives its exit status: 0 or 1 where
-/// the question was answered (1 where some row is not read, or does not fit its table), 2 where the words ask nothing,
-/// 3 where the input is not taken, 4 where the writer fails, 5 where memory runs out.
+/// what is asked was answered (1 where some row is not read, or does not fit its table, or where the sharding is
+/// refused), 2 where the words ask nothing, 3 where the input is not taken, 4 where the writer fails, 5 where memory runs
+/// out.
 pub fn run<S: AsStr, R: Read + Drop, W: Write>(
     alloc: Global,
     words: &[S],

@@ -1,3 +1,4 @@
+pub mod ErrorNames
 pub mod Numbers
 pub mod Reading
 pub mod Text

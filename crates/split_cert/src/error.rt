@@ -29,6 +29,24 @@ pub enum CertError {
     OutOfMemory,
 }
 
+impl CertError {
+    ghost use Rattle.split_cert.specs.ErrorNames.{error_name};
+
+    /// The name of the error, without the place that it carries.
+    pub fn name(&self) -> &'static str
+        ensures { result.now ≡ error_name self.now }
+    {
+        match self {
+            CertError::BadToken(_) => "BadToken",
+            CertError::Ended => "Ended",
+            CertError::Trailing(_) => "Trailing",
+            CertError::TooLarge => "TooLarge",
+            CertError::TooDeep => "TooDeep",
+            CertError::OutOfMemory => "OutOfMemory",
+        }
+    }
+}
+
 impl From<AllocError> for CertError {
     ghost from_gives = { λ _ e. e ≡ OutOfMemory };
 

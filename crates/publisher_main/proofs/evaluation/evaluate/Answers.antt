@@ -2,7 +2,7 @@ use Rattle.std.proofs.Common.{rules, ◌≡◌, Some, None, Ok, refl, slice_get,
 use Rattle.std.proofs.lemmas.Option.{slice_get_read}
 use Rattle.pub_reader.specs.CatalogView.{catalog_of}
 use Rattle.pub_reader.specs.Statements.{catalog_by}
-use Rattle.pub_reader.specs.Written.{as_filter}
+use Rattle.sql_reader.specs.Written.{as_filter}
 use Rattle.publisher_main.specs.Parts.{Cut, two_parts}
 use Rattle.publisher_main.specs.Tables.{table_of}
 use Rattle.publisher_main.proofs.Evaluating.{evaluated}

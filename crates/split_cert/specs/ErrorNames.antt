@@ -1,0 +1,12 @@
+-- The names of the reasons why a text is no certificate, without the places that they carry. Certificates are this project's own, and restate no section of PostgreSQL's documentation.
+use Rattle.std.specs.Prelude.{ℕ, List, codes}
+use Rattle.split_cert.specs.declared.error.CertError.{CertError}
+use Rattle.split_cert.specs.declared.error.CertError.TheVariants as e
+
+abbrev pub error_name : CertError → List ℕ
+error_name (e.BadToken place) = codes "BadToken"
+error_name e.Ended = codes "Ended"
+error_name (e.Trailing place) = codes "Trailing"
+error_name e.TooLarge = codes "TooLarge"
+error_name e.TooDeep = codes "TooDeep"
+error_name e.OutOfMemory = codes "OutOfMemory"
