@@ -2,9 +2,11 @@ pub mod Ahead
 pub mod Carrying
 pub mod CountingLemmas
 pub mod Cuts
+pub mod Doubling
 pub mod Meanings
 pub mod Nesting
 pub mod OrderLemmas
 pub mod Required
+pub mod SpelledRows
 pub mod Turning
 pub mod Undoubling

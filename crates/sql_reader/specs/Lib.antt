@@ -16,4 +16,5 @@ pub mod Reading
 pub mod Rows
 pub mod Turns
 pub mod Written
+pub mod WrittenRows
 pub mod Wrong

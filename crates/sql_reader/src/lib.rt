@@ -24,6 +24,7 @@ mod tests;
 mod token;
 mod truth_test;
 mod word;
+mod written_row;
 
 pub use column_rule::left_out_clause;
 pub use element::{TableParts, read_elements};
@@ -35,3 +36,4 @@ pub use name::{PlacedName, is_name_ahead, read_name};
 pub use reader::Reader;
 pub use row::read_row;
 pub use word::{Keyword, same_word};
+pub use written_row::write_row;

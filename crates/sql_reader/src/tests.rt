@@ -2,6 +2,7 @@ mod chains;
 mod expression_cases;
 mod expressions;
 mod row_cases;
+mod written_rows;
 
 use self::row_cases::ROWS;
 use crate::{ErrorKind, ReadError, read_row};

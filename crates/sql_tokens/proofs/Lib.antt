@@ -4,3 +4,4 @@ pub mod NumberTurns
 pub mod Ends
 pub mod Lexing
 pub mod Cuts
+pub mod SpelledTokens

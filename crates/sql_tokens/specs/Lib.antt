@@ -8,3 +8,4 @@ pub mod Front
 pub mod Lexed
 pub mod Left
 pub mod Meant
+pub mod Doubled
