@@ -14,8 +14,12 @@ use shard_checker::{numbered_atoms, numbered_terms};
 use split_cert::{Cert, MAX_NODES, MAX_SPLITS};
 use std::alloc::{AllocError, AllocFailed, Global};
 
-/// The most steps of a search: each time that a share's filter is looked at counts its atoms, and one more.
+/// The most steps of a search. Each time that a share's filter is looked at counts its atoms, and one more; each time that
+/// numbers are tried for a row counts 1,000,000.
 pub const MAX_STEPS: u64 = 1_000_000_000;
+
+/// The steps of a look for a row.
+const ROW_STEPS: u64 = 1_000_000;
 
 /// Why the search for a certificate ends without one.
 #[derive(Clone, Copy, Debug)]
@@ -223,6 +227,7 @@ impl<'a, 'q> Search<'a, 'q> {
 
     /// Looks for a row here, which not one share takes; without one, something that only stands for a leaf.
     fn fault<'b>(&mut self) -> Result<Cert<&'b Bump>, Stop> {
+        self.board.steps = self.board.steps.saturating_add(ROW_STEPS);
         if let Some(chosen) = choices(self.alloc, self.question, &self.board)? {
             let row = row_of(self.alloc, self.question, &chosen)?;
             if is_counter(self.table, self.shares, &row) {
