@@ -18,6 +18,9 @@ use std::alloc::{AllocError, AllocFailed, Global};
 /// numbers are tried for a row counts 1,000,000.
 pub const MAX_STEPS: u64 = 1_000_000_000;
 
+/// After so many nodes splits are no longer chosen with care.
+const CAREFUL_NODES: usize = 20_000;
+
 /// The steps of a look for a row.
 const ROW_STEPS: u64 = 1_000_000;
 
@@ -209,6 +212,10 @@ impl<'a, 'q> Search<'a, 'q> {
     }
 
     fn halve(&mut self) -> Result<Step, Stop> {
+        if self.nodes > CAREFUL_NODES {
+            let atom = self.board.first_open(self.question);
+            return self.split_by(atom);
+        }
         let atom = self.board.halving(self.alloc, self.question)?;
         self.board.look(self.question);
         self.split_by(atom)
