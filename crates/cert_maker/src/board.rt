@@ -39,7 +39,11 @@ fn open(asks: Asks) -> Mask {
 }
 
 /// An item for each of the atoms.
-fn for_atoms<T: Copy + Drop>(alloc: Global, question: &Question<'_>, item: T) -> Result<Vec<T>, AllocError> {
+fn for_atoms<T: Copy + Drop>(
+    alloc: Global,
+    question: &Question<'_>,
+    item: T,
+) -> Result<Vec<T>, AllocError> {
     let mut items = Vec::new(alloc);
     for _ in &question.atoms {
         items.push(item)?;
@@ -128,7 +132,10 @@ impl Board {
 
     /// How the share of this number stands.
     pub fn standing_of(&self, share: usize) -> Standing {
-        self.standings.get(share).copied().unwrap_or(Standing::Closed)
+        self.standings
+            .get(share)
+            .copied()
+            .unwrap_or(Standing::Closed)
     }
 
     /// How many shares stand so.

@@ -1,6 +1,6 @@
 //! What the atoms that are settled tell of columns and terms.
 
-use crate::masks::{ANY, NOT_NULL, put, settled, value_at};
+use crate::masks::{NOT_NULL, put, value_at};
 use crate::question::{Asks, Condition, Question};
 use filter_tree::{Mask, Op, Tri};
 use std::alloc::{AllocError, Global};
@@ -64,9 +64,13 @@ fn narrowed(span: Span, op: Op, number: i64) -> Span {
     match op {
         Op::Eq => up_to(from(span, number), number),
         Op::Ne => span,
-        Op::Lt => number.checked_sub(1).map_or(EMPTY, |last| up_to(span, last)),
+        Op::Lt => number
+            .checked_sub(1)
+            .map_or(EMPTY, |last| up_to(span, last)),
         Op::Le => up_to(span, number),
-        Op::Gt => number.checked_add(1).map_or(EMPTY, |first| from(span, first)),
+        Op::Gt => number
+            .checked_add(1)
+            .map_or(EMPTY, |first| from(span, first)),
         Op::Ge => from(span, number),
     }
 }
@@ -84,7 +88,9 @@ fn without_least(span: Span, number: i64) -> Span {
     if span.least != number {
         return span;
     }
-    number.checked_add(1).map_or(EMPTY, |first| from(span, first))
+    number
+        .checked_add(1)
+        .map_or(EMPTY, |first| from(span, first))
 }
 
 /// The span without this number, if that is its greatest.
@@ -92,14 +98,22 @@ fn without_greatest(span: Span, number: i64) -> Span {
     if span.greatest != number {
         return span;
     }
-    number.checked_sub(1).map_or(EMPTY, |last| up_to(span, last))
+    number
+        .checked_sub(1)
+        .map_or(EMPTY, |last| up_to(span, last))
 }
 
 /// Which values a comparison may have, where its column isn't null and its term is in the span.
 fn compared(span: Span, op: Op, number: i64) -> Mask {
     let (all, none) = match op {
-        Op::Eq => (span.least == number && span.greatest == number, number < span.least || span.greatest < number),
-        Op::Ne => (number < span.least || span.greatest < number, span.least == number && span.greatest == number),
+        Op::Eq => (
+            span.least == number && span.greatest == number,
+            number < span.least || span.greatest < number,
+        ),
+        Op::Ne => (
+            number < span.least || span.greatest < number,
+            span.least == number && span.greatest == number,
+        ),
         Op::Lt => (span.greatest < number, span.least >= number),
         Op::Le => (span.greatest <= number, span.least > number),
         Op::Gt => (span.least > number, span.greatest <= number),
@@ -109,6 +123,15 @@ fn compared(span: Span, op: Op, number: i64) -> Mask {
         (true, _) => Mask::single(Tri::True),
         (_, true) => Mask::single(Tri::False),
         (false, false) => NOT_NULL,
+    }
+}
+
+/// The values of a set, or null.
+fn or_null(mask: Mask) -> Mask {
+    Mask {
+        truth: mask.truth,
+        falsity: mask.falsity,
+        null: true,
     }
 }
 
@@ -142,7 +165,11 @@ impl Facts {
 
     fn forget(&mut self, question: &Question<'_>) {
         for (number, column) in question.columns.iter().enumerate() {
-            let nullness = if column.not_null { Nullness::Present } else { Nullness::Open };
+            let nullness = if column.not_null {
+                Nullness::Present
+            } else {
+                Nullness::Open
+            };
             put(&mut self.nullness, number, nullness);
         }
         for (number, term) in question.terms.iter().enumerate() {
@@ -224,9 +251,12 @@ impl Facts {
             (Asks::IsNull, Nullness::Present) => Mask::single(Tri::False),
             (Asks::IsNull, Nullness::Open) => NOT_NULL,
             (Asks::Compares(..), Nullness::Null) => Mask::single(Tri::Null),
-            (Asks::Compares(..), Nullness::Open) => ANY,
-            (Asks::Compares(op, number), Nullness::Present) => by_twin(known, condition)
-                .unwrap_or(compared(self.span(condition.term), op, number)),
+            (Asks::Compares(op, number), Nullness::Open) => {
+                or_null(compared(self.span(condition.term), op, number))
+            }
+            (Asks::Compares(op, number), Nullness::Present) => by_twin(known, condition).unwrap_or(
+                compared(self.span(condition.term), op, number),
+            ),
         }
     }
 }

@@ -16,11 +16,12 @@ pub enum Formula {
     Is(Test, Box<Formula>),
 }
 
-/// The truth values that a formula may have, and how many of its atoms may make a difference to it.
+/// The truth values that a formula may have, how many of its atoms may make a difference to it, and the first of them.
 #[derive(Clone, Copy)]
 pub struct Weighed {
     pub mask: Mask,
     pub weight: u64,
+    pub first: Option<usize>,
 }
 
 /// Where the atom stands among the atoms; if it isn't there, their number.
@@ -79,14 +80,35 @@ pub fn formula_of_share<A: Allocator>(
     }
 }
 
+/// Of a formula to which no atom makes a difference.
+fn decided(mask: Mask) -> Weighed {
+    Weighed {
+        mask,
+        weight: 0,
+        first: None,
+    }
+}
+
+fn weighed_atom(mask: Mask, number: usize) -> Weighed {
+    if settled(mask).is_some() {
+        return decided(mask);
+    }
+    Weighed {
+        mask,
+        weight: 1,
+        first: Some(number),
+    }
+}
+
 /// Of a formula of two parts, whose values together are in `mask`.
 fn joined(mask: Mask, left: Weighed, right: Weighed) -> Weighed {
     if settled(mask).is_some() {
-        return Weighed { mask, weight: 0 };
+        return decided(mask);
     }
     Weighed {
         mask,
         weight: left.weight.saturating_add(right.weight),
+        first: left.first.or(right.first),
     }
 }
 
@@ -106,14 +128,11 @@ impl Formula {
     /// Those truth values, and how many atoms may make a difference.
     pub fn weighed(&self, atoms: &[Mask]) -> Weighed {
         match self {
-            Formula::Const(known) => Weighed {
-                mask: Mask::single(Tri::from(*known)),
-                weight: 0,
-            },
-            Formula::Atom(number) => weighed_atom(mask_at(atoms, *number)),
+            Formula::Const(known) => decided(Mask::single(Tri::from(*known))),
+            Formula::Atom(number) => weighed_atom(mask_at(atoms, *number), *number),
             Formula::Not(part) => {
                 let part = part.weighed(atoms);
-                joined(part.mask.not(), part, NOTHING)
+                joined(part.mask.not(), part, decided(part.mask))
             }
             Formula::And(left, right) => {
                 let (left, right) = (left.weighed(atoms), right.weighed(atoms));
@@ -125,7 +144,7 @@ impl Formula {
             }
             Formula::Is(test, part) => {
                 let part = part.weighed(atoms);
-                joined(part.mask.is(*test), part, NOTHING)
+                joined(part.mask.is(*test), part, decided(part.mask))
             }
         }
     }
@@ -142,21 +161,6 @@ impl Formula {
             }
         }
     }
-}
-
-/// No part of a formula.
-const NOTHING: Weighed = Weighed {
-    mask: Mask {
-        truth: false,
-        falsity: false,
-        null: false,
-    },
-    weight: 0,
-};
-
-fn weighed_atom(mask: Mask) -> Weighed {
-    let weight = if settled(mask).is_some() { 0 } else { 1 };
-    Weighed { mask, weight }
 }
 
 fn add(numbers: &mut Vec<usize>, number: usize) -> Result<(), AllocError> {

@@ -9,6 +9,7 @@ mod formula;
 mod made;
 mod making;
 mod masks;
+mod numbers;
 mod question;
 mod rows;
 mod scores;

@@ -84,7 +84,12 @@ impl Board {
 
     /// Of the values that the facts leave to the claim's atoms, those that are forced first, adds one after another to those
     /// on the path, until the path meets the aim, and gives the atom of the last one.
-    pub fn needed(&mut self, alloc: Global, claim: &Claim, aim: Aim) -> Result<Option<usize>, AllocError> {
+    pub fn needed(
+        &mut self,
+        alloc: Global,
+        claim: &Claim,
+        aim: Aim,
+    ) -> Result<Option<usize>, AllocError> {
         let mut trial = Vec::new(alloc);
         trial.extend_from_slice(&self.known)?;
         if let Some(atom) = self.added(&mut trial, claim, aim, true) {
@@ -93,7 +98,13 @@ impl Board {
         Ok(self.added(&mut trial, claim, aim, false))
     }
 
-    fn added(&mut self, trial: &mut [Mask], claim: &Claim, aim: Aim, forced: bool) -> Option<usize> {
+    fn added(
+        &mut self,
+        trial: &mut [Mask],
+        claim: &Claim,
+        aim: Aim,
+        forced: bool,
+    ) -> Option<usize> {
         for atom in &claim.atoms {
             if !self.is_known(*atom) && self.is_forced(*atom) == forced {
                 self.count(claim);
@@ -107,7 +118,12 @@ impl Board {
     }
 
     /// An atom that lets the path tell of a share that it takes nothing, of which the facts tell that.
-    pub fn closing(&mut self, alloc: Global, question: &Question<'_>, share: usize) -> Result<Option<usize>, AllocError> {
+    pub fn closing(
+        &mut self,
+        alloc: Global,
+        question: &Question<'_>,
+        share: usize,
+    ) -> Result<Option<usize>, AllocError> {
         self.clear_votes(question);
         self.vote_all(question);
         if let Some(atom) = self.most_voted() {
@@ -143,10 +159,11 @@ impl Board {
         weight
     }
 
-    fn score(&mut self, question: &Question<'_>, atom: usize, left: Mask) -> Score {
+    /// The score of a split by this atom, to which the facts leave these values, or a worse one than the best.
+    fn score(&mut self, question: &Question<'_>, atom: usize, left: Mask, best: Score) -> Score {
         let mut score = Score { worst: 0, sum: 0 };
         for value in [Tri::True, Tri::False, Tri::Null] {
-            if left.has(value) {
+            if left.has(value) && score.worst <= best.worst {
                 let weight = self.weight_after(question, atom, value);
                 score = Score {
                     worst: score.worst.max(weight),
@@ -157,16 +174,28 @@ impl Board {
         score
     }
 
+    /// An atom that makes a difference to the first share that is undecided.
+    pub fn first_open(&mut self, question: &Question<'_>) -> Option<usize> {
+        let share = self.first(Standing::Undecided)?;
+        let claim = question.claims.get(share)?;
+        self.count(claim);
+        claim.formula.weighed(&self.likely).first
+    }
+
     /// The atom, of those to which the facts leave several values, that leaves the least to decide. What was found of the
     /// atoms is lost.
-    pub fn halving(&mut self, alloc: Global, question: &Question<'_>) -> Result<Option<usize>, AllocError> {
+    pub fn halving(
+        &mut self,
+        alloc: Global,
+        question: &Question<'_>,
+    ) -> Result<Option<usize>, AllocError> {
         let mut likely = Vec::new(alloc);
         likely.extend_from_slice(&self.likely)?;
         let mut best = WORST;
         let mut found = None;
         for (atom, mask) in likely.iter().enumerate() {
             if settled(*mask).is_none() {
-                let score = self.score(question, atom, *mask);
+                let score = self.score(question, atom, *mask, best);
                 if score < best {
                     best = score;
                     found = Some(atom);

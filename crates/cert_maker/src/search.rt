@@ -14,8 +14,15 @@ use shard_checker::{numbered_atoms, numbered_terms};
 use split_cert::{Cert, MAX_NODES, MAX_SPLITS};
 use std::alloc::{AllocError, AllocFailed, Global};
 
-/// The most steps of a search: each time that a share's filter is looked at counts its atoms, and one more.
+/// The most steps of a search. Each time that a share's filter is looked at counts its atoms, and one more; each time that
+/// numbers are tried for a row counts 1,000,000.
 pub const MAX_STEPS: u64 = 1_000_000_000;
+
+/// After so many nodes splits are no longer chosen with care.
+const CAREFUL_NODES: usize = 20_000;
+
+/// The steps of a look for a row.
+const ROW_STEPS: u64 = 1_000_000;
 
 /// Why the search for a certificate ends without one.
 #[derive(Clone, Copy, Debug)]
@@ -205,6 +212,10 @@ impl<'a, 'q> Search<'a, 'q> {
     }
 
     fn halve(&mut self) -> Result<Step, Stop> {
+        if self.nodes > CAREFUL_NODES {
+            let atom = self.board.first_open(self.question);
+            return self.split_by(atom);
+        }
         let atom = self.board.halving(self.alloc, self.question)?;
         self.board.look(self.question);
         self.split_by(atom)
@@ -223,6 +234,7 @@ impl<'a, 'q> Search<'a, 'q> {
 
     /// Looks for a row here, which not one share takes; without one, something that only stands for a leaf.
     fn fault<'b>(&mut self) -> Result<Cert<&'b Bump>, Stop> {
+        self.board.steps = self.board.steps.saturating_add(ROW_STEPS);
         if let Some(chosen) = choices(self.alloc, self.question, &self.board)? {
             let row = row_of(self.alloc, self.question, &chosen)?;
             if is_counter(self.table, self.shares, &row) {

@@ -1,0 +1,208 @@
+//! Numbers of a column that agree with what is known of its atoms.
+
+use crate::board::Board;
+use crate::facts::Span;
+use crate::masks::value_at;
+use crate::question::{Asks, Condition, Domain, Question};
+use filter_tree::{Literal, Mask, Op, Tri, compare_literals};
+use std::alloc::Global;
+
+/// How far from the number that is nearest to zero others are tried.
+const MAX_FAR: i64 = 10_000;
+
+/// How many numbers are tried for the remainder by one divisor.
+const MAX_REMAINDERS: u64 = 100_000;
+
+/// How many numbers with the remainders that were found are tried.
+const MAX_ROUNDS: u64 = 100;
+
+/// What the comparison says of a number.
+fn holds(op: Op, number: i64, constant: i64) -> bool {
+    compare_literals(
+        op,
+        &Literal::<Global>::Int(number),
+        &Literal::<Global>::Int(constant),
+    )
+}
+
+/// The number of a term where its column has this one.
+fn term_number(domain: Domain, number: i64) -> i64 {
+    match domain.divisor {
+        Some(divisor) if divisor != 0 => number.wrapping_rem(divisor),
+        Some(_) | None => number,
+    }
+}
+
+/// The value of a condition where its column has this number.
+fn value_of(question: &Question<'_>, condition: Condition, number: i64) -> Tri {
+    match condition.asks {
+        Asks::IsNull => Tri::False,
+        Asks::Compares(op, constant) => match question.terms.get(condition.term) {
+            None => Tri::Null,
+            Some(domain) => Tri::from(holds(op, term_number(*domain, number), constant)),
+        },
+    }
+}
+
+/// Whether each atom of the column that is known has its value where the column has this number.
+pub fn meets(question: &Question<'_>, known: &[Mask], column: usize, number: i64) -> bool {
+    for (atom, condition) in question.atoms.iter().enumerate() {
+        if condition.column == column && differs(question, known, atom, *condition, number) {
+            return false;
+        }
+    }
+    true
+}
+
+fn differs(
+    question: &Question<'_>,
+    known: &[Mask],
+    atom: usize,
+    condition: Condition,
+    number: i64,
+) -> bool {
+    match value_at(known, atom) {
+        None => false,
+        Some(value) => value_of(question, condition, number) != value,
+    }
+}
+
+/// The numbers that are left to the column itself.
+pub fn span_of(question: &Question<'_>, board: &Board, column: usize, whole: Span) -> Span {
+    for (term, domain) in question.terms.iter().enumerate() {
+        if domain.column == column && domain.divisor.is_none() {
+            return board.facts.span(term);
+        }
+    }
+    whole
+}
+
+/// The number of the span that is nearest to zero.
+fn nearest(span: Span) -> i64 {
+    0i64.max(span.least).min(span.greatest)
+}
+
+fn is_in(span: Span, number: i64) -> bool {
+    span.least <= number && number <= span.greatest
+}
+
+/// A number of the span that meets what is known, near to the one of the span that is nearest to zero.
+fn near_number(question: &Question<'_>, known: &[Mask], column: usize, span: Span) -> Option<i64> {
+    let start = nearest(span);
+    for far in 0..MAX_FAR {
+        let above = start.saturating_add(far);
+        if is_in(span, above) && meets(question, known, column, above) {
+            return Some(above);
+        }
+        let below = start.saturating_sub(far);
+        if is_in(span, below) && meets(question, known, column, below) {
+            return Some(below);
+        }
+    }
+    None
+}
+
+/// Whether each atom of the term of this number that is known has its value where the column has this number.
+fn term_meets(question: &Question<'_>, known: &[Mask], term: usize, number: i64) -> bool {
+    for (atom, condition) in question.atoms.iter().enumerate() {
+        if condition.term == term && differs(question, known, atom, *condition, number) {
+            return false;
+        }
+    }
+    true
+}
+
+/// The first of the numbers from this one, a step apart, whose remainder the term may have.
+fn with_remainder(
+    question: &Question<'_>,
+    known: &[Mask],
+    term: usize,
+    start: i64,
+    step: i64,
+) -> Option<i64> {
+    let mut number = start;
+    for _ in 0..MAX_REMAINDERS {
+        if term_meets(question, known, term, number) {
+            return Some(number);
+        }
+        number = number.checked_add(step)?;
+    }
+    None
+}
+
+/// The greatest common divisor of a number and another that isn't 0.
+fn common_divisor(one: i64, other: i64) -> i64 {
+    let (mut left, mut right) = (one, other);
+    for _ in 0..MAX_ROUNDS {
+        if right == 0 {
+            return left;
+        }
+        (left, right) = (right, left.wrapping_rem(right));
+    }
+    1
+}
+
+/// The least step by which the remainders by both numbers stay.
+fn common_step(step: i64, divisor: i64) -> Option<i64> {
+    let common = common_divisor(step, divisor);
+    if common == 0 {
+        return None;
+    }
+    step.checked_mul(divisor.wrapping_div(common))
+}
+
+/// A number from this one on, a step away or more, all of whose remainders the column may have, and the step by which they
+/// stay.
+fn with_remainders(
+    question: &Question<'_>,
+    known: &[Mask],
+    column: usize,
+    start: i64,
+    step: i64,
+) -> Option<(i64, i64)> {
+    let (mut number, mut step) = (start, step);
+    for (term, domain) in question.terms.iter().enumerate() {
+        if let (true, Some(divisor)) = (domain.column == column, domain.divisor) {
+            number = with_remainder(question, known, term, number, step)?;
+            step = common_step(step, divisor.checked_abs()?)?;
+        }
+    }
+    Some((number, step))
+}
+
+/// A number of the span from this one on, in the direction of the step, that meets what is known.
+fn stepwise(
+    question: &Question<'_>,
+    known: &[Mask],
+    column: usize,
+    span: Span,
+    start: i64,
+    step: i64,
+) -> Option<i64> {
+    let (mut number, step) = with_remainders(question, known, column, start, step)?;
+    for _ in 0..MAX_ROUNDS {
+        if is_in(span, number) && meets(question, known, column, number) {
+            return Some(number);
+        }
+        number = number.checked_add(step)?;
+    }
+    None
+}
+
+/// A number of the span that meets what is known.
+pub fn number_for(
+    question: &Question<'_>,
+    known: &[Mask],
+    column: usize,
+    span: Span,
+) -> Option<i64> {
+    let near = near_number(question, known, column, span);
+    if near.is_some() {
+        return near;
+    }
+    let above = stepwise(question, known, column, span, span.least.max(0), 1);
+    if above.is_some() {
+        return above;
+    }
+    stepwise(question, known, column, span, span.greatest.min(0), -1)
+}
