@@ -31,11 +31,11 @@ IfCounter Unknown Fact = Unit {0}
 IfCounter TooLarge Fact = Unit {0}
 IfCounter OutOfMemory Fact = Unit {0}
 
--- the check accepts the certificate of the table of this number, with the shares that the plan gives to the subscribers
+-- the check accepts the certificate of the table of this number, with the shares that the plan gives to the subscribers, whatever number it has for the table in its refusals
 pub record IsAccepted (catalog : CatalogOf Expr) (plan : PlanOf) (number : ℕ) (tree : Tree) : Type 0 where
   pub table : Table
   pub there : slice_get catalog.tables number ≡ Some table
-  pub accepted : first_refusal 0 table (table_shares plan number 0 catalog.subscriptions) tree ≡ None
+  pub accepted : (any : ℕ) → first_refusal any table (table_shares plan number 0 catalog.subscriptions) tree ≡ None
 
 -- the numbers of subscribers, who begin at this number
 abbrev pub numbers_from : ℕ → List Subscription → List ℕ

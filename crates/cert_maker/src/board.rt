@@ -26,7 +26,7 @@ pub struct Board {
     pub facts: Facts,
     pub standings: Vec<Standing>,
     pub votes: Vec<u64>,
-    /// How many atoms were looked at.
+    /// How much was looked at.
     pub steps: u64,
 }
 
@@ -92,10 +92,15 @@ impl Board {
         }
     }
 
-    /// Counts the atoms that a claim has.
+    /// Counts so many steps more.
+    pub fn add_steps(&mut self, steps: u64) {
+        self.steps = self.steps.saturating_add(steps);
+    }
+
+    /// Counts the atoms that a claim has, and one more.
     pub fn count(&mut self, claim: &Claim) {
         let atoms = u64::try_from(claim.atoms.len()).unwrap_or(u64::MAX);
-        self.steps = self.steps.saturating_add(atoms).saturating_add(1);
+        self.add_steps(atoms.saturating_add(1));
     }
 
     /// Finds the facts, and what they leave to each atom.

@@ -90,7 +90,6 @@ fn answer<'b>(
 /// table and not exactly one subscriber takes it. `Unknown` is answered where neither was found, and of a table that isn't
 /// there. The search takes at most `MAX_STEPS` steps, and looks for certificates of at most 1,000,000 nodes and at most 64
 /// splits on a path.
-#[tactic(auto, using(crate::proofs::AnswerLemmas::right_answer))]
 pub fn make<'b>(
     alloc: Global,
     arena: &'b Bump,

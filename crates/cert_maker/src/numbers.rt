@@ -10,8 +10,8 @@ use std::alloc::Global;
 /// How far from the number that is nearest to zero others are tried.
 const MAX_FAR: i64 = 10_000;
 
-/// How many numbers are tried for the remainder by one divisor.
-const MAX_REMAINDERS: u64 = 100_000;
+/// How many numbers are tried at most for the remainder by one divisor.
+const MAX_REMAINDERS: i64 = 20_000;
 
 /// How many numbers with the remainders that were found are tried.
 const MAX_ROUNDS: u64 = 100;
@@ -112,16 +112,17 @@ fn term_meets(question: &Question<'_>, known: &[Mask], term: usize, number: i64)
     true
 }
 
-/// The first of the numbers from this one, a step apart, whose remainder the term may have.
+/// The first of the numbers from this one, a step apart, whose remainder by a divisor of this size the term may have.
 fn with_remainder(
     question: &Question<'_>,
     known: &[Mask],
     term: usize,
     start: i64,
     step: i64,
+    size: i64,
 ) -> Option<i64> {
     let mut number = start;
-    for _ in 0..MAX_REMAINDERS {
+    for _ in 0..size.min(MAX_REMAINDERS) {
         if term_meets(question, known, term, number) {
             return Some(number);
         }
@@ -163,8 +164,9 @@ fn with_remainders(
     let (mut number, mut step) = (start, step);
     for (term, domain) in question.terms.iter().enumerate() {
         if let (true, Some(divisor)) = (domain.column == column, domain.divisor) {
-            number = with_remainder(question, known, term, number, step)?;
-            step = common_step(step, divisor.checked_abs()?)?;
+            let size = divisor.checked_abs()?;
+            number = with_remainder(question, known, term, number, step, size)?;
+            step = common_step(step, size)?;
         }
     }
     Some((number, step))

@@ -14,14 +14,14 @@ use shard_checker::{numbered_atoms, numbered_terms};
 use split_cert::{Cert, MAX_NODES, MAX_SPLITS};
 use std::alloc::{AllocError, AllocFailed, Global};
 
-/// The most steps of a search. Each time that a share's filter is looked at counts its atoms, and one more; each time that
-/// numbers are tried for a row counts 1,000,000.
+/// The most steps of a search. Each time that a share's filter is looked at counts its atoms, and one more; each time that a
+/// row is looked for counts 1,000,000, and as much for each term.
 pub const MAX_STEPS: u64 = 1_000_000_000;
 
 /// After so many nodes splits are no longer chosen with care.
 const CAREFUL_NODES: usize = 20_000;
 
-/// The steps of a look for a row.
+/// The steps of a look for a row, and again for each term.
 const ROW_STEPS: u64 = 1_000_000;
 
 /// Why the search for a certificate ends without one.
@@ -234,7 +234,9 @@ impl<'a, 'q> Search<'a, 'q> {
 
     /// Looks for a row here, which not one share takes; without one, something that only stands for a leaf.
     fn fault<'b>(&mut self) -> Result<Cert<&'b Bump>, Stop> {
-        self.board.steps = self.board.steps.saturating_add(ROW_STEPS);
+        let terms = u64::try_from(self.question.terms.len()).unwrap_or(u64::MAX);
+        self.board
+            .add_steps(ROW_STEPS.saturating_mul(terms.saturating_add(1)));
         if let Some(chosen) = choices(self.alloc, self.question, &self.board)? {
             let row = row_of(self.alloc, self.question, &chosen)?;
             if is_counter(self.table, self.shares, &row) {
