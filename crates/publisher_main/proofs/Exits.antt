@@ -7,12 +7,13 @@ use Rattle.filter_tree.specs.Expr.{Expr}
 use Rattle.split_cert.specs.Tree.{Tree}
 use Rattle.publisher_main.specs.Checking.{IsVerdict, IsChecked}
 use Rattle.publisher_main.specs.Evaluation.{IsAnswered}
+use Rattle.publisher_main.specs.Making.{IsMade}
 use Rattle.publisher_main.specs.Refusals.{refused_line}
 use Rattle.publisher_main.specs.Requests.{IsAnswerTo, AnswersWords, AnswersSome, IsOutcome}
 use Rattle.publisher_main.specs.contracts.failure.Status.{the_type}
 use Rattle.publisher_main.specs.declared.arguments.Question.{Question}
 use Rattle.publisher_main.specs.declared.arguments.Request.{Request}
-use Rattle.publisher_main.specs.declared.arguments.Request.TheVariants.{Eval, Check}
+use Rattle.publisher_main.specs.declared.arguments.Request.TheVariants.{Eval, Check, Make}
 use Rattle.publisher_main.specs.declared.failure.Status.{Status}
 use Rattle.publisher_main.specs.declared.failure.Status.TheVariants.{Done, Refused, CommandLine, Input, Output, OutOfMemory}
 
@@ -67,9 +68,24 @@ checked_kept input old new newer status now keeps = record {
   verdict = verdict_kept now.catalog now.trees old new newer status now.verdict keeps;
 }
 
+made_kept : (input : List ℕ) (old new newer : Option (List ℕ)) (status : Status) → IsMade input old new status → Keeps new newer → IsMade input old newer status
+made_kept input old new newer status now keeps = record {
+  catalog = now.catalog;
+  all = now.all;
+  whole = now.whole;
+  reads = now.reads;
+  writes = record {
+    bytes = now.writes.bytes;
+    lines = now.writes.lines;
+    appends = appends_kept old new newer now.writes.bytes now.writes.appends keeps;
+  };
+  answers = now.answers;
+}
+
 answer_kept : (request : Request) (input : List ℕ) (old new newer : Option (List ℕ)) (status : Status) → IsAnswerTo request input old new status → Keeps new newer → IsAnswerTo request input old newer status
 answer_kept (Eval table question) input old new newer status now keeps = answered_kept question input table.now old new newer status now keeps
 answer_kept Check input old new newer status now keeps = checked_kept input old new newer status now keeps
+answer_kept Make input old new newer status now keeps = made_kept input old new newer status now keeps
 
 words_kept : (words : List (List ℕ)) (input : List ℕ) (old new newer : Option (List ℕ)) (status : Status) → AnswersWords words input old new status → Keeps new newer → AnswersWords words input old newer status
 words_kept words input old new newer status now keeps = record {

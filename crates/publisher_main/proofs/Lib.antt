@@ -2,6 +2,7 @@ pub mod Asking
 pub mod CertificateLines
 pub mod Evaluating
 pub mod Exits
+pub mod FindingLines
 pub mod Limits
 pub mod LineCuts
 pub mod Saying

@@ -11,13 +11,13 @@ use Rattle.publisher_main.specs.declared.arguments.Question.{Question}
 use Rattle.publisher_main.specs.declared.failure.Status.{Status}
 use Rattle.publisher_main.specs.declared.failure.Status.TheVariants.{Done, Refused}
 
-appends_more : (old new newer : Option (List ℕ)) (bytes more : List ℕ) → Appends old new bytes → Appends new newer more → Appends old newer (bytes ++ more)
+pub appends_more : (old new newer : Option (List ℕ)) (bytes more : List ℕ) → Appends old new bytes → Appends new newer more → Appends old newer (bytes ++ more)
 appends_more None new newer bytes more first second = tt
 appends_more (Some xs) None newer bytes more first second = absurd first
 appends_more (Some xs) (Some ys) None bytes more first second = absurd second
 appends_more (Some xs) (Some ys) (Some zs) bytes more first second = second ∙ ap (λ s. s ++ more) first ∙ append_assoc xs bytes more
 
-appends_nothing : (known : Option (List ℕ)) → Appends known known []
+pub appends_nothing : (known : Option (List ℕ)) → Appends known known []
 appends_nothing None = tt
 appends_nothing (Some xs) = sym (append-nil xs)
 

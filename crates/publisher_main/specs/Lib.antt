@@ -5,9 +5,11 @@ pub mod Certificates
 pub mod Checking
 pub mod CommandLine
 pub mod Evaluation
+pub mod FindingView
 pub mod Hexadecimal
 pub mod Inserts
 pub mod LinesView
+pub mod Making
 pub mod Memory
 pub mod Parts
 pub mod Refusals

@@ -3,8 +3,9 @@ use Rattle.std.specs.Prelude.{ℕ, List, Option, IfSome}
 use Rattle.publisher_main.specs.Checking.{IsChecked}
 use Rattle.publisher_main.specs.CommandLine.{IsRequest}
 use Rattle.publisher_main.specs.Evaluation.{IsAnswered}
+use Rattle.publisher_main.specs.Making.{IsMade}
 use Rattle.publisher_main.specs.declared.arguments.Request.{Request}
-use Rattle.publisher_main.specs.declared.arguments.Request.TheVariants.{Eval, Check}
+use Rattle.publisher_main.specs.declared.arguments.Request.TheVariants.{Eval, Check, Make}
 use Rattle.publisher_main.specs.declared.failure.Status.{Status}
 use Rattle.publisher_main.specs.declared.failure.Status.TheVariants.{Done, Refused}
 
@@ -12,6 +13,7 @@ use Rattle.publisher_main.specs.declared.failure.Status.TheVariants.{Done, Refus
 abbrev pub IsAnswerTo : Request → List ℕ → Option (List ℕ) → Option (List ℕ) → Status → Type 0
 IsAnswerTo (Eval table question) input old new status = IsAnswered question input table.now old new status
 IsAnswerTo Check input old new status = IsChecked input old new status
+IsAnswerTo Make input old new status = IsMade input old new status
 
 -- the words ask something, and it is answered of this input
 pub record AnswersWords (words : List (List ℕ)) (input : List ℕ) (old new : Option (List ℕ)) (status : Status) : Type 0 where

@@ -28,6 +28,8 @@ pub enum Request<'a> {
     Eval { table: &'a str, question: Question },
     /// Tell whether a sharding is sound, by certificates.
     Check,
+    /// Look for the certificates of a sharding.
+    Make,
 }
 
 fn eval_command<'a>(alloc: Global) -> Result<Command<'a>, AllocError>
@@ -55,19 +57,23 @@ fn command<'a>(alloc: Global) -> Result<Command<'a>, AllocError>
     let check = Command::new(alloc, "check").about(
         "reads a catalog, a line %% and certificates, and tells whether each row has one subscriber",
     );
+    let make = Command::new(alloc, "make").about(
+        "reads a catalog, and prints for each table a certificate, or a row that shows that there is none",
+    );
     Command::new(alloc, "pgshard")
         .about("checks a sharding of PostgreSQL tables by the row filters of publications")
         .subcommand_required(true)
         .subcommand(eval)?
-        .subcommand(check)
+        .subcommand(check)?
+        .subcommand(make)
 }
 
 /// Reads the words of a command line, the program's name first.
 ///
 /// # Errors
 ///
-/// `CommandLine` where the words are neither `check` alone, nor `eval`, a table's name and at most one `--insert`, with a
-/// text for the user; `OutOfMemory`.
+/// `CommandLine` where the words are neither `check` or `make` alone, nor `eval`, a table's name and at most one `--insert`,
+/// with a text for the user; `OutOfMemory`.
 pub fn parse<'a, S: AsStr>(alloc: Global, words: &'a [S]) -> Result<Request<'a>, Failure<'a>>
     ensures request { IfOk result (IsRequest (map S.text words.entry.now)) }
     ensures stopped { IfErr result IsOfWords }
@@ -87,9 +93,12 @@ pub fn parse<'a, S: AsStr>(alloc: Global, words: &'a [S]) -> Result<Request<'a>,
     if matches.subcommand_matches("check").is_some() {
         return Ok(Request::Check);
     }
+    if matches.subcommand_matches("make").is_some() {
+        return Ok(Request::Make);
+    }
     let error = command.error(
         ErrorKind::MissingRequiredArgument,
-        "expected eval TABLE or check",
+        "expected eval TABLE, check or make",
     )?;
     Err(Failure::CommandLine(error))
 }

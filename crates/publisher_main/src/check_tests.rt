@@ -5,10 +5,10 @@ use std::alloc::{AllocError, Global};
 use std::test::Fail;
 
 /// The status that a run of `check` has to have, and what it has to write.
-type Expected = (u8, &'static str);
+pub type Expected = (u8, &'static str);
 
 /// A catalog that cuts a table in two by two conditions, each with its own subscriber.
-fn halves(alloc: Global, first: &str, second: &str) -> Result<String, AllocError> {
+pub fn halves(alloc: Global, first: &str, second: &str) -> Result<String, AllocError> {
     format!(in alloc;
         "CREATE TABLE t (id integer, region text, PRIMARY KEY (id));
 ALTER TABLE t REPLICA IDENTITY FULL;
@@ -21,7 +21,11 @@ CREATE SUBSCRIPTION s1 CONNECTION '' PUBLICATION pb;
 }
 
 /// The exit status of a run on a catalog and lines of certificates, and what it wrote.
-fn check_of(alloc: Global, catalog: &str, certificates: &str) -> Result<(u8, Vec<u8>), AllocError> {
+pub fn check_of(
+    alloc: Global,
+    catalog: &str,
+    certificates: &str,
+) -> Result<(u8, Vec<u8>), AllocError> {
     let input = format!(in alloc; "{catalog}%%\n{certificates}")?;
     output_of(alloc, ["pgshard", "check"].as_slice(), input.as_bytes())
 }
@@ -35,7 +39,7 @@ const THREE: &str = "s 0 s 1 e 0 s 2 e 0 o 0 n 2 n 1 s 1 o 1 s 2 o 1 e 0 n 2 n 1
 /// The same, but with the rows that neither of those two conditions takes left out.
 const HOLE: &str = "s 0 s 1 e 0 s 2 e 0 o 0 n 2 n 1 s 1 o 1 e 0 n 1 n 0\n";
 
-const ACCEPTED: Expected = (0, "accepted\n");
+pub const ACCEPTED: Expected = (0, "accepted\n");
 
 #[test]
 fn halves_are_checked(rt: HostRuntime) -> Result<(), Fail> {
@@ -100,7 +104,7 @@ fn halves_are_checked(rt: HostRuntime) -> Result<(), Fail> {
 }
 
 /// A table of which a row has one of three subscribers, by its region.
-const REGIONS: &str = "CREATE TABLE t (id integer, region text, PRIMARY KEY (id));
+pub const REGIONS: &str = "CREATE TABLE t (id integer, region text, PRIMARY KEY (id));
 ALTER TABLE t REPLICA IDENTITY FULL;
 CREATE PUBLICATION pa FOR TABLE t WHERE (region = 'eu');
 CREATE PUBLICATION pb FOR TABLE t WHERE (region <> 'eu');

@@ -11,6 +11,7 @@ mod check_tests;
 mod checking;
 mod evaluation;
 mod failure;
+mod findings;
 mod hexadecimal;
 mod input;
 mod inserts;
@@ -18,6 +19,9 @@ mod inserts;
 mod io_tests;
 #[cfg(test)]
 mod language_tests;
+#[cfg(test)]
+mod make_tests;
+mod making;
 mod output;
 mod parts;
 mod program;

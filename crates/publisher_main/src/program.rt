@@ -10,6 +10,7 @@ use crate::checking::check_input;
 use crate::evaluation::evaluate;
 use crate::failure::{Failure, Status};
 use crate::input::read_input;
+use crate::making::make_input;
 use std::alloc::Global;
 use std::convert::AsStr;
 use std::io::{Read, Write};
@@ -33,6 +34,7 @@ fn answer<'a, S: AsStr, R: Read + Drop, W: Write>(
             writer,
         ),
         Request::Check => check_input(alloc, input.as_str(), writer),
+        Request::Make => make_input(alloc, input.as_str(), writer),
     }
 }
 
@@ -70,7 +72,7 @@ fn outcome<S: AsStr, R: Read + Drop, W: Write>(
 
 /// Runs the program on the words of a command line, the program's name first, and gives its exit status: 0 or 1 where
 /// what is asked was answered (1 where some row is not read, or does not fit its table, or where the sharding is
-/// refused), 2 where the words ask nothing, 3 where the input is not taken, 4 where the writer fails, 5 where memory runs
+/// refused, or where a table has no certificate), 2 where the words ask nothing, 3 where the input is not taken, 4 where the writer fails, 5 where memory runs
 /// out.
 pub fn run<S: AsStr, R: Read + Drop, W: Write>(
     alloc: Global,

@@ -47,7 +47,8 @@ fn publication_name(publications: &[Publication], number: usize) -> &str
     }
 }
 
-fn subscriber_name(subscriptions: &[Subscription], number: usize) -> &str
+/// The name of the subscriber of this number, which is its subscription's.
+pub fn subscriber_name(subscriptions: &[Subscription], number: usize) -> &str
     ensures { result.now ≡ spec.subscriber_name subscriptions.now number }
 {
     match subscriptions.get(number) {
@@ -75,7 +76,7 @@ fn column_name(tables: &[Table], table: usize, number: usize) -> &str
 }
 
 /// Writes a space and a word behind what stands on the line.
-fn push_word(line: &mut String, word: &str) -> Result<(), AllocError>
+pub fn push_word(line: &mut String, word: &str) -> Result<(), AllocError>
     ensures { OnOk result (string_bytes line.new ≡ string_bytes line.old ++ spec.spaced (word.now ∷ [])) }
 {
     line.push(' ')?;
@@ -91,7 +92,8 @@ fn push_table_name(line: &mut String, table: &Table) -> Result<(), AllocError>
     line.push_str(table.name.as_str())
 }
 
-fn push_table(line: &mut String, tables: &[Table], number: usize) -> Result<(), AllocError>
+/// Writes a space, and the name of the table of this number.
+pub fn push_table(line: &mut String, tables: &[Table], number: usize) -> Result<(), AllocError>
     ensures { OnOk result (string_bytes line.new ≡ string_bytes line.old ++ spec.spaced (spec.table_name tables.now number ∷ [])) }
 {
     match tables.get(number) {

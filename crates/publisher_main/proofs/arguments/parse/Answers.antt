@@ -35,3 +35,14 @@ returns-then-is_some-clause-request g c =
       found = entered.rows;
       taken = sym (ap (λ (a : App). subcommand_of a words) simple) ∙ sym (c.in_ok-matches.ensures.ok.2 (ap is_simple simple)).1 ∙ entered.is;
     }
+
+pub returns-then-is_some-2-clause-request : goal.returns-then-is_some-2-clause-request
+returns-then-is_some-2-clause-request g c =
+    let words = map g.S.AsStr.text c.args.words.now in
+    let simple = c.in_ok-command.ensures in
+    let entered : HasEntered c.in_ok-matches.matches (codes "make") =
+    entered_named c.in_ok-matches.matches (codes "make") (c.subcommand_matches-3.ensures.found.0 (sym c.is_some-2.ensures ∙ c.if-is_some-2.true)) in
+    record {
+      found = entered.rows;
+      taken = sym (ap (λ (a : App). subcommand_of a words) simple) ∙ sym (c.in_ok-matches.ensures.ok.2 (ap is_simple simple)).1 ∙ entered.is;
+    }
