@@ -139,9 +139,10 @@ impl<'a, 'q> Search<'a, 'q> {
         atom: usize,
         left: Mask,
     ) -> Result<Cert<&'b Bump>, Stop> {
+        // Rows with a null are forgotten most often, and this branch is the smallest.
+        let if_null = self.branch(arena, may_split, atom, left, Tri::Null)?;
         let if_true = self.branch(arena, may_split, atom, left, Tri::True)?;
         let if_false = self.branch(arena, may_split, atom, left, Tri::False)?;
-        let if_null = self.branch(arena, may_split, atom, left, Tri::Null)?;
         Ok(Cert::Split(number(atom)?, if_true, if_false, if_null))
     }
 
