@@ -1,6 +1,6 @@
 //! Tables of which a certificate is found, or a row that shows that there is none.
 
-use crate::check_tests::{ACCEPTED, REGIONS, check_of, halves};
+use crate::check_tests::{ACCEPTED, Expected, REGIONS, check_of, halves};
 use crate::tests::output_of;
 use std::alloc::{AllocError, Global};
 use std::test::Fail;
@@ -92,22 +92,21 @@ CREATE SUBSCRIPTION s0 CONNECTION '' PUBLICATION p;
 
 #[test]
 fn each_table_has_a_line(rt: HostRuntime) -> Result<(), Fail> {
-    let cases = [
-        ("", 0, ""),
+    let cases: [(&str, Expected); 5] = [
+        ("", (0, "")),
         (
             "CREATE TABLE t (id integer PRIMARY KEY);",
-            1,
-            "counter public.t (0) owners none\n",
+            (1, "counter public.t (0) owners none\n"),
         ),
-        (TWO, 1, "o 0\ncounter s.T u (FALSE) owners none\n"),
-        ("%%\n", 3, "input\n"),
-        ("CREATE;", 3, "catalog 6 Expected\n"),
+        (TWO, (1, "o 0\ncounter s.T u (FALSE) owners none\n")),
+        ("%%\n", (3, "input\n")),
+        ("CREATE;", (3, "catalog 6 Expected\n")),
     ];
-    for (catalog, status, output) in cases {
-        let (ended, written) = make_of(rt.alloc(), catalog)?;
+    for (catalog, expected) in cases {
+        let (status, output) = make_of(rt.alloc(), catalog)?;
         assert_eq!(rt;
-            (ended, written.as_slice()),
-            (status, output.as_bytes()),
+            (status, output.as_slice()),
+            (expected.0, expected.1.as_bytes()),
             "{catalog}"
         );
     }

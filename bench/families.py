@@ -1,0 +1,217 @@
+"""Families of shardings that operators write, each as a catalog and as the same question for an SMT solver.
+
+A condition is a tuple: ("cmp", term, operator, literal), ("null", column), ("and", ..), ("or", ..), ("not", condition) or
+("is true", condition). A term is a column's name, or a pair of a column's name and a divisor for a remainder.
+"""
+
+from dataclasses import dataclass
+
+RANGES = {"smallint": 15, "integer": 31, "bigint": 63}
+
+
+@dataclass
+class Column:
+    name: str
+    kind: str
+    is_key: bool = False
+
+
+@dataclass
+class Sharding:
+    """A table and, for each subscriber, the condition of its publication; None carries the whole table."""
+
+    columns: list
+    conditions: list
+
+
+def one_of(conditions):
+    """OR of conditions, or the only one."""
+    return conditions[0] if len(conditions) == 1 else ("or", *conditions)
+
+
+# ---- the families
+
+
+def ranges(count, kind="integer"):
+    """Ranges of an integer key, the first and the last one open."""
+    step = 100
+    shards = [("cmp", "id", "<", step)]
+    shards += [("and", ("cmp", "id", ">=", step * at), ("cmp", "id", "<", step * (at + 1))) for at in range(1, count - 1)]
+    shards += [("cmp", "id", ">=", step * (count - 1))]
+    return Sharding([Column("id", kind, True), Column("note", "text")], shards)
+
+
+def remainders(count, kind="bigint"):
+    """Remainders of an integer key, the negative ones with the positive ones."""
+    term = ("id", count)
+    shards = [("cmp", term, "=", 0)]
+    shards += [("or", ("cmp", term, "=", at), ("cmp", term, "=", -at)) for at in range(1, count)]
+    return Sharding([Column("id", kind, True)], shards)
+
+
+def text_lists(count):
+    """Two regions for each subscriber but the last, which has the others and those without a region."""
+    lists = [one_of([("cmp", "region", "=", f"r{2 * at}"), ("cmp", "region", "=", f"r{2 * at + 1}")]) for at in range(count - 1)]
+    last = ("or", ("null", "region"), ("not", one_of(lists)))
+    return Sharding([Column("id", "integer", True), Column("region", "text")], lists + [last])
+
+
+def regions_and_ranges(count):
+    """A key of a region and a number: one half of the subscribers has one region, the other half the others."""
+    half = max(count // 2, 1)
+    bounds = [("cmp", "id", "<", 1000)] if half > 1 else []
+    bounds += [("and", ("cmp", "id", ">=", 1000 * at), ("cmp", "id", "<", 1000 * (at + 1))) for at in range(1, half - 1)]
+    bounds += [("cmp", "id", ">=", 1000 * (half - 1))] if half > 1 else []
+    region = ("cmp", "region", "=", "eu")
+    sides = [region, ("not", region)]
+    shards = [("and", side, bound) for side in sides for bound in bounds] if bounds else sides
+    return Sharding([Column("region", "text", True), Column("id", "bigint", True)], shards)
+
+
+def flags(count):
+    """The truth values of three nullable columns, split among up to 32 subscribers by ranges of the key."""
+    paid = ("is true", ("cmp", "paid", "=", True))
+    half = max(count // 2, 1)
+    whole = ranges(half).conditions if half > 1 else [None]
+    sides = [paid, ("not", paid)]
+    shards = [side if bound is None else ("and", bound, side) for bound in whole for side in sides]
+    return Sharding([Column("id", "integer", True), Column("paid", "boolean")], shards)
+
+
+def hole(count):
+    """Ranges that leave out one number."""
+    sharding = ranges(count)
+    sharding.conditions[-1] = ("cmp", "id", ">", 100 * (count - 1))
+    return sharding
+
+
+def overlap(count):
+    """Ranges of which two share one number."""
+    sharding = ranges(count)
+    sharding.conditions[0] = ("cmp", "id", "<=", 100)
+    return sharding
+
+
+def no_negative(count):
+    """Remainders without the negative ones."""
+    shards = [("cmp", ("id", count), "=", at) for at in range(count)]
+    return Sharding([Column("id", "integer", True)], shards)
+
+
+def forgotten_null(count):
+    """Lists of texts that forget the rows without one."""
+    sharding = text_lists(count)
+    sharding.conditions[-1] = sharding.conditions[-1][2]
+    return sharding
+
+
+FAMILIES = {it.__name__: it for it in (ranges, remainders, text_lists, regions_and_ranges, flags, hole, overlap, no_negative, forgotten_null)}
+
+
+# ---- as a catalog
+
+
+def literal_text(literal):
+    if isinstance(literal, bool):
+        return str(literal).upper()
+    return f"'{literal}'" if isinstance(literal, str) else str(literal)
+
+
+def term_text(term):
+    return term if isinstance(term, str) else f"{term[0]} % {term[1]}"
+
+
+def condition_text(condition):
+    head, *parts = condition
+    if head == "cmp":
+        return f"{term_text(parts[0])} {parts[1]} {literal_text(parts[2])}"
+    if head == "null":
+        return f"{parts[0]} IS NULL"
+    if head == "not":
+        return f"NOT ({condition_text(parts[0])})"
+    if head == "is true":
+        return f"({condition_text(parts[0])}) IS TRUE"
+    return f" {head.upper()} ".join(f"({condition_text(it)})" for it in parts)
+
+
+def catalog(sharding):
+    """The sharding's catalog: a publication and a subscription for each condition."""
+    columns = ", ".join(f"{it.name} {it.kind}" for it in sharding.columns)
+    keys = ", ".join(it.name for it in sharding.columns if it.is_key)
+    lines = [f"CREATE TABLE t ({columns}, PRIMARY KEY ({keys}));", "ALTER TABLE t REPLICA IDENTITY FULL;"]
+    for at, condition in enumerate(sharding.conditions):
+        where = "" if condition is None else f" WHERE ({condition_text(condition)})"
+        lines += [f"CREATE PUBLICATION p{at} FOR TABLE t{where};", f"CREATE SUBSCRIPTION s{at} CONNECTION '' PUBLICATION p{at};"]
+    return "\n".join(lines) + "\n"
+
+
+# ---- as a question for an SMT solver: is there a valid row that passes none of the conditions, or two?
+
+
+class Question:
+    def __init__(self, sharding):
+        self.texts = {}
+        self.kinds = {it.name: it for it in sharding.columns}
+        self.lines = [line for it in sharding.columns for line in self.declared(it)]
+        passing = [self.is_true(it) if it else "true" for it in sharding.conditions]
+        count = "(+ " + " ".join(f"(ite {it} 1 0)" for it in passing) + " 0)"
+        self.lines += [f"(assert (not (= {count} 1)))", "(check-sat)"]
+
+    def declared(self, column):
+        sort = "Bool" if column.kind == "boolean" else "Int"
+        yield f"(declare-const {column.name} {sort})"
+        yield f"(declare-const {column.name}_null Bool)"
+        if column.is_key:
+            yield f"(assert (not {column.name}_null))"
+        if column.kind in RANGES:
+            high = 2 ** RANGES[column.kind]
+            yield f"(assert (and (<= (- {high}) {column.name}) (< {column.name} {high})))"
+
+    def literal(self, value):
+        if isinstance(value, bool):
+            return str(value).lower()
+        if isinstance(value, str):
+            return str(self.texts.setdefault(value, len(self.texts)))
+        return str(value) if value >= 0 else f"(- {-value})"
+
+    def term(self, term):
+        if isinstance(term, str):
+            return term
+        column, divisor = term
+        return f"(ite (>= {column} 0) (mod {column} {divisor}) (- (mod (- {column}) {divisor})))"
+
+    def compared(self, term, operator, value):
+        if operator == "<>":
+            return f"(not (= {self.term(term)} {self.literal(value)}))"
+        return f"({operator} {self.term(term)} {self.literal(value)})"
+
+    def is_true(self, condition):
+        head, *parts = condition
+        if head == "cmp":
+            column = parts[0] if isinstance(parts[0], str) else parts[0][0]
+            return f"(and (not {column}_null) {self.compared(*parts)})"
+        if head == "null":
+            return f"{parts[0]}_null"
+        if head == "not":
+            return self.is_false(parts[0])
+        if head == "is true":
+            return self.is_true(parts[0])
+        return f"({head} " + " ".join(self.is_true(it) for it in parts) + ")"
+
+    def is_false(self, condition):
+        head, *parts = condition
+        if head == "cmp":
+            column = parts[0] if isinstance(parts[0], str) else parts[0][0]
+            return f"(and (not {column}_null) (not {self.compared(*parts)}))"
+        if head == "null":
+            return f"(not {parts[0]}_null)"
+        if head == "not":
+            return self.is_true(parts[0])
+        if head == "is true":
+            return f"(not {self.is_true(parts[0])})"
+        other = {"and": "or", "or": "and"}[head]
+        return f"({other} " + " ".join(self.is_false(it) for it in parts) + ")"
+
+
+def question(sharding):
+    return "\n".join(Question(sharding).lines) + "\n"
