@@ -153,7 +153,7 @@ class Question:
         self.texts = {}
         self.kinds = {it.name: it for it in sharding.columns}
         self.lines = [line for it in sharding.columns for line in self.declared(it)]
-        passing = [self.is_true(it) if it else "true" for it in sharding.conditions]
+        passing = [self.says(it, True) if it else "true" for it in sharding.conditions]
         count = "(+ " + " ".join(f"(ite {it} 1 0)" for it in passing) + " 0)"
         self.lines += [f"(assert (not (= {count} 1)))", "(check-sat)"]
 
@@ -185,32 +185,22 @@ class Question:
             return f"(not (= {self.term(term)} {self.literal(value)}))"
         return f"({operator} {self.term(term)} {self.literal(value)})"
 
-    def is_true(self, condition):
+    def says(self, condition, wanted):
+        """That the condition is true, or that it is false; where it is null it is neither."""
         head, *parts = condition
         if head == "cmp":
             column = parts[0] if isinstance(parts[0], str) else parts[0][0]
-            return f"(and (not {column}_null) {self.compared(*parts)})"
+            compared = self.compared(*parts)
+            return f"(and (not {column}_null) {compared if wanted else f'(not {compared})'})"
         if head == "null":
-            return f"{parts[0]}_null"
+            return f"{parts[0]}_null" if wanted else f"(not {parts[0]}_null)"
         if head == "not":
-            return self.is_false(parts[0])
+            return self.says(parts[0], not wanted)
         if head == "is true":
-            return self.is_true(parts[0])
-        return f"({head} " + " ".join(self.is_true(it) for it in parts) + ")"
-
-    def is_false(self, condition):
-        head, *parts = condition
-        if head == "cmp":
-            column = parts[0] if isinstance(parts[0], str) else parts[0][0]
-            return f"(and (not {column}_null) (not {self.compared(*parts)}))"
-        if head == "null":
-            return f"(not {parts[0]}_null)"
-        if head == "not":
-            return self.is_true(parts[0])
-        if head == "is true":
-            return f"(not {self.is_true(parts[0])})"
-        other = {"and": "or", "or": "and"}[head]
-        return f"({other} " + " ".join(self.is_false(it) for it in parts) + ")"
+            said = self.says(parts[0], True)
+            return said if wanted else f"(not {said})"
+        word = head if wanted else {"and": "or", "or": "and"}[head]
+        return f"({word} " + " ".join(self.says(it, wanted) for it in parts) + ")"
 
 
 def question(sharding):
