@@ -1,5 +1,5 @@
 -- The lines of tables are written one after the other.
-use Rattle.std.proofs.Common.{◌≡◌, ℕ, ◌+◌, Bool, true, false, ◌&&◌, List, [], ◌∷◌, ◌++◌, Option, sym, subst}
+use Rattle.std.proofs.Common.{◌≡◌, ℕ, ◌+◌, Bool, true, ◌&&◌, List, [], ◌∷◌, ◌++◌, Option, sym, subst}
 use Rattle.std.specs.Io.KnownBytes.{Appends}
 use Rattle.cert_maker.specs.Answers.{IfCert, IfCounter, IsAccepted, IsCounter}
 use Rattle.cert_maker.specs.declared.made.Made.{Made}
