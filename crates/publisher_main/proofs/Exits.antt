@@ -50,6 +50,7 @@ verdict_kept catalog trees old new newer Done now keeps = record {
 verdict_kept catalog trees old new newer Refused now keeps = record {
   error = now.error;
   refusal = now.refusal;
+  wrong = now.wrong;
   writes = appends_kept old new newer (refused_line catalog now.error ++ 10 ∷ []) now.writes keeps;
 }
 verdict_kept catalog trees old new newer CommandLine now keeps = absurd now

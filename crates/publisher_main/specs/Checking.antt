@@ -7,6 +7,7 @@ use Rattle.pub_reader.specs.Statements.{catalog_by}
 use Rattle.sql_reader.specs.Written.{as_filter}
 use Rattle.replica_identity.specs.Plans.{plan_of}
 use Rattle.shard_checker.specs.CatalogRefusal.{sharding_refusal}
+use Rattle.shard_checker.specs.CatalogTruth.{ShardingIsWrong}
 use Rattle.shard_checker.specs.Sound.{IsSound}
 use Rattle.shard_checker.specs.declared.error.CheckError.{CheckError}
 use Rattle.split_cert.specs.Tree.{Tree}
@@ -32,10 +33,11 @@ pub record IsAccepted (catalog : CatalogOf Expr) (trees : List Tree) (old new : 
   pub unrefused : first_refusal catalog trees ≡ None
   pub writes : Appends old new (codes "accepted" ++ 10 ∷ [])
 
--- there is a first reason, and what is written is its line over the catalog
+-- there is a first reason, what it says of what it names is so, and what is written is its line over the catalog
 pub record IsRefused (catalog : CatalogOf Expr) (trees : List Tree) (old new : Option (List ℕ)) : Type 0 where
   pub error : CheckError
   pub refusal : first_refusal catalog trees ≡ Some error
+  pub wrong : ShardingIsWrong catalog (plan_of catalog) trees error
   pub writes : Appends old new (refused_line catalog error ++ 10 ∷ [])
 
 abbrev pub IsVerdict : CatalogOf Expr → List Tree → Option (List ℕ) → Option (List ℕ) → Status → Type 0

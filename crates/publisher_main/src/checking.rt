@@ -1,8 +1,10 @@
 //! `check`: whether a sharding is sound, by the certificates of its tables.
 
-ghost use Rattle.std.specs.Prelude.{◌≡◌, ◌++◌, ◌∷◌, [], IfErr, IfOk, OnOk, None, codes, map};
+ghost use Rattle.std.specs.Prelude.{◌≡◌, ◌++◌, ◌∷◌, [], IfErr, IfOk, IfSome, OnOk, None, codes, map};
 ghost use Rattle.std.specs.Io.KnownBytes.{Appends};
 ghost use Rattle.pub_reader.specs.CatalogView.{catalog_of};
+ghost use Rattle.replica_identity.specs.Plans.{plan_of};
+ghost use Rattle.shard_checker.specs.CatalogTruth.{ShardingIsWrong};
 ghost use Rattle.shard_checker.specs.Sound.{IsSound};
 ghost use Rattle.split_cert.specs.Where.{tree_of};
 ghost use Rattle.publisher_main.specs.Checking as spec;
@@ -30,6 +32,7 @@ fn refusal_of(
 ) -> Result<Option<CheckError>, AllocError>
     ensures sound { IfOk result (λ refusal. refusal ≡ None → IsSound (catalog_of catalog)) }
     ensures first { IfOk result (λ refusal. spec.first_refusal (catalog_of catalog) (map tree_of certs.now) ≡ refusal) }
+    ensures wrong { IfOk result (λ refusal. IfSome refusal (ShardingIsWrong (catalog_of catalog) (plan_of (catalog_of catalog)) (map tree_of certs.now))) }
 {
     let plan = plan(alloc, &catalog)?;
     match check(alloc, catalog, plan, certs) {
