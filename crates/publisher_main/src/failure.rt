@@ -9,7 +9,8 @@ use thiserror::Error;
 #[derive(Clone, Copy, Debug, PartialEq, Eq)]
 pub enum Status {
     Done = 0,
-    /// The answer is a refusal: some row is not read, or does not fit its table, or the sharding is refused.
+    /// The answer is a refusal: some row is not read or does not fit its table, the sharding is refused, or for some table
+    /// no certificate was found.
     Refused = 1,
     CommandLine = 2,
     Input = 3,

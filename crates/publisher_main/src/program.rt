@@ -71,9 +71,9 @@ fn outcome<S: AsStr, R: Read + Drop, W: Write>(
 }
 
 /// Runs the program on the words of a command line, the program's name first, and gives its exit status: 0 or 1 where
-/// what is asked was answered (1 where some row is not read, or does not fit its table, or where the sharding is
-/// refused, or where a table has no certificate), 2 where the words ask nothing, 3 where the input is not taken, 4 where the writer fails, 5 where memory runs
-/// out.
+/// what is asked was answered (1 where some row is not read or does not fit its table, where the sharding is refused, or
+/// where for some table no certificate was found), 2 where the words ask nothing, 3 where the input is not taken, 4 where
+/// the writer fails, 5 where memory runs out.
 pub fn run<S: AsStr, R: Read + Drop, W: Write>(
     alloc: Global,
     words: &[S],
