@@ -96,6 +96,61 @@ fn halves_have_a_small_certificate(rt: HostRuntime) -> Result<(), Fail> {
     Ok(())
 }
 
+/// Which kinds of leaves a certificate has.
+#[derive(Clone, Copy, Debug, PartialEq, Eq)]
+struct LeafKinds {
+    owner: bool,
+    empty: bool,
+    never_null: bool,
+}
+
+fn either(one: LeafKinds, other: LeafKinds) -> LeafKinds {
+    LeafKinds {
+        owner: one.owner || other.owner,
+        empty: one.empty || other.empty,
+        never_null: one.never_null || other.never_null,
+    }
+}
+
+fn leaves(cert: &Cert<&Bump>) -> LeafKinds {
+    match cert {
+        Cert::Split(_, if_true, if_false, if_null) => either(
+            leaves(if_true),
+            either(leaves(if_false), leaves(if_null)),
+        ),
+        Cert::Owner(_) | Cert::Empty(_) | Cert::NeverNull(_) => LeafKinds {
+            owner: matches!(cert, Cert::Owner(_)),
+            empty: matches!(cert, Cert::Empty(_)),
+            never_null: matches!(cert, Cert::NeverNull(_)),
+        },
+    }
+}
+
+#[test]
+fn each_kind_of_leaf_is_made(rt: HostRuntime) -> Result<(), Fail> {
+    let alloc = rt.alloc();
+    let cases = [
+        (ID, "*", (true, false, false)),
+        (PAID, "paid IS NULL;paid IS NOT NULL", (true, false, true)),
+        (REGION, "id < 100;id >= 100", (true, true, true)),
+    ];
+    for (columns, filters, (owner, empty, never_null)) in cases {
+        let catalog = catalog(alloc, columns, filters)?;
+        let plan = plan(alloc, &catalog)?;
+        let arena = Bump::new(alloc);
+        let Made::Cert(cert) = make(alloc, &arena, &catalog, &plan, 0) else {
+            return Err("a certificate is made".into());
+        };
+        let expected = LeafKinds {
+            owner,
+            empty,
+            never_null,
+        };
+        assert_eq!(rt; leaves(&cert), expected, "{filters}");
+    }
+    Ok(())
+}
+
 #[test]
 fn a_null_region_passes_to_nobody(rt: HostRuntime) -> Result<(), Fail> {
     let (row, owners) = counter(rt.alloc(), REGION, "region = 'eu';region <> 'eu'")?;

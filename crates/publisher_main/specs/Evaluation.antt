@@ -1,11 +1,12 @@
 -- What `eval` answers: the first part of its input is a catalog, and the second has rows of one of its tables, one a line.
-use Rattle.std.specs.Prelude.{◌≡◌, ℕ, if◌then◌else◌, List, [], ◌∷◌, ◌++◌, Option, Some, None, IfNone, slice_get, Result, Ok, Err}
+use Rattle.std.specs.Prelude.{◌≡◌, ℕ, if◌then◌else◌, List, [], ◌∷◌, ◌++◌, Option, Some, None, slice_get, Result, Ok, Err}
 use Rattle.std.specs.List.{list_all}
 use Rattle.std.specs.Io.KnownBytes.{Appends}
 use Rattle.filter_tree.specs.Datum.{Datum}
 use Rattle.filter_tree.specs.Valid.{row_fault}
 use Rattle.filter_tree.specs.declared.table.Column.{Column}
 use Rattle.filter_tree.specs.declared.table.Table.{Table}
+use Rattle.filter_tree.specs.declared.validity.RowFault.{RowFault}
 use Rattle.pub_reader.specs.CatalogView.{catalog_of}
 use Rattle.sql_reader.specs.Reading.{Fault, Tells}
 use Rattle.sql_reader.specs.Rows.{row_of}
@@ -15,7 +16,8 @@ use Rattle.pub_reader.specs.declared.catalog.Catalog.{Catalog}
 use Rattle.pub_reader.specs.declared.catalog.Publication.{Publication}
 use Rattle.sql_reader.specs.declared.error.ReadError.{ReadError}
 use Rattle.publisher_main.specs.Answers.{line_of}
-use Rattle.publisher_main.specs.BadRows.{is_answered}
+use Rattle.publisher_main.specs.BadRows.{IsUnreadable, bad_line, is_answered}
+use Rattle.publisher_main.specs.declared.bad_row.BadRow.TheVariants.{Invalid}
 use Rattle.publisher_main.specs.Inserts.{insert_line}
 use Rattle.publisher_main.specs.Parts.{Cut, two_parts, lines_of}
 use Rattle.publisher_main.specs.Tables.{table_of}
@@ -37,11 +39,16 @@ abbrev pub told : Question → ℕ → List Datum → List Publication → List 
 told q.Answers number cells publications = line_of number cells publications
 told q.Insert number cells publications = insert_line number cells publications
 
+-- the line of a row that is read
+abbrev pub line_by : Option RowFault → List ℕ → List ℕ
+line_by None told = told
+line_by (Some fault) told = bad_line (Invalid fault)
+
 module _ (question : Question) (number : ℕ) (publications : List Publication) (columns : List Column) where
-  -- the line of a row that fits is what is told of it
+  -- the line of a row that fits is what is told of it; of another, why it does not fit, or is not read
   abbrev pub IsLineOf : Result (List Datum) Fault → List ℕ → Type 0
-  IsLineOf (Ok cells) line = IfNone (row_fault columns cells) (line ≡ told question number cells publications)
-  IsLineOf (Err fault) line = Unit {0}
+  IsLineOf (Ok cells) line = line ≡ line_by (row_fault columns cells) (told question number cells publications)
+  IsLineOf (Err fault) line = IsUnreadable fault line
 
   abbrev pub IsLine : List ℕ → List ℕ → Type 0
   IsLine text line = IsLineOf (row_of text) line

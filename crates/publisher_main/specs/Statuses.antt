@@ -1,6 +1,10 @@
--- Why the program stops early, and the exit status.
-use Rattle.std.specs.Prelude.{if◌then◌else◌}
+-- Why the program stops early, its line that says so, and the exit status, in the program's own format.
+use Rattle.std.specs.Prelude.{ℕ, if◌then◌else◌, List, [], ◌∷◌, ◌++◌, Option, Some, None, IfSome, codes}
+use Rattle.std.specs.Io.KnownBytes.{Appends}
+use Rattle.split_cert.specs.ErrorNames.{error_name}
+use Rattle.sql_reader.specs.KindNames.{kind_name}
 use Rattle.sql_reader.specs.declared.error.ReadError.{ReadError}
+use Rattle.publisher_main.specs.BadRows.{counted}
 use Rattle.publisher_main.specs.Memory.{is_memory}
 use Rattle.publisher_main.specs.declared.failure.Failure.{Failure}
 use Rattle.publisher_main.specs.declared.failure.Failure.TheVariants as f
@@ -44,3 +48,20 @@ abbrev pub IsOfWords : Failure → Type 0
 IsOfWords (f.CommandLine error) = Unit {0}
 IsOfWords f.OutOfMemory = Unit {0}
 IsOfWords _ = ⊥
+
+-- ---- the line
+
+-- The text of a failure. What clap says of words has no text here.
+abbrev pub text_of_failure : Failure → Option (List ℕ)
+text_of_failure (f.CommandLine error) = None
+text_of_failure f.WordNotUtf8 = Some (codes "a word of the command line is not UTF-8")
+text_of_failure f.Input = Some (codes "input")
+text_of_failure (f.Catalog error) = Some (counted (codes "catalog") error.place ++ 32 ∷ kind_name error.kind)
+text_of_failure (f.Table word) = Some (codes "table " ++ word.now)
+text_of_failure (f.Certificate line error) = Some (counted (codes "certificate") line ++ 32 ∷ error_name error)
+text_of_failure f.Output = Some (codes "output")
+text_of_failure f.OutOfMemory = Some (codes "out of memory")
+
+-- a writer's bytes grow by the line of a failure
+abbrev pub WritesFailure : Failure → Option (List ℕ) → Option (List ℕ) → Type 0
+WritesFailure failure old new = IfSome (text_of_failure failure) (λ text. Appends old new (text ++ 10 ∷ []))

@@ -56,6 +56,11 @@ impl From<RowFault> for BadRow {
 }
 
 impl fmt::Display for BadRow {
+    ghost use Rattle.std.specs.Prelude.{Some};
+    ghost use Rattle.publisher_main.specs.BadRows.{bad_line};
+
+    ghost output = { λ bad. Some (bad_line bad) };
+
     fn fmt<W: fmt::Write>(&self, f: &mut fmt::Formatter<W>) -> fmt::Result {
         match self {
             BadRow::Unreadable(error) => {

@@ -40,6 +40,7 @@ fn push_told(
 }
 
 /// Writes the line of a row on an empty line, and tells whether the row has an answer.
+#[tactic(auto, using(crate::proofs::BadLines::bad_told))]
 fn push_line(
     alloc: Global,
     line: &mut String,

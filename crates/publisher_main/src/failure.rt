@@ -3,7 +3,8 @@
 use pub_reader::{ErrorKind, ReadError};
 use split_cert::CertError;
 use std::alloc::{AllocError, AllocFailed};
-use thiserror::Error;
+use std::error::Error;
+use std::fmt;
 
 /// How the program ended. As a number it is the exit status.
 #[derive(Clone, Copy, Debug, PartialEq, Eq)]
@@ -19,27 +20,47 @@ pub enum Status {
 }
 
 /// Why the program stops early. Its text is the line that is printed.
-#[derive(Debug, Drop, Error)]
+#[derive(Debug, Drop)]
 pub enum Failure<'a> {
-    #[error("{0}")]
     CommandLine(clap::Error),
-    #[error("a word of the command line is not UTF-8")]
     WordNotUtf8,
-    #[error("input")]
     Input,
-    #[error("catalog {} {}", .0.place, .0.kind.name())]
     Catalog(ReadError),
     /// There is no table of this name, which is shown as it was given.
-    #[error("table {0}")]
     Table(&'a str),
     /// The line of this number, from 1, of the certificates is none.
-    #[error("certificate {line} {}", .error.name())]
     Certificate { line: usize, error: CertError },
-    #[error("output")]
     Output,
-    #[error("out of memory")]
     OutOfMemory,
 }
+
+impl fmt::Display for Failure<'_> {
+    ghost use Rattle.publisher_main.specs.Statuses.{text_of_failure};
+
+    ghost output = { λ failure. text_of_failure failure };
+
+    fn fmt<W: fmt::Write>(&self, f: &mut fmt::Formatter<W>) -> fmt::Result {
+        match self {
+            Failure::CommandLine(error) => write!(f, "{error}"),
+            Failure::WordNotUtf8 => write!(f, "a word of the command line is not UTF-8"),
+            Failure::Input => write!(f, "input"),
+            Failure::Catalog(error) => {
+                let place = error.place;
+                let name = error.kind.name();
+                write!(f, "catalog {place} {name}")
+            }
+            Failure::Table(word) => write!(f, "table {word}"),
+            Failure::Certificate { line, error } => {
+                let name = error.name();
+                write!(f, "certificate {line} {name}")
+            }
+            Failure::Output => write!(f, "output"),
+            Failure::OutOfMemory => write!(f, "out of memory"),
+        }
+    }
+}
+
+impl Error for Failure<'_> {}
 
 impl Failure<'_> {
     ghost use Rattle.std.specs.Prelude.{◌≡◌};

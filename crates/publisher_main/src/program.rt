@@ -1,9 +1,9 @@
 //! The program, over any reader and writer.
 
-ghost use Rattle.std.specs.Prelude.{◌≡◌, ◌≤◌, ◌⊎◌, IfOk, map};
+ghost use Rattle.std.specs.Prelude.{◌≡◌, ◌≢◌, ◌≤◌, ◌⊎◌, IfOk, map};
 ghost use Rattle.publisher_main.specs.Requests.{AnswersSome, IsOutcome};
-ghost use Rattle.publisher_main.specs.Statuses.{IsEarly, status_of_failure};
-ghost use Rattle.publisher_main.specs.declared.failure.Status.TheVariants.{Done, Refused, Output};
+ghost use Rattle.publisher_main.specs.Statuses.{IsEarly, WritesFailure, status_of_failure};
+ghost use Rattle.publisher_main.specs.declared.failure.Status.TheVariants.{CommandLine, Done, Refused, Output};
 
 use crate::arguments::{Request, parse};
 use crate::checking::check_input;
@@ -43,6 +43,7 @@ fn answer<'a, S: AsStr, R: Read + Drop, W: Write>(
 pub fn report<W: Write>(failure: &Failure<'_>, writer: &mut W) -> Status
     ensures early { IsEarly result }
     ensures status { (result ≡ status_of_failure failure.now) ⊎ (result ≡ Output) }
+    ensures written { result ≢ Output → result ≢ CommandLine → WritesFailure failure.now (W.contents writer.old) (W.contents writer.new) }
     ensures silent { status_of_failure failure.now ≡ Output → W.contents writer.new ≡ W.contents writer.old }
 {
     let status = failure.status();

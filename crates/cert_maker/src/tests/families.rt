@@ -1,6 +1,6 @@
 //! Families of shardings that grow with the number of subscribers.
 
-use super::{ID, NOT_NULL_REGION, REGION, nodes_made, sort};
+use super::{ID, NOT_NULL_REGION, PAID, REGION, nodes_made, sort};
 use std::alloc::{AllocError, Global};
 use std::test::Fail;
 
@@ -141,6 +141,47 @@ fn region_filter(
     Ok(())
 }
 
+/// The truth values of a nullable column, each in so many ranges: those that are true, and the others.
+fn flags(alloc: Global, ranges: i64, others: &str) -> Result<String, AllocError> {
+    let mut filters = String::new(alloc);
+    for range in 0..ranges {
+        let low = range.saturating_mul(100);
+        let high = low.saturating_add(100);
+        for test in ["IS TRUE", others] {
+            begin(&mut filters, if test == "IS TRUE" { range } else { 1 })?;
+            write!(filters, "paid {test} AND ")?;
+            range_filter(
+                &mut filters,
+                (range > 0).then_some(low),
+                (range < ranges.saturating_sub(1)).then_some(high),
+                false,
+            )?;
+        }
+    }
+    Ok(filters)
+}
+
+/// A key and so many pairs of truth values.
+fn pair_columns(alloc: Global, count: i64) -> Result<String, AllocError> {
+    let mut columns = String::from_str(alloc, ID)?;
+    for number in 0..count {
+        write!(
+            columns,
+            ", a{number} boolean NOT NULL, b{number} boolean NOT NULL"
+        )?;
+    }
+    Ok(columns)
+}
+
+/// The rows of which one pair is both true, and the others.
+fn pair_filters(alloc: Global, count: i64) -> Result<String, AllocError> {
+    let mut some = String::from_str(alloc, "FALSE")?;
+    for number in 0..count {
+        write!(some, " OR a{number} AND b{number}")?;
+    }
+    format!(in alloc; "{some};NOT ({some})")
+}
+
 const KINDS: [&str; 3] = ["smallint", "integer", "bigint"];
 
 #[test]
@@ -229,6 +270,38 @@ fn keys_of_two_columns_are_decided(rt: HostRuntime) -> Result<(), Fail> {
             sort(alloc, REGION, broken.as_str())?,
             "counterexample",
             "{broken}"
+        );
+    }
+    Ok(())
+}
+
+#[test]
+fn flags_in_ranges_are_decided(rt: HostRuntime) -> Result<(), Fail> {
+    let alloc = rt.alloc();
+    let cases = [
+        ("IS NOT TRUE", "certificate"),
+        ("IS FALSE", "counterexample"),
+        ("IS NOT FALSE", "counterexample"),
+    ];
+    for ranges in [1, 4, 16] {
+        for (others, expected) in cases {
+            let filters = flags(alloc, ranges, others)?;
+            assert_eq!(rt; sort(alloc, PAID, filters.as_str())?, expected, "{filters}");
+        }
+    }
+    Ok(())
+}
+
+/// A certificate for n pairs has at least 6 * 2^n - 5 nodes, for 12 so many that splits are no longer chosen with care.
+#[test]
+fn pairs_are_decided(rt: HostRuntime) -> Result<(), Fail> {
+    let alloc = rt.alloc();
+    for (count, fewest) in [(1, 7), (4, 91), (12, 24_571)] {
+        let (columns, filters) = (pair_columns(alloc, count)?, pair_filters(alloc, count)?);
+        let nodes = nodes_made(alloc, columns.as_str(), filters.as_str())?;
+        assert!(rt;
+            fewest <= nodes && nodes / 2 < fewest,
+            "{count} pairs: {nodes} nodes"
         );
     }
     Ok(())
