@@ -15,4 +15,5 @@ pub mod Parts
 pub mod Refusals
 pub mod Requests
 pub mod Statuses
+pub mod Stops
 pub mod Tables

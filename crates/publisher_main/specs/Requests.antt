@@ -4,10 +4,11 @@ use Rattle.publisher_main.specs.Checking.{IsChecked}
 use Rattle.publisher_main.specs.CommandLine.{IsRequest}
 use Rattle.publisher_main.specs.Evaluation.{IsAnswered}
 use Rattle.publisher_main.specs.Making.{IsMade}
+use Rattle.publisher_main.specs.Stops.{IsRejected}
 use Rattle.publisher_main.specs.declared.arguments.Request.{Request}
 use Rattle.publisher_main.specs.declared.arguments.Request.TheVariants.{Eval, Check, Make}
 use Rattle.publisher_main.specs.declared.failure.Status.{Status}
-use Rattle.publisher_main.specs.declared.failure.Status.TheVariants.{Done, Refused}
+use Rattle.publisher_main.specs.declared.failure.Status.TheVariants.{Done, Refused, Input}
 
 -- what is asked is answered of this input
 abbrev pub IsAnswerTo : Request → List ℕ → Option (List ℕ) → Option (List ℕ) → Status → Type 0
@@ -29,4 +30,5 @@ AnswersSome words known old new status = IfSome known (λ input. AnswersWords wo
 abbrev pub IsOutcome : List (List ℕ) → Option (List ℕ) → Option (List ℕ) → Option (List ℕ) → Status → Type 0
 IsOutcome words known old new Done = AnswersSome words known old new Done
 IsOutcome words known old new Refused = AnswersSome words known old new Refused
+IsOutcome words known old new Input = IsRejected words known old new
 IsOutcome words known old new _ = Unit {0}

@@ -43,6 +43,12 @@ IsEarly s.Done = ⊥
 IsEarly s.Refused = ⊥
 IsEarly _ = Unit {0}
 
+-- the program ended with an answer
+abbrev pub IsEnd : Status → Type 0
+IsEnd s.Done = Unit {0}
+IsEnd s.Refused = Unit {0}
+IsEnd _ = ⊥
+
 -- the words are not understood, or memory ran out
 abbrev pub IsOfWords : Failure → Type 0
 IsOfWords (f.CommandLine error) = Unit {0}

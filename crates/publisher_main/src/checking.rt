@@ -9,8 +9,8 @@ ghost use Rattle.shard_checker.specs.Sound.{IsSound};
 ghost use Rattle.split_cert.specs.Where.{tree_of};
 ghost use Rattle.publisher_main.specs.Checking as spec;
 ghost use Rattle.publisher_main.specs.Refusals.{refused_line};
-ghost use Rattle.publisher_main.specs.Statuses.{IsOfWriting};
-ghost use Rattle.publisher_main.specs.declared.failure.Status.TheVariants.{Done, Refused};
+ghost use Rattle.publisher_main.specs.Statuses.{IsOfWriting, status_of_failure};
+ghost use Rattle.publisher_main.specs.declared.failure.Status.TheVariants.{Done, Refused, Input};
 
 use crate::certificates::read_certificates;
 use crate::failure::{Failure, Status};
@@ -75,7 +75,8 @@ pub fn check_input<'a, W: Write>(
     input: &str,
     writer: &mut W,
 ) -> Result<Status, Failure<'a>>
-    ensures { spec.IsCheckOf input.now (W.contents writer.old) (W.contents writer.new) result }
+    ensures answer { spec.IsCheckOf input.now (W.contents writer.old) (W.contents writer.new) result }
+    ensures kept { IfErr result (λ failure. status_of_failure failure ≡ Input → W.contents writer.new ≡ W.contents writer.old) }
 {
     let (text, lines) = two_parts(input).ok_or(Failure::Input)?;
     let catalog = read_catalog(alloc, text)?;

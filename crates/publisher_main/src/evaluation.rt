@@ -6,7 +6,8 @@ ghost use Rattle.filter_tree.specs.Valid.{IsValid};
 ghost use Rattle.publisher_main.specs.BadRows.{is_answered};
 ghost use Rattle.publisher_main.specs.Evaluation as spec;
 ghost use Rattle.publisher_main.specs.Parts.{lines_of};
-ghost use Rattle.publisher_main.specs.Statuses.{IsOfWriting};
+ghost use Rattle.publisher_main.specs.Statuses.{IsOfWriting, status_of_failure};
+ghost use Rattle.publisher_main.specs.declared.failure.Status.TheVariants.{Input};
 
 use crate::answers::push_answers;
 use crate::arguments::Question;
@@ -99,7 +100,8 @@ pub fn evaluate<'a, W: Write>(
     input: &str,
     writer: &mut W,
 ) -> Result<Status, Failure<'a>>
-    ensures { spec.IsEvaluated question input.now word.entry.now (W.contents writer.old) (W.contents writer.new) result }
+    ensures answer { spec.IsEvaluated question input.now word.entry.now (W.contents writer.old) (W.contents writer.new) result }
+    ensures kept { IfErr result (λ failure. status_of_failure failure ≡ Input → W.contents writer.new ≡ W.contents writer.old) }
 {
     let (catalog, rows) = two_parts(input).ok_or(Failure::Input)?;
     let catalog = read_catalog(alloc, catalog)?;

@@ -3,7 +3,8 @@
 ghost use Rattle.std.specs.Prelude.{◌≡◌, IfErr, IfOk, length};
 ghost use Rattle.pub_reader.specs.CatalogView.{catalog_of};
 ghost use Rattle.publisher_main.specs.Making as spec;
-ghost use Rattle.publisher_main.specs.Statuses.{IsOfWriting};
+ghost use Rattle.publisher_main.specs.Statuses.{IsOfWriting, status_of_failure};
+ghost use Rattle.publisher_main.specs.declared.failure.Status.TheVariants.{Input};
 ghost use Rattle.replica_identity.specs.Plans.{plan_of};
 ghost use Rattle.replica_identity.specs.PlanView.{plan_view};
 
@@ -66,7 +67,8 @@ pub fn make_input<'a, W: Write>(
     input: &str,
     writer: &mut W,
 ) -> Result<Status, Failure<'a>>
-    ensures { spec.IsMakeOf input.now (W.contents writer.old) (W.contents writer.new) result }
+    ensures answer { spec.IsMakeOf input.now (W.contents writer.old) (W.contents writer.new) result }
+    ensures kept { IfErr result (λ failure. status_of_failure failure ≡ Input → W.contents writer.new ≡ W.contents writer.old) }
 {
     if cut(input).is_some() {
         return Err(Failure::Input);

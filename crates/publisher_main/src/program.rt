@@ -1,9 +1,10 @@
 //! The program, over any reader and writer.
 
-ghost use Rattle.std.specs.Prelude.{◌≡◌, ◌≢◌, ◌≤◌, ◌⊎◌, IfOk, map};
+ghost use Rattle.std.specs.Prelude.{◌≡◌, ◌≢◌, ◌≤◌, ◌⊎◌, IfErr, IfOk, map};
 ghost use Rattle.publisher_main.specs.Requests.{AnswersSome, IsOutcome};
-ghost use Rattle.publisher_main.specs.Statuses.{IsEarly, WritesFailure, status_of_failure};
-ghost use Rattle.publisher_main.specs.declared.failure.Status.TheVariants.{CommandLine, Done, Refused, Output};
+ghost use Rattle.publisher_main.specs.Statuses.{IsEarly, IsEnd, WritesFailure, status_of_failure};
+ghost use Rattle.publisher_main.specs.Stops.{IsReason, IsRejected};
+ghost use Rattle.publisher_main.specs.declared.failure.Status.TheVariants.{CommandLine, Done, Refused, Input, Output};
 
 use crate::arguments::{Request, parse};
 use crate::checking::check_input;
@@ -21,7 +22,10 @@ fn answer<'a, S: AsStr, R: Read + Drop, W: Write>(
     reader: R,
     writer: &mut W,
 ) -> Result<Status, Failure<'a>>
-    ensures { IfOk result (AnswersSome (map S.text words.entry.now) (R.remaining reader) (W.contents writer.old) (W.contents writer.new)) }
+    ensures answered { IfOk result (AnswersSome (map S.text words.entry.now) (R.remaining reader) (W.contents writer.old) (W.contents writer.new)) }
+    ensures ended { IfOk result IsEnd }
+    ensures reason { IfErr result (IsReason (map S.text words.entry.now) (R.remaining reader)) }
+    ensures kept { IfErr result (λ failure. status_of_failure failure ≡ Input → W.contents writer.new ≡ W.contents writer.old) }
 {
     let request = parse(alloc, words)?;
     let input = read_input(alloc, reader)?;
@@ -73,8 +77,8 @@ fn outcome<S: AsStr, R: Read + Drop, W: Write>(
 
 /// Runs the program on the words of a command line, the program's name first, and gives its exit status: 0 or 1 where
 /// what is asked was answered (1 where some row is not read or does not fit its table, where the sharding is refused, or
-/// where for some table no certificate was found), 2 where the words ask nothing, 3 where the input is not taken, 4 where
-/// the writer fails, 5 where memory runs out.
+/// where for some table no certificate was found), 2 where the words ask nothing, 3 where the input is not taken, and a
+/// line says why, 4 where the writer fails, 5 where memory runs out.
 pub fn run<S: AsStr, R: Read + Drop, W: Write>(
     alloc: Global,
     words: &[S],
@@ -84,6 +88,7 @@ pub fn run<S: AsStr, R: Read + Drop, W: Write>(
     ensures status { result ≤ 5 }
     ensures done { result ≡ 0 → AnswersSome (map S.text words.now) (R.remaining reader) (W.contents writer.old) (W.contents writer.new) Done }
     ensures refused { result ≡ 1 → AnswersSome (map S.text words.now) (R.remaining reader) (W.contents writer.old) (W.contents writer.new) Refused }
+    ensures rejected { result ≡ 3 → IsRejected (map S.text words.now) (R.remaining reader) (W.contents writer.old) (W.contents writer.new) }
 {
     let status = outcome(alloc, words, reader, writer);
     if status == Status::Output {

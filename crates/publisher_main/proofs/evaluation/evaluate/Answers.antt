@@ -8,16 +8,16 @@ use Rattle.publisher_main.specs.Tables.{table_of}
 use Rattle.publisher_main.proofs.Evaluating.{evaluated}
 use Rattle.publisher_main.proofs.evaluation.evaluate.Goals as goal
 
-pub returns-in_default : goal.returns-in_default
-returns-in_default g c =
+pub returns-in_default-clause-answer : goal.returns-in_default-clause-answer
+returns-in_default-clause-answer g c =
     let cut : Cut = record { part = c.in_ok-catalog.catalog.now; rest = c.in_ok-catalog.rows.now } in
     let parts : two_parts c.args.input.now ≡ Some cut = search rules in
     let reads : catalog_by as_filter cut.part ≡ Ok (catalog_of c.in_ok-catalog-2.catalog) = c.in_ok-catalog-2.ensures.catalog in
     let unknown : table_of c.args.word.now c.in_ok-catalog-2.catalog.tables.items ≡ None = search rules in
     (record { cut = cut; catalog = c.in_ok-catalog-2.catalog; parts = parts; reads = reads; unknown = unknown }, refl)
 
-pub returns : goal.returns
-returns g c =
+pub returns-clause-answer : goal.returns-clause-answer
+returns-clause-answer g c =
     let cut : Cut = record { part = c.in_ok-catalog.catalog.now; rest = c.in_ok-catalog.rows.now } in
     let parts : two_parts c.args.input.now ≡ Some cut = search rules in
     let reads : catalog_by as_filter cut.part ≡ Ok (catalog_of c.in_ok-catalog-2.catalog) = c.in_ok-catalog-2.ensures.catalog in
