@@ -1,7 +1,9 @@
+mod validity;
+
 use crate::{
-    Atom, ColType, Column, Filter, Identity, Items, Literal, Mask, Op, Row, RowFault, Table, Term,
-    Test, Text, Tri, Value, atoms_of, columns_of, compare, compare_literals, copy_in, copy_row,
-    eval, possible, same_atom, same_row, terms_of, valid,
+    Atom, Filter, Items, Literal, Mask, Op, Row, Term, Test, Text, Tri, Value, atoms_of,
+    columns_of, compare, compare_literals, copy_in, copy_row, eval, possible, same_atom, same_row,
+    terms_of,
 };
 use std::alloc::{AllocError, Global};
 use std::test::Fail;
@@ -96,6 +98,9 @@ fn equality_compares_texts_and_truth_values(rt: HostRuntime) -> Result<(), Fail>
         (Cell::Null, &text, Tri::Null, Tri::Null),
         (Cell::Bool(true), &truth, Tri::True, Tri::False),
         (Cell::Bool(false), &truth, Tri::False, Tri::True),
+        // values of unlike types are neither equal nor unequal
+        (Cell::Int(1), &text, Tri::False, Tri::False),
+        (Cell::Text("true"), &truth, Tri::False, Tri::False),
     ];
     for (cell, literal, equal, unequal) in cases {
         let left = value(rt.alloc(), cell)?;
@@ -203,122 +208,33 @@ fn tests_of_filters_are_never_null(rt: HostRuntime) -> Result<(), Fail> {
 }
 
 #[test]
-fn the_least_bigint_has_no_remainder_by_minus_one(rt: HostRuntime) -> Result<(), Fail> {
-    let least = row(rt.alloc(), &[Cell::Int(i64::MIN)])?;
-    assert_eq!(rt; eval(&leaves(-1, 0), &least), Tri::True);
-    assert_eq!(rt; eval(&Filter::<Global>::Const(false), &least), Tri::False);
-    Ok(())
-}
-
-/// A table of one column of each type, the first of which is NOT NULL.
-fn table_of_all_types(alloc: Global) -> Result<Table, AllocError> {
-    let mut columns = Vec::new(alloc);
-    for kind in [
-        ColType::SmallInt,
-        ColType::Integer,
-        ColType::BigInt,
-        ColType::Boolean,
-        ColType::Text,
-    ] {
-        columns.push(Column {
-            name: Text::from_str(alloc, "c")?,
-            kind,
-            not_null: kind == ColType::SmallInt,
-        })?;
-    }
-    Ok(Table {
-        schema: Text::from_str(alloc, "public")?,
-        name: Text::from_str(alloc, "kinds")?,
-        columns: Items::from_vec(columns),
-        key: Items::from_vec(vec![in alloc; 0]?),
-        identity: Identity::Default,
-    })
-}
-
-#[test]
-fn valid_tells_the_first_fault(rt: HostRuntime) -> Result<(), Fail> {
-    use Cell::{Bool, Int, Long, Null, Text};
-    let table = table_of_all_types(rt.alloc())?;
+fn remainders_have_the_sign_of_the_value(rt: HostRuntime) -> Result<(), Fail> {
     let cases = [
-        (
-            [
-                Int(-32_768),
-                Int(-2_147_483_648),
-                Int(i64::MIN),
-                Bool(true),
-                Text(""),
-            ],
-            Ok(()),
-        ),
-        (
-            [
-                Int(32_767),
-                Int(2_147_483_647),
-                Int(i64::MAX),
-                Null,
-                Long(65_533, "é"),
-            ],
-            Ok(()),
-        ),
-        ([Int(0), Null, Null, Null, Null], Ok(())),
-        (
-            [Null, Bool(true), Null, Null, Null],
-            Err(RowFault::NullInNotNull(0)),
-        ),
-        (
-            [Int(-32_769), Bool(true), Null, Null, Null],
-            Err(RowFault::OutOfRange(0)),
-        ),
-        (
-            [Int(32_768), Null, Null, Null, Null],
-            Err(RowFault::OutOfRange(0)),
-        ),
-        (
-            [Int(0), Int(-2_147_483_649), Bool(true), Null, Null],
-            Err(RowFault::OutOfRange(1)),
-        ),
-        (
-            [Int(0), Int(2_147_483_648), Null, Null, Null],
-            Err(RowFault::OutOfRange(1)),
-        ),
-        (
-            [Int(0), Null, Text("1"), Int(1), Null],
-            Err(RowFault::WrongType(2)),
-        ),
-        (
-            [Int(0), Null, Null, Int(1), Null],
-            Err(RowFault::WrongType(3)),
-        ),
-        (
-            [Int(0), Null, Null, Null, Bool(true)],
-            Err(RowFault::WrongType(4)),
-        ),
-        (
-            [Int(0), Null, Null, Null, Long(70_000, "\0")],
-            Err(RowFault::NulInText(4)),
-        ),
-        (
-            [Int(0), Null, Null, Null, Long(65_534, "é")],
-            Err(RowFault::TextTooLong(4)),
-        ),
+        (7, 3, 1),
+        (-7, 3, -1),
+        (7, -3, 1),
+        (-7, -3, -1),
+        (i64::MIN, -1, 0),
+        (i64::MIN, 10, -8),
+        // no filter that is read divides by zero
+        (7, 0, 7),
     ];
-    for (cells, answer) in cases {
-        assert_eq!(rt; valid(&table, &row(rt.alloc(), &cells)?), answer);
+    for (number, divisor, rest) in cases {
+        let row = row(rt.alloc(), &[Cell::Int(number)])?;
+        assert_eq!(rt; eval(&leaves(divisor, rest), &row), Tri::True);
     }
-    assert_eq!(rt;
-        valid(&table, &row(rt.alloc(), &[Null])?),
-        Err(RowFault::Width)
-    );
     Ok(())
 }
 
 #[test]
-fn a_fault_is_told_in_words(rt: HostRuntime) -> Result<(), Fail> {
-    let fault = format!(in rt.alloc(); "{}", RowFault::NullInNotNull(2))?;
+fn a_column_past_the_end_is_null(rt: HostRuntime) -> Result<(), Fail> {
+    let short = row(rt.alloc(), &[Cell::Int(7)])?;
+    assert_eq!(rt; eval(&in_europe(rt.alloc())?, &short), Tri::Null);
     assert_eq!(rt;
-        fault.as_str(),
-        "column 2 is NOT NULL, but its value is null"
+        eval(&Filter::<Global>::Atom(Atom::IsNull(1)), &short),
+        Tri::True
     );
+    assert_eq!(rt; eval(&Filter::<Global>::Const(false), &short), Tri::False);
     Ok(())
 }
 
@@ -401,6 +317,29 @@ fn parts_are_listed_once(rt: HostRuntime) -> Result<(), Fail> {
     assert_eq!(rt; atoms.len(), 3);
     assert!(rt; matches!(atoms[2], Atom::IsNull(0)));
     assert!(rt; same_atom(atoms[0], atoms[0]) && !same_atom(atoms[0], atoms[1]));
+    Ok(())
+}
+
+#[test]
+fn large_filters_and_rows_are_copied(rt: HostRuntime) -> Result<(), Fail> {
+    let alloc = rt.alloc();
+    // id % 1 = 0 OR id % 2 = 0 OR .. OR id % 64 = 0
+    let mut filter = leaves(1, 0);
+    for divisor in 2..65 {
+        filter = either(alloc, filter, leaves(divisor, 0))?;
+    }
+    let copy = copy_in(alloc, &filter)?;
+    assert_eq!(rt; atoms_of(alloc, &copy)?.len(), 64);
+    assert_eq!(rt; terms_of(alloc, &copy)?.len(), 64);
+    assert_eq!(rt; columns_of(alloc, &copy)?.as_slice(), [0].as_slice());
+    let mut values = Vec::new(alloc);
+    for number in 0..1_600 {
+        values.push(Value::Int(number))?;
+    }
+    let wide = Row::from_values(values);
+    let copy = copy_row(alloc, &wide)?;
+    assert!(rt; same_row(&wide, &copy));
+    assert!(rt; matches!(copy.get(1_599), Some(Value::Int(1_599))));
     Ok(())
 }
 

@@ -76,7 +76,10 @@ fn insert_messages_are_spelled_by_the_layout(rt: HostRuntime) -> Result<(), Fail
     for (row, tuple) in cases {
         let message = insert_of(rt.alloc(), row)?;
         let Msg::Insert { relation: _, new } = &message;
-        assert_eq!(rt; (new.len(), new.is_empty()), (row.len(), row.is_empty()));
+        assert_eq!(rt;
+            (new.len(), new.is_empty(), new.cells().len()),
+            (row.len(), row.is_empty(), row.len())
+        );
         let mut out = Vec::new(rt.alloc());
         if fits(&message) {
             encode(&message, &mut out)?;
@@ -86,5 +89,30 @@ fn insert_messages_are_spelled_by_the_layout(rt: HostRuntime) -> Result<(), Fail
         assert_eq!(rt; spelled, expected);
     }
     no_spelling_begins_another();
+    Ok(())
+}
+
+#[test]
+fn the_number_of_columns_is_signed(rt: HostRuntime) -> Result<(), Fail> {
+    for (columns, has_room) in [(32_767, true), (32_768, false)] {
+        let mut values = Vec::new(rt.alloc());
+        for _ in 0..columns {
+            values.push(Value::Null)?;
+        }
+        let row: Row = Row::from_values(values);
+        let new = tuple_of(rt.alloc(), &row)?;
+        let message = Msg::Insert {
+            relation: 16384,
+            new,
+        };
+        assert_eq!(rt; fits(&message), has_room, "at {columns} columns");
+        if fits(&message) {
+            let mut out = Vec::new(rt.alloc());
+            encode(&message, &mut out)?;
+            // eight bytes before the columns, and an `n` for each
+            assert_eq!(rt; out.len(), 32_775);
+            assert!(rt; out.as_slice().starts_with(b"I\0\0\x40\0N\x7f\xffn"));
+        }
+    }
     Ok(())
 }
