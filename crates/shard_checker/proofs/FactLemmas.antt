@@ -17,9 +17,9 @@ use Rattle.filter_tree.specs.declared.filter.Term.TheVariants.{Col, Mod}
 use Rattle.filter_tree.specs.declared.table.Column.{Column}
 use Rattle.filter_tree.specs.declared.tri.Tri.{Tri}
 use Rattle.filter_tree.specs.declared.tri.Tri.TheVariants.{True, False, Null}
-use Rattle.filter_tree.proofs.SameLemmas.{same_condition_is}
+use Rattle.filter_tree.proofs.SameLemmas.{both_true, same_condition_is, same_term_is}
 use Rattle.shard_checker.specs.Facts.{says_null, says_present, not_null_in, is_declared, is_null, is_present, has_null, is_null_test, is_never_null, holds_of, leaves, may_be}
-use Rattle.shard_checker.proofs.Testing.{both_true, two_true, by_either, clash, same_number, same_term_is}
+use Rattle.shard_checker.proofs.Testing.{two_true, by_either, clash, same_number}
 
 -- ---- null
 

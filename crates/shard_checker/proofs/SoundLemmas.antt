@@ -15,6 +15,7 @@ use Rattle.filter_tree.specs.declared.table.Table.{Table}
 use Rattle.filter_tree.specs.declared.tri.Tri.{Tri}
 use Rattle.filter_tree.specs.declared.tri.Tri.TheVariants.{True, False, Null}
 use Rattle.filter_tree.proofs.PossibleLemmas.{possible_holds}
+use Rattle.filter_tree.proofs.SameLemmas.{both_true}
 use Rattle.replica_identity.specs.Shares.{ShareOf, Nothing, Everything, Where, takes, is_true}
 use Rattle.split_cert.specs.Tree.{Tree, Branches, Owned, Void, Never, nodes}
 use Rattle.shard_checker.specs.Domain.{kind_at, has_value}
@@ -27,7 +28,7 @@ use Rattle.shard_checker.proofs.FactLemmas.{null_is, missing_term, present_is, n
 use Rattle.shard_checker.proofs.RangeLemmas.{known_in_domain, some_member}
 use Rattle.shard_checker.proofs.ValueLemmas.{value_found}
 use Rattle.shard_checker.proofs.OwnerLemmas.{only_owner}
-use Rattle.shard_checker.proofs.Testing.{by_test, both_true, by_either, not_true, clash}
+use Rattle.shard_checker.proofs.Testing.{by_test, by_either, not_true, clash}
 
 -- ---- nodes that say that a term is empty
 

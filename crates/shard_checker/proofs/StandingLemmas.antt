@@ -12,7 +12,7 @@ use Rattle.filter_tree.specs.declared.table.Identity.{Identity}
 use Rattle.filter_tree.specs.declared.table.Identity.TheVariants.{Default, Full, Nothing}
 use Rattle.filter_tree.specs.declared.table.Table.{Table}
 use Rattle.filter_tree.proofs.ListsLemmas.{determined_by_columns}
-use Rattle.filter_tree.proofs.SameLemmas.{equal_from_same_cells}
+use Rattle.filter_tree.proofs.SameLemmas.{both_true, equal_from_same_cells}
 use Rattle.filter_tree.proofs.ValidLemmas.{valid_from_no_fault}
 use Rattle.pub_reader.specs.Catalogs.{CatalogOf, PublicationOf, EntryOf}
 use Rattle.pub_reader.specs.declared.catalog.Subscription.{Subscription}
@@ -25,7 +25,7 @@ use Rattle.replica_identity.specs.Standing.{Covered, KeepsApart, PassesToOne, So
 use Rattle.replica_identity.specs.Tables.{Tables, applied, is_row, holds}
 use Rattle.replica_identity.proofs.PassingLemmas.{takes_what_passes}
 use Rattle.shard_checker.specs.Sound.{is_listed, is_taken, HasOneSubscriber, is_covered_by, entry_is_covered, IsSound}
-use Rattle.shard_checker.proofs.Testing.{by_test, both_true, left_true, right_true, by_either, same_number, number_itself, at_zero, zero_more, at_next}
+use Rattle.shard_checker.proofs.Testing.{by_test, left_true, right_true, by_either, same_number, number_itself, at_zero, zero_more, at_next}
 
 -- whether the list has the number
 abbrev has : List ℕ → ℕ → Bool
