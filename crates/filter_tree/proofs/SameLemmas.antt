@@ -32,7 +32,7 @@ same_datum_is Missing Missing h = refl
 same_datum_is (Known k) (Known l) h = ap Known (same_constant_is k l h)
 same_datum_is v w h = absurd cc
 
-same_term_is : (s t : Term) → same_term s t ≡ true → s ≡ t
+pub same_term_is : (s t : Term) → same_term s t ≡ true → s ≡ t
 same_term_is (Col c) (Col d) h = ap Col ((unsigned_Decides c d).0 h)
 same_term_is (Mod c m) (Mod d n) h =
     let both : (nat_eq c d ≡ true) × (int_eq m n ≡ true) = both_true _ _ h in
@@ -78,6 +78,9 @@ same_term_self (Mod c m) =
     let columns : nat_eq c c ≡ true = (unsigned_Decides c c).1 refl in
     let divisors : int_eq m m ≡ true = (signed_Decides m m).1 refl in
     rw (columns, divisors) refl
+
+pub same_term_of_equal : (s t : Term) → s ≡ t → same_term s t ≡ true
+same_term_of_equal s t e = subst (λ x. same_term s x ≡ true) e (same_term_self s)
 
 same_op_self : (op : Op) → same_op op op ≡ true
 same_op_self Eq = refl

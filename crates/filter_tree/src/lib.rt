@@ -27,7 +27,7 @@ pub use items::Items;
 pub use lists::{atoms_of, columns_of, terms_of};
 pub use mask::Mask;
 pub use possibility::possible;
-pub use same::{same_atom, same_row};
+pub use same::{same_atom, same_row, same_term};
 pub use table::{ColType, Column, Identity, Table};
 pub use text::Text;
 pub use tri::Tri;

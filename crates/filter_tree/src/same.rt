@@ -81,16 +81,13 @@ fn same_literal<A: Allocator, B: Allocator>(one: &Literal<A>, other: &Literal<B>
     }
 }
 
-pub(crate) fn same_term(one: Term, other: Term) -> bool
-    ensures { result ≡ same_term one other }
+/// Whether two terms are equal.
+#[tactic(auto, using(crate::proofs::SameLemmas::same_term_is, crate::proofs::SameLemmas::same_term_of_equal))]
+pub fn same_term(one: Term, other: Term) -> bool
+    ensures test { result ≡ same_term one other }
+    ensures equal { IsTrue result ↔ (one ≡ other) }
 {
-    match (one, other) {
-        (Term::Col(column), Term::Col(other_column)) => column == other_column,
-        (Term::Mod(column, divisor), Term::Mod(other_column, other_divisor)) => column
-            == other_column
-            && divisor == other_divisor,
-        (Term::Col(_) | Term::Mod(..), _) => false,
-    }
+    one == other
 }
 
 fn same_op(one: Op, other: Op) -> bool

@@ -13,10 +13,11 @@ use Rattle.filter_tree.specs.declared.table.ColType.{ColType}
 use Rattle.filter_tree.specs.declared.table.ColType.TheVariants.{SmallInt, Integer, BigInt, Boolean, Text}
 use Rattle.filter_tree.specs.declared.tri.Tri.{Tri}
 use Rattle.filter_tree.specs.declared.tri.Tri.TheVariants.{True, False, Null}
+use Rattle.filter_tree.proofs.SameLemmas.{both_true}
 use Rattle.shard_checker.specs.Domain.{range_of, IsIn, IsInDomain, HasValue, serves, names_number, has_named_number, has_number, names_text, has_named_text, has_text, has_value}
 use Rattle.shard_checker.specs.Facts.{leaves, may_be}
 use Rattle.shard_checker.specs.declared.domain.Range.{Range}
-use Rattle.shard_checker.proofs.Testing.{by_test, both_true, two_true, by_either, not_true_false}
+use Rattle.shard_checker.proofs.Testing.{by_test, two_true, by_either, not_true_false}
 use Rattle.shard_checker.proofs.ValueLemmas.{test_le, unnamed_text}
 
 -- ---- numbers

@@ -10,16 +10,16 @@ use Rattle.filter_tree.specs.Lists.{column_of, term_of}
 use Rattle.filter_tree.specs.Mask.{same_tri}
 use Rattle.filter_tree.specs.Paths.{Path, Agrees}
 use Rattle.filter_tree.specs.Same.{same_term, same_condition}
-use Rattle.filter_tree.specs.Valid.{Fits, IsValid}
 use Rattle.filter_tree.specs.declared.filter.Op.{Op}
 use Rattle.filter_tree.specs.declared.filter.Term.{Term}
 use Rattle.filter_tree.specs.declared.filter.Term.TheVariants.{Col, Mod}
 use Rattle.filter_tree.specs.declared.table.Column.{Column}
 use Rattle.filter_tree.specs.declared.tri.Tri.{Tri}
 use Rattle.filter_tree.specs.declared.tri.Tri.TheVariants.{True, False, Null}
-use Rattle.filter_tree.proofs.SameLemmas.{same_condition_is}
+use Rattle.filter_tree.proofs.SameLemmas.{both_true, same_condition_is, same_term_is}
 use Rattle.shard_checker.specs.Facts.{says_null, says_present, not_null_in, is_declared, is_null, is_present, has_null, is_null_test, is_never_null, holds_of, leaves, may_be}
-use Rattle.shard_checker.proofs.Testing.{both_true, two_true, by_either, clash, same_number, same_term_is}
+use Rattle.shard_checker.specs.Rows.{MayStand, IsTyped}
+use Rattle.shard_checker.proofs.Testing.{two_true, by_either, clash, same_number}
 
 -- ---- null
 
@@ -86,12 +86,12 @@ says_present_is cells column (Lacks other) False meant says missing =
     cc
 says_present_is cells column condition value meant says missing = absurd cc
 
-declared_in : (found : Option Column) (value : Datum) → IfSome found (λ column. Fits column value) → not_null_in found ≡ true → value ≡ Missing → ⊥
+declared_in : (found : Option Column) (value : Datum) → IfSome found (λ column. MayStand column value) → not_null_in found ≡ true → value ≡ Missing → ⊥
 declared_in None value fits declared missing = cc
 declared_in (Some column) Missing fits declared missing = clash column.not_null declared fits
 declared_in (Some column) (Known value) fits declared missing = cc
 
-pub declared_is : (columns : List Column) (cells : List Datum) (column : ℕ) → IsValid columns cells → is_declared columns column ≡ true → value_at cells column ≡ Missing → ⊥
+pub declared_is : (columns : List Column) (cells : List Datum) (column : ℕ) → IsTyped columns cells → is_declared columns column ≡ true → value_at cells column ≡ Missing → ⊥
 declared_is columns cells column valid declared missing = declared_in (slice_get columns column) (value_at cells column) (valid.fits column) declared missing
 
 some_present_is : (cells : List Datum) (column : ℕ) (path : Path) → Agrees cells path
@@ -102,7 +102,7 @@ some_present_is cells column (entry ∷ path) agrees h missing =
     (λ here. says_present_is cells column entry.0 entry.1 agrees.0 here missing)
     (λ there. some_present_is cells column path agrees.1 there missing)
 
-pub present_is : (columns : List Column) (cells : List Datum) (column : ℕ) (path : Path) → IsValid columns cells → Agrees cells path
+pub present_is : (columns : List Column) (cells : List Datum) (column : ℕ) (path : Path) → IsTyped columns cells → Agrees cells path
     → is_present columns column path ≡ true → value_at cells column ≡ Missing → ⊥
 present_is columns cells column path valid agrees h missing =
     by_either (is_declared columns column) (list_any (λ entry. says_present column entry.0 entry.1) path) h
@@ -126,14 +126,14 @@ test_known : (value : Datum) → is_missing value ≡ Null → ⊥
 test_known Missing h = cc
 test_known (Known value) h = cc
 
-null_condition : (columns : List Column) (cells : List Datum) (condition : Condition) → IsValid columns cells → condition_meaning condition cells ≡ Null
+null_condition : (columns : List Column) (cells : List Datum) (condition : Condition) → IsTyped columns cells → condition_meaning condition cells ≡ Null
     → (is_null_test condition || is_declared columns (column_of (term_of condition))) ≡ true → ⊥
 null_condition columns cells (Compares term op constant) valid null h =
     declared_is columns cells (column_of term) valid h (term_missing term cells (compared_null op (term_value term cells) constant null))
 null_condition columns cells (Lacks column) valid null h = test_known (value_at cells column) null
 
 -- no row that fits the columns agrees with a path on which a condition is null that never is
-pub never_null_is : (columns : List Column) (cells : List Datum) (condition : Condition) (path : Path) → IsValid columns cells → Agrees cells path
+pub never_null_is : (columns : List Column) (cells : List Datum) (condition : Condition) (path : Path) → IsTyped columns cells → Agrees cells path
     → is_never_null columns condition path ≡ true → ⊥
 never_null_is columns cells condition path valid agrees h =
     let both = both_true (has_null condition path) (is_null_test condition || is_declared columns (column_of (term_of condition))) h in

@@ -5,6 +5,7 @@ pub mod OwnerLemmas
 pub mod PlaceLemmas
 pub mod RangeLemmas
 pub mod ReasonLemmas
+pub mod RowLemmas
 pub mod ShardingLemmas
 pub mod SoundLemmas
 pub mod StandingLemmas

@@ -11,13 +11,14 @@ use Rattle.filter_tree.specs.Datum.{Constant, Number, Truth, Bytes, Datum, Missi
 use Rattle.filter_tree.specs.Expr.{remainder_of, term_value}
 use Rattle.filter_tree.specs.Lists.{column_of}
 use Rattle.filter_tree.specs.Range.{least_of, greatest_of}
-use Rattle.filter_tree.specs.Valid.{IsWithin, IsOf, Fits, IsValid}
+use Rattle.filter_tree.specs.Valid.{IsWithin}
 use Rattle.filter_tree.specs.declared.filter.Term.{Term}
 use Rattle.filter_tree.specs.declared.filter.Term.TheVariants.{Col, Mod}
 use Rattle.filter_tree.specs.declared.table.ColType.{ColType}
 use Rattle.filter_tree.specs.declared.table.ColType.TheVariants.{SmallInt, Integer, BigInt, Boolean, Text}
 use Rattle.filter_tree.specs.declared.table.Column.{Column}
 use Rattle.shard_checker.specs.Domain.{kind_in, kind_at, greatest_remainder, whole_range, range_within, range_of, IsIn, IsInDomain}
+use Rattle.shard_checker.specs.Rows.{IsOfType, MayStand, IsTyped}
 use Rattle.shard_checker.proofs.Testing.{by_test}
 
 -- ---- remainders
@@ -109,7 +110,7 @@ of_number : (kind : ColType) (cells : List Datum) (column : ℕ) (divisor number
 of_number kind cells column divisor number is fits domain =
     record { value = Number (int_rem number divisor); is = ap (λ v. remainder_of v divisor) is; in_domain = domain (in_range kind column number divisor fits) }
 
-known_of : (kind : ColType) (term : Term) (cells : List Datum) (value : Constant) → value_at cells (column_of term) ≡ Known value → IsOf kind value → HasKnown kind term cells
+known_of : (kind : ColType) (term : Term) (cells : List Datum) (value : Constant) → value_at cells (column_of term) ≡ Known value → IsOfType kind value → HasKnown kind term cells
 known_of SmallInt (Col column) cells (Number n) is fits = record { value = Number n; is = is; in_domain = in_whole SmallInt n fits }
 known_of Integer (Col column) cells (Number n) is fits = record { value = Number n; is = is; in_domain = in_whole Integer n fits }
 known_of BigInt (Col column) cells (Number n) is fits = record { value = Number n; is = is; in_domain = in_whole BigInt n fits }
@@ -136,22 +137,22 @@ past_from_none [] column none = omega arith
 past_from_none (first ∷ columns) zero none = absurd cc
 past_from_none (first ∷ columns) (suc column) none = let shorter = past_from_none columns column none in omega arith
 
-missing_past : (columns : List Column) (cells : List Datum) (column : ℕ) → IsValid columns cells → length columns ≤ column → value_at cells column ≡ Missing
+missing_past : (columns : List Column) (cells : List Datum) (column : ℕ) → IsTyped columns cells → length columns ≤ column → value_at cells column ≡ Missing
 missing_past columns cells column valid past =
     let short : length cells ≤ column = omega (arith, valid.wide) in
     rw (slice_get_past cells column short) refl
 
 -- the value of a column that isn't null
-column_known : (columns : List Column) (found : Option Column) (term : Term) (cells : List Datum) (value : Constant) → IfSome found (λ column. Fits column (Known value))
+column_known : (columns : List Column) (found : Option Column) (term : Term) (cells : List Datum) (value : Constant) → IfSome found (λ column. MayStand column (Known value))
     → (found ≡ None → value_at cells (column_of term) ≡ Missing) → value_at cells (column_of term) ≡ Known value → HasKnown (kind_in found) term cells
 column_known columns None term cells value fits past is = let gone = past refl in absurd cc
 column_known columns (Some column) term cells value fits past is = known_of column.kind term cells value is fits
 
-pub known_in_domain : (columns : List Column) (term : Term) (cells : List Datum) (value : Constant) → IsValid columns cells → value_at cells (column_of term) ≡ Known value
+pub known_in_domain : (columns : List Column) (term : Term) (cells : List Datum) (value : Constant) → IsTyped columns cells → value_at cells (column_of term) ≡ Known value
     → HasKnown (kind_at columns (column_of term)) term cells
 known_in_domain columns term cells value valid is =
     column_known columns (slice_get columns (column_of term)) term cells value
-    (subst (λ v. IfSome (slice_get columns (column_of term)) (λ column. Fits column v)) is (valid.fits (column_of term)))
+    (subst (λ v. IfSome (slice_get columns (column_of term)) (λ column. MayStand column v)) is (valid.fits (column_of term)))
     (λ none. missing_past columns cells (column_of term) valid (past_from_none columns (column_of term) none))
     is
 

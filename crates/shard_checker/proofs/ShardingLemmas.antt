@@ -6,7 +6,6 @@ use Rattle.std.proofs.lemmas.Option.{slice_get_within}
 use Rattle.filter_tree.specs.Datum.{Datum}
 use Rattle.filter_tree.specs.Expr.{Expr}
 use Rattle.filter_tree.specs.Lists.{distinct_columns}
-use Rattle.filter_tree.specs.Valid.{IsValid}
 use Rattle.filter_tree.specs.declared.table.Identity.{Identity}
 use Rattle.filter_tree.specs.declared.table.Identity.TheVariants.{Default, Full, Nothing}
 use Rattle.filter_tree.specs.declared.table.Table.{Table}
@@ -21,6 +20,7 @@ use Rattle.split_cert.specs.Tree.{Tree}
 use Rattle.shard_checker.specs.CatalogRefusal.{missing_operation, missing_by, publication_refusal, publishing_refusal, table_refusal, identity_refusal, column_refusal, filter_refusal, entry_refusal, entries_refusal, taken_refusal, coverage_refusal, table_shares, certificates_refusal, count_refusal, catalog_refusal, sharding_refusal}
 use Rattle.shard_checker.specs.Owners.{share_in, HasOneOwner}
 use Rattle.shard_checker.specs.Refusal.{first_of, first_refusal}
+use Rattle.shard_checker.specs.Rows.{IsTyped}
 use Rattle.shard_checker.specs.Sound.{is_taken, HasOneSubscriber, PublishesChanges, covers, is_covered_by, entry_is_covered, IsSound}
 use Rattle.shard_checker.specs.declared.error.CheckError.{CheckError}
 use Rattle.shard_checker.specs.declared.error.CheckError.TheVariants.{NotCovered, CertCount}
@@ -118,7 +118,7 @@ all_covered tables subscriptions number (publication ∷ publications) h (suc k)
 
 -- each row that fits the table of this number has one owner
 abbrev HasOwners : (ℕ → List s.ShareOf) → ℕ → Table → Type 0
-HasOwners shares number table = (cells : List Datum) → IsValid table.columns cells → HasOneOwner (shares number) cells
+HasOwners shares number table = (cells : List Datum) → IsTyped table.columns cells → HasOneOwner (shares number) cells
 
 all_owned : (plan : PlanOf) (subscriptions : List Subscription) (number : ℕ) (tables : List Table) (trees : List Tree) → length trees ≡ length tables
     → certificates_refusal plan subscriptions number tables trees ≡ None
@@ -166,7 +166,7 @@ one_subscriber catalog plan same table there cells owned = record {
 
 table_there : (catalog : CatalogOf Expr) (plan : PlanOf) → TakesWhatPasses catalog plan → (number : ℕ) (found : Option Table) → slice_get catalog.tables number ≡ found
     → IfSome found (HasOwners (λ n. table_shares plan n 0 catalog.subscriptions) (0 + number))
-    → IfSome found (λ table. (cells : List Datum) → IsValid table.columns cells → HasOneSubscriber catalog number cells)
+    → IfSome found (λ table. (cells : List Datum) → IsTyped table.columns cells → HasOneSubscriber catalog number cells)
 table_there catalog plan same number None e owned = tt
 table_there catalog plan same number (Some table) e owned = λ cells valid.
     one_subscriber catalog plan same number (slice_get_within catalog.tables number table e) cells

@@ -7,7 +7,6 @@ use Rattle.filter_tree.specs.Expr.{Condition, condition_meaning, meaning}
 use Rattle.filter_tree.specs.Lists.{column_of}
 use Rattle.filter_tree.specs.Mask.{member}
 use Rattle.filter_tree.specs.Paths.{Path, Agrees, possible_of}
-use Rattle.filter_tree.specs.Valid.{IsValid}
 use Rattle.filter_tree.specs.declared.filter.Term.{Term}
 use Rattle.filter_tree.specs.declared.mask.Mask.{Mask}
 use Rattle.filter_tree.specs.declared.table.Column.{Column}
@@ -15,19 +14,21 @@ use Rattle.filter_tree.specs.declared.table.Table.{Table}
 use Rattle.filter_tree.specs.declared.tri.Tri.{Tri}
 use Rattle.filter_tree.specs.declared.tri.Tri.TheVariants.{True, False, Null}
 use Rattle.filter_tree.proofs.PossibleLemmas.{possible_holds}
+use Rattle.filter_tree.proofs.SameLemmas.{both_true}
 use Rattle.replica_identity.specs.Shares.{ShareOf, Nothing, Everything, Where, takes, is_true}
 use Rattle.split_cert.specs.Tree.{Tree, Branches, Owned, Void, Never, nodes}
 use Rattle.shard_checker.specs.Domain.{kind_at, has_value}
 use Rattle.shard_checker.specs.Facts.{is_null, is_present, is_never_null}
 use Rattle.shard_checker.specs.Owners.{share_in, HasOneOwner, is_surely_true, must_take, may_take, is_second, second_owner}
 use Rattle.shard_checker.specs.Refusal.{Subject, subject_of, first_refusal, later, second_refusal, owner_refusal, is_empty, empty_refusal, never_null_refusal, first_of, split_refusal, refusal, IsSound}
+use Rattle.shard_checker.specs.Rows.{IsTyped}
 use Rattle.shard_checker.specs.declared.error.CheckError.{CheckError}
 use Rattle.shard_checker.specs.declared.error.CheckError.TheVariants.{NotEmpty, MayBeNull, NotOwner}
 use Rattle.shard_checker.proofs.FactLemmas.{null_is, missing_term, present_is, never_null_is, value_left, all_left}
 use Rattle.shard_checker.proofs.RangeLemmas.{known_in_domain, some_member}
 use Rattle.shard_checker.proofs.ValueLemmas.{value_found}
 use Rattle.shard_checker.proofs.OwnerLemmas.{only_owner}
-use Rattle.shard_checker.proofs.Testing.{by_test, both_true, by_either, not_true, clash}
+use Rattle.shard_checker.proofs.Testing.{by_test, by_either, not_true, clash}
 
 -- ---- nodes that say that a term is empty
 
@@ -37,19 +38,19 @@ missing_found columns cells term path agrees missing =
     let some = some_member (kind_at columns (column_of term)) term in
     value_found (kind_at columns (column_of term)) term path some.value some.in_domain (all_left cells term (Some some.value) path agrees (missing_term term cells missing))
 
-known_found : (columns : List Column) (cells : List Datum) (term : Term) (path : Path) (value : Constant) → IsValid columns cells → Agrees cells path
+known_found : (columns : List Column) (cells : List Datum) (term : Term) (path : Path) (value : Constant) → IsTyped columns cells → Agrees cells path
     → value_at cells (column_of term) ≡ Known value → has_value (kind_at columns (column_of term)) term path ≡ true
 known_found columns cells term path value valid agrees is =
     let known = known_in_domain columns term cells value valid is in
     value_found (kind_at columns (column_of term)) term path known.value known.in_domain (value_left cells term known.value path agrees known.is)
 
-some_found : (columns : List Column) (cells : List Datum) (term : Term) (path : Path) (value : Datum) → IsValid columns cells → Agrees cells path
+some_found : (columns : List Column) (cells : List Datum) (term : Term) (path : Path) (value : Datum) → IsTyped columns cells → Agrees cells path
     → value_at cells (column_of term) ≡ value → has_value (kind_at columns (column_of term)) term path ≡ true
 some_found columns cells term path Missing valid agrees is = missing_found columns cells term path agrees is
 some_found columns cells term path (Known value) valid agrees is = known_found columns cells term path value valid agrees is
 
 -- no row that fits the columns agrees with a path that leaves a term empty
-empty_is : (columns : List Column) (cells : List Datum) (term : Term) (path : Path) → IsValid columns cells → Agrees cells path → is_empty columns term path ≡ true → ⊥
+empty_is : (columns : List Column) (cells : List Datum) (term : Term) (path : Path) → IsTyped columns cells → Agrees cells path → is_empty columns term path ≡ true → ⊥
 empty_is columns cells term path valid agrees h =
     by_either (is_null (column_of term) path && is_present columns (column_of term) path) (not (has_value (kind_at columns (column_of term)) term path)) h
     (λ torn. let both = both_true (is_null (column_of term) path) (is_present columns (column_of term) path) torn in
@@ -156,7 +157,7 @@ first_none (Some error) next h = absurd cc
 -- a row goes to the branch of the value that the condition has on it
 one_branch : (columns : List Column) (shares : List ShareOf) (path : Path) (condition : Condition)
     → IsSound columns shares (path ++ (condition, True) ∷ []) → IsSound columns shares (path ++ (condition, False) ∷ []) → IsSound columns shares (path ++ (condition, Null) ∷ [])
-    → (cells : List Datum) (value : Tri) → IsValid columns cells → Agrees cells path → condition_meaning condition cells ≡ value → HasOneOwner shares cells
+    → (cells : List Datum) (value : Tri) → IsTyped columns cells → Agrees cells path → condition_meaning condition cells ≡ value → HasOneOwner shares cells
 one_branch columns shares path condition if_true if_false if_null cells True valid agrees is = if_true.one_owner cells valid (agrees_longer cells path condition True agrees is)
 one_branch columns shares path condition if_true if_false if_null cells False valid agrees is = if_false.one_owner cells valid (agrees_longer cells path condition False agrees is)
 one_branch columns shares path condition if_true if_false if_null cells Null valid agrees is = if_null.one_owner cells valid (agrees_longer cells path condition Null agrees is)
@@ -192,5 +193,5 @@ refusal_sound subject (Never atom) path node h = never_null_sound subject path n
 
 -- a certificate without a refusal
 pub certificate_sound : (number : ℕ) (table : Table) (shares : List ShareOf) (tree : Tree) → first_refusal number table shares tree ≡ None
-    → (cells : List Datum) → IsValid table.columns cells → HasOneOwner shares cells
+    → (cells : List Datum) → IsTyped table.columns cells → HasOneOwner shares cells
 certificate_sound number table shares tree h cells valid = (refusal_sound (subject_of number table.columns shares) tree [] 0 h).one_owner cells valid tt

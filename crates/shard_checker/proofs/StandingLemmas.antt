@@ -7,12 +7,12 @@ use Rattle.std.proofs.lemmas.Option.{slice_get_within}
 use Rattle.filter_tree.specs.Datum.{Datum, Missing, value_at}
 use Rattle.filter_tree.specs.Expr.{Expr}
 use Rattle.filter_tree.specs.Lists.{distinct_columns, AgreesOn}
-use Rattle.filter_tree.specs.Valid.{IsValid, row_fault}
+use Rattle.filter_tree.specs.Valid.{row_fault}
 use Rattle.filter_tree.specs.declared.table.Identity.{Identity}
 use Rattle.filter_tree.specs.declared.table.Identity.TheVariants.{Default, Full, Nothing}
 use Rattle.filter_tree.specs.declared.table.Table.{Table}
 use Rattle.filter_tree.proofs.ListsLemmas.{determined_by_columns}
-use Rattle.filter_tree.proofs.SameLemmas.{equal_from_same_cells}
+use Rattle.filter_tree.proofs.SameLemmas.{both_true, equal_from_same_cells}
 use Rattle.filter_tree.proofs.ValidLemmas.{valid_from_no_fault}
 use Rattle.pub_reader.specs.Catalogs.{CatalogOf, PublicationOf, EntryOf}
 use Rattle.pub_reader.specs.declared.catalog.Subscription.{Subscription}
@@ -24,8 +24,10 @@ use Rattle.replica_identity.specs.Shares.{takes, is_true}
 use Rattle.replica_identity.specs.Standing.{Covered, KeepsApart, PassesToOne, Sound}
 use Rattle.replica_identity.specs.Tables.{Tables, applied, is_row, holds}
 use Rattle.replica_identity.proofs.PassingLemmas.{takes_what_passes}
+use Rattle.shard_checker.specs.Rows.{IsTyped}
 use Rattle.shard_checker.specs.Sound.{is_listed, is_taken, HasOneSubscriber, is_covered_by, entry_is_covered, IsSound}
-use Rattle.shard_checker.proofs.Testing.{by_test, both_true, left_true, right_true, by_either, same_number, number_itself, at_zero, zero_more, at_next}
+use Rattle.shard_checker.proofs.RowLemmas.{typed_of_valid}
+use Rattle.shard_checker.proofs.Testing.{by_test, left_true, right_true, by_either, same_number, number_itself, at_zero, zero_more, at_next}
 
 -- whether the list has the number
 abbrev has : List ℕ → ℕ → Bool
@@ -230,10 +232,10 @@ one_subscriber catalog plan own number within row one = record {
 
 one_of_fitting : (catalog : CatalogOf Expr) (plan : PlanOf) → TakesWhatPasses catalog plan → (number : ℕ) → number < length catalog.tables
     → (found : Option Table) (row : List Datum) → slice_get catalog.tables number ≡ found → is_none (fault_in found row) ≡ true
-    → IfSome found (λ table. (cells : List Datum) → IsValid table.columns cells → HasOneSubscriber catalog number cells) → PassesToOne (setting_of catalog plan) number row
+    → IfSome found (λ table. (cells : List Datum) → IsTyped table.columns cells → HasOneSubscriber catalog number cells) → PassesToOne (setting_of catalog plan) number row
 one_of_fitting catalog plan own number within None row there h sound = absurd (is_there catalog.tables number within there)
 one_of_fitting catalog plan own number within (Some table) row there h sound =
-    one_subscriber catalog plan own number within row (sound row (valid_from_no_fault table.columns row (no_fault (row_fault table.columns row) h)))
+    one_subscriber catalog plan own number within row (sound row (typed_of_valid table.columns row (valid_from_no_fault table.columns row (no_fault (row_fault table.columns row) h))))
 
 pub setting_sound : (catalog : CatalogOf Expr) (plan : PlanOf) → IsSound catalog → TakesWhatPasses catalog plan → Sound (setting_of catalog plan)
 setting_sound catalog plan sound own = record {

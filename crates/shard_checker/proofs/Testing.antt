@@ -1,20 +1,12 @@
 -- Tests and their answers, and the places of lists.
-use Rattle.std.proofs.Common.{◌≡◌, ℕ, suc, ◌+◌, Bool, true, false, not, ◌&&◌, ◌||◌, refl, ap, arith}
-use Rattle.std.specs.Prelude.{T, nat_eq, ◌==◌}
-use Rattle.std.specs.Ordering.{int_eq}
-use Rattle.std.specs.Cmp.{unsigned_Decides, signed_Decides}
-use Rattle.filter_tree.specs.Same.{same_term}
-use Rattle.filter_tree.specs.declared.filter.Term.{Term}
-use Rattle.filter_tree.specs.declared.filter.Term.TheVariants.{Col, Mod}
+use Rattle.std.proofs.Common.{◌≡◌, ℕ, suc, ◌+◌, Bool, true, false, not, ◌&&◌, ◌||◌, refl, arith}
+use Rattle.std.specs.Prelude.{T, ◌==◌}
+use Rattle.std.specs.Cmp.{unsigned_Decides}
 
 -- what holds in both cases of a test
 pub by_test : {P : Type 0} (b : Bool) → (b ≡ true → P) → (b ≡ false → P) → P
 by_test true at_true at_false = at_true refl
 by_test false at_true at_false = at_false refl
-
-pub both_true : (p q : Bool) → (p && q) ≡ true → (p ≡ true) × (q ≡ true)
-both_true true q h = (refl, h)
-both_true false q h = absurd cc
 
 pub two_true : (p q : Bool) → p ≡ true → q ≡ true → (p && q) ≡ true
 two_true true q h k = k
@@ -66,12 +58,3 @@ zero_more number = omega arith
 
 pub at_next : (number k : ℕ) → number + suc k ≡ number + 1 + k
 at_next number k = omega arith
-
-pub same_term_is : (s t : Term) → same_term s t ≡ true → s ≡ t
-same_term_is (Col c) (Col d) h = ap Col ((unsigned_Decides c d).0 h)
-same_term_is (Mod c m) (Mod d n) h =
-    let both : (nat_eq c d ≡ true) × (int_eq m n ≡ true) = both_true _ _ h in
-    let columns : c ≡ d = (unsigned_Decides c d).0 both.0 in
-    let divisors : m ≡ n = (signed_Decides m n).0 both.1 in
-    cc
-same_term_is s t h = absurd cc

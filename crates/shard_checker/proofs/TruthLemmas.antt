@@ -8,6 +8,7 @@ use Rattle.filter_tree.specs.Paths.{Path}
 use Rattle.filter_tree.specs.declared.filter.Term.{Term}
 use Rattle.filter_tree.specs.declared.table.Table.{Table}
 use Rattle.filter_tree.specs.declared.tri.Tri.TheVariants.{True, False, Null}
+use Rattle.filter_tree.proofs.SameLemmas.{both_true}
 use Rattle.replica_identity.specs.Shares.{ShareOf}
 use Rattle.split_cert.specs.Tree.{Tree, Branches, Owned, Void, Never, nodes}
 use Rattle.shard_checker.specs.Domain.{kind_at, has_value}
@@ -19,7 +20,7 @@ use Rattle.shard_checker.specs.declared.error.CheckError.{CheckError}
 use Rattle.shard_checker.specs.declared.error.CheckError.TheVariants.{BadIndex, NotEmpty, MayBeNull, NotOwner, SecondOwner}
 use Rattle.shard_checker.proofs.ExistingLemmas.{value_exists}
 use Rattle.shard_checker.proofs.OwnerLemmas.{only_owner}
-use Rattle.shard_checker.proofs.Testing.{by_test, both_true, both_false, not_true, clash}
+use Rattle.shard_checker.proofs.Testing.{by_test, both_false, not_true, clash}
 
 pub same_some : (one other : CheckError) → Some one ≡ Some other → other ≡ one
 same_some one other h = cc

@@ -96,6 +96,10 @@ count_refusal tables certificates = if certificates == tables then None else Som
 
 -- ---- the first reason
 
+-- of those that are told without a look at a filter or a certificate
+abbrev pub declared_refusal : CatalogOf Expr → Option CheckError
+declared_refusal catalog = first_of (publishing_refusal catalog.subscriptions 0 catalog.publications) (identity_refusal 0 catalog.tables)
+
 abbrev pub catalog_refusal : CatalogOf Expr → Option CheckError
 catalog_refusal catalog =
     first_of (publishing_refusal catalog.subscriptions 0 catalog.publications)

@@ -7,6 +7,7 @@ pub mod Numbering
 pub mod Owners
 pub mod PlanFacts
 pub mod Refusal
+pub mod Rows
 pub mod Sound
 pub mod SoundFacts
 pub mod SubjectView

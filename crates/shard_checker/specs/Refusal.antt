@@ -4,7 +4,6 @@ use Rattle.filter_tree.specs.Datum.{Datum}
 use Rattle.filter_tree.specs.Expr.{Condition}
 use Rattle.filter_tree.specs.Lists.{column_of}
 use Rattle.filter_tree.specs.Paths.{Path, Agrees}
-use Rattle.filter_tree.specs.Valid.{IsValid}
 use Rattle.filter_tree.specs.declared.filter.Term.{Term}
 use Rattle.filter_tree.specs.declared.table.Column.{Column}
 use Rattle.filter_tree.specs.declared.table.Table.{Table}
@@ -15,6 +14,7 @@ use Rattle.shard_checker.specs.Domain.{kind_at, has_value}
 use Rattle.shard_checker.specs.Facts.{is_null, is_present, is_never_null}
 use Rattle.shard_checker.specs.Numbering.{numbered_conditions, numbered_terms}
 use Rattle.shard_checker.specs.Owners.{HasOneOwner, must_take, second_owner}
+use Rattle.shard_checker.specs.Rows.{IsTyped}
 use Rattle.shard_checker.specs.declared.error.CheckError.{CheckError}
 use Rattle.shard_checker.specs.declared.error.CheckError.TheVariants.{BadIndex, NotEmpty, MayBeNull, NotOwner, SecondOwner}
 
@@ -103,6 +103,6 @@ after_branches node if_true if_false if_null = later (later (later node (nodes i
 abbrev pub first_refusal : ℕ → Table → List ShareOf → Tree → Option CheckError
 first_refusal number table shares tree = refusal (subject_of number table.columns shares) tree [] 0
 
--- each row that fits the columns and agrees with the path has one owner
+-- each row that may stand in the columns and agrees with the path has one owner
 pub record IsSound (columns : List Column) (shares : List ShareOf) (path : Path) : Type 0 where
-  pub one_owner : (cells : List Datum) → IsValid columns cells → Agrees cells path → HasOneOwner shares cells
+  pub one_owner : (cells : List Datum) → IsTyped columns cells → Agrees cells path → HasOneOwner shares cells

@@ -1,10 +1,9 @@
--- When the sharding of a catalog is sound: each row that fits its table passes to exactly one subscriber, and what is taken publishes the operations and names the columns by which rows move between subscribers. PostgreSQL 15, "Logical Replication", 31.1 Publication and 31.3 Row Filters.
+-- When the sharding of a catalog is sound: each row that may stand in its table passes to exactly one subscriber, and what is taken publishes the operations and names the columns by which rows move between subscribers. PostgreSQL 15, "Logical Replication", 31.1 Publication and 31.3 Row Filters.
 use Rattle.std.specs.Prelude.{◌≡◌, ◌≢◌, ℕ, ◌==◌, Bool, true, false, List, Option, Some, None, IfSome, slice_get}
 use Rattle.std.specs.List.{list_any, list_all}
 use Rattle.filter_tree.specs.Datum.{Datum}
 use Rattle.filter_tree.specs.Expr.{Expr}
 use Rattle.filter_tree.specs.Lists.{distinct_columns}
-use Rattle.filter_tree.specs.Valid.{IsValid}
 use Rattle.filter_tree.specs.declared.table.Identity.TheVariants.{Nothing}
 use Rattle.filter_tree.specs.declared.table.Table.{Table}
 use Rattle.pub_reader.specs.Catalogs.{CatalogOf, EntryOf}
@@ -12,6 +11,7 @@ use Rattle.pub_reader.specs.declared.catalog.Operations.{Operations}
 use Rattle.pub_reader.specs.declared.catalog.Subscription.{Subscription}
 use Rattle.replica_identity.specs.Identities.{is_covered}
 use Rattle.replica_identity.specs.Passes.{passes}
+use Rattle.shard_checker.specs.Rows.{IsTyped}
 
 abbrev pub is_listed : ℕ → Subscription → Bool
 is_listed publication subscription = list_any (λ number. number == publication) subscription.publications
@@ -46,8 +46,8 @@ entry_is_covered tables entry = is_covered_by (slice_get tables entry.table) ent
 
 -- Tables and publications by their numbers.
 pub record IsSound (catalog : CatalogOf Expr) : Type 0 where
-  -- each row that fits a table passes to exactly one subscriber
-  pub one_subscriber : (number : ℕ) → IfSome (slice_get catalog.tables number) (λ table. (cells : List Datum) → IsValid table.columns cells → HasOneSubscriber catalog number cells)
+  -- each row that may stand in a table passes to exactly one subscriber
+  pub one_subscriber : (number : ℕ) → IfSome (slice_get catalog.tables number) (λ table. (cells : List Datum) → IsTyped table.columns cells → HasOneSubscriber catalog number cells)
   -- each publication that is taken publishes insert, update and delete
   pub publishes : (number : ℕ) → is_taken catalog.subscriptions number ≡ true → IfSome (slice_get catalog.publications number) (λ publication. PublishesChanges publication.publishes)
   -- and its filters name only columns of the tables' replica identities

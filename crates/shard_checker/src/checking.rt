@@ -3,10 +3,10 @@
 ghost use Rattle.std.specs.Prelude.{◌≡◌, ◌≢◌, List, [], OnOk, IfErr, None, Some};
 ghost use Rattle.filter_tree.specs.Datum.{Datum};
 ghost use Rattle.filter_tree.specs.Shape.{conditions_of};
-ghost use Rattle.filter_tree.specs.Valid.{IsValid};
 ghost use Rattle.split_cert.specs.Where.{tree_of};
 ghost use Rattle.shard_checker.specs.Owners.{shares_of, HasOneOwner};
 ghost use Rattle.shard_checker.specs.Refusal as spec;
+ghost use Rattle.shard_checker.specs.Rows.{IsTyped};
 ghost use Rattle.shard_checker.specs.Truth.{CertificateIsWrong};
 
 use crate::error::CheckError;
@@ -60,9 +60,10 @@ pub fn check_table<A: Allocator, B: Allocator>(
     check_numbered(alloc, number, columns, shares, &atoms, &terms, cert)
 }
 
-/// Checks that each row that fits the table is taken by exactly one of the shares, as the certificate says it is. The
-/// error is that of the first node, in the order in which a certificate is written, that says something that isn't so,
-/// or `OutOfMemory`; the table's number in it is 0. Any certificate is answered. Its depth takes stack.
+/// Checks that each row that may stand in the table, with texts of any length, is taken by exactly one of the shares, as
+/// the certificate says it is. The error is that of the first node, in the order in which a certificate is written, that
+/// says something that isn't so, or `OutOfMemory`; the table's number in it is 0. Any certificate is answered. Its depth
+/// takes stack.
 ///
 /// Atoms and terms are numbered from 0 in the order in which the shares' filters have them first, share by share, and
 /// `IS NULL` of a column is an appearance of that column. Subscribers are the shares' numbers.
@@ -73,7 +74,7 @@ pub fn check_one<A: Allocator, B: Allocator>(
     shares: &[&Share<A>],
     cert: &Cert<B>,
 ) -> Result<(), CheckError>
-    ensures sound { OnOk result ((cells : List Datum) → IsValid table.now.columns cells → HasOneOwner (shares_of shares.now) cells) }
+    ensures sound { OnOk result ((cells : List Datum) → IsTyped table.now.columns cells → HasOneOwner (shares_of shares.now) cells) }
     ensures ok { OnOk result (spec.first_refusal 0 table.now (shares_of shares.now) (tree_of cert.now) ≡ None) }
     ensures err { IfErr result (λ error. error ≢ CheckError.OutOfMemory → spec.first_refusal 0 table.now (shares_of shares.now) (tree_of cert.now) ≡ Some error) }
     ensures wrong { IfErr result (λ error. error ≢ CheckError.OutOfMemory → CertificateIsWrong 0 table.now (shares_of shares.now) (tree_of cert.now) error) }

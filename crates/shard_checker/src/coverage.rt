@@ -17,6 +17,7 @@ use std::alloc::Global;
 fn check_identity(number: usize, identity: Identity) -> Result<(), CheckError>
     ensures ok { OnOk result (spec.table_refusal number identity ≡ None) }
     ensures err { IfErr result (λ error. spec.table_refusal number identity ≡ Some error) }
+    ensures told { IfErr result (λ error. error ≢ CheckError.OutOfMemory) }
 {
     match identity {
         Identity::Nothing => Err(CheckError::NoIdentity { table: number }),
@@ -28,6 +29,7 @@ fn check_identity(number: usize, identity: Identity) -> Result<(), CheckError>
 pub fn check_identities(tables: &[Table]) -> Result<(), CheckError>
     ensures ok { OnOk result (spec.identity_refusal 0 tables.now ≡ None) }
     ensures err { IfErr result (λ error. spec.identity_refusal 0 tables.now ≡ Some error) }
+    ensures told { IfErr result (λ error. error ≢ CheckError.OutOfMemory) }
 {
     for (number, table) in tables.iter().enumerate() {
         check_identity(number, table.identity)?;

@@ -12,7 +12,6 @@ mod nodes;
 mod numbering;
 mod owners;
 mod publishing;
-mod same;
 mod sharding;
 mod subject;
 #[cfg(test)]

@@ -9,8 +9,7 @@ ghost use Rattle.replica_identity.specs.Shares.{share_of};
 ghost use Rattle.shard_checker.specs.Numbering as spec;
 ghost use Rattle.shard_checker.specs.Owners.{shares_of};
 
-use crate::same::same_term;
-use filter_tree::{Atom, Term, atoms_of, same_atom, terms_of};
+use filter_tree::{Atom, Term, atoms_of, same_atom, same_term, terms_of};
 use replica_identity::Share;
 use std::alloc::{AllocError, Allocator, Global};
 

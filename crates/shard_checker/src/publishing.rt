@@ -1,6 +1,6 @@
 //! What the publications that are taken publish.
 
-ghost use Rattle.std.specs.Prelude.{◌≡◌, ◌==◌, OnOk, IfErr, None, Some, map};
+ghost use Rattle.std.specs.Prelude.{◌≡◌, ◌≢◌, ◌==◌, OnOk, IfErr, None, Some, map};
 ghost use Rattle.std.specs.List.{list_any};
 ghost use Rattle.pub_reader.specs.CatalogView.{publication_of};
 ghost use Rattle.shard_checker.specs.CatalogRefusal as spec;
@@ -46,6 +46,7 @@ fn missing_operation(publishes: Operations) -> Option<Operation>
 fn check_operations(publication: usize, publishes: Operations) -> Result<(), CheckError>
     ensures ok { OnOk result (spec.missing_by publication (spec.missing_operation publishes) ≡ None) }
     ensures err { IfErr result (λ error. spec.missing_by publication (spec.missing_operation publishes) ≡ Some error) }
+    ensures told { IfErr result (λ error. error ≢ CheckError.OutOfMemory) }
 {
     match missing_operation(publishes) {
         None => Ok(()),
@@ -63,6 +64,7 @@ fn check_publication(
 ) -> Result<(), CheckError>
     ensures ok { OnOk result (spec.publication_refusal subscriptions.now number publishes ≡ None) }
     ensures err { IfErr result (λ error. spec.publication_refusal subscriptions.now number publishes ≡ Some error) }
+    ensures told { IfErr result (λ error. error ≢ CheckError.OutOfMemory) }
 {
     if is_taken(subscriptions, number) {
         check_operations(number, publishes)
@@ -78,6 +80,7 @@ pub fn check_publishing(
 ) -> Result<(), CheckError>
     ensures ok { OnOk result (spec.publishing_refusal subscriptions.now 0 (map publication_of publications.now) ≡ None) }
     ensures err { IfErr result (λ error. spec.publishing_refusal subscriptions.now 0 (map publication_of publications.now) ≡ Some error) }
+    ensures told { IfErr result (λ error. error ≢ CheckError.OutOfMemory) }
 {
     for (number, publication) in publications.iter().enumerate() {
         check_publication(subscriptions, number, publication.publishes)?;

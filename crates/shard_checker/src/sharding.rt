@@ -90,7 +90,9 @@ fn check_count(tables: usize, certificates: usize) -> Result<(), CheckError>
 /// Checks what the catalog says of publications and replica identities.
 fn check_catalog(alloc: Global, catalog: &Catalog) -> Result<(), CheckError>
     ensures ok { OnOk result (spec.catalog_refusal (catalog_of catalog.now) ≡ None) }
+    ensures declared { OnOk result (spec.declared_refusal (catalog_of catalog.now) ≡ None) }
     ensures err { IfErr result (λ error. error ≢ CheckError.OutOfMemory → spec.catalog_refusal (catalog_of catalog.now) ≡ Some error) }
+    ensures memory { IfErr result (λ error. error ≡ CheckError.OutOfMemory → spec.declared_refusal (catalog_of catalog.now) ≡ None) }
 {
     let tables = catalog.tables.as_slice();
     let publications = catalog.publications.as_slice();
@@ -109,6 +111,7 @@ fn check_sharding<A: Allocator>(
 ) -> Result<(), CheckError>
     ensures ok { OnOk result (spec.sharding_refusal (catalog_of catalog.now) (plan_view plan.now) (map tree_of certs.now) ≡ None) }
     ensures err { IfErr result (λ error. error ≢ CheckError.OutOfMemory → spec.sharding_refusal (catalog_of catalog.now) (plan_view plan.now) (map tree_of certs.now) ≡ Some error) }
+    ensures memory { IfErr result (λ error. error ≡ CheckError.OutOfMemory → spec.declared_refusal (catalog_of catalog.now) ≡ None) }
 {
     check_catalog(alloc, catalog)?;
     let tables = catalog.tables.as_slice();
@@ -117,10 +120,10 @@ fn check_sharding<A: Allocator>(
     Ok(())
 }
 
-/// Checks that the sharding of the catalog is sound: that each row that fits its table passes to exactly one subscriber,
-/// as the certificates of the tables, in their order, say it does; that each publication that a subscription takes
-/// publishes insert, update and delete, and its filters name only columns of the tables' replica identities; and that no
-/// replica identity is NOTHING. The plan is the catalog's own.
+/// Checks that the sharding of the catalog is sound: that each row that may stand in its table, with texts of any length,
+/// passes to exactly one subscriber, as the certificates of the tables, in their order, say it does; that each publication
+/// that a subscription takes publishes insert, update and delete, and its filters name only columns of the tables' replica
+/// identities; and that no replica identity is NOTHING. The plan is the catalog's own.
 ///
 /// In the setting of a catalog that is accepted and its plan a row's replica identity tells to whom the row passes
 /// (`covered`), commands that are accepted leave no two rows of a table with one identity (`apart`), and each row that
@@ -129,8 +132,9 @@ fn check_sharding<A: Allocator>(
 /// The error is the first of these: an operation that a publication which is taken doesn't publish, by publications; a
 /// table whose replica identity is NOTHING; a column that a filter names and the replica identity lacks, by publications
 /// that are taken, their entries, and columns in the order of first appearance; another number of certificates than of
-/// tables; and then that of the first certificate, as `check_one` has it, with the table's number; or `OutOfMemory`. What
-/// it says of what it names is so (`wrong`). With an error the catalog and the plan are dropped.
+/// tables; and then that of the first certificate, as `check_one` has it, with the table's number. `OutOfMemory` may stand
+/// in place of these, but of none of the first two sorts (`memory`). What an error says of what it names is so (`wrong`).
+/// With an error the catalog and the plan are dropped.
 ///
 /// PostgreSQL 15, "Logical Replication", 31.3 Row Filters.
 #[tactic(auto, using(crate::proofs::StandingLemmas::standing, crate::proofs::ReasonLemmas::sharding_wrong))]
@@ -148,6 +152,7 @@ pub fn check<A: Allocator>(
     ensures kept { IfOk result (λ checked. checked_view checked ≡ checked_of catalog plan) }
     ensures ok { OnOk result (spec.sharding_refusal (catalog_of catalog) (plan_view plan) (map tree_of certs.now) ≡ None) }
     ensures err { IfErr result (λ error. error ≢ CheckError.OutOfMemory → spec.sharding_refusal (catalog_of catalog) (plan_view plan) (map tree_of certs.now) ≡ Some error) }
+    ensures memory { IfErr result (λ error. error ≡ CheckError.OutOfMemory → spec.declared_refusal (catalog_of catalog) ≡ None) }
     ensures wrong { IfErr result (λ error. error ≢ CheckError.OutOfMemory → ShardingIsWrong (catalog_of catalog) (plan_view plan) (map tree_of certs.now) error) }
 {
     check_sharding(alloc, &catalog, &plan, certs)?;

@@ -1,4 +1,5 @@
 mod catalogs;
+mod terms;
 
 use crate::{CheckError, check_one};
 use filter_tree::{Atom, ColType, Column, Filter, Identity, Items, Literal, Op, Table, Term, Text};

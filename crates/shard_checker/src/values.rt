@@ -9,8 +9,7 @@ ghost use Rattle.shard_checker.specs.Domain as domain;
 ghost use Rattle.shard_checker.specs.Facts as spec;
 
 use crate::domain::{Range, range_of};
-use crate::same::same_term;
-use filter_tree::{Atom, ColType, Literal, Op, Term, Tri, compare_literals};
+use filter_tree::{Atom, ColType, Literal, Op, Term, Tri, compare_literals, same_term};
 use std::alloc::{Allocator, Global};
 
 /// Whether the comparison holds of the value; `None` stands for a text that differs from every constant.

@@ -1,4 +1,5 @@
 pub mod HeadLemmas
+pub mod MemoryLemmas
 pub mod NumberLemmas
 pub mod RoundTrip
 pub mod TreeLemmas

@@ -1,5 +1,5 @@
 -- The text of a certificate, and the certificate of a text or its first fault: nodes in preorder, each a letter and a number. The format is this project's own.
-use Rattle.std.specs.Prelude.{ℕ, zero, suc, ◌==◌, if◌then◌else◌, List, ◌∷◌, ◌++◌, length, Result, Ok, Err}
+use Rattle.std.specs.Prelude.{◌≡◌, ℕ, zero, suc, ◌==◌, if◌then◌else◌, List, ◌∷◌, ◌++◌, length, Result, Ok, Err}
 use Rattle.std.specs.Fmt.{decimal}
 use Rattle.split_cert.specs.declared.error.CertError.{CertError}
 use Rattle.split_cert.specs.declared.error.CertError.TheVariants.{Trailing, TooDeep}
@@ -20,6 +20,10 @@ spelling_of (Branches atom if_true if_false if_null) = words_of Split atom ++ 32
 spelling_of (Owned subscriber) = words_of Owner subscriber
 spelling_of (Void term) = words_of Empty term
 spelling_of (Never atom) = words_of NeverNull atom
+
+-- the text begins with a split: only there is memory taken
+abbrev pub BeginsWithSplit : List ℕ → Type 0
+BeginsWithSplit text = (rest : List ℕ) × (text ≡ letter_of Split ∷ 32 ∷ rest)
 
 -- ---- the tree of a text
 

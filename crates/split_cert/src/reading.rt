@@ -1,7 +1,7 @@
 //! Certificates as they are read.
 
-ghost use Rattle.std.specs.Prelude.{◌≡◌, ◌<◌, ◌-◌, ◌++◌, ◌∷◌, ℕ, List, length, IfOk, Ok, Err};
-ghost use Rattle.split_cert.specs.declared.error.CertError.TheVariants.{Trailing};
+ghost use Rattle.std.specs.Prelude.{◌≡◌, ◌<◌, ◌-◌, ◌++◌, ◌∷◌, ℕ, List, length, IfOk, IfErr, Ok, Err};
+ghost use Rattle.split_cert.specs.declared.error.CertError.TheVariants.{Trailing, OutOfMemory};
 ghost use Rattle.split_cert.specs.declared.head.Kind.TheVariants.{Split};
 ghost use Rattle.split_cert.specs.Reading.{Reads, Gives};
 ghost use Rattle.split_cert.specs.Text as spec;
@@ -16,13 +16,14 @@ use std::alloc::Allocator;
 
 /// Takes a tree, where so many splits may still open on its path.
 #[cycle(tree)]
-#[tactic(auto, using(crate::proofs::TreeLemmas::trees))]
+#[tactic(auto, using(crate::proofs::TreeLemmas::trees, crate::proofs::MemoryLemmas::memory))]
 fn tree<A: Allocator + Clone>(
     alloc: &A,
     may_open: usize,
     cursor: &mut Cursor<'_>,
 ) -> Result<Cert<A>, CertError>
-    ensures { Reads tree_of (spec.tree may_open (here_of cursor.old)) result (here_of cursor.new) }
+    ensures tree { Reads tree_of (spec.tree may_open (here_of cursor.old)) result (here_of cursor.new) }
+    ensures memory { IfErr result (λ error. error ≡ OutOfMemory → spec.BeginsWithSplit (here_of cursor.old).rest) }
 {
     let head = cursor.head(may_open)?;
     node(alloc, may_open, head, cursor)
@@ -37,7 +38,8 @@ fn node<A: Allocator + Clone>(
     cursor: &mut Cursor<'_>,
 ) -> Result<Cert<A>, CertError>
     requires { head.kind ≡ Split → 0 < may_open }
-    ensures { Reads tree_of (spec.node (spec.branch (may_open - 1)) head (here_of cursor.old)) result (here_of cursor.new) }
+    ensures node { Reads tree_of (spec.node (spec.branch (may_open - 1)) head (here_of cursor.old)) result (here_of cursor.new) }
+    ensures memory { IfErr result (λ error. error ≡ OutOfMemory → head.kind ≡ Split) }
 {
     match head.kind {
         Kind::Split => split(alloc, may_open - 1, head.number, cursor),
@@ -82,7 +84,8 @@ fn branch<A: Allocator + Clone>(
 /// The certificate of a whole text.
 #[tactic(auto, unfolding(crate::specs::Text::certificate_of))]
 fn certificate<A: Allocator + Clone>(alloc: &A, text: &str) -> Result<Cert<A>, CertError>
-    ensures { Gives tree_of (spec.certificate_of text.now) result }
+    ensures exact { Gives tree_of (spec.certificate_of text.now) result }
+    ensures memory { IfErr result (λ error. error ≡ OutOfMemory → spec.BeginsWithSplit text.now) }
 {
     let mut cursor = Cursor::new(text);
     let cert = tree(alloc, MAX_SPLITS, &mut cursor)?;
@@ -102,11 +105,13 @@ fn certificate<A: Allocator + Clone>(alloc: &A, text: &str) -> Result<Cert<A>, C
 ///
 /// # Errors
 ///
-/// The first fault of the text, or `OutOfMemory` where an allocation was refused.
+/// The first fault of the text, or `OutOfMemory` where an allocation was refused: only a split takes memory.
 #[tactic(auto, using(crate::proofs::RoundTrip::round_trips))]
 pub fn read_in<A: Allocator + Clone>(alloc: A, text: &str) -> Result<Cert<A>, CertError>
     // The answer is the certificate of the text, or its first fault.
     ensures exact { Gives tree_of (spec.certificate_of text.now) result }
+    // Want of memory is no answer to a text that doesn't begin with a split.
+    ensures memory { IfErr result (λ error. error ≡ OutOfMemory → spec.BeginsWithSplit text.now) }
     // What is read is within the limits, and the text is what `write` gives for it.
     ensures found { IfOk result (λ cert. IsWithinLimits (tree_of cert) × (text.now ≡ spec.spelling_of (tree_of cert))) }
     // What `write` gives for a certificate within the limits is read as that certificate.

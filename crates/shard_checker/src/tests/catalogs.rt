@@ -3,7 +3,7 @@ ghost use Rattle.replica_identity.specs.Setting.{fits};
 ghost use Rattle.shard_checker.specs.CheckedView.{checked_view, setting_in};
 
 use super::{ID, REGION, by_halves, number, owner, table, text};
-use crate::{CheckError, Checked, Operation, check};
+use crate::{CheckError, Checked, Operation, check, shares_in};
 use filter_tree::{Filter, Identity, Items, Op, Row, Text, Value};
 use pub_reader::{Catalog, Entry, Operations, Publication, Subscription};
 use replica_identity::{Share, plan};
@@ -140,6 +140,11 @@ fn a_sound_sharding_is_accepted(rt: HostRuntime) -> Result<(), Fail> {
         assert_eq!(rt; checked.catalog().tables.len(), 1);
         assert!(rt; matches!(checked.plan().share(1, 0), Share::Where(_)));
         assert!(rt; matches!(checked.plan().share(2, 0), Share::Nothing));
+        let subscriptions = checked.catalog().subscriptions.as_slice();
+        assert_eq!(rt;
+            shares_in(alloc, checked.plan(), 0, subscriptions)?.len(),
+            2
+        );
     }
     Ok(())
 }
