@@ -1,5 +1,5 @@
 -- What `eval` answers: the first part of its input is a catalog, and the second has rows of one of its tables, one a line.
-use Rattle.std.specs.Prelude.{◌≡◌, ℕ, if◌then◌else◌, List, [], ◌∷◌, ◌++◌, Option, Some, None, slice_get, Result, Ok, Err}
+use Rattle.std.specs.Prelude.{◌≡◌, ℕ, false, if◌then◌else◌, List, [], ◌∷◌, ◌++◌, Option, Some, None, slice_get, Result, Ok, Err}
 use Rattle.std.specs.List.{list_all}
 use Rattle.std.specs.Io.KnownBytes.{Appends}
 use Rattle.filter_tree.specs.Datum.{Datum}
@@ -19,6 +19,7 @@ use Rattle.publisher_main.specs.Answers.{line_of}
 use Rattle.publisher_main.specs.BadRows.{IsUnreadable, bad_line, is_answered}
 use Rattle.publisher_main.specs.declared.bad_row.BadRow.TheVariants.{Invalid}
 use Rattle.publisher_main.specs.Inserts.{insert_line}
+use Rattle.publisher_main.specs.Memory.{is_memory}
 use Rattle.publisher_main.specs.Parts.{Cut, two_parts, lines_of}
 use Rattle.publisher_main.specs.Tables.{table_of}
 use Rattle.publisher_main.specs.declared.arguments.Question.{Question}
@@ -79,11 +80,12 @@ pub record IsAnswered (question : Question) (input word : List ℕ) (old new : O
   pub answers : status ≡ status_of table.columns (lines_of cut.rest)
   pub writes : Writes question number catalog.publications.items table.columns (lines_of cut.rest) old new
 
--- the input has two parts, and the first is no catalog
+-- the input has two parts, and the first is no catalog, which want of memory does not tell
 pub record IsBadCatalog (input : List ℕ) (error : ReadError) : Type 0 where
   pub cut : Cut
   pub parts : two_parts input ≡ Some cut
   pub tells : Tells error (catalog_by as_filter cut.part)
+  pub known : is_memory error.kind ≡ false
 
 -- the input has two parts, and the first is a catalog that lacks the table
 pub record IsUnknown (input word : List ℕ) : Type 0 where

@@ -14,6 +14,7 @@ use Rattle.split_cert.specs.Tree.{Tree}
 use Rattle.sql_reader.specs.Reading.{Tells}
 use Rattle.sql_reader.specs.Written.{as_filter}
 use Rattle.sql_reader.specs.WrittenRows.{row_text}
+use Rattle.publisher_main.specs.Memory.{is_memory}
 use Rattle.publisher_main.specs.Parts.{cut_of}
 use Rattle.publisher_main.specs.Refusals.{spaced, subscriber_name, table_name}
 use Rattle.publisher_main.specs.declared.failure.Failure.{Failure}
@@ -96,7 +97,7 @@ abbrev pub IsStopped : List ℕ → Failure → Type 0
 IsStopped input (f.CommandLine error) = ⊥
 IsStopped input f.WordNotUtf8 = ⊥
 IsStopped input f.Input = cut_of input ≢ None
-IsStopped input (f.Catalog error) = (cut_of input ≡ None) × Tells error (catalog_by as_filter input)
+IsStopped input (f.Catalog error) = (cut_of input ≡ None) × Tells error (catalog_by as_filter input) × (is_memory error.kind ≡ false)
 IsStopped input (f.Table name) = ⊥
 IsStopped input (f.Certificate number error) = ⊥
 IsStopped input f.Output = Unit {0}

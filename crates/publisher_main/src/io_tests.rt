@@ -132,6 +132,7 @@ impl Write for Full {
 struct Recovering {
     taken: Vec<u8>,
     failed: bool,
+    flushed: bool,
 }
 
 impl Write for Recovering {
@@ -144,6 +145,7 @@ impl Write for Recovering {
     }
 
     fn flush(&mut self) -> io::Result<()> {
+        self.flushed = true;
         Ok(())
     }
 }
@@ -155,11 +157,12 @@ fn nothing_is_written_behind_a_failed_write(rt: HostRuntime) -> Result<(), Fail>
         let mut writer = Recovering {
             taken: Vec::new(rt.alloc()),
             failed: false,
+            flushed: false,
         };
         let words = ["pgshard", "eval", word];
         let status = run(rt.alloc(), words.as_slice(), input.as_bytes(), &mut writer);
         assert_eq!(rt; status, 4, "{word}");
-        assert!(rt; writer.taken.is_empty(), "{word}");
+        assert!(rt; writer.taken.is_empty() && !writer.flushed, "{word}");
     }
     Ok(())
 }
