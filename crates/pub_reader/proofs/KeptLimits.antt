@@ -22,7 +22,7 @@ use Rattle.sql_reader.proofs.Keeping.{Gives, then-gives, any-gives, repeat-gives
 use Rattle.sql_reader.proofs.Widths.{IsNarrow, room-gives, below, elements-gives}
 use Rattle.pub_reader.specs.declared.catalog.Catalog.{Catalog}
 use Rattle.pub_reader.specs.declared.table_name.NewName.{NewName}
-use Rattle.pub_reader.specs.CatalogLimits.{IsNarrowTable, IsWithinLimits}
+use Rattle.pub_reader.specs.CatalogLimits.{IsNarrowTable, IsLimited}
 use Rattle.pub_reader.specs.Catalogs.{CatalogOf, identified}
 use Rattle.pub_reader.specs.CatalogView.{catalog_of}
 use Rattle.pub_reader.specs.Drafts.{DraftOf, no_draft, resolved, resolved_publication, find_table, find_publication, find_subscription}
@@ -184,7 +184,7 @@ module _ {S : Type 0} (forms : Forms S) where
 
 -- ---- the end of the catalog
 
-resolved-within : {S : Type 0} (draft : DraftOf S) → Limited draft → IsWithinLimits (resolved draft)
+resolved-within : {S : Type 0} (draft : DraftOf S) → Limited draft → IsLimited (resolved draft)
 resolved-within draft h = record {
   tables = h.0.0;
   columns = h.0.1;
@@ -192,17 +192,17 @@ resolved-within draft h = record {
   subscriptions = h.1.1;
 }
 
-finished-within : {S : Type 0} (read : Outcome (DraftOf S)) (catalog : CatalogOf S) → Gives Limited read → finished read ≡ Ok catalog → IsWithinLimits catalog
+finished-within : {S : Type 0} (read : Outcome (DraftOf S)) (catalog : CatalogOf S) → Gives Limited read → finished read ≡ Ok catalog → IsLimited catalog
 finished-within (Err fault) catalog h e = cc
 finished-within (Ok read) catalog h e =
     let same : resolved read.0 ≡ catalog = cc in
-    subst IsWithinLimits same (resolved-within read.0 h)
+    subst IsLimited same (resolved-within read.0 h)
 
 -- a catalog that was read is within the limits
-pub within_limits : {S : Type 0} (forms : Forms S) (text : List ℕ) (catalog : CatalogOf S) → catalog_by forms text ≡ Ok catalog → IsWithinLimits catalog
+pub within_limits : {S : Type 0} (forms : Forms S) (text : List ℕ) (catalog : CatalogOf S) → catalog_by forms text ≡ Ok catalog → IsLimited catalog
 unfolding catalog_by
 within_limits forms text catalog e = finished-within (statements forms no_draft (items_of text)) catalog (statements-gives forms (items_of text)) e
 
-pub answered-within : (text : List ℕ) (answer : Result Catalog ReadError) → Answers catalog_of (catalog_by as_filter text) answer → IfOk answer (λ catalog. IsWithinLimits (catalog_of catalog))
+pub answered-within : (text : List ℕ) (answer : Result Catalog ReadError) → Answers catalog_of (catalog_by as_filter text) answer → IfOk answer (λ catalog. IsLimited (catalog_of catalog))
 answered-within text (Ok catalog) e = within_limits as_filter text (catalog_of catalog) e
 answered-within text (Err error) e = tt

@@ -8,7 +8,7 @@ abbrev pub IsNarrowTable : Table → Type 0
 IsNarrowTable table = length table.columns ≤ 100
 
 -- at most 64 tables, none of which has more than 100 columns, 64 publications and 32 subscriptions
-pub record IsWithinLimits {S : Type 0} (catalog : CatalogOf S) : Type 0 where
+pub record IsLimited {S : Type 0} (catalog : CatalogOf S) : Type 0 where
   pub tables : length catalog.tables ≤ 64
   pub columns : All IsNarrowTable catalog.tables
   pub publications : length catalog.publications ≤ 64

@@ -5,7 +5,7 @@ ghost use Rattle.sql_reader.specs.Ahead.{to_read};
 ghost use Rattle.sql_reader.specs.Items.{size};
 ghost use Rattle.sql_reader.specs.Reading.{Reads, Answers};
 ghost use Rattle.sql_reader.specs.Written.{as_filter, as_written};
-ghost use Rattle.pub_reader.specs.CatalogLimits.{IsWithinLimits};
+ghost use Rattle.pub_reader.specs.CatalogLimits.{IsLimited};
 ghost use Rattle.pub_reader.specs.CatalogMeaning.{MeansAsWritten};
 ghost use Rattle.pub_reader.specs.CatalogView.{catalog_of};
 ghost use Rattle.pub_reader.specs.DraftView.{draft_of};
@@ -108,7 +108,7 @@ fn statements(r: &mut Reader<'_>, alloc: Global, draft: &mut Draft) -> Result<()
 pub fn read_catalog(alloc: Global, text: &str) -> Result<Catalog, ReadError>
     ensures catalog { Answers catalog_of (spec.catalog_by as_filter text.now) result }
     ensures written { IfOk result (λ catalog. MeansAsWritten (spec.catalog_by as_written text.now) (catalog_of catalog)) }
-    ensures limits { IfOk result (λ catalog. IsWithinLimits (catalog_of catalog)) }
+    ensures limits { IfOk result (λ catalog. IsLimited (catalog_of catalog)) }
 {
     whole_catalog(alloc, text)
 }
