@@ -1,3 +1,4 @@
+pub mod CatalogLimits
 pub mod CatalogMeaning
 pub mod CatalogView
 pub mod Catalogs

@@ -1,27 +1,24 @@
 -- CREATE PUBLICATION: PostgreSQL 15, SQL Commands, CREATE PUBLICATION.
-use Rattle.std.specs.Prelude.{ℕ, true, nat_le, if◌then◌else◌, [], ◌∷◌, ◌++◌, length, Option, Some, None, Ok, Err}
-use Rattle.std.specs.Option.{is_some}
+use Rattle.std.specs.Prelude.{ℕ, true, nat_le, [], ◌∷◌, ◌++◌, length, Option, Some, None}
 use Rattle.sql_reader.specs.declared.word.Keyword.TheVariants as k
 use Rattle.sql_reader.specs.declared.item.Item.{Item}
 use Rattle.sql_reader.specs.declared.item.Item.TheVariants as i
 use Rattle.sql_reader.specs.declared.name.PlacedName.{PlacedName}
 use Rattle.sql_reader.specs.declared.error.Limit.TheVariants.{Publications}
-use Rattle.sql_reader.specs.Wrong as w
 use Rattle.sql_reader.specs.Expressions.{Forms}
 use Rattle.sql_reader.specs.Names.{name}
-use Rattle.sql_reader.specs.Reading.{Rule, Verdict, fault, ◌>>=◌, ◌>>◌, pure, check, advance, expect, item_ahead}
+use Rattle.sql_reader.specs.Reading.{Rule, Verdict, ◌>>=◌, ◌>>◌, pure, check, advance, expect, item_ahead}
 use Rattle.pub_reader.specs.declared.catalog.Operations.{Operations}
 use Rattle.pub_reader.specs.declared.parameter.Given.{Given}
 use Rattle.pub_reader.specs.Catalogs.{every_operation}
 use Rattle.pub_reader.specs.Drafts.{CoverageOf, DraftOf, nothing_covered, find_publication}
 use Rattle.pub_reader.specs.Objects.{objects}
 use Rattle.pub_reader.specs.Publishing.{parameters_clause}
+use Rattle.pub_reader.specs.Schemas.{fresh}
 
 -- a new publication has a new name, and there are at most 64
 unfoldable pub new_publication : {S : Type 0} → DraftOf S → PlacedName → Verdict ℕ
-new_publication draft called =
-    if is_some (find_publication called.text draft.publications) then Err (fault called.place w.NameTwice)
-    else (if nat_le 64 (length draft.publications) then Err (fault called.place (w.TooMany Publications)) else Ok 0)
+new_publication draft called = fresh called (find_publication called.text draft.publications) (nat_le 64 (length draft.publications)) Publications
 
 unfoldable pub publication_name : {S : Type 0} → DraftOf S → Rule PlacedName
 publication_name draft = do

@@ -1,7 +1,8 @@
 -- Schemas: PostgreSQL 15, SQL Commands, CREATE SCHEMA, and "Data Definition", 5.9 Schemas.
-use Rattle.std.specs.Prelude.{ℕ, if◌then◌else◌, List, Option, Some, None, Ok, Err}
+use Rattle.std.specs.Prelude.{ℕ, Bool, if◌then◌else◌, List, Option, Some, None, Ok, Err}
 use Rattle.std.specs.Option.{is_some}
 use Rattle.sql_reader.specs.declared.name.PlacedName.{PlacedName}
+use Rattle.sql_reader.specs.declared.error.Limit.{Limit}
 use Rattle.sql_reader.specs.Wrong as w
 use Rattle.sql_reader.specs.Names.{name}
 use Rattle.sql_reader.specs.Reading.{Rule, Verdict, fault, ◌>>=◌, ◌>>◌, pure, check}
@@ -11,6 +12,12 @@ use Rattle.pub_reader.specs.Drafts.{DraftOf, find_schema, with_name}
 abbrev pub known : PlacedName → Option ℕ → Verdict ℕ
 known called (Some number) = Ok number
 known called None = Err (fault called.place w.UnknownName)
+
+-- a new name is not taken, and there is room for one more
+abbrev pub fresh : PlacedName → Option ℕ → Bool → Limit → Verdict ℕ
+fresh called found is_full limit =
+    if is_some found then Err (fault called.place w.NameTwice)
+    else (if is_full then Err (fault called.place (w.TooMany limit)) else Ok 0)
 
 -- a schema that was made before
 unfoldable pub known_schema : List (List ℕ) → PlacedName → Verdict ℕ

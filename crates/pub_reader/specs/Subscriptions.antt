@@ -1,7 +1,6 @@
 -- CREATE SUBSCRIPTION: PostgreSQL 15, SQL Commands, CREATE SUBSCRIPTION. The connection text is not used, and WITH is left out.
 use Rattle.std.specs.Prelude.{ℕ, ◌==◌, nat_le, if◌then◌else◌, List, [], ◌∷◌, ◌++◌, length, Option, Some, None, Ok, Err}
 use Rattle.std.specs.List.{list_any}
-use Rattle.std.specs.Option.{is_some}
 use Rattle.sql_reader.specs.declared.word.Keyword.TheVariants as k
 use Rattle.sql_reader.specs.declared.item.Item.{Item}
 use Rattle.sql_reader.specs.declared.item.Item.TheVariants as i
@@ -13,12 +12,11 @@ use Rattle.sql_reader.specs.Names.{name}
 use Rattle.sql_reader.specs.Reading.{Rule, Verdict, fault, ◌>>=◌, ◌>>◌, pure, check, refuse_as, expect, item_ahead}
 use Rattle.sql_reader.specs.Turns.{link, repeat}
 use Rattle.pub_reader.specs.Drafts.{DraftOf, find_publication, find_subscription}
+use Rattle.pub_reader.specs.Schemas.{fresh}
 
 -- a new subscription has a new name, and there are at most 32
 unfoldable pub new_subscription : {S : Type 0} → DraftOf S → PlacedName → Verdict ℕ
-new_subscription draft called =
-    if is_some (find_subscription called.text draft.subscriptions) then Err (fault called.place w.NameTwice)
-    else (if nat_le 32 (length draft.subscriptions) then Err (fault called.place (w.TooMany Subscriptions)) else Ok 0)
+new_subscription draft called = fresh called (find_subscription called.text draft.subscriptions) (nat_le 32 (length draft.subscriptions)) Subscriptions
 
 unfoldable pub subscription_name : {S : Type 0} → DraftOf S → Rule PlacedName
 subscription_name draft = do

@@ -1,6 +1,5 @@
 -- The names of tables, with their schemas: PostgreSQL 15, "Data Definition", 5.9 Schemas. A name without a schema is one of the schema "public".
-use Rattle.std.specs.Prelude.{ℕ, Bool, true, nat_le, if◌then◌else◌, List, length, Option, Some, Ok, Err}
-use Rattle.std.specs.Option.{is_some}
+use Rattle.std.specs.Prelude.{ℕ, Bool, true, nat_le, if◌then◌else◌, List, length, Option, Some, Err}
 use Rattle.filter_tree.specs.declared.table.Table.{Table}
 use Rattle.sql_reader.specs.declared.word.Keyword.TheVariants as k
 use Rattle.sql_reader.specs.declared.item.Item.{Item}
@@ -14,7 +13,7 @@ use Rattle.sql_reader.specs.Reading.{Rule, Verdict, fault, ◌>>=◌, ◌>>◌, 
 use Rattle.sql_reader.specs.Columns.{left_out}
 use Rattle.pub_reader.specs.declared.table_name.NewName.{NewName}
 use Rattle.pub_reader.specs.Drafts.{DraftOf, public_schema, find_table}
-use Rattle.pub_reader.specs.Schemas.{known, known_schema}
+use Rattle.pub_reader.specs.Schemas.{fresh, known, known_schema}
 
 -- ---- a table that was made before
 
@@ -25,13 +24,16 @@ only_or_none ts = if is_ahead (i.Keyword k.Only) ts then expect (i.Keyword k.Onl
 unfoldable pub known_table : List Table → List ℕ → PlacedName → Verdict ℕ
 known_table tables schema called = known called (find_table schema called.text tables)
 
--- a dot and the name of a table, behind the name of its schema
-unfoldable pub table_in_schema : {S : Type 0} → DraftOf S → PlacedName → Rule ℕ
-table_in_schema draft schema = do
-  check (known_schema draft.schemas schema)
+-- a dot and a name, behind the name of a schema
+unfoldable pub name_in_schema : List (List ℕ) → PlacedName → Rule PlacedName
+name_in_schema schemas schema = do
+  check (known_schema schemas schema)
   expect i.Dot
-  called ← name
-  check (known_table draft.tables schema.text called)
+  name
+
+-- the table of that name
+unfoldable pub table_in_schema : {S : Type 0} → DraftOf S → PlacedName → Rule ℕ
+table_in_schema draft schema = name_in_schema draft.schemas schema >>= (λ called. check (known_table draft.tables schema.text called))
 
 -- Behind a first name, which is that of a schema if a dot follows: the token behind it is looked at before it is looked up.
 unfoldable pub table_named : {S : Type 0} → DraftOf S → PlacedName → Rule ℕ
@@ -44,16 +46,10 @@ table_number draft = name >>= table_named draft
 
 -- a new table has a name that is new in its schema, and there are at most 64
 unfoldable pub new_table : List Table → NewName → Verdict ℕ
-new_table tables called =
-    if is_some (find_table called.schema called.name.text tables) then Err (fault called.name.place w.NameTwice)
-    else (if nat_le 64 (length tables) then Err (fault called.name.place (w.TooMany Tables)) else Ok 0)
+new_table tables called = fresh called.name (find_table called.schema called.name.text tables) (nat_le 64 (length tables)) Tables
 
 unfoldable pub new_in_schema : List (List ℕ) → PlacedName → Rule NewName
-new_in_schema schemas schema = do
-  check (known_schema schemas schema)
-  expect i.Dot
-  called ← name
-  pure (record { schema = schema.text; name = called })
+new_in_schema schemas schema = name_in_schema schemas schema >>= (λ called. pure (record { schema = schema.text; name = called }))
 
 -- IF is a name unless NOT follows, where a clause begins that is left out
 abbrev pub new_by : Bool → Option Item → List (List ℕ) → PlacedName → Rule NewName

@@ -5,7 +5,7 @@ ghost use Rattle.std.specs.Prelude.{◌≡◌, List, ℕ, map};
 use crate::catalog::{Catalog, Operations, Publication, Subscription};
 use crate::coverage::Coverage;
 use crate::filters::add_filters;
-use crate::names::Names;
+use crate::names::{Names, known_number, new_number};
 use crate::resolution::resolved;
 use crate::table_name::NewName;
 use filter_tree::{Column, Filter, Identity, Table, Text};
@@ -92,13 +92,7 @@ impl Draft {
     pub fn known_schema(&self, name: &PlacedName) -> Result<usize, ReadError>
         ensures { Answers (λ n. n) (known_schema (draft_of self.now).schemas name.now) result }
     {
-        match self.schemas.find(name.text.as_str()) {
-            Some(number) => Ok(number),
-            None => Err(ReadError {
-                place: name.place,
-                kind: ErrorKind::UnknownName,
-            }),
-        }
+        known_number(name, self.schemas.find(name.text.as_str()))
     }
 
     /// Adds a schema.
@@ -137,19 +131,12 @@ impl Draft {
         ensures { Answers (λ n. n) (new_table (draft_of self.now).tables name.now) result }
     {
         let found = self.find_table(name.schema.as_str(), name.name.text.as_str());
-        if found.is_some() {
-            return Err(ReadError {
-                place: name.name.place,
-                kind: ErrorKind::NameTwice,
-            });
-        }
-        if self.tables.len() >= MAX_TABLES {
-            return Err(ReadError {
-                place: name.name.place,
-                kind: ErrorKind::TooMany(Limit::Tables),
-            });
-        }
-        Ok(0)
+        new_number(
+            &name.name,
+            found,
+            self.tables.len() >= MAX_TABLES,
+            Limit::Tables,
+        )
     }
 
     /// Refuses a publication whose name is taken, or that is one too many.
@@ -159,19 +146,12 @@ impl Draft {
         ensures free { OnOk result (spec.find_publication name.now.text (draft_of self.now).publications ≡ None) }
     {
         let found = self.find_publication(name.text.as_str());
-        if found.is_some() {
-            return Err(ReadError {
-                place: name.place,
-                kind: ErrorKind::NameTwice,
-            });
-        }
-        if self.publications.len() >= MAX_PUBLICATIONS {
-            return Err(ReadError {
-                place: name.place,
-                kind: ErrorKind::TooMany(Limit::Publications),
-            });
-        }
-        Ok(0)
+        new_number(
+            name,
+            found,
+            self.publications.len() >= MAX_PUBLICATIONS,
+            Limit::Publications,
+        )
     }
 
     /// Refuses a subscription whose name is taken, or that is one too many.
@@ -181,19 +161,12 @@ impl Draft {
         ensures free { OnOk result (spec.find_subscription name.now.text (draft_of self.now).subscriptions ≡ None) }
     {
         let found = self.find_subscription(name.text.as_str());
-        if found.is_some() {
-            return Err(ReadError {
-                place: name.place,
-                kind: ErrorKind::NameTwice,
-            });
-        }
-        if self.subscriptions.len() >= MAX_SUBSCRIPTIONS {
-            return Err(ReadError {
-                place: name.place,
-                kind: ErrorKind::TooMany(Limit::Subscriptions),
-            });
-        }
-        Ok(0)
+        new_number(
+            name,
+            found,
+            self.subscriptions.len() >= MAX_SUBSCRIPTIONS,
+            Limit::Subscriptions,
+        )
     }
 
     /// The number of a table that was made before.
@@ -202,26 +175,14 @@ impl Draft {
         ensures answer { Answers (λ n. n) (known_table (draft_of self.now).tables schema.now name.now) result }
         ensures within { IfOk result (λ n. n < length (draft_of self.now).tables) }
     {
-        match self.find_table(schema, name.text.as_str()) {
-            Some(number) => Ok(number),
-            None => Err(ReadError {
-                place: name.place,
-                kind: ErrorKind::UnknownName,
-            }),
-        }
+        known_number(name, self.find_table(schema, name.text.as_str()))
     }
 
     /// The number of a publication that was made before.
     pub fn known_publication(&self, name: &PlacedName) -> Result<usize, ReadError>
         ensures { Answers (λ n. n) (known name.now (spec.find_publication name.now.text (draft_of self.now).publications)) result }
     {
-        match self.find_publication(name.text.as_str()) {
-            Some(number) => Ok(number),
-            None => Err(ReadError {
-                place: name.place,
-                kind: ErrorKind::UnknownName,
-            }),
-        }
+        known_number(name, self.find_publication(name.text.as_str()))
     }
 
     /// The columns of a table.

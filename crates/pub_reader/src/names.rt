@@ -1,11 +1,14 @@
 //! Names with their positions.
 
-ghost use Rattle.std.specs.Prelude.{◌≡◌, [], position, length, IfSome, OnOk, OnErr, ◌<◌};
+ghost use Rattle.std.specs.Prelude.{◌≡◌, [], position, length, None, Some, IfOk, IfSome, OnOk, OnErr, ◌<◌};
 ghost use Rattle.std.specs.Str.{bytes_eq};
 ghost use Rattle.std.specs.String.{string_bytes};
+ghost use Rattle.sql_reader.specs.Reading.{Answers};
 ghost use Rattle.pub_reader.specs.Drafts.{with_name};
+ghost use Rattle.pub_reader.specs.Schemas.{fresh, known};
 
 use indexmap::IndexSet;
+use sql_reader::{ErrorKind, Limit, PlacedName, ReadError};
 use std::alloc::{AllocError, Global};
 use std::marker::Model;
 
@@ -50,4 +53,43 @@ impl Names {
         self.names.insert(name)?;
         Ok(())
     }
+}
+
+/// The number that was found for a name, which has to be there.
+pub fn known_number(name: &PlacedName, found: Option<usize>) -> Result<usize, ReadError>
+    ensures answer { Answers (λ n. n) (known name.now found) result }
+    ensures found { IfOk result (λ n. found ≡ Some n) }
+{
+    match found {
+        Some(number) => Ok(number),
+        None => Err(ReadError {
+            place: name.place,
+            kind: ErrorKind::UnknownName,
+        }),
+    }
+}
+
+/// Refuses a name that is taken, or that is one too many.
+pub fn new_number(
+    name: &PlacedName,
+    found: Option<usize>,
+    is_full: bool,
+    limit: Limit,
+) -> Result<usize, ReadError>
+    ensures answer { Answers (λ n. n) (fresh name.now found is_full limit) result }
+    ensures free { OnOk result (found ≡ None) }
+{
+    if found.is_some() {
+        return Err(ReadError {
+            place: name.place,
+            kind: ErrorKind::NameTwice,
+        });
+    }
+    if is_full {
+        return Err(ReadError {
+            place: name.place,
+            kind: ErrorKind::TooMany(limit),
+        });
+    }
+    Ok(0)
 }

@@ -5,6 +5,7 @@ ghost use Rattle.sql_reader.specs.Ahead.{to_read};
 ghost use Rattle.sql_reader.specs.Items.{size};
 ghost use Rattle.sql_reader.specs.Reading.{Reads, Answers};
 ghost use Rattle.sql_reader.specs.Written.{as_filter, as_written};
+ghost use Rattle.pub_reader.specs.CatalogLimits.{IsLimited};
 ghost use Rattle.pub_reader.specs.CatalogMeaning.{MeansAsWritten};
 ghost use Rattle.pub_reader.specs.CatalogView.{catalog_of};
 ghost use Rattle.pub_reader.specs.DraftView.{draft_of};
@@ -97,7 +98,8 @@ fn statements(r: &mut Reader<'_>, alloc: Global, draft: &mut Draft) -> Result<()
 
 /// Reads a catalog: CREATE SCHEMA, CREATE TABLE, ALTER TABLE .. REPLICA IDENTITY, CREATE PUBLICATION and CREATE
 /// SUBSCRIPTION, each ended by `;`. A publication's entries are the tables that it names, and then each table that it
-/// carries whole by FOR ALL TABLES or TABLES IN SCHEMA, wherever in the text the table is made.
+/// carries whole by FOR ALL TABLES or TABLES IN SCHEMA, wherever in the text the table is made. There are at most 64
+/// tables of at most 100 columns, 64 publications and 32 subscriptions.
 ///
 /// # Errors
 ///
@@ -106,6 +108,7 @@ fn statements(r: &mut Reader<'_>, alloc: Global, draft: &mut Draft) -> Result<()
 pub fn read_catalog(alloc: Global, text: &str) -> Result<Catalog, ReadError>
     ensures catalog { Answers catalog_of (spec.catalog_by as_filter text.now) result }
     ensures written { IfOk result (λ catalog. MeansAsWritten (spec.catalog_by as_written text.now) (catalog_of catalog)) }
+    ensures limits { IfOk result (λ catalog. IsLimited (catalog_of catalog)) }
 {
     whole_catalog(alloc, text)
 }

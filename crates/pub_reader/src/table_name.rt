@@ -33,6 +33,22 @@ pub fn only_or_none(r: &mut Reader<'_>) -> Result<usize, ReadError>
     Ok(0)
 }
 
+/// Takes a dot and a name, behind the name of a schema that was made before.
+#[tactic(auto, unfolding(crate::specs::TableNames::name_in_schema))]
+fn name_in_schema(
+    r: &mut Reader<'_>,
+    alloc: Global,
+    draft: &Draft,
+    schema: &PlacedName,
+) -> Result<PlacedName, ReadError>
+    ensures reads { Reads (λ name. name) (spec.name_in_schema (draft_of draft.now).schemas schema.now (to_read r.old)) result (to_read r.new) }
+    ensures fewer { OnOk result (size (to_read r.new) < size (to_read r.old)) }
+{
+    draft.known_schema(schema)?;
+    r.expect(Item::Dot, "`.`")?;
+    read_name(r, alloc, "the name of a table")
+}
+
 /// Takes a dot and the name of a table that was made before, behind the name of its schema, and tells its number.
 #[tactic(auto, unfolding(crate::specs::TableNames::table_in_schema))]
 fn table_in_schema(
@@ -45,9 +61,7 @@ fn table_in_schema(
     ensures fewer { OnOk result (size (to_read r.new) < size (to_read r.old)) }
     ensures within { IfOk result (λ number. number < length (draft_of draft.now).tables) }
 {
-    draft.known_schema(schema)?;
-    r.expect(Item::Dot, "`.`")?;
-    let name = read_name(r, alloc, "the name of a table")?;
+    let name = name_in_schema(r, alloc, draft, schema)?;
     Ok(draft.known_table(schema.text.as_str(), &name)?)
 }
 
@@ -92,9 +106,7 @@ fn new_in_schema(
     ensures reads { Reads (λ name. name) (spec.new_in_schema (draft_of draft.now).schemas schema (to_read r.old)) result (to_read r.new) }
     ensures fewer { OnOk result (size (to_read r.new) < size (to_read r.old)) }
 {
-    draft.known_schema(&schema)?;
-    r.expect(Item::Dot, "`.`")?;
-    let name = read_name(r, alloc, "the name of a table")?;
+    let name = name_in_schema(r, alloc, draft, &schema)?;
     Ok(NewName {
         schema: schema.text,
         name,

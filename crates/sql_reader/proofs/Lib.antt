@@ -3,6 +3,7 @@ pub mod Carrying
 pub mod CountingLemmas
 pub mod Cuts
 pub mod Doubling
+pub mod Keeping
 pub mod Meanings
 pub mod Nesting
 pub mod OrderLemmas
@@ -10,3 +11,4 @@ pub mod Required
 pub mod SpelledRows
 pub mod Turning
 pub mod Undoubling
+pub mod Widths

@@ -6,6 +6,7 @@ use Rattle.std.specs.Str.{str_eq_ignore_ascii_case}
 use Rattle.filter_tree.specs.declared.table.ColType.{ColType}
 use Rattle.filter_tree.specs.declared.table.ColType.TheVariants.{SmallInt, Integer, BigInt, Boolean, Text}
 use Rattle.filter_tree.specs.declared.table.Column.{Column}
+use Rattle.sql_reader.specs.declared.word.Keyword.{Keyword}
 use Rattle.sql_reader.specs.declared.word.Keyword.TheVariants as k
 use Rattle.sql_reader.specs.declared.item.Item.{Item}
 use Rattle.sql_reader.specs.declared.item.Item.TheVariants as i
@@ -80,15 +81,13 @@ constraint_looked ts = Ok (is_constraint (item_ahead ts))
 unfoldable pub constraint_ahead : Items → Verdict Bool
 constraint_ahead ts = constraint_looked ts
 
-unfoldable pub not_null : Constraints → Rule Constraints
-not_null given = advance >> expect (i.Keyword k.Null) >> pure (record given { not_null = true })
-
-unfoldable pub primary_key : Constraints → Rule Constraints
-primary_key given = advance >> expect (i.Keyword k.Key) >> pure (record given { key = true })
+-- a word and this keyword behind it, with which the column is given these constraints
+unfoldable pub given_by : Keyword → Constraints → Rule Constraints
+given_by second given = advance >> expect (i.Keyword second) >> pure given
 
 abbrev pub constraint_by : Bool → Constraints → Option Item → Rule Constraints
-constraint_by has_key given (Some (i.Keyword k.Not)) = if given.not_null then refuse else not_null given
-constraint_by has_key given (Some (i.Keyword k.Primary)) = if has_key || given.key then refuse else primary_key given
+constraint_by has_key given (Some (i.Keyword k.Not)) = if given.not_null then refuse else given_by k.Null (record given { not_null = true })
+constraint_by has_key given (Some (i.Keyword k.Primary)) = if has_key || given.key then refuse else given_by k.Key (record given { key = true })
 constraint_by has_key given _ = left_out
 
 -- one more constraint, where the table has a key or not

@@ -95,30 +95,20 @@ fn constraint_ahead(r: &Reader<'_>) -> Result<bool, ReadError>
     Ok(is_constraint(r.item()))
 }
 
-#[tactic(auto, using(crate::proofs::Ahead::rest_is_no_more), unfolding(crate::specs::Columns::not_null))]
-fn not_null(r: &mut Reader<'_>, given: Constraints) -> Result<Constraints, ReadError>
-    ensures reads { Reads (λ given. given) (spec.not_null given (to_read r.old)) result (to_read r.new) }
+/// Takes a word and this keyword behind it, with which the column is given these constraints.
+#[tactic(auto, using(crate::proofs::Ahead::rest_is_no_more), unfolding(crate::specs::Columns::given_by))]
+fn given_by(
+    r: &mut Reader<'_>,
+    second: Keyword,
+    what: &'static str,
+    given: Constraints,
+) -> Result<Constraints, ReadError>
+    ensures reads { Reads (λ given. given) (spec.given_by second given (to_read r.old)) result (to_read r.new) }
     ensures fewer { OnOk result (size (to_read r.new) < size (to_read r.old)) }
 {
     r.advance();
-    r.expect(Item::Keyword(Keyword::Null), "NULL")?;
-    Ok(Constraints {
-        not_null: true,
-        key: given.key,
-    })
-}
-
-#[tactic(auto, using(crate::proofs::Ahead::rest_is_no_more), unfolding(crate::specs::Columns::primary_key))]
-fn primary_key(r: &mut Reader<'_>, given: Constraints) -> Result<Constraints, ReadError>
-    ensures reads { Reads (λ given. given) (spec.primary_key given (to_read r.old)) result (to_read r.new) }
-    ensures fewer { OnOk result (size (to_read r.new) < size (to_read r.old)) }
-{
-    r.advance();
-    r.expect(Item::Keyword(Keyword::Key), "KEY")?;
-    Ok(Constraints {
-        not_null: given.not_null,
-        key: true,
-    })
+    r.expect(Item::Keyword(second), what)?;
+    Ok(given)
 }
 
 /// Takes a constraint of a column, where the table has a key already or not.
@@ -136,14 +126,22 @@ fn constraint(
             if given.not_null {
                 Err(r.refusal("no second NOT NULL"))
             } else {
-                not_null(r, given)
+                let given = Constraints {
+                    not_null: true,
+                    key: given.key,
+                };
+                given_by(r, Keyword::Null, "NULL", given)
             }
         }
         Some(Item::Keyword(Keyword::Primary)) => {
             if has_key || given.key {
                 Err(r.refusal("no second PRIMARY KEY"))
             } else {
-                primary_key(r, given)
+                let given = Constraints {
+                    not_null: given.not_null,
+                    key: true,
+                };
+                given_by(r, Keyword::Key, "KEY", given)
             }
         }
         _ => Err(left_out_clause(r)),

@@ -30,7 +30,7 @@ pub struct Reader<'a> {
 }
 
 impl<'a> Reader<'a> {
-    ghost use Rattle.std.specs.Prelude.{◌≡◌, ◌<◌, IsSome, OnOk};
+    ghost use Rattle.std.specs.Prelude.{◌≡◌, ◌<◌, IfErr, IsSome, OnErr, OnOk};
     ghost use Rattle.sql_tokens.specs.Left.{text_of, left};
     ghost use Rattle.sql_reader.specs.Items.{items, items_of, size};
     ghost use Rattle.sql_reader.specs.Ahead.{to_read};
@@ -162,10 +162,11 @@ impl<'a> Reader<'a> {
     ///
     /// # Errors
     ///
-    /// The fault of that token.
+    /// The fault of that token, and nothing else.
     #[tactic(auto, unfolding(crate::specs::Reading::look, crate::specs::Ahead::to_read))]
     pub fn look(&self) -> Result<(), ReadError>
-        ensures { Reads (λ u. u) (spec.look (to_read self.now)) result (to_read self.now) }
+        ensures reads { Reads (λ u. u) (spec.look (to_read self.now)) result (to_read self.now) }
+        ensures err { IfErr result (λ e. IsFault e (spec.refusal (to_read self.now))) }
     {
         match self.ahead {
             Ahead::Fault(kind) => Err(ReadError {
@@ -180,10 +181,11 @@ impl<'a> Reader<'a> {
     ///
     /// # Errors
     ///
-    /// The fault of that token.
+    /// The fault of that token, and nothing else.
     #[tactic(auto, unfolding(crate::specs::Reading::next_is))]
     pub fn next_is(&self, item: Item) -> Result<bool, ReadError>
-        ensures { Reads (λ b. b) (spec.next_is item (to_read self.now)) result (to_read self.now) }
+        ensures reads { Reads (λ b. b) (spec.next_is item (to_read self.now)) result (to_read self.now) }
+        ensures err { IfErr result (λ e. IsFault e (spec.refusal (to_read self.now))) }
     {
         self.look()?;
         Ok(self.is(item))
@@ -198,6 +200,8 @@ impl<'a> Reader<'a> {
     pub fn expect(&mut self, item: Item, what: &'static str) -> Result<usize, ReadError>
         ensures reads { Reads (λ place. place) (spec.expect item (to_read self.old)) result (to_read self.new) }
         ensures fewer { OnOk result (size (to_read self.new) < size (to_read self.old)) }
+        ensures err { IfErr result (λ e. IsFault e (spec.refusal (to_read self.old))) }
+        ensures kept { OnErr result (to_read self.new ≡ to_read self.old) }
     {
         if !self.is(item) {
             return Err(self.refusal(what));
@@ -236,10 +240,11 @@ impl<'a> Reader<'a> {
     ///
     /// # Errors
     ///
-    /// The fault of that token.
+    /// The fault of that token, and nothing else.
     #[tactic(auto, unfolding(crate::specs::Reading::more_ahead, crate::specs::Ahead::to_read))]
     pub fn more_ahead(&self) -> Result<bool, ReadError>
-        ensures { Answers (λ b. b) (spec.more_ahead (to_read self.now)) result }
+        ensures answer { Answers (λ b. b) (spec.more_ahead (to_read self.now)) result }
+        ensures err { IfErr result (λ e. IsFault e (spec.refusal (to_read self.now))) }
     {
         match self.ahead {
             Ahead::End => Ok(false),

@@ -1,4 +1,5 @@
 mod chains;
+mod elements;
 mod expression_cases;
 mod expressions;
 mod row_cases;
@@ -66,4 +67,32 @@ fn reads_rows_or_their_first_fault(rt: HostRuntime) -> Result<(), Fail> {
 fn names_kinds_without_what_they_carry(rt: HostRuntime) {
     assert_eq!(rt; ErrorKind::Expected("`;`").name(), "Expected");
     assert_eq!(rt; ErrorKind::OutOfMemory.name(), "OutOfMemory");
+}
+
+/// Texts that are no rows, and the message of the first fault.
+const MESSAGES: &[(&str, &str)] = &[
+    ("()", "expected a value, at byte 1"),
+    ("(7", "expected `,` or `)`, at byte 2"),
+    (
+        "(5.5)",
+        "a number with a fraction is left out here, at byte 1",
+    ),
+    (
+        "(9223372036854775808)",
+        "a number is above 9223372036854775807, at byte 1",
+    ),
+];
+
+#[test]
+fn says_what_is_wrong_and_where(rt: HostRuntime) -> Result<(), Fail> {
+    for (text, message) in MESSAGES {
+        match read_row(rt.alloc(), text) {
+            Ok(_) => panic!(rt; "{text} was read"),
+            Err(error) => {
+                let said = format!(in rt.alloc(); "{error}")?;
+                assert_eq!(rt; said.as_str(), *message, "of {text}");
+            }
+        }
+    }
+    Ok(())
 }

@@ -1,0 +1,208 @@
+-- Each statement keeps the limits of a catalog.
+use Rattle.std.proofs.Common.{◌≡◌, ℕ, zero, suc, ◌<◌, ◌≤◌, List, [], ◌∷◌, ◌++◌, All, length, refl, ap, subst, arith}
+use Rattle.std.specs.Prelude.{nat_le, IfOk, Option, Some, Result, Ok, Err}
+use Rattle.std.specs.Option.{is_some}
+use Rattle.std.proofs.lemmas.List.{length_push, length-map}
+use Rattle.std.proofs.lemmas.List.Elements.{All-nil, All-cons, All-head, All-tail, All-push}
+use Rattle.filter_tree.specs.declared.table.Identity.{Identity}
+use Rattle.filter_tree.specs.declared.table.Table.{Table}
+use Rattle.sql_reader.specs.declared.word.Keyword.TheVariants as k
+use Rattle.sql_reader.specs.declared.item.Item.{Item}
+use Rattle.sql_reader.specs.declared.item.Item.TheVariants as i
+use Rattle.sql_reader.specs.declared.error.ReadError.{ReadError}
+use Rattle.sql_reader.specs.declared.name.PlacedName.{PlacedName}
+use Rattle.sql_reader.specs.Columns.{elements}
+use Rattle.sql_reader.specs.Expressions.{Forms}
+use Rattle.sql_reader.specs.Items.{Items, items_of}
+use Rattle.sql_reader.specs.Names.{name}
+use Rattle.sql_reader.specs.Reading.{Answers, Outcome, with_rest, expect, is_ahead, item_ahead, more_ahead, rest_of}
+use Rattle.sql_reader.specs.Turns.{each}
+use Rattle.sql_reader.specs.Written.{as_filter}
+use Rattle.sql_reader.proofs.Keeping.{Gives, then-gives, any-gives, repeat-gives, each-gives}
+use Rattle.sql_reader.proofs.Widths.{IsNarrow, room-gives, below, elements-gives}
+use Rattle.pub_reader.specs.declared.catalog.Catalog.{Catalog}
+use Rattle.pub_reader.specs.declared.table_name.NewName.{NewName}
+use Rattle.pub_reader.specs.CatalogLimits.{IsNarrowTable, IsLimited}
+use Rattle.pub_reader.specs.Catalogs.{CatalogOf, identified}
+use Rattle.pub_reader.specs.CatalogView.{catalog_of}
+use Rattle.pub_reader.specs.Drafts.{DraftOf, no_draft, resolved, resolved_publication, find_table, find_publication, find_subscription}
+use Rattle.pub_reader.specs.Identities.{replica_identity, alter_table}
+use Rattle.pub_reader.specs.Publications.{new_publication, publication_name, for_clause, create_publication}
+use Rattle.pub_reader.specs.Publishing.{parameters_clause}
+use Rattle.pub_reader.specs.Schemas.{create_schema, new_schema}
+use Rattle.pub_reader.specs.Statements.{created_by, created, create, statement_by, statement, ended_statement, statements, finished, catalog_by}
+use Rattle.pub_reader.specs.Subscriptions.{new_subscription, subscription_name, subscription_body, create_subscription}
+use Rattle.pub_reader.specs.TableNames.{only_or_none, table_number, new_table, new_named, table_head, new_name}
+use Rattle.pub_reader.specs.Tables.{keyed, table_tail, table_body, create_table}
+
+-- the limits, as a catalog keeps them while it is read
+abbrev AreNarrow : List Table → Type 0
+AreNarrow tables = (length tables ≤ 64) × All IsNarrowTable tables
+
+abbrev Limited : {S : Type 0} → DraftOf S → Type 0
+Limited draft = AreNarrow draft.tables × ((length draft.publications ≤ 64) × (length draft.subscriptions ≤ 32))
+
+pushed : {A : Type 0} (most : ℕ) (xs : List A) (x : A) → length xs < most → length (xs ++ x ∷ []) ≤ most
+pushed most xs x room = omega (arith, length_push xs x)
+
+-- ---- tables
+
+length-identified : (tables : List Table) (number : ℕ) (identity : Identity) → length (identified tables number identity) ≡ length tables
+length-identified [] number identity = refl
+length-identified (table ∷ tables) zero identity = refl
+length-identified (table ∷ tables) (suc number) identity = ap suc (length-identified tables number identity)
+
+narrow-identified : (tables : List Table) (number : ℕ) (identity : Identity) → All IsNarrowTable tables → All IsNarrowTable (identified tables number identity)
+narrow-identified [] number identity h = h
+narrow-identified (table ∷ tables) zero identity h =
+    All-cons IsNarrowTable (record table { identity = identity }) tables (All-head IsNarrowTable table tables h) (All-tail IsNarrowTable table tables h)
+narrow-identified (table ∷ tables) (suc number) identity h =
+    All-cons IsNarrowTable table (identified tables number identity) (All-head IsNarrowTable table tables h)
+    (narrow-identified tables number identity (All-tail IsNarrowTable table tables h))
+
+identified-narrow : (tables : List Table) (number : ℕ) (identity : Identity) → AreNarrow tables → AreNarrow (identified tables number identity)
+identified-narrow tables number identity h = (omega (arith, length-identified tables number identity, h.0), narrow-identified tables number identity h.1)
+
+pushed-narrow : (tables : List Table) (table : Table) → length tables < 64 → AreNarrow tables → IsNarrowTable table → AreNarrow (tables ++ table ∷ [])
+pushed-narrow tables table room h narrow = (pushed 64 tables table room, All-push IsNarrowTable tables table h.1 narrow)
+
+new_table-gives : (tables : List Table) (called : NewName) (ts : Items) → Gives (λ (n : ℕ). length tables < 64) (with_rest (new_table tables called) ts)
+unfolding new_table
+new_table-gives tables called ts =
+    room-gives (is_some (find_table called.schema called.name.text tables)) (nat_le 64 (length tables)) (length tables) 64 _ _ ts (below 64 (length tables))
+
+new_name-gives : {S : Type 0} (draft : DraftOf S) (ts : Items) → Gives (λ (called : NewName). length draft.tables < 64) (new_name draft ts)
+unfolding new_name
+new_name-gives {S} draft ts =
+    let room : NewName → Type 0 = λ called. length draft.tables < 64 in
+    any-gives room (name ts) _ (λ first ts2.
+    any-gives room (new_named draft.schemas (is_ahead (i.Keyword k.If) ts) first ts2) _ (λ called ts3.
+    then-gives (λ (n : ℕ). length draft.tables < 64) room (with_rest (new_table draft.tables called) ts3) _ (new_table-gives draft.tables called ts3) (λ n ts4 h.
+    any-gives room (table_head ts4) _ (λ m ts5. h))))
+
+table_body-gives : (called : PlacedName) (ts : Items) → Gives IsNarrow (table_body called ts)
+unfolding table_body
+table_body-gives called ts =
+    any-gives IsNarrow (expect i.Open ts) _ (λ a ts2.
+    then-gives IsNarrow IsNarrow (elements ts2) _ (elements-gives ts2) (λ parts ts3 h.
+    any-gives IsNarrow (expect i.Close ts3) _ (λ b ts4.
+    any-gives IsNarrow (with_rest (keyed called parts) ts4) _ (λ n ts5.
+    any-gives IsNarrow (table_tail ts5) _ (λ m ts6. h)))))
+
+create_table-gives : {S : Type 0} (draft : DraftOf S) (ts : Items) → Limited draft → Gives Limited (create_table draft ts)
+unfolding create_table
+create_table-gives draft ts h =
+    then-gives (λ (called : NewName). length draft.tables < 64) Limited (new_name draft ts) _ (new_name-gives draft ts) (λ called ts2 room.
+    then-gives IsNarrow Limited (table_body called.name ts2) _ (table_body-gives called.name ts2) (λ parts ts3 narrow.
+    (pushed-narrow draft.tables _ room h.0 narrow, h.1)))
+
+alter_table-gives : {S : Type 0} (draft : DraftOf S) (ts : Items) → Limited draft → Gives Limited (alter_table draft ts)
+unfolding alter_table
+alter_table-gives draft ts h =
+    any-gives Limited (expect (i.Keyword k.Alter) ts) _ (λ a ts2.
+    any-gives Limited (expect (i.Keyword k.Table) ts2) _ (λ b ts3.
+    any-gives Limited (only_or_none ts3) _ (λ c ts4.
+    any-gives Limited (table_number draft ts4) _ (λ number ts5.
+    any-gives Limited (replica_identity ts5) _ (λ recorded ts6. (identified-narrow draft.tables number recorded h.0, h.1))))))
+
+-- ---- schemas, publications and subscriptions
+
+create_schema-gives : {S : Type 0} (draft : DraftOf S) (ts : Items) → Limited draft → Gives Limited (create_schema draft ts)
+unfolding create_schema
+create_schema-gives draft ts h =
+    any-gives Limited (name ts) _ (λ called ts2. any-gives Limited (with_rest (new_schema draft.schemas called) ts2) _ (λ n ts3. h))
+
+new_publication-gives : {S : Type 0} (draft : DraftOf S) (called : PlacedName) (ts : Items) → Gives (λ (n : ℕ). length draft.publications < 64) (with_rest (new_publication draft called) ts)
+unfolding new_publication
+new_publication-gives draft called ts =
+    room-gives (is_some (find_publication called.text draft.publications)) (nat_le 64 (length draft.publications)) (length draft.publications) 64 _ _ ts (below 64 (length draft.publications))
+
+publication_name-gives : {S : Type 0} (draft : DraftOf S) (ts : Items) → Gives (λ (called : PlacedName). length draft.publications < 64) (publication_name draft ts)
+unfolding publication_name
+publication_name-gives {S} draft ts =
+    let room : PlacedName → Type 0 = λ called. length draft.publications < 64 in
+    any-gives room (name ts) _ (λ called ts2.
+    then-gives (λ (n : ℕ). length draft.publications < 64) room (with_rest (new_publication draft called) ts2) _ (new_publication-gives draft called ts2) (λ n ts3 h. h))
+
+create_publication-gives : {S : Type 0} (forms : Forms S) (draft : DraftOf S) (ts : Items) → Limited draft → Gives Limited (create_publication forms draft ts)
+unfolding create_publication
+create_publication-gives forms draft ts h =
+    then-gives (λ (called : PlacedName). length draft.publications < 64) Limited (publication_name draft ts) _ (publication_name-gives draft ts) (λ called ts2 room.
+    any-gives Limited (for_clause forms draft ts2) _ (λ coverage ts3.
+    any-gives Limited (parameters_clause ts3) _ (λ given ts4. (h.0, (pushed 64 draft.publications _ room, h.1.1)))))
+
+new_subscription-gives : {S : Type 0} (draft : DraftOf S) (called : PlacedName) (ts : Items) → Gives (λ (n : ℕ). length draft.subscriptions < 32) (with_rest (new_subscription draft called) ts)
+unfolding new_subscription
+new_subscription-gives draft called ts =
+    room-gives (is_some (find_subscription called.text draft.subscriptions)) (nat_le 32 (length draft.subscriptions)) (length draft.subscriptions) 32 _ _ ts (below 32 (length draft.subscriptions))
+
+subscription_name-gives : {S : Type 0} (draft : DraftOf S) (ts : Items) → Gives (λ (called : PlacedName). length draft.subscriptions < 32) (subscription_name draft ts)
+unfolding subscription_name
+subscription_name-gives {S} draft ts =
+    let room : PlacedName → Type 0 = λ called. length draft.subscriptions < 32 in
+    any-gives room (name ts) _ (λ called ts2.
+    then-gives (λ (n : ℕ). length draft.subscriptions < 32) room (with_rest (new_subscription draft called) ts2) _ (new_subscription-gives draft called ts2) (λ n ts3 h. h))
+
+create_subscription-gives : {S : Type 0} (draft : DraftOf S) (ts : Items) → Limited draft → Gives Limited (create_subscription draft ts)
+unfolding create_subscription
+create_subscription-gives draft ts h =
+    then-gives (λ (called : PlacedName). length draft.subscriptions < 32) Limited (subscription_name draft ts) _ (subscription_name-gives draft ts) (λ called ts2 room.
+    any-gives Limited (subscription_body draft ts2) _ (λ numbers ts3. (h.0, (h.1.0, pushed 32 draft.subscriptions _ room))))
+
+-- ---- statements
+
+module _ {S : Type 0} (forms : Forms S) where
+  created_by-gives : (item : Option Item) (draft : DraftOf S) (ts : Items) → Limited draft → Gives Limited (created_by forms item draft ts)
+  created_by-gives (Some (i.Keyword k.Table)) draft ts h = create_table-gives draft (rest_of ts) h
+  created_by-gives (Some (i.Keyword k.Publication)) draft ts h = create_publication-gives forms draft (rest_of ts) h
+  created_by-gives (Some (i.Keyword k.Schema)) draft ts h = create_schema-gives draft (rest_of ts) h
+  created_by-gives (Some (i.Keyword k.Subscription)) draft ts h = create_subscription-gives draft (rest_of ts) h
+  created_by-gives (Some (i.Keyword k.Unique)) draft ts h = tt
+  created_by-gives _ draft ts h = tt
+
+  create-gives : (draft : DraftOf S) (ts : Items) → Limited draft → Gives Limited (create forms draft ts)
+  unfolding create created
+  create-gives draft ts h = any-gives Limited (expect (i.Keyword k.Create) ts) _ (λ a ts2. created_by-gives (item_ahead ts2) draft ts2 h)
+
+  statement_by-gives : (item : Option Item) (draft : DraftOf S) (ts : Items) → Limited draft → Gives Limited (statement_by forms item draft ts)
+  statement_by-gives (Some (i.Keyword k.Create)) draft ts h = create-gives draft ts h
+  statement_by-gives (Some (i.Keyword k.Alter)) draft ts h = alter_table-gives draft ts h
+  statement_by-gives (Some i.Semicolon) draft ts h = h
+  statement_by-gives _ draft ts h = tt
+
+  ended_statement-gives : (draft : DraftOf S) (ts : Items) → Limited draft → Gives Limited (ended_statement forms draft ts)
+  unfolding ended_statement statement
+  ended_statement-gives draft ts h =
+      then-gives Limited Limited (statement forms draft ts) _ (statement_by-gives (item_ahead ts) draft ts h) (λ made ts2 l.
+      any-gives Limited (expect i.Semicolon ts2) _ (λ a ts3. l))
+
+  statements-gives : (ts : Items) → Gives Limited (statements forms no_draft ts)
+  unfolding statements
+  statements-gives ts =
+      repeat-gives Limited (each more_ahead (ended_statement forms)) (each-gives Limited more_ahead (ended_statement forms) ended_statement-gives) no_draft ts
+      ((omega arith, All-nil IsNarrowTable), (omega arith, omega arith))
+
+-- ---- the end of the catalog
+
+resolved-within : {S : Type 0} (draft : DraftOf S) → Limited draft → IsLimited (resolved draft)
+resolved-within draft h = record {
+  tables = h.0.0;
+  columns = h.0.1;
+  publications = omega (arith, length-map draft.publications (resolved_publication draft.tables), h.1.0);
+  subscriptions = h.1.1;
+}
+
+finished-within : {S : Type 0} (read : Outcome (DraftOf S)) (catalog : CatalogOf S) → Gives Limited read → finished read ≡ Ok catalog → IsLimited catalog
+finished-within (Err fault) catalog h e = cc
+finished-within (Ok read) catalog h e =
+    let same : resolved read.0 ≡ catalog = cc in
+    subst IsLimited same (resolved-within read.0 h)
+
+-- a catalog that was read is within the limits
+pub within_limits : {S : Type 0} (forms : Forms S) (text : List ℕ) (catalog : CatalogOf S) → catalog_by forms text ≡ Ok catalog → IsLimited catalog
+unfolding catalog_by
+within_limits forms text catalog e = finished-within (statements forms no_draft (items_of text)) catalog (statements-gives forms (items_of text)) e
+
+pub answered-within : (text : List ℕ) (answer : Result Catalog ReadError) → Answers catalog_of (catalog_by as_filter text) answer → IfOk answer (λ catalog. IsLimited (catalog_of catalog))
+answered-within text (Ok catalog) e = within_limits as_filter text (catalog_of catalog) e
+answered-within text (Err error) e = tt

@@ -1,0 +1,99 @@
+-- A table has at most 100 columns.
+use Rattle.std.proofs.Common.{◌≡◌, ℕ, zero, suc, ◌<◌, ◌≤◌, Bool, true, false, List, [], ◌∷◌, ◌++◌, length, refl, ap, arith}
+use Rattle.std.specs.Prelude.{nat_le, if◌then◌else◌, Option, Some, None, Ok, Err}
+use Rattle.std.specs.Option.{is_some}
+use Rattle.std.proofs.lemmas.Bool.Decides.{nat_tests}
+use Rattle.std.proofs.lemmas.List.{length_push}
+use Rattle.filter_tree.specs.declared.table.Column.{Column}
+use Rattle.sql_reader.specs.declared.word.Keyword.TheVariants as k
+use Rattle.sql_reader.specs.declared.item.Item.{Item}
+use Rattle.sql_reader.specs.declared.item.Item.TheVariants as i
+use Rattle.sql_reader.specs.declared.name.PlacedName.{PlacedName}
+use Rattle.sql_reader.specs.Columns.{Parts, no_parts, new_column, required, column_type, constraints, has_key, column_element, once_in_key, key_column, key_columns, first_key, key_element, element_by, element, elements, left_out}
+use Rattle.sql_reader.specs.Expressions.{find_column, known_column}
+use Rattle.sql_reader.specs.Items.{Items}
+use Rattle.sql_reader.specs.Names.{name}
+use Rattle.sql_reader.specs.Reading.{Fault, Verdict, with_rest, expect, item_ahead, refuse}
+use Rattle.sql_reader.specs.Turns.{link}
+use Rattle.sql_reader.proofs.Keeping.{Gives, then-gives, any-gives, chosen_rule-gives, repeat-gives, link-gives}
+
+abbrev pub IsNarrow : Parts → Type 0
+IsNarrow parts = length parts.columns ≤ 100
+
+-- where what is new is let in only below a limit, there is room for it
+pub room-gives : (is_taken is_full : Bool) (n most : ℕ) (one other : Fault) (ts : Items) → (is_full ≡ false → n < most) →
+    Gives (λ (k : ℕ). n < most) (with_rest (if is_taken then Err one else (if is_full then Err other else Ok 0)) ts)
+room-gives true is_full n most one other ts h = tt
+room-gives false true n most one other ts h = tt
+room-gives false false n most one other ts h = h refl
+
+pub below : (most n : ℕ) → nat_le most n ≡ false → n < most
+below most n e = grind (arith, nat_tests)
+
+new_column-gives : (parts : Parts) (called : PlacedName) (ts : Items) → Gives (λ (k : ℕ). length parts.columns < 100) (with_rest (new_column parts called) ts)
+unfolding new_column
+new_column-gives parts called ts =
+    room-gives (is_some (find_column called.text parts.columns)) (nat_le 100 (length parts.columns)) (length parts.columns) 100 _ _ ts (below 100 (length parts.columns))
+
+pushed-narrow : (columns : List Column) (column : Column) → length columns < 100 → length (columns ++ column ∷ []) ≤ 100
+pushed-narrow columns column room = omega (arith, length_push columns column)
+
+column_element-gives : (parts : Parts) (ts : Items) → IsNarrow parts → Gives IsNarrow (column_element parts ts)
+unfolding column_element
+column_element-gives parts ts narrow =
+    any-gives IsNarrow (name ts) _ (λ called ts2.
+    then-gives (λ (k : ℕ). length parts.columns < 100) IsNarrow (with_rest (new_column parts called) ts2) _ (new_column-gives parts called ts2) (λ n ts3 room.
+    any-gives IsNarrow (column_type ts3) _ (λ kind ts4.
+    any-gives IsNarrow (constraints (has_key parts) ts4) _ (λ given ts5. pushed-narrow parts.columns _ room))))
+
+length-required : (columns : List Column) (number : ℕ) → length (required columns number) ≡ length columns
+length-required [] number = refl
+length-required (column ∷ columns) zero = refl
+length-required (column ∷ columns) (suc number) = ap suc (length-required columns number)
+
+required-narrow : (columns : List Column) (number : ℕ) → length columns ≤ 100 → length (required columns number) ≤ 100
+required-narrow columns number narrow = omega (arith, length-required columns number)
+
+key_column-gives : (parts : Parts) (ts : Items) → IsNarrow parts → Gives IsNarrow (key_column parts ts)
+unfolding key_column
+key_column-gives parts ts narrow =
+    any-gives IsNarrow (name ts) _ (λ called ts2.
+    any-gives IsNarrow (with_rest (known_column parts.columns called) ts2) _ (λ column ts3.
+    any-gives IsNarrow (with_rest (once_in_key parts called column) ts3) _ (λ n ts4. required-narrow parts.columns column.number narrow)))
+
+key_columns-gives : (parts : Parts) (ts : Items) → IsNarrow parts → Gives IsNarrow (key_columns parts ts)
+unfolding key_columns
+key_columns-gives parts ts narrow =
+    then-gives IsNarrow IsNarrow (key_column parts ts) _ (key_column-gives parts ts narrow) (λ keyed ts2 h.
+    repeat-gives IsNarrow (link i.Comma key_column) (link-gives IsNarrow i.Comma key_column key_column-gives) keyed ts2 h)
+
+first_key-gives : (parts : Parts) (ts : Items) → IsNarrow parts → Gives IsNarrow (first_key parts ts)
+unfolding first_key
+first_key-gives parts ts narrow =
+    any-gives IsNarrow (expect (i.Keyword k.Primary) ts) _ (λ a ts2.
+    any-gives IsNarrow (expect (i.Keyword k.Key) ts2) _ (λ b ts3.
+    any-gives IsNarrow (expect i.Open ts3) _ (λ c ts4.
+    then-gives IsNarrow IsNarrow (key_columns parts ts4) _ (key_columns-gives parts ts4 narrow) (λ keyed ts5 h.
+    any-gives IsNarrow (expect i.Close ts5) _ (λ d ts6. h)))))
+
+key_element-gives : (parts : Parts) (ts : Items) → IsNarrow parts → Gives IsNarrow (key_element parts ts)
+unfolding key_element
+key_element-gives parts ts narrow = chosen_rule-gives IsNarrow (has_key parts) refuse (first_key parts) ts tt (first_key-gives parts ts narrow)
+
+element_by-gives : (item : Option Item) (parts : Parts) (ts : Items) → IsNarrow parts → Gives IsNarrow (element_by item parts ts)
+element_by-gives (Some (i.Keyword k.Primary)) parts ts narrow = key_element-gives parts ts narrow
+element_by-gives (Some (i.Keyword k.Check)) parts ts narrow = tt
+element_by-gives (Some (i.Keyword k.Unique)) parts ts narrow = tt
+element_by-gives (Some (i.Keyword k.Foreign)) parts ts narrow = tt
+element_by-gives (Some (i.Keyword k.Constraint)) parts ts narrow = tt
+element_by-gives _ parts ts narrow = column_element-gives parts ts narrow
+
+element-gives : (parts : Parts) (ts : Items) → IsNarrow parts → Gives IsNarrow (element parts ts)
+unfolding element
+element-gives parts ts narrow = element_by-gives (item_ahead ts) parts ts narrow
+
+pub elements-gives : (ts : Items) → Gives IsNarrow (elements ts)
+unfolding elements
+elements-gives ts =
+    then-gives IsNarrow IsNarrow (element no_parts ts) _ (element-gives no_parts ts (omega arith)) (λ parts ts2 h.
+    repeat-gives IsNarrow (link i.Comma element) (link-gives IsNarrow i.Comma element element-gives) parts ts2 h)
