@@ -1,7 +1,8 @@
 """`check` on certificates of up to 1,000,000 nodes, for 32 ranges of a key.
 
-Where the key is below the first bound, such a certificate splits by each lower bound, which makes 32 splits, and then by
-upper bounds, which tell nothing new and only make nodes: as many as are wanted, in a tree that is as flat as can be.
+Such a certificate tells the ranges apart by halves, as `make` does. Behind 36 splits, where the first subscriber is found
+or no value is left, it splits by further bounds that tell nothing new and only make nodes: as many as are wanted, in a
+tree that is as flat as can be.
 """
 
 import families
@@ -10,7 +11,7 @@ from measuring import print_table, rate
 # A tree has 3 nodes more for each split.
 SIZES = (1_000, 30_001, 1_000_000)
 SUBSCRIBERS = 32
-HEADS = ["Leaves", "Nodes", "Splits above a leaf", "pgshard check, ms", "thousand nodes/s", "answer"]
+HEADS = ["Leaves", "Nodes", "Splits on a path", "pgshard check, ms", "thousand nodes/s", "answer"]
 
 
 def lower(at):
@@ -19,7 +20,7 @@ def lower(at):
 
 
 def upper(at):
-    """The number of the atom `id < 100 * (at + 1)`, which the last subscriber does not have."""
+    """The number of the atom `id < 100 * (at + 1)`, for at below the last."""
     return 2 * at
 
 
@@ -33,61 +34,77 @@ def nodes(tree):
     return (tree.count(" ") + 1) // 2
 
 
-def filled(count, at, leaf):
-    """A tree of so many nodes, which splits by upper bounds from this one on, with one kind of leaf."""
+def closed(atoms, tree):
+    """The tree, where each of some atoms is found false; where one is true, no value is left."""
+    for atom in atoms:
+        tree = split(atom, "e 0", tree)
+    return tree
+
+
+def told_apart(first, behind, found, missing):
+    """A tree for the rows of the subscribers from the first on and before the other, which halves them."""
+    if behind - first == 1:
+        return found if first == 0 else f"o {first}"
+    middle = (first + behind) // 2
+    below = closed(map(lower, range(middle, behind)), told_apart(first, middle, found, missing))
+    above = closed(map(upper, range(first, middle - 1)), told_apart(middle, behind, found, missing))
+    return split(upper(middle - 1), below, split(lower(middle), above, missing if middle == 1 else "e 0"))
+
+
+def further():
+    """Upper bounds that no path to a row of the first subscriber has."""
+    halves = {SUBSCRIBERS >> it for it in range(1, SUBSCRIBERS.bit_length())}
+    return [upper(at) for at in range(SUBSCRIBERS - 1) if at + 1 not in halves]
+
+
+def filled(count, atoms, leaf):
+    """A tree of so many nodes, which splits by these atoms, with one kind of leaf."""
     if count < 4:
         return leaf
     splits = (count - 4) // 3
-    branches = [filled(1 + 3 * ((splits + rest) // 3), at + 1, leaf) for rest in range(3)]
-    return f"s {upper(at)} " + " ".join(branches)
-
-
-def above_first():
-    """Where the key is not below the first bound, the subscribers are found one by one."""
-    last = SUBSCRIBERS - 1
-    tree = split(lower(last), f"o {last}", "e 0")
-    for at in range(last - 1, 0, -1):
-        tree = split(lower(at), split(upper(at), f"o {at}", tree), "e 0")
-    return tree
-
-
-def below_first(tree):
-    """Where the key is below the first bound: the tree stands where each lower bound but the last is found false."""
-    for at in range(SUBSCRIBERS - 2, 0, -1):
-        tree = split(lower(at), "e 0", tree)
-    return tree
+    branches = [filled(1 + 3 * ((splits + rest) // 3), atoms[1:], leaf) for rest in range(3)]
+    return f"s {atoms[0]} " + " ".join(branches)
 
 
 def owners(count):
-    """All the further leaves say that the first subscriber takes the row."""
-    return below_first(split(lower(SUBSCRIBERS - 1), "e 0", filled(count, 1, "o 0")))
+    """The tree whose further leaves say that the first subscriber takes the row."""
+    return told_apart(0, SUBSCRIBERS, filled(count, further(), "o 0"), "e 0")
 
 
 def empties(count):
-    """All the further leaves say that no value is left."""
-    return below_first(split(lower(SUBSCRIBERS - 1), filled(count, 1, "e 0"), "o 0"))
+    """The tree whose further leaves say that no value is left."""
+    return told_apart(0, SUBSCRIBERS, "o 0", filled(count, further(), "e 0"))
 
 
 LEAVES = {"o": owners, "e": empties}
 
 
 def certificate(kind, size):
-    """The certificate of so many nodes, and the greatest number of splits on a path to a leaf that only makes nodes."""
-    fixed = nodes(split(0, LEAVES[kind](1), above_first()))
-    tree = split(0, LEAVES[kind](size - fixed + 1), above_first())
-    levels, splits = 0, (size - fixed) // 3
-    while splits > 0:
-        levels, splits = levels + 1, (splits + 1) // 3
-    return tree, SUBSCRIBERS + levels
+    """The certificate of so many nodes."""
+    return LEAVES[kind](size - nodes(LEAVES[kind](1)) + 1)
+
+
+def depth(tree):
+    """The most splits on a path."""
+    deepest, open_branches = 0, []
+    for letter in tree.split()[::2]:
+        while open_branches and open_branches[-1] == 0:
+            open_branches.pop()
+        if open_branches:
+            open_branches[-1] -= 1
+        if letter == "s":
+            open_branches.append(3)
+            deepest = max(deepest, len(open_branches))
+    return deepest
 
 
 def row(setup, folder, kind, size):
     path = folder / "certificate"
-    tree, depth = certificate(kind, size)
+    tree = certificate(kind, size)
     path.write_text(f"{families.catalog(families.ranges(SUBSCRIBERS))}%%\n{tree}\n")
     words = [setup.program, "check"]
     time = setup.milliseconds(words, path)
-    return [kind, nodes(tree), depth, f"{time:.1f}", rate(nodes(tree), time), setup.answer(words, path).strip()]
+    return [kind, nodes(tree), depth(tree), f"{time:.1f}", rate(nodes(tree), time), setup.answer(words, path).strip()]
 
 
 def measure(setup, folder):
