@@ -93,3 +93,70 @@ possible_holds (Both left right) path cells h =
 possible_holds (Either left right) path cells h =
     two_has or_of (possible_of left path) (possible_of right path) (meaning left cells) (meaning right cells) (possible_holds left path cells h) (possible_holds right path cells h)
 possible_holds (Asks test part) path cells h = one_has (asks_of test) (possible_of part path) (meaning part cells) (possible_holds part path cells h)
+
+open_has_true : (condition : Condition) → member (open_mask condition) True ≡ true
+open_has_true (Compares term op constant) = refl
+open_has_true (Lacks column) = refl
+
+some_known : (known : Option Tri) (condition : Condition) → (t : Tri) × (member (known_or_open known condition) t ≡ true)
+some_known (Some value) condition = (value, single_has value)
+some_known None condition = (True, open_has_true condition)
+
+-- some truth value is left to each filter, also on a path with which no row agrees
+some_possible : (filter : Expr) (path : Path) → (t : Tri) × (member (possible_of filter path) t ≡ true)
+some_possible (Always known) path = (tri_of known, single_has (tri_of known))
+some_possible (Holds condition) path = some_known (first_value condition path) condition
+some_possible (Negation part) path =
+    let some = some_possible part path in
+    (not_of some.0, one_has not_of (possible_of part path) some.0 some.1)
+some_possible (Both left right) path =
+    let one = some_possible left path in
+    let other = some_possible right path in
+    (and_of one.0 other.0, two_has and_of (possible_of left path) (possible_of right path) one.0 other.0 one.1 other.1)
+some_possible (Either left right) path =
+    let one = some_possible left path in
+    let other = some_possible right path in
+    (or_of one.0 other.0, two_has or_of (possible_of left path) (possible_of right path) one.0 other.0 one.1 other.1)
+some_possible (Asks test part) path =
+    let some = some_possible part path in
+    (asks_of test some.0, one_has (asks_of test) (possible_of part path) some.0 some.1)
+
+false_absorbs : (truth falsity null : Bool) (t : Tri) → member (record { truth = truth; falsity = falsity; null = null }) t ≡ true
+    → lift_two and_of (single_of False) (record { truth = truth; falsity = falsity; null = null }) ≡ single_of False
+false_absorbs true true true t h = refl
+false_absorbs true true false t h = refl
+false_absorbs true false true t h = refl
+false_absorbs true false false t h = refl
+false_absorbs false true true t h = refl
+false_absorbs false true false t h = refl
+false_absorbs false false true t h = refl
+false_absorbs false false false True h = absurd cc
+false_absorbs false false false False h = absurd cc
+false_absorbs false false false Null h = absurd cc
+
+true_absorbs : (truth falsity null : Bool) (t : Tri) → member (record { truth = truth; falsity = falsity; null = null }) t ≡ true
+    → lift_two or_of (single_of True) (record { truth = truth; falsity = falsity; null = null }) ≡ single_of True
+true_absorbs true true true t h = refl
+true_absorbs true true false t h = refl
+true_absorbs true false true t h = refl
+true_absorbs true false false t h = refl
+true_absorbs false true true t h = refl
+true_absorbs false true false t h = refl
+true_absorbs false false true t h = refl
+true_absorbs false false false True h = absurd cc
+true_absorbs false false false False h = absurd cc
+true_absorbs false false false Null h = absurd cc
+
+-- AND with what is surely false is false, whatever the other part
+pub both_false : (filter : Expr) (path : Path) → lift_two and_of (single_of False) (possible_of filter path) ≡ single_of False
+both_false filter path =
+    let some = some_possible filter path in
+    let mask = possible_of filter path in
+    false_absorbs mask.truth mask.falsity mask.null some.0 some.1
+
+-- OR with what is surely true is true, whatever the other part
+pub either_true : (filter : Expr) (path : Path) → lift_two or_of (single_of True) (possible_of filter path) ≡ single_of True
+either_true filter path =
+    let some = some_possible filter path in
+    let mask = possible_of filter path in
+    true_absorbs mask.truth mask.falsity mask.null some.0 some.1

@@ -20,8 +20,14 @@ pub fn eval<A: Allocator, R: Allocator>(filter: &Filter<A>, row: &Row<R>) -> Tri
         Filter::Const(known) => Tri::from(*known),
         Filter::Atom(atom) => eval_atom(atom, row),
         Filter::Not(part) => eval(part, row).not(),
-        Filter::And(left, right) => eval(left, row).and(eval(right, row)),
-        Filter::Or(left, right) => eval(left, row).or(eval(right, row)),
+        Filter::And(left, right) => match eval(left, row) {
+            Tri::False => Tri::False,
+            said => said.and(eval(right, row)),
+        },
+        Filter::Or(left, right) => match eval(left, row) {
+            Tri::True => Tri::True,
+            said => said.or(eval(right, row)),
+        },
         Filter::Is(test, part) => eval(part, row).is(*test),
     }
 }

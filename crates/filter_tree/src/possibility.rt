@@ -22,6 +22,8 @@ pub fn possible<A: Allocator>(filter: &Filter<A>, path: &[(&Atom<A>, Tri)]) -> M
     mask_of(filter, path)
 }
 
+/// As `possible`. A part whose value cannot matter any more is not looked at.
+#[tactic(auto, using(crate::proofs::PossibleLemmas::both_false, crate::proofs::PossibleLemmas::either_true))]
 fn mask_of<A: Allocator>(filter: &Filter<A>, path: &[(&Atom<A>, Tri)]) -> Mask
     ensures { result ≡ possible_of (expr_of filter.now) (path_of path.now) }
 {
@@ -29,8 +31,20 @@ fn mask_of<A: Allocator>(filter: &Filter<A>, path: &[(&Atom<A>, Tri)]) -> Mask
         Filter::Const(known) => Mask::single(Tri::from(*known)),
         Filter::Atom(atom) => mask_of_atom(atom, path),
         Filter::Not(part) => mask_of(part, path).not(),
-        Filter::And(left, right) => mask_of(left, path).and(mask_of(right, path)),
-        Filter::Or(left, right) => mask_of(left, path).or(mask_of(right, path)),
+        Filter::And(left, right) => {
+            let mask = mask_of(left, path);
+            if mask == Mask::single(Tri::False) {
+                return mask;
+            }
+            mask.and(mask_of(right, path))
+        }
+        Filter::Or(left, right) => {
+            let mask = mask_of(left, path);
+            if mask == Mask::single(Tri::True) {
+                return mask;
+            }
+            mask.or(mask_of(right, path))
+        }
         Filter::Is(test, part) => mask_of(part, path).is(*test),
     }
 }

@@ -5,7 +5,7 @@ use Rattle.pub_reader.specs.CatalogView.{catalog_of}
 use Rattle.pub_reader.specs.Statements.{catalog_by}
 use Rattle.sql_reader.specs.Written.{as_filter}
 use Rattle.pub_reader.specs.declared.catalog.Catalog.{Catalog}
-use Rattle.pub_reader.specs.declared.catalog.Publication.{Publication}
+use Rattle.publisher_main.specs.Carriers.{CarrierOf, carriers_of}
 use Rattle.publisher_main.specs.Evaluation.{status_of, Writes, IsEvaluated, IsStopped}
 use Rattle.publisher_main.specs.Parts.{Cut, two_parts, lines_of}
 use Rattle.publisher_main.specs.Statuses.{IsOfWriting}
@@ -26,11 +26,11 @@ stopped input word f.Output h = tt
 stopped input word f.OutOfMemory h = tt
 
 -- the rows were written, or writing stopped
-pub evaluated : (question : Question) (input word : List ℕ) (old new : Option (List ℕ)) (cut : Cut) (catalog : Catalog) (number : ℕ) (table : Table) (publications : List Publication) → publications ≡ catalog.publications.items → two_parts input ≡ Some cut
+pub evaluated : (question : Question) (input word : List ℕ) (old new : Option (List ℕ)) (cut : Cut) (catalog : Catalog) (number : ℕ) (table : Table) (carriers : List CarrierOf) → carriers ≡ carriers_of number catalog.publications.items → two_parts input ≡ Some cut
     → catalog_by as_filter cut.part ≡ Ok (catalog_of catalog) → table_of word catalog.tables.items ≡ Some number → slice_get catalog.tables.items number ≡ Some table
     → (result : Result Status Failure) → IfOk result (λ status. status ≡ status_of table.columns (lines_of cut.rest))
-    → OnOk result (Writes question number publications table.columns (lines_of cut.rest) old new) → IfErr result IsOfWriting → IsEvaluated question input word old new result
-evaluated question input word old new cut catalog number table publications same parts reads named stands (Ok status) answers writes stops = record {
+    → OnOk result (Writes question number carriers table.columns (lines_of cut.rest) old new) → IfErr result IsOfWriting → IsEvaluated question input word old new result
+evaluated question input word old new cut catalog number table carriers same parts reads named stands (Ok status) answers writes stops = record {
   cut = cut;
   catalog = catalog;
   number = number;
@@ -40,6 +40,6 @@ evaluated question input word old new cut catalog number table publications same
   named = named;
   stands = stands;
   answers = answers;
-  writes = subst (λ (p : List Publication). Writes question number p table.columns (lines_of cut.rest) old new) same writes;
+  writes = subst (λ (c : List CarrierOf). Writes question number c table.columns (lines_of cut.rest) old new) same writes;
 }
-evaluated question input word old new cut catalog number table publications same parts reads named stands (Err failure) answers writes stops = stopped input word failure stops
+evaluated question input word old new cut catalog number table carriers same parts reads named stands (Err failure) answers writes stops = stopped input word failure stops

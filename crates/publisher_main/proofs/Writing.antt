@@ -4,8 +4,8 @@ use Rattle.std.specs.List.{list_all}
 use Rattle.std.proofs.lemmas.List.Folds.{list_all-append}
 use Rattle.std.specs.Io.KnownBytes.{Appends}
 use Rattle.filter_tree.specs.declared.table.Column.{Column}
-use Rattle.pub_reader.specs.declared.catalog.Publication.{Publication}
 use Rattle.publisher_main.specs.BadRows.{is_answered}
+use Rattle.publisher_main.specs.Carriers.{CarrierOf}
 use Rattle.publisher_main.specs.Evaluation.{status_of, IsLine, NoRow, OneMore, Writes}
 use Rattle.publisher_main.specs.declared.arguments.Question.{Question}
 use Rattle.publisher_main.specs.declared.failure.Status.{Status}
@@ -28,13 +28,13 @@ one_more true false = refl
 one_more false true = refl
 one_more false false = refl
 
-module _ (question : Question) (number : ℕ) (publications : List Publication) (columns : List Column) where
+module _ (question : Question) (number : ℕ) (carriers : List CarrierOf) (columns : List Column) where
   -- some of the rows are written, the others are left
   pub record IsSoFar (rows left : List (List ℕ)) (status : Status) (old new : Option (List ℕ)) : Type 0 where
     pub seen : List (List ℕ)
     pub rows_are : rows ≡ seen ++ left
     pub status_is : status ≡ status_of columns seen
-    pub writes : Writes question number publications columns seen old new
+    pub writes : Writes question number carriers columns seen old new
 
   pub so_far_at_start : (rows left : List (List ℕ)) (known : Option (List ℕ)) → left ≡ rows → IsSoFar rows left Done known known
   so_far_at_start rows left known e = record {
@@ -49,7 +49,7 @@ module _ (question : Question) (number : ℕ) (publications : List Publication) 
   status_of-next seen row answered e = rw (e, list_all-append (is_answered columns) seen (row ∷ [])) (one_more (list_all (is_answered columns) seen) (is_answered columns row))
 
   pub so_far_next : (rows left : List (List ℕ)) (row : List ℕ) (later : List (List ℕ)) (status after : Status) (old new newer : Option (List ℕ)) (line : List ℕ) (answered : Bool)
-      → left ≡ row ∷ later → IsSoFar rows left status old new → IsLine question number publications columns row line → answered ≡ is_answered columns row
+      → left ≡ row ∷ later → IsSoFar rows left status old new → IsLine question number carriers columns row line → answered ≡ is_answered columns row
       → after ≡ (if answered then status else Refused) → Appends new newer (line ++ 10 ∷ []) → IsSoFar rows later after old newer
   so_far_next rows left row later status after old new newer line answered left_is now is_line e after_is grows = record {
     seen = now.seen ++ row ∷ [];
@@ -69,5 +69,5 @@ module _ (question : Question) (number : ℕ) (publications : List Publication) 
   pub status_of_all : (rows left : List (List ℕ)) (status : Status) (old new : Option (List ℕ)) → left ≡ [] → IsSoFar rows left status old new → status ≡ status_of columns rows
   status_of_all rows left status old new e now = now.status_is ∙ ap (status_of columns) (seen_all rows left status old new e now)
 
-  pub all_written : (rows left : List (List ℕ)) (status : Status) (old new : Option (List ℕ)) → left ≡ [] → IsSoFar rows left status old new → Writes question number publications columns rows old new
-  all_written rows left status old new e now = subst (λ (seen : List (List ℕ)). Writes question number publications columns seen old new) (seen_all rows left status old new e now) now.writes
+  pub all_written : (rows left : List (List ℕ)) (status : Status) (old new : Option (List ℕ)) → left ≡ [] → IsSoFar rows left status old new → Writes question number carriers columns rows old new
+  all_written rows left status old new e now = subst (λ (seen : List (List ℕ)). Writes question number carriers columns seen old new) (seen_all rows left status old new e now) now.writes

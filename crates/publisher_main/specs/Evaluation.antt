@@ -13,10 +13,10 @@ use Rattle.sql_reader.specs.Rows.{row_of}
 use Rattle.pub_reader.specs.Statements.{catalog_by}
 use Rattle.sql_reader.specs.Written.{as_filter}
 use Rattle.pub_reader.specs.declared.catalog.Catalog.{Catalog}
-use Rattle.pub_reader.specs.declared.catalog.Publication.{Publication}
 use Rattle.sql_reader.specs.declared.error.ReadError.{ReadError}
 use Rattle.publisher_main.specs.Answers.{line_of}
 use Rattle.publisher_main.specs.BadRows.{IsUnreadable, bad_line, is_answered}
+use Rattle.publisher_main.specs.Carriers.{CarrierOf, carriers_of}
 use Rattle.publisher_main.specs.declared.bad_row.BadRow.TheVariants.{Invalid}
 use Rattle.publisher_main.specs.Inserts.{insert_line}
 use Rattle.publisher_main.specs.Memory.{is_memory}
@@ -36,19 +36,19 @@ status_of columns rows = if list_all (is_answered columns) rows then Done else R
 -- ---- what is written
 
 -- what the publications say of a row that fits, or its Insert message
-abbrev pub told : Question → ℕ → List Datum → List Publication → List ℕ
-told q.Answers number cells publications = line_of number cells publications
-told q.Insert number cells publications = insert_line number cells publications
+abbrev pub told : Question → ℕ → List Datum → List CarrierOf → List ℕ
+told q.Answers number cells carriers = line_of cells carriers
+told q.Insert number cells carriers = insert_line number cells carriers
 
 -- the line of a row that is read
 abbrev pub line_by : Option RowFault → List ℕ → List ℕ
 line_by None told = told
 line_by (Some fault) told = bad_line (Invalid fault)
 
-module _ (question : Question) (number : ℕ) (publications : List Publication) (columns : List Column) where
+module _ (question : Question) (number : ℕ) (carriers : List CarrierOf) (columns : List Column) where
   -- the line of a row that fits is what is told of it; of another, why it does not fit, or is not read
   abbrev pub IsLineOf : Result (List Datum) Fault → List ℕ → Type 0
-  IsLineOf (Ok cells) line = line ≡ line_by (row_fault columns cells) (told question number cells publications)
+  IsLineOf (Ok cells) line = line ≡ line_by (row_fault columns cells) (told question number cells carriers)
   IsLineOf (Err fault) line = IsUnreadable fault line
 
   abbrev pub IsLine : List ℕ → List ℕ → Type 0
@@ -78,7 +78,7 @@ pub record IsAnswered (question : Question) (input word : List ℕ) (old new : O
   pub named : table_of word catalog.tables.items ≡ Some number
   pub stands : slice_get catalog.tables.items number ≡ Some table
   pub answers : status ≡ status_of table.columns (lines_of cut.rest)
-  pub writes : Writes question number catalog.publications.items table.columns (lines_of cut.rest) old new
+  pub writes : Writes question number (carriers_of number catalog.publications.items) table.columns (lines_of cut.rest) old new
 
 -- the input has two parts, and the first is no catalog, which want of memory does not tell
 pub record IsBadCatalog (input : List ℕ) (error : ReadError) : Type 0 where

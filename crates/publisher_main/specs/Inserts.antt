@@ -1,5 +1,5 @@
 -- The Insert message of a row that some publication carries: PostgreSQL 15, "Row Filters", 31.3, and "Logical Replication Message Formats", 55.9.
-use Rattle.std.specs.Prelude.{ℕ, ◌+◌, ◌%◌, ◌^◌, Bool, true, false, ◌&&◌, if◌then◌else◌, nat_lt, length, List, Option, Some, codes}
+use Rattle.std.specs.Prelude.{ℕ, ◌+◌, ◌%◌, ◌^◌, Bool, true, false, ◌&&◌, if◌then◌else◌, nat_lt, length, List, codes}
 use Rattle.std.specs.List.{list_any}
 use Rattle.filter_tree.specs.Datum.{Datum}
 use Rattle.filter_tree.specs.declared.tri.Tri.TheVariants.{True}
@@ -7,23 +7,23 @@ use Rattle.pgoutput_msgs.specs.Spelling.{spelling_of}
 use Rattle.pgoutput_msgs.specs.ValueText.{cells_of}
 use Rattle.pgoutput_msgs.specs.declared.message.Msg.{Msg}
 use Rattle.pgoutput_msgs.specs.declared.message.Msg.TheVariants.{Insert}
-use Rattle.pub_reader.specs.declared.catalog.Publication.{Publication}
 use Rattle.publisher_main.specs.Answers.{answer_of}
+use Rattle.publisher_main.specs.Carriers.{CarrierOf}
 use Rattle.publisher_main.specs.Hexadecimal.{hexadecimal}
 use Rattle.publisher_main.specs.declared.answers.Answer.{Answer}
 use Rattle.publisher_main.specs.declared.answers.Answer.TheVariants.{All, Filtered}
 
 -- a row is carried where the whole table is, or where the filter is true
-abbrev pub is_through : Option Answer → Bool
-is_through (Some All) = true
-is_through (Some (Filtered True)) = true
+abbrev pub is_through : Answer → Bool
+is_through All = true
+is_through (Filtered True) = true
 is_through _ = false
 
-abbrev pub carries : ℕ → List Datum → Publication → Bool
-carries table cells publication = is_through (answer_of table cells publication.entries.items)
+abbrev pub carries : List Datum → CarrierOf → Bool
+carries cells carrier = is_through (answer_of cells carrier.filter)
 
-abbrev pub is_carried : ℕ → List Datum → List Publication → Bool
-is_carried table cells publications = list_any (carries table cells) publications
+abbrev pub is_carried : List Datum → List CarrierOf → Bool
+is_carried cells carriers = list_any (carries cells) carriers
 
 -- the OID of a table is 16384 and its number, as a number of 32 bits
 abbrev pub oid_of : ℕ → ℕ
@@ -40,7 +40,7 @@ abbrev pub has_room : List Datum → Bool
 has_room cells = nat_lt (length cells) 32768
 
 -- the message of a row that some publication carries, or `none`
-abbrev pub insert_line : ℕ → List Datum → List Publication → List ℕ
-insert_line table cells publications =
-    if has_room cells && is_carried table cells publications then message_text table cells
+abbrev pub insert_line : ℕ → List Datum → List CarrierOf → List ℕ
+insert_line table cells carriers =
+    if has_room cells && is_carried cells carriers then message_text table cells
     else codes "none"

@@ -1,6 +1,7 @@
 pub mod Answers
 pub mod BadRows
 pub mod BoundedView
+pub mod Carriers
 pub mod Certificates
 pub mod Checking
 pub mod CommandLine

@@ -1,13 +1,14 @@
 //! What the publications of a catalog say of a row.
 
-ghost use Rattle.std.specs.Prelude.{◌≡◌, [], OnOk, find};
-ghost use Rattle.std.specs.List.{list_any};
-ghost use Rattle.std.specs.Option.{option_copied};
+ghost use Rattle.std.specs.Prelude.{◌≡◌, [], OnOk, map};
+ghost use Rattle.std.specs.Option.{option_map};
 ghost use Rattle.std.specs.String.{string_bytes};
+ghost use Rattle.filter_tree.specs.Shape.{expr_of};
+ghost use Rattle.publisher_main.specs.Carriers.{carrier_of};
 ghost use Rattle.publisher_main.specs.Answers as spec;
 
-use filter_tree::{Row, Tri, eval};
-use pub_reader::{Entry, Publication};
+use crate::carriers::Carrier;
+use filter_tree::{Filter, Row, Tri, eval};
 use std::alloc::AllocError;
 
 /// What a publication that carries a table says of a row of it.
@@ -36,41 +37,19 @@ impl Answer {
     }
 }
 
-/// Whether some entry for a table has no filter.
-fn carries_all(entries: &[Entry], table: usize) -> bool
-    ensures { result ≡ list_any (spec.is_whole table) entries.now }
+/// What a publication with this filter says of a row.
+pub fn answer_of(filter: Option<&Filter>, row: &Row) -> Answer
+    ensures { result ≡ spec.answer_of row.now (option_map (λ filter. expr_of filter.now) filter.entry) }
 {
-    entries
-        .iter()
-        .any(|entry| entry.table == table && entry.filter.is_none())
-}
-
-/// The first entry for a table.
-fn entry_for(entries: &[Entry], table: usize) -> Option<&Entry>
-    ensures { option_copied result ≡ find (spec.is_for table) entries.now }
-{
-    entries.iter().find(|entry| entry.table == table)
-}
-
-/// What a publication with these entries says of a row of a table; `None` if it does not carry the table.
-pub fn said_of(entries: &[Entry], table: usize, row: &Row) -> Option<Answer>
-    ensures { result ≡ spec.answer_of table row.now entries.now }
-{
-    if carries_all(entries, table) {
-        return Some(Answer::All);
-    }
-    match entry_for(entries, table) {
-        None => None,
-        Some(entry) => match &entry.filter {
-            None => None,
-            Some(filter) => Some(Answer::Filtered(eval(filter, row))),
-        },
+    match filter {
+        None => Answer::All,
+        Some(filter) => Answer::Filtered(eval(filter, row)),
     }
 }
 
 /// Writes `name=answer` behind what stands on the line.
 fn push_answer(line: &mut String, name: &str, answer: Answer) -> Result<(), AllocError>
-    ensures { OnOk result (string_bytes line.new ≡ spec.with_said (string_bytes line.old) (Some (spec.spelled name.now answer))) }
+    ensures { OnOk result (string_bytes line.new ≡ spec.with_said (string_bytes line.old) (spec.spelled name.now answer)) }
 {
     if !line.is_empty() {
         line.push(' ')?;
@@ -81,32 +60,23 @@ fn push_answer(line: &mut String, name: &str, answer: Answer) -> Result<(), Allo
 }
 
 /// Writes what a publication says of a row behind what stands on the line.
-fn push_said(
-    line: &mut String,
-    publication: &Publication,
-    table: usize,
-    row: &Row,
-) -> Result<(), AllocError>
-    ensures { OnOk result (string_bytes line.new ≡ spec.with_said (string_bytes line.old) (spec.said_by table row.now publication.now)) }
+fn push_said(line: &mut String, carrier: Carrier<'_>, row: &Row) -> Result<(), AllocError>
+    ensures { OnOk result (string_bytes line.new ≡ spec.with_said (string_bytes line.old) (spec.said_by row.now (carrier_of carrier.entry))) }
 {
-    match said_of(publication.entries.as_slice(), table, row) {
-        None => Ok(()),
-        Some(answer) => push_answer(line, publication.name.as_str(), answer),
-    }
+    push_answer(line, carrier.name, answer_of(carrier.filter, row))
 }
 
 /// Writes `name=answer` for each publication that carries the table, with a space between.
 pub fn push_answers(
     line: &mut String,
-    publications: &[Publication],
-    table: usize,
+    carriers: &[Carrier<'_>],
     row: &Row,
 ) -> Result<(), AllocError>
     requires { string_bytes line.old ≡ [] }
-    ensures { OnOk result (string_bytes line.new ≡ spec.line_of table row.now publications.now) }
+    ensures { OnOk result (string_bytes line.new ≡ spec.line_of row.now (map carrier_of carriers.now)) }
 {
-    for publication in publications {
-        push_said(line, publication, table, row)?;
+    for carrier in carriers {
+        push_said(line, *carrier, row)?;
     }
     Ok(())
 }

@@ -1,18 +1,19 @@
 //! The Insert message of a row that some publication carries.
 
-ghost use Rattle.std.specs.Prelude.{◌≡◌, ◌<◌, ◌^◌, ◌++◌, [], List, length, IfOk, OnOk};
+ghost use Rattle.std.specs.Prelude.{◌≡◌, ◌<◌, ◌^◌, ◌++◌, [], List, length, map, IfOk, OnOk};
 ghost use Rattle.std.specs.String.{string_bytes};
 ghost use Rattle.filter_tree.specs.Valid.{IsValid};
 ghost use Rattle.filter_tree.specs.declared.table.Column.{Column};
 ghost use Rattle.pgoutput_msgs.specs.Spelling.{IsWithinRange};
+ghost use Rattle.publisher_main.specs.Carriers.{carrier_of};
 ghost use Rattle.publisher_main.specs.Inserts as spec;
 
-use crate::answers::{Answer, said_of};
+use crate::answers::{Answer, answer_of};
+use crate::carriers::Carrier;
 use crate::hexadecimal::push_hexadecimal;
 use crate::tables::CatalogTable;
 use filter_tree::{Row, Tri};
 use pgoutput_msgs::{Msg, encode, tuple_of};
-use pub_reader::Publication;
 use std::alloc::{AllocError, Global};
 
 /// The OID of the first table of a catalog. The others follow in their order.
@@ -25,22 +26,25 @@ const OID_COUNT: usize = 1 << 32;
 const MAX_COLUMNS: usize = 32_767;
 
 /// Whether a publication carries the row.
-fn carries(publication: &Publication, table: usize, row: &Row) -> bool
-    ensures { result ≡ spec.carries table row.now publication.now }
+fn carries(carrier: Carrier<'_>, row: &Row) -> bool
+    ensures { result ≡ spec.carries row.now (carrier_of carrier.entry) }
 {
     matches!(
-        said_of(publication.entries.as_slice(), table, row),
-        Some(Answer::All | Answer::Filtered(Tri::True))
+        answer_of(carrier.filter, row),
+        Answer::All | Answer::Filtered(Tri::True)
     )
 }
 
 /// Whether some publication carries the row.
-fn is_carried(publications: &[Publication], table: usize, row: &Row) -> bool
-    ensures { result ≡ spec.is_carried table row.now publications.now }
+fn is_carried(carriers: &[Carrier<'_>], row: &Row) -> bool
+    ensures { result ≡ spec.is_carried row.now (map carrier_of carriers.now) }
 {
-    publications
-        .iter()
-        .any(|publication| carries(publication, table, row))
+    for carrier in carriers {
+        if carries(*carrier, row) {
+            return true;
+        }
+    }
+    false
 }
 
 /// The message that a row was inserted into the table of this number.
@@ -82,9 +86,9 @@ pub fn push_insert(
 ) -> Result<(), AllocError>
     requires empty { string_bytes line.old ≡ [] }
     requires fits { IsValid carried.table.now.columns row.now }
-    ensures { OnOk result (string_bytes line.new ≡ spec.insert_line carried.entry.number row.now carried.entry.publications.now) }
+    ensures { OnOk result (string_bytes line.new ≡ spec.insert_line carried.entry.number row.now (map carrier_of carried.entry.carriers.now)) }
 {
-    if row.len() <= MAX_COLUMNS && is_carried(carried.publications, carried.number, row) {
+    if row.len() <= MAX_COLUMNS && is_carried(carried.carriers, row) {
         return push_message(alloc, line, carried, row);
     }
     line.push_str("none")

@@ -5,6 +5,7 @@
 mod answers;
 mod arguments;
 mod bad_row;
+mod carriers;
 mod certificates;
 #[cfg(test)]
 mod check_tests;

@@ -3,15 +3,15 @@
 ghost use Rattle.std.specs.Prelude.{◌≡◌, ◌<◌, length, IfSome};
 ghost use Rattle.publisher_main.specs.Tables.{schema_of, name_of, table_of};
 
+use crate::carriers::Carrier;
 use filter_tree::Table;
-use pub_reader::Publication;
 
-/// A table of a catalog: its number there, and the publications of which some may carry it.
+/// A table of a catalog: its number there, and the publications that carry it.
 #[derive(Clone, Copy)]
 pub struct CatalogTable<'a> {
     pub number: usize,
     pub table: &'a Table,
-    pub publications: &'a [Publication],
+    pub carriers: &'a [Carrier<'a>],
 }
 
 /// The schema and the name of a table that a word names.

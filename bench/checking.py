@@ -1,0 +1,111 @@
+"""`check` on certificates of up to 1,000,000 nodes, for 32 ranges of a key.
+
+Such a certificate tells the ranges apart by halves, as `make` does. Behind 36 splits, where the first subscriber is found
+or no value is left, it splits by further bounds that tell nothing new and only make nodes: as many as are wanted, in a
+tree that is as flat as can be.
+"""
+
+import families
+from measuring import print_table, rate
+
+# A tree has 3 nodes more for each split.
+SIZES = (1_000, 30_001, 1_000_000)
+SUBSCRIBERS = 32
+HEADS = ["Leaves", "Nodes", "Splits on a path", "pgshard check, ms", "thousand nodes/s", "answer"]
+
+
+def lower(at):
+    """The number of the atom `id >= 100 * at`, for at above 0."""
+    return 2 * at - 1
+
+
+def upper(at):
+    """The number of the atom `id < 100 * (at + 1)`, for at below the last."""
+    return 2 * at
+
+
+def split(atom, if_true, if_false):
+    """A split by an atom that is never null."""
+    return f"s {atom} {if_true} {if_false} n {atom}"
+
+
+def nodes(tree):
+    """The number of nodes: each has a letter and a number."""
+    return (tree.count(" ") + 1) // 2
+
+
+def closed(atoms, tree):
+    """The tree, where each of some atoms is found false; where one is true, no value is left."""
+    for atom in atoms:
+        tree = split(atom, "e 0", tree)
+    return tree
+
+
+def told_apart(first, behind, found, missing):
+    """A tree for the rows of the subscribers from the first on and before the other, which halves them."""
+    if behind - first == 1:
+        return found if first == 0 else f"o {first}"
+    middle = (first + behind) // 2
+    below = closed(map(lower, range(middle, behind)), told_apart(first, middle, found, missing))
+    above = closed(map(upper, range(first, middle - 1)), told_apart(middle, behind, found, missing))
+    return split(upper(middle - 1), below, split(lower(middle), above, missing if middle == 1 else "e 0"))
+
+
+def further():
+    """Upper bounds that no path to a row of the first subscriber has."""
+    halves = {SUBSCRIBERS >> it for it in range(1, SUBSCRIBERS.bit_length())}
+    return [upper(at) for at in range(SUBSCRIBERS - 1) if at + 1 not in halves]
+
+
+def filled(count, atoms, leaf):
+    """A tree of so many nodes, which splits by these atoms, with one kind of leaf."""
+    if count < 4:
+        return leaf
+    splits = (count - 4) // 3
+    branches = [filled(1 + 3 * ((splits + rest) // 3), atoms[1:], leaf) for rest in range(3)]
+    return f"s {atoms[0]} " + " ".join(branches)
+
+
+def owners(count):
+    """The tree whose further leaves say that the first subscriber takes the row."""
+    return told_apart(0, SUBSCRIBERS, filled(count, further(), "o 0"), "e 0")
+
+
+def empties(count):
+    """The tree whose further leaves say that no value is left."""
+    return told_apart(0, SUBSCRIBERS, "o 0", filled(count, further(), "e 0"))
+
+
+LEAVES = {"o": owners, "e": empties}
+
+
+def certificate(kind, size):
+    """The certificate of so many nodes."""
+    return LEAVES[kind](size - nodes(LEAVES[kind](1)) + 1)
+
+
+def depth(tree):
+    """The most splits on a path."""
+    deepest, open_branches = 0, []
+    for letter in tree.split()[::2]:
+        while open_branches and open_branches[-1] == 0:
+            open_branches.pop()
+        if open_branches:
+            open_branches[-1] -= 1
+        if letter == "s":
+            open_branches.append(3)
+            deepest = max(deepest, len(open_branches))
+    return deepest
+
+
+def row(setup, folder, kind, size):
+    path = folder / "certificate"
+    tree = certificate(kind, size)
+    path.write_text(f"{families.catalog(families.ranges(SUBSCRIBERS))}%%\n{tree}\n")
+    words = [setup.program, "check"]
+    time = setup.milliseconds(words, path)
+    return [kind, nodes(tree), depth(tree), f"{time:.1f}", rate(nodes(tree), time), setup.answer(words, path).strip()]
+
+
+def measure(setup, folder):
+    print_table(HEADS, (row(setup, folder, kind, size) for kind in LEAVES for size in SIZES))

@@ -1,0 +1,60 @@
+"""`eval` on a million rows, and PostgreSQL's count of the rows that each filter lets through."""
+
+import os
+import re
+from collections import Counter
+
+import postgres
+import rows
+from measuring import print_table, rate
+
+COUNTS = (2, 8)
+HEADS = ["Family", "Publications", "pgshard eval, ms", "thousand rows/s", "query, ms", "query by several processes, ms", "COPY and query, ms", "thousand rows/s", "counts"]
+
+
+def carried(answer, count):
+    """How many rows each publication carries, by the lines of `eval`."""
+    found = Counter(re.findall(r"p(\d+)=true", answer))
+    return [found[str(at)] for at in range(count)]
+
+
+def database_times(connection, setup, given, path):
+    """Times of the query in one process, in as many as the server takes, and of COPY with the query; and the counts."""
+    connection.ask(f"DROP TABLE IF EXISTS {rows.TABLE}; CREATE UNLOGGED TABLE {rows.TABLE} ({given.columns.replace(' PRIMARY KEY', '')});")
+    copy = f"COPY {rows.TABLE} FROM '{path}';"
+    connection.ask("SET max_parallel_workers_per_gather = 0;")
+    with connection.pinned(setup.core):
+        # Between two runs the table is emptied, and that is not timed.
+        copied = []
+        for _ in range(setup.runs):
+            connection.ask(f"TRUNCATE {rows.TABLE};")
+            loading, _ = connection.milliseconds(copy, 1)
+            asking, _ = connection.milliseconds(given.counting(), 1)
+            copied.append(loading + asking)
+        connection.ask(f"ANALYZE {rows.TABLE};")
+        alone, lines = connection.milliseconds(given.counting(), setup.runs)
+    connection.ask("RESET max_parallel_workers_per_gather;")
+    together, _ = connection.milliseconds(given.counting(), setup.runs)
+    return alone, together, sorted(copied)[len(copied) // 2], [int(it) for it in lines[0].split("|")]
+
+
+def row(setup, folder, connection, name, count):
+    given = rows.FAMILIES[name](count)
+    text, copy_text = folder / "input", folder / "rows"
+    given.write_program_input(text)
+    words = [setup.program, "eval", rows.TABLE]
+    time = setup.milliseconds(words, text)
+    counts = carried(setup.answer(words, text), count)
+    given.write_copy_input(copy_text)
+    os.chmod(copy_text, 0o644)
+    alone, together, copied, theirs = database_times(connection, setup, given, copy_text)
+    told = "the same" if counts == theirs else f"{counts} and {theirs}"
+    return [name, count, f"{time:.0f}", rate(rows.ROWS, time), f"{alone:.0f}", f"{together:.0f}", f"{copied:.0f}", rate(rows.ROWS, copied), told]
+
+
+def measure(setup):
+    if postgres.folder_of_programs() is None:
+        print("PostgreSQL 15 is not installed, which `eval` is held against.\n")
+        return
+    with postgres.server() as (folder, connection):
+        print_table(HEADS, (row(setup, folder, connection, name, count) for name in rows.FAMILIES for count in COUNTS))

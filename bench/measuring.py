@@ -1,0 +1,74 @@
+"""Times of whole programs, the machine that they are taken on, and tables of them."""
+
+import contextlib
+import os
+import pathlib
+import statistics
+import subprocess
+import time
+from dataclasses import dataclass
+
+ROOT = pathlib.Path(__file__).resolve().parent.parent
+BUILT = ROOT / "crates" / "publisher_main" / "out" / "publisher_main"
+
+
+@dataclass
+class Setup:
+    """The program that is measured, the core that it is kept on (None: any), and how often each run is made."""
+
+    program: str
+    core: int | None = None
+    runs: int = 5
+
+    @contextlib.contextmanager
+    def pinned(self):
+        """Keeps this process, and those that it starts, on the core."""
+        if self.core is None:
+            yield
+            return
+        before = os.sched_getaffinity(0)
+        os.sched_setaffinity(0, {self.core})
+        try:
+            yield
+        finally:
+            os.sched_setaffinity(0, before)
+
+    def milliseconds(self, words, path, runs=None):
+        """The median time of some runs of a program whose input is a file, its start and its end included."""
+        times = []
+        with self.pinned():
+            for _ in range(runs or self.runs):
+                with open(path, "rb") as text:
+                    start = time.perf_counter()
+                    subprocess.run(words, stdin=text, stdout=subprocess.DEVNULL, stderr=subprocess.DEVNULL)
+                    times.append(1000 * (time.perf_counter() - start))
+        return statistics.median(times)
+
+    def answer(self, words, path):
+        """What a program prints on a file."""
+        with open(path, "rb") as text:
+            return subprocess.run(words, stdin=text, capture_output=True, text=True).stdout
+
+
+def machine():
+    """The machine, and how much it does besides."""
+    with open("/proc/cpuinfo") as file:
+        models = [line.split(":", 1)[1].strip() for line in file if line.startswith("model name")]
+    with open("/proc/meminfo") as file:
+        memory = int(file.readline().split()[1]) / 1024**2
+    load = " ".join(f"{it:.1f}" for it in os.getloadavg())
+    return f"{len(models)} processors, {models[0]}, {memory:.0f} GB; load averages of 1, 5 and 15 minutes: {load}"
+
+
+def rate(count, milliseconds):
+    """So many in such a time, in thousands a second."""
+    return f"{count / milliseconds:,.0f}"
+
+
+def print_table(heads, rows):
+    """Prints a table, each row as soon as it is known."""
+    print("| " + " | ".join(heads) + " |")
+    print("|" + "---|" * len(heads), flush=True)
+    for row in rows:
+        print("| " + " | ".join(str(it) for it in row) + " |", flush=True)
+    print()

@@ -1,0 +1,97 @@
+"""A PostgreSQL server of its own, in a folder that is gone afterwards, and one connection to it by `psql`."""
+
+import contextlib
+import glob
+import os
+import pathlib
+import pwd
+import shutil
+import statistics
+import subprocess
+import tempfile
+
+USER = "postgres"
+
+
+def folder_of_programs():
+    """Where Debian's package has initdb and pg_ctl of PostgreSQL 15, or None."""
+    found = glob.glob("/usr/lib/postgresql/15/bin/pg_ctl")
+    return pathlib.Path(found[0]).parent if found and shutil.which("psql") else None
+
+
+def as_user(words):
+    """The words to run a program as the server's user, which is not root."""
+    return ["runuser", "-u", USER, "--", *words] if os.geteuid() == 0 else words
+
+
+def run(words):
+    subprocess.run([str(it) for it in words], check=True, stdout=subprocess.DEVNULL, cwd="/tmp")
+
+
+class Connection:
+    """`psql`, whose backend stays the same."""
+
+    def __init__(self, folder):
+        words = as_user(["psql", "-X", "-q", "-A", "-t", "-v", "ON_ERROR_STOP=1", "-h", str(folder), "-U", USER, "postgres"])
+        self.psql = subprocess.Popen(words, stdin=subprocess.PIPE, stdout=subprocess.PIPE, text=True, cwd="/tmp")
+        self.ask("SET client_min_messages = warning;")
+
+    def ask(self, command):
+        """The lines that a command prints."""
+        self.psql.stdin.write(f"{command}\n\\echo ended\n")
+        self.psql.stdin.flush()
+        lines = []
+        for line in self.psql.stdout:
+            if line == "ended\n":
+                return lines
+            lines.append(line.strip())
+        raise RuntimeError(f"psql ended at {command!r}")
+
+    def milliseconds(self, command, runs):
+        """The median time of some runs of a command, as psql tells it, and what the last one printed."""
+        self.ask("\\timing on")
+        times = []
+        for _ in range(runs):
+            *lines, told = self.ask(command)
+            times.append(float(told.split()[1]))
+        self.ask("\\timing off")
+        return statistics.median(times), lines
+
+    @contextlib.contextmanager
+    def pinned(self, core):
+        """Keeps the backend on a core, where that may be done."""
+        if core is None or os.geteuid() != 0:
+            yield
+            return
+        backend = int(self.ask("SELECT pg_backend_pid();")[0])
+        before = os.sched_getaffinity(backend)
+        os.sched_setaffinity(backend, {core})
+        try:
+            yield
+        finally:
+            os.sched_setaffinity(backend, before)
+
+    def close(self):
+        self.psql.stdin.close()
+        self.psql.wait()
+
+
+@contextlib.contextmanager
+def server():
+    """A new server, which listens to a socket in its folder alone: the folder, and a connection."""
+    programs = folder_of_programs()
+    with tempfile.TemporaryDirectory(prefix="pgshard_bench_", dir="/tmp") as name:
+        folder = pathlib.Path(name)
+        if os.geteuid() == 0:
+            user = pwd.getpwnam(USER)
+            os.chown(folder, user.pw_uid, user.pw_gid)
+        data = folder / "data"
+        run(as_user([programs / "initdb", "-D", data, "-U", USER, "-A", "trust", "--no-sync"]))
+        options = f"-k {folder} -c listen_addresses='' -c shared_buffers=512MB -c max_wal_size=4GB"
+        run(as_user([programs / "pg_ctl", "-D", data, "-o", options, "-l", folder / "log", "-w", "start"]))
+        try:
+            connection = Connection(folder)
+            yield folder, connection
+            connection.close()
+        finally:
+            run(as_user([programs / "pg_ctl", "-D", data, "-m", "immediate", "-w", "stop"]))

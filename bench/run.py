@@ -1,0 +1,58 @@
+#!/usr/bin/env python3
+"""Times of the program's commands, as the tables of bench/README.md have them.
+
+    bench/run.py [--program FILE] [--core N] [--runs N] [PART ..]
+
+The parts are start, large, eval, check and make; without one, all are run. The program has to be built, which the script
+`pgshard` does. PostgreSQL 15 and z3 are left out where they are not installed.
+"""
+
+import argparse
+import os
+import pathlib
+import sys
+import tempfile
+
+import checking
+import evaluation
+import sharding
+import starting
+from measuring import BUILT, Setup, machine
+
+PARTS = {
+    "start": ("The start of the program", starting.measure_small),
+    "large": ("Catalogs near the limits", starting.measure_large),
+    "eval": ("eval", lambda setup, _: evaluation.measure(setup)),
+    "check": ("check", checking.measure),
+    "make": ("make", sharding.measure),
+}
+
+
+def arguments():
+    parser = argparse.ArgumentParser(description="Times of the program's commands.")
+    parser.add_argument("--program", default=str(BUILT), help="the built program")
+    parser.add_argument("--core", type=int, help="keep what is measured on this processor")
+    parser.add_argument("--runs", type=int, default=5, help="how often each run is made")
+    parser.add_argument("parts", nargs="*", metavar="PART", help=f"of {', '.join(PARTS)}; without one, all")
+    return parser.parse_args()
+
+
+def main():
+    given = arguments()
+    unknown = [it for it in given.parts if it not in PARTS]
+    if unknown:
+        sys.exit(f"there is no part {unknown[0]}; the parts are {', '.join(PARTS)}")
+    if not os.access(given.program, os.X_OK):
+        sys.exit(f"{given.program} is not built; ./pgshard make < examples/shop.sql builds it")
+    setup = Setup(given.program, given.core, given.runs)
+    print(f"{machine()}\n")
+    with tempfile.TemporaryDirectory(prefix="pgshard_bench_") as folder:
+        for it in given.parts or PARTS:
+            heading, measure = PARTS[it]
+            print(f"## {heading}\n")
+            measure(setup, pathlib.Path(folder))
+    print(machine())
+
+
+if __name__ == "__main__":
+    main()
