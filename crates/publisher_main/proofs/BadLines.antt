@@ -5,7 +5,7 @@ use Rattle.filter_tree.specs.Datum.{Datum}
 use Rattle.filter_tree.specs.Valid.{row_fault}
 use Rattle.filter_tree.specs.declared.table.Column.{Column}
 use Rattle.filter_tree.specs.declared.validity.RowFault.{RowFault}
-use Rattle.pub_reader.specs.declared.catalog.Publication.{Publication}
+use Rattle.publisher_main.specs.Carriers.{CarrierOf}
 use Rattle.sql_reader.specs.Reading.{Fault, Tells, TellsOf, fault}
 use Rattle.sql_reader.specs.Rows.{row_of}
 use Rattle.sql_reader.specs.Wrong.{Wrong, wrong_of}
@@ -42,21 +42,21 @@ says_wrong e.NoKey h = record { wrong = w.NoKey; is = refl }
 says_wrong e.TableTwice h = record { wrong = w.TableTwice; is = refl }
 says_wrong e.OutOfMemory h = absurd cc
 
-module _ (question : Question) (number : ℕ) (publications : List Publication) (columns : List Column) where
+module _ (question : Question) (number : ℕ) (carriers : List CarrierOf) (columns : List Column) where
   unreadable_line : (error : ReadError) (wrong : Wrong) (outcome : Result (List Datum) Fault) (line : List ℕ) → wrong_of error.kind ≡ Some wrong → Tells error outcome
-      → line ≡ bad_line (Unreadable error) → IsLineOf question number publications columns outcome line
+      → line ≡ bad_line (Unreadable error) → IsLineOf question number carriers columns outcome line
   unreadable_line error wrong outcome line is tells same =
       let found : outcome ≡ Err (fault error.place wrong) = subst (λ (w : Option Wrong). TellsOf error.place w outcome) is tells in
-      subst (λ (o : Result (List Datum) Fault). IsLineOf question number publications columns o line) (sym found) (record { error = error; tells = (refl, is); is = same })
+      subst (λ (o : Result (List Datum) Fault). IsLineOf question number carriers columns o line) (sym found) (record { error = error; tells = (refl, is); is = same })
 
   invalid_line : (cells : List Datum) (wrong : RowFault) (outcome : Result (List Datum) Fault) (line : List ℕ) → outcome ≡ Ok cells → row_fault columns cells ≡ Some wrong
-      → line ≡ bad_line (Invalid wrong) → IsLineOf question number publications columns outcome line
+      → line ≡ bad_line (Invalid wrong) → IsLineOf question number carriers columns outcome line
   invalid_line cells wrong outcome line read bad same =
-      subst (λ (o : Result (List Datum) Fault). IsLineOf question number publications columns o line) (sym read)
-      (same ∙ sym (ap (λ (f : Option RowFault). line_by f (told question number cells publications)) bad))
+      subst (λ (o : Result (List Datum) Fault). IsLineOf question number carriers columns o line) (sym read)
+      (same ∙ sym (ap (λ (f : Option RowFault). line_by f (told question number cells carriers)) bad))
 
   -- a row that has no answer has the line of its fault
-  pub bad_told : (text line : List ℕ) (bad : BadRow) → IsReading columns text (Err bad) → is_out_of_memory bad ≡ false → line ≡ bad_line bad → IsLine question number publications columns text line
+  pub bad_told : (text line : List ℕ) (bad : BadRow) → IsReading columns text (Err bad) → is_out_of_memory bad ≡ false → line ≡ bad_line bad → IsLine question number carriers columns text line
   bad_told text line (Unreadable error) reading known same =
       let says = says_wrong error.kind known in
       unreadable_line error says.wrong (row_of text) line says.is reading same

@@ -1,5 +1,5 @@
 -- The Insert message of a row that some publication carries: PostgreSQL 15, "Row Filters", 31.3, and "Logical Replication Message Formats", 55.9.
-use Rattle.std.specs.Prelude.{ℕ, ◌+◌, ◌%◌, ◌^◌, Bool, true, false, ◌&&◌, if◌then◌else◌, nat_lt, length, List, codes}
+use Rattle.std.specs.Prelude.{ℕ, ◌+◌, Bool, true, false, if◌then◌else◌, List, codes}
 use Rattle.std.specs.List.{list_any}
 use Rattle.filter_tree.specs.Datum.{Datum}
 use Rattle.filter_tree.specs.declared.tri.Tri.TheVariants.{True}
@@ -25,9 +25,9 @@ carries cells carrier = is_through (answer_of cells carrier.filter)
 abbrev pub is_carried : List Datum → List CarrierOf → Bool
 is_carried cells carriers = list_any (carries cells) carriers
 
--- the OID of a table is 16384 and its number, as a number of 32 bits
+-- the OID of a table is 16384 and its number
 abbrev pub oid_of : ℕ → ℕ
-oid_of table = (16384 + table) % 2 ^ 32
+oid_of table = 16384 + table
 
 abbrev pub insert_of : ℕ → List Datum → Msg
 insert_of table cells = Insert (oid_of table) (cells_of cells)
@@ -35,12 +35,8 @@ insert_of table cells = Insert (oid_of table) (cells_of cells)
 abbrev pub message_text : ℕ → List Datum → List ℕ
 message_text table cells = hexadecimal (spelling_of (insert_of table cells))
 
--- the number of columns is a signed number of 16 bits; the tables of a catalog have at most 100
-abbrev pub has_room : List Datum → Bool
-has_room cells = nat_lt (length cells) 32768
-
 -- the message of a row that some publication carries, or `none`
 abbrev pub insert_line : ℕ → List Datum → List CarrierOf → List ℕ
 insert_line table cells carriers =
-    if has_room cells && is_carried cells carriers then message_text table cells
+    if is_carried cells carriers then message_text table cells
     else codes "none"

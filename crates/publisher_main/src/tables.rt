@@ -1,17 +1,20 @@
 //! The table of a catalog that a word names.
 
-ghost use Rattle.std.specs.Prelude.{◌≡◌, ◌<◌, length, IfSome};
+ghost use Rattle.std.specs.Prelude.{◌≡◌, ◌<◌, ◌≤◌, length, IfSome};
 ghost use Rattle.publisher_main.specs.Tables.{schema_of, name_of, table_of};
 
 use crate::carriers::Carrier;
 use filter_tree::Table;
 
-/// A table of a catalog: its number there, and the publications that carry it.
+/// A table of a catalog: its number there, and the publications that carry it. A catalog has at most 64 tables of at most
+/// 100 columns.
 #[derive(Clone, Copy)]
 pub struct CatalogTable<'a> {
     pub number: usize,
     pub table: &'a Table,
     pub carriers: &'a [Carrier<'a>],
+    ghost early: { number < 64 },
+    ghost narrow: { length table.now.columns ≤ 100 },
 }
 
 /// The schema and the name of a table that a word names.
