@@ -1,5 +1,5 @@
 -- What each turn of a rule keeps, a list or a chain of it keeps.
-use Rattle.std.proofs.Common.{◌≡◌, ℕ, zero, suc, Bool, true, false}
+use Rattle.std.proofs.Common.{ℕ, zero, suc, Bool, true, false}
 use Rattle.std.specs.Prelude.{nat_lt, if◌then◌else◌, Option, Some, None, Result, Ok, Err}
 use Rattle.sql_reader.specs.declared.item.Item.{Item}
 use Rattle.sql_reader.specs.Items.{Items, size}

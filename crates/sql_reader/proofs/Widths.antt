@@ -1,6 +1,6 @@
 -- A table has at most 100 columns.
 use Rattle.std.proofs.Common.{◌≡◌, ℕ, zero, suc, ◌<◌, ◌≤◌, Bool, true, false, List, [], ◌∷◌, ◌++◌, length, refl, ap, arith}
-use Rattle.std.specs.Prelude.{nat_le, if◌then◌else◌, Option, Some, None, Ok, Err}
+use Rattle.std.specs.Prelude.{nat_le, if◌then◌else◌, Option, Some, Ok, Err}
 use Rattle.std.specs.Option.{is_some}
 use Rattle.std.proofs.lemmas.Bool.Decides.{nat_tests}
 use Rattle.std.proofs.lemmas.List.{length_push}
@@ -9,11 +9,11 @@ use Rattle.sql_reader.specs.declared.word.Keyword.TheVariants as k
 use Rattle.sql_reader.specs.declared.item.Item.{Item}
 use Rattle.sql_reader.specs.declared.item.Item.TheVariants as i
 use Rattle.sql_reader.specs.declared.name.PlacedName.{PlacedName}
-use Rattle.sql_reader.specs.Columns.{Parts, no_parts, new_column, required, column_type, constraints, has_key, column_element, once_in_key, key_column, key_columns, first_key, key_element, element_by, element, elements, left_out}
+use Rattle.sql_reader.specs.Columns.{Parts, no_parts, new_column, required, column_type, constraints, has_key, column_element, once_in_key, key_column, key_columns, first_key, key_element, element_by, element, elements}
 use Rattle.sql_reader.specs.Expressions.{find_column, known_column}
 use Rattle.sql_reader.specs.Items.{Items}
 use Rattle.sql_reader.specs.Names.{name}
-use Rattle.sql_reader.specs.Reading.{Fault, Verdict, with_rest, expect, item_ahead, refuse}
+use Rattle.sql_reader.specs.Reading.{Fault, with_rest, expect, item_ahead, refuse}
 use Rattle.sql_reader.specs.Turns.{link}
 use Rattle.sql_reader.proofs.Keeping.{Gives, then-gives, any-gives, chosen_rule-gives, repeat-gives, link-gives}
 

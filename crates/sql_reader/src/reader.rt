@@ -18,6 +18,7 @@ pub enum Ahead {
 }
 
 /// A reader of the tokens of a text, which looks at one token before it takes it.
+/// Where it stands after a name, a filter or the elements of a table were refused, no contract says.
 #[derive(Drop)]
 pub struct Reader<'a> {
     text: &'a str,
