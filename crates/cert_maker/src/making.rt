@@ -1,12 +1,13 @@
 //! The test of what was found, which alone is answered.
 
-ghost use Rattle.std.specs.Prelude.{◌≡◌, IfOk};
+ghost use Rattle.std.specs.Prelude.{◌≡◌, ◌≤◌, IfOk, length};
 ghost use Rattle.pub_reader.specs.CatalogView.{catalog_of};
 ghost use Rattle.replica_identity.specs.PlanView.{plan_view};
 ghost use Rattle.shard_checker.specs.CatalogRefusal.{table_shares};
 ghost use Rattle.shard_checker.specs.Owners.{shares_of};
 ghost use Rattle.cert_maker.specs.Answers.{IfCert, IfCounter, IsAccepted, IsCounter};
 ghost use Rattle.cert_maker.specs.Takers.{IsRight};
+ghost use Rattle.cert_maker.specs.declared.made.Made.TheVariants.{Unknown};
 
 use crate::made::Made;
 use crate::search::{Found, look};
@@ -97,6 +98,7 @@ pub fn make<'b>(
     plan: &Plan,
     table: usize,
 ) -> Made<'b>
+    ensures absent { length catalog.now.tables.items ≤ table → result ≡ Unknown }
     ensures cert { IfCert result (IsAccepted (catalog_of catalog.now) (plan_view plan.now) table) }
     ensures counter { IfCounter result (IsCounter (catalog_of catalog.now) (plan_view plan.now) table) }
 {
