@@ -11,7 +11,7 @@ from measuring import print_table, rate
 # A tree has 3 nodes more for each split.
 SIZES = (1_000, 30_001, 1_000_000)
 SUBSCRIBERS = 32
-HEADS = ["Leaves", "Nodes", "Splits on a path", "pgshard check, ms", "thousand nodes/s", "answer"]
+HEADS = ["Leaves", "Nodes", "Splits on a path", "check, ms", "thousand nodes/s", "Answer"]
 
 
 def lower(at):
