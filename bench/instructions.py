@@ -59,7 +59,7 @@ def all_rows(setup, path):
         for count in (2, 8):
             yield eval_row(setup, path, name, count)
     yield read_row(setup, path)
-    for kind in checking.LEAVES:
+    for kind in checking.KINDS:
         yield check_row(setup, path, kind)
     for name in ("ranges", "remainders", "text_lists"):
         yield make_row(setup, path, name, 32)

@@ -3,7 +3,7 @@
 import families
 from measuring import print_table
 
-RUNS = 101
+RUNS = 51
 TABLES = 64
 PUBLICATIONS = 64
 SUBSCRIPTIONS = 32
