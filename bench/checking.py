@@ -11,7 +11,7 @@ from measuring import print_table, rate
 # A tree has 3 nodes more for each split.
 SIZES = (1_000, 30_001, 1_000_000)
 SUBSCRIBERS = 32
-HEADS = ["Leaves", "Nodes", "Splits on a path", "pgshard check, ms", "thousand nodes/s", "answer"]
+HEADS = ["Leaves", "Nodes", "Splits on a path", "check, ms", "thousand nodes/s", "Answer"]
 
 
 def lower(at):
@@ -41,20 +41,31 @@ def closed(atoms, tree):
     return tree
 
 
-def told_apart(first, behind, found, missing):
-    """A tree for the rows of the subscribers from the first on and before the other, which halves them."""
+def told_apart(first, behind, spot, found, missing):
+    """A tree for the rows of the subscribers from the first on and before the other, which halves them.
+
+    One tree stands where the subscriber `spot` takes the rows, and one where no value is left between the first two."""
     if behind - first == 1:
-        return found if first == 0 else f"o {first}"
+        return found if first == spot else f"o {first}"
     middle = (first + behind) // 2
-    below = closed(map(lower, range(middle, behind)), told_apart(first, middle, found, missing))
-    above = closed(map(upper, range(first, middle - 1)), told_apart(middle, behind, found, missing))
+    below = closed(map(lower, range(middle, behind)), told_apart(first, middle, spot, found, missing))
+    above = closed(map(upper, range(first, middle - 1)), told_apart(middle, behind, spot, found, missing))
     return split(upper(middle - 1), below, split(lower(middle), above, missing if middle == 1 else "e 0"))
 
 
-def further():
-    """Upper bounds that no path to a row of the first subscriber has."""
-    halves = {SUBSCRIBERS >> it for it in range(1, SUBSCRIBERS.bit_length())}
-    return [upper(at) for at in range(SUBSCRIBERS - 1) if at + 1 not in halves]
+def bounds_on_path(spot):
+    """The atoms by which that tree splits on the way to a subscriber."""
+    first, behind, atoms = 0, SUBSCRIBERS, set()
+    while behind - first > 1:
+        middle = (first + behind) // 2
+        atoms.add(upper(middle - 1))
+        if spot < middle:
+            atoms |= {lower(at) for at in range(middle, behind)}
+            behind = middle
+        else:
+            atoms |= {lower(middle), *(upper(at) for at in range(first, middle - 1))}
+            first = middle
+    return atoms
 
 
 def filled(count, atoms, leaf):
@@ -66,22 +77,20 @@ def filled(count, atoms, leaf):
     return f"s {atoms[0]} " + " ".join(branches)
 
 
-def owners(count):
-    """The tree whose further leaves say that the first subscriber takes the row."""
-    return told_apart(0, SUBSCRIBERS, filled(count, further(), "o 0"), "e 0")
+def tree_of(count, spot, leaf):
+    """The tree whose further nodes stand where a subscriber takes the rows, or for a leaf `e` where no value is left."""
+    further = sorted(set(range(2 * SUBSCRIBERS - 2)) - bounds_on_path(spot))
+    tree = filled(count, further, leaf)
+    return told_apart(0, SUBSCRIBERS, spot, f"o {spot}", tree) if leaf == "e 0" else told_apart(0, SUBSCRIBERS, spot, tree, "e 0")
 
 
-def empties(count):
-    """The tree whose further leaves say that no value is left."""
-    return told_apart(0, SUBSCRIBERS, "o 0", filled(count, further(), "e 0"))
-
-
-LEAVES = {"o": owners, "e": empties}
+LAST = SUBSCRIBERS - 1
+KINDS = {"o 0": (0, "o 0"), f"o {LAST}": (LAST, f"o {LAST}"), "e 0": (0, "e 0")}
 
 
 def certificate(kind, size):
     """The certificate of so many nodes."""
-    return LEAVES[kind](size - nodes(LEAVES[kind](1)) + 1)
+    return tree_of(size - nodes(tree_of(1, *KINDS[kind])) + 1, *KINDS[kind])
 
 
 def depth(tree):
@@ -108,4 +117,4 @@ def row(setup, folder, kind, size):
 
 
 def measure(setup, folder):
-    print_table(HEADS, (row(setup, folder, kind, size) for kind in LEAVES for size in SIZES))
+    print_table(HEADS, (row(setup, folder, kind, size) for kind in KINDS for size in SIZES))

@@ -2,6 +2,7 @@
 
 import os
 import re
+import statistics
 from collections import Counter
 
 import postgres
@@ -9,7 +10,17 @@ import rows
 from measuring import print_table, rate
 
 COUNTS = (2, 8)
-HEADS = ["Family", "Publications", "pgshard eval, ms", "thousand rows/s", "query, ms", "query by several processes, ms", "COPY and query, ms", "thousand rows/s", "counts"]
+HEADS = [
+    "Family",
+    "Publications",
+    "eval, ms",
+    "eval, thousand rows/s",
+    "query, ms",
+    "query in parallel, ms",
+    "COPY and query, ms",
+    "COPY and query, thousand rows/s",
+    "Counts",
+]
 
 
 def carried(answer, count):
@@ -19,8 +30,11 @@ def carried(answer, count):
 
 
 def database_times(connection, setup, given, path):
-    """Times of the query in one process, in as many as the server takes, and of COPY with the query; and the counts."""
-    connection.ask(f"DROP TABLE IF EXISTS {rows.TABLE}; CREATE UNLOGGED TABLE {rows.TABLE} ({given.columns.replace(' PRIMARY KEY', '')});")
+    """Times of the query in one process, in as many as the server takes, and of COPY with the query; and the counts.
+
+    The table has no key, so that COPY builds no index."""
+    columns = given.columns.replace(" PRIMARY KEY", "")
+    connection.ask(f"DROP TABLE IF EXISTS {rows.TABLE}; CREATE UNLOGGED TABLE {rows.TABLE} ({columns});")
     copy = f"COPY {rows.TABLE} FROM '{path}';"
     connection.ask("SET max_parallel_workers_per_gather = 0;")
     with connection.pinned(setup.core):
@@ -35,7 +49,7 @@ def database_times(connection, setup, given, path):
         alone, lines = connection.milliseconds(given.counting(), setup.runs)
     connection.ask("RESET max_parallel_workers_per_gather;")
     together, _ = connection.milliseconds(given.counting(), setup.runs)
-    return alone, together, sorted(copied)[len(copied) // 2], [int(it) for it in lines[0].split("|")]
+    return (alone, together, statistics.median(copied)), [int(it) for it in lines[0].split("|")]
 
 
 def row(setup, folder, connection, name, count):
@@ -47,9 +61,10 @@ def row(setup, folder, connection, name, count):
     counts = carried(setup.answer(words, text), count)
     given.write_copy_input(copy_text)
     os.chmod(copy_text, 0o644)
-    alone, together, copied, theirs = database_times(connection, setup, given, copy_text)
+    times, theirs = database_times(connection, setup, given, copy_text)
     told = "the same" if counts == theirs else f"{counts} and {theirs}"
-    return [name, count, f"{time:.0f}", rate(rows.ROWS, time), f"{alone:.0f}", f"{together:.0f}", f"{copied:.0f}", rate(rows.ROWS, copied), told]
+    shown = [f"{it:.0f}" for it in times]
+    return [name, count, f"{time:.0f}", rate(rows.ROWS, time), *shown, rate(rows.ROWS, times[-1]), told]
 
 
 def measure(setup):

@@ -1,10 +1,10 @@
 #!/usr/bin/env python3
 """Times of the program's commands, as the tables of bench/README.md have them.
 
-    bench/run.py [--program FILE] [--core N] [--runs N] [PART ..]
+    bench/run.py [--program FILE] [--core N] [--first] [--runs N] [PART ..]
 
-The parts are start, large, eval, check and make; without one, all are run. The program has to be built, which the script
-`pgshard` does. PostgreSQL 15 and z3 are left out where they are not installed.
+The parts are start, large, eval, check, make and instructions; without one, all are run. The program has to be built,
+which the script `pgshard` does. PostgreSQL 15, z3 and valgrind are left out where they are not installed.
 """
 
 import argparse
@@ -15,6 +15,7 @@ import tempfile
 
 import checking
 import evaluation
+import instructions
 import sharding
 import starting
 from measuring import BUILT, Setup, machine
@@ -25,6 +26,7 @@ PARTS = {
     "eval": ("eval", lambda setup, _: evaluation.measure(setup)),
     "check": ("check", checking.measure),
     "make": ("make", sharding.measure),
+    "instructions": ("Instructions", instructions.measure),
 }
 
 
@@ -32,6 +34,7 @@ def arguments():
     parser = argparse.ArgumentParser(description="Times of the program's commands.")
     parser.add_argument("--program", default=str(BUILT), help="the built program")
     parser.add_argument("--core", type=int, help="keep what is measured on this processor")
+    parser.add_argument("--first", action="store_true", help="as root: run before other work on the machine")
     parser.add_argument("--runs", type=int, default=5, help="how often each run is made")
     parser.add_argument("parts", nargs="*", metavar="PART", help=f"of {', '.join(PARTS)}; without one, all")
     return parser.parse_args()
@@ -44,6 +47,8 @@ def main():
         sys.exit(f"there is no part {unknown[0]}; the parts are {', '.join(PARTS)}")
     if not os.access(given.program, os.X_OK):
         sys.exit(f"{given.program} is not built; ./pgshard make < examples/shop.sql builds it")
+    if given.first:
+        os.setpriority(os.PRIO_PROCESS, 0, -20)
     setup = Setup(given.program, given.core, given.runs)
     print(f"{machine()}\n")
     with tempfile.TemporaryDirectory(prefix="pgshard_bench_") as folder:

@@ -3,12 +3,13 @@
 import families
 from measuring import print_table
 
-RUNS = 101
+RUNS = 51
 TABLES = 64
 PUBLICATIONS = 64
 SUBSCRIPTIONS = 32
 COLUMNS = 100
 
+LARGE_HEADS = ["Tables", "Bytes of the catalog", "eval of one row, ms", "make, ms", "check, ms", "Answer of check"]
 SMALL = "CREATE TABLE t (id integer PRIMARY KEY);\n"
 
 
@@ -42,6 +43,11 @@ def large_catalog(tables):
     return "\n".join(lines) + "\n"
 
 
+def small_row(setup, words, path):
+    shown = ["pgshard" if it == setup.program else it for it in words]
+    return [" ".join(shown), f"{setup.milliseconds(words, path, RUNS):.2f}"]
+
+
 def measure_small(setup, folder):
     catalog, two_parts, sharded = folder / "catalog", folder / "two_parts", folder / "sharded"
     catalog.write_text(SMALL)
@@ -55,7 +61,7 @@ def measure_small(setup, folder):
         ([setup.program, "check"], sharded),
         ([setup.program, "make"], catalog),
     ]
-    print_table(["Command", "ms"], ((" ".join(["pgshard" if it == setup.program else it for it in words]), f"{setup.milliseconds(words, path, RUNS):.2f}") for words, path in runs))
+    print_table(["Command", "ms"], (small_row(setup, words, path) for words, path in runs))
 
 
 def large_rows(setup, folder):
@@ -74,4 +80,4 @@ def large_rows(setup, folder):
 
 
 def measure_large(setup, folder):
-    print_table(["Tables", "bytes of the catalog", "eval of one row, ms", "make, ms", "check, ms", "answer of check"], large_rows(setup, folder))
+    print_table(LARGE_HEADS, large_rows(setup, folder))

@@ -16,9 +16,10 @@ pub fn same_atom<A: Allocator, B: Allocator>(one: &Atom<A>, other: &Atom<B>) -> 
 {
     match (one, other) {
         (Atom::Cmp(term, op, literal), Atom::Cmp(other_term, other_op, other_literal)) => {
-            same_term(*term, *other_term)
+            // Most atoms that are compared have the same term, and differ in the rest.
+            same_literal(literal, other_literal)
                 && same_op(*op, *other_op)
-                && same_literal(literal, other_literal)
+                && same_term(*term, *other_term)
         }
         (Atom::IsNull(column), Atom::IsNull(other_column)) => column == other_column,
         (Atom::Cmp(..) | Atom::IsNull(_), _) => false,
