@@ -31,7 +31,7 @@ pub struct Reader<'a> {
 }
 
 impl<'a> Reader<'a> {
-    ghost use Rattle.std.specs.Prelude.{◌≡◌, ◌<◌, IfErr, IsSome, OnErr, OnOk};
+    ghost use Rattle.std.specs.Prelude.{◌≡◌, ◌<◌, IfErr, OnErr, OnOk};
     ghost use Rattle.sql_tokens.specs.Left.{text_of, left};
     ghost use Rattle.sql_reader.specs.Items.{items, items_of, size};
     ghost use Rattle.sql_reader.specs.Ahead.{to_read};
@@ -114,13 +114,16 @@ impl<'a> Reader<'a> {
         self.place
     }
 
-    /// The token ahead as it is written, without the quotes of a quoted name or a string.
+    /// The token ahead as it is written, without the quotes of a quoted name or a string; nothing at the end of the text and
+    /// where the token is faulty.
     #[tactic(auto, unfolding(crate::specs::Ahead::to_read))]
     pub fn written(&self) -> &'a str
-        requires { IsSome (spec.item_ahead (to_read self.now)) }
         ensures { result.now ≡ spec.written_ahead (to_read self.now) }
     {
-        self.written
+        match self.ahead {
+            Ahead::Item(_) => self.written,
+            Ahead::End | Ahead::Fault(_) => "",
+        }
     }
 
     /// Why the token ahead is not taken: it is faulty, or it is not what was expected.
