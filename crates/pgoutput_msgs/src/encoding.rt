@@ -1,4 +1,4 @@
-ghost use Rattle.std.specs.Prelude.{◌≡◌, ◌++◌, ◌<◌, ◌∷◌, [], length, take, OnOk, OnErr, IsTrue, ◌↔◌, All};
+ghost use Rattle.std.specs.Prelude.{◌≡◌, ◌++◌, ◌<◌, ◌∷◌, length, take, OnOk, OnErr, IsTrue, ◌↔◌, All};
 ghost use Rattle.std.specs.List.{flat_map};
 ghost use Rattle.pgoutput_msgs.specs.Spelling.{spelling_of, tuple_spelling, cell_spelling, int16, int32, IsWithinRange, IsTupleWithinRange, IsCellWithinRange};
 

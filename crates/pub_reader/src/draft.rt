@@ -1,6 +1,6 @@
 //! A catalog while it is read: what was made so far, and the names by which it is found.
 
-ghost use Rattle.std.specs.Prelude.{◌≡◌, List, ℕ, map};
+ghost use Rattle.std.specs.Prelude.{◌≡◌, map};
 
 use crate::catalog::{Catalog, Operations, Publication, Subscription};
 use crate::coverage::Coverage;

@@ -1,13 +1,11 @@
 //! What a publication is made for: tables, with the filters of their rows, and schemas.
 
-ghost use Rattle.std.specs.Prelude.{◌≡◌, ◌<◌, ◌≤◌, ◌∷◌, ◌++◌, [], IfOk, IsSome, OnOk, length, map};
-ghost use Rattle.std.specs.Option.{option_map};
-ghost use Rattle.filter_tree.specs.Shape.{expr_of};
+ghost use Rattle.std.specs.Prelude.{◌≡◌, ◌<◌, ◌≤◌, OnOk};
 ghost use Rattle.sql_reader.specs.Ahead.{to_read};
 ghost use Rattle.sql_reader.specs.Items.{size};
 ghost use Rattle.sql_reader.specs.Reading.{Reads, Answers};
 ghost use Rattle.sql_reader.specs.Written.{as_filter};
-ghost use Rattle.pub_reader.specs.Drafts.{filters_in, filters_on, nothing_covered};
+ghost use Rattle.pub_reader.specs.Drafts.{nothing_covered};
 ghost use Rattle.pub_reader.specs.DraftView.{coverage_of, draft_of, objects_of};
 ghost use Rattle.pub_reader.specs.Objects as spec;
 

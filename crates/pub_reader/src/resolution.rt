@@ -1,6 +1,6 @@
 //! What publications cover, once all tables are made.
 
-ghost use Rattle.std.specs.Prelude.{◌≡◌, IfOk, OnOk, map, ◌++◌};
+ghost use Rattle.std.specs.Prelude.{◌≡◌, IfOk, map};
 ghost use Rattle.pub_reader.specs.CatalogView.{entry_of, publication_of};
 ghost use Rattle.pub_reader.specs.Drafts as spec;
 ghost use Rattle.pub_reader.specs.DraftView.{coverage_of, draft_publication_of};

@@ -9,7 +9,6 @@ use Rattle.publisher_main.specs.declared.arguments.Request.{Request}
 use Rattle.publisher_main.specs.declared.arguments.Request.TheVariants.{Eval, Check, Make}
 use Rattle.publisher_main.specs.declared.failure.Failure.{Failure}
 use Rattle.publisher_main.specs.declared.failure.Failure.TheVariants as f
-use Rattle.publisher_main.specs.declared.failure.Status.{Status}
 use Rattle.publisher_main.specs.declared.failure.Status.TheVariants as s
 
 -- why what is asked is not answered of this input

@@ -1,6 +1,6 @@
 //! What a subscriber takes of a table.
 
-ghost use Rattle.std.specs.Prelude.{◌≡◌, IfOk, OnOk};
+ghost use Rattle.std.specs.Prelude.{◌≡◌, IfOk};
 ghost use Rattle.std.specs.Option.{option_map};
 ghost use Rattle.filter_tree.specs.Shape.{expr_of};
 ghost use Rattle.filter_tree.specs.Expr.{Either};

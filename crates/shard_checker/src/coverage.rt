@@ -1,7 +1,6 @@
 //! What replica identities record, and which columns the filters of the publications that are taken name.
 
 ghost use Rattle.std.specs.Prelude.{◌≡◌, ◌≢◌, OnOk, IfErr, None, Some, map, slice_get};
-ghost use Rattle.std.specs.Option.{option_map, option_copied};
 ghost use Rattle.filter_tree.specs.Shape.{expr_of};
 ghost use Rattle.pub_reader.specs.CatalogView.{entry_of, publication_of};
 ghost use Rattle.shard_checker.specs.CatalogRefusal as spec;

@@ -1,6 +1,6 @@
 //! The atoms and the terms of a table, as certificates number them: share by share, in the order of first appearance.
 
-ghost use Rattle.std.specs.Prelude.{◌≡◌, IfOk, OnOk, fold, flat_map};
+ghost use Rattle.std.specs.Prelude.{◌≡◌, IfOk, OnOk, fold};
 ghost use Rattle.std.specs.List.{list_any};
 ghost use Rattle.filter_tree.specs.Lists.{with_item};
 ghost use Rattle.filter_tree.specs.Same.{same_term, same_condition};

@@ -1,6 +1,6 @@
 //! What a path tells of the shares of subscribers.
 
-ghost use Rattle.std.specs.Prelude.{◌≡◌, OnSome, IfSome, ◌<◌, length};
+ghost use Rattle.std.specs.Prelude.{◌≡◌, ◌<◌};
 ghost use Rattle.filter_tree.specs.Paths.{path_of};
 ghost use Rattle.replica_identity.specs.Shares.{share_of};
 ghost use Rattle.shard_checker.specs.Owners as spec;

@@ -1,7 +1,7 @@
 //! What a certificate speaks of.
 
 ghost use Rattle.std.specs.Prelude.{◌≡◌, slice_get};
-ghost use Rattle.std.specs.Option.{option_map, option_copied};
+ghost use Rattle.std.specs.Option.{option_map};
 ghost use Rattle.filter_tree.specs.Shape.{condition_of, conditions_of};
 ghost use Rattle.replica_identity.specs.Shares.{share_of};
 ghost use Rattle.shard_checker.specs.Owners.{shares_of};

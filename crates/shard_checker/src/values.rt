@@ -1,6 +1,6 @@
 //! Whether some value is left to a term by what was found of the atoms on a path.
 
-ghost use Rattle.std.specs.Prelude.{◌≡◌, false, IsFalse, ◌<ℤ◌, ◌+ℤ◌, pos};
+ghost use Rattle.std.specs.Prelude.{◌≡◌, false, IsFalse, ◌+ℤ◌, pos};
 ghost use Rattle.std.specs.Option.{option_map};
 ghost use Rattle.filter_tree.specs.Paths.{path_of};
 ghost use Rattle.filter_tree.specs.Shape.{condition_of};

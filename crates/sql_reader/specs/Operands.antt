@@ -20,7 +20,6 @@ use Rattle.sql_reader.specs.declared.truth_test.Asked.TheVariants as a
 use Rattle.sql_reader.specs.declared.truth_test.Question.{Question}
 use Rattle.sql_reader.specs.declared.error.Omitted.TheVariants as l
 use Rattle.sql_reader.specs.Reading.{Verdict, fault}
-use Rattle.sql_reader.specs.Wrong.{Wrong}
 use Rattle.sql_reader.specs.Wrong as w
 
 -- What the forms of an expression make: trees, or what they mean.

@@ -1,6 +1,6 @@
 //! The filters of WHERE clauses.
 
-ghost use Rattle.std.specs.Prelude.{◌≡◌, ◌<◌, ◌≤◌, OnOk, false, true};
+ghost use Rattle.std.specs.Prelude.{◌<◌, ◌≤◌, OnOk, false, true};
 ghost use Rattle.filter_tree.specs.Shape.{expr_of};
 ghost use Rattle.sql_reader.specs.Ahead.{to_read};
 ghost use Rattle.sql_reader.specs.Expressions as spec;

@@ -1,6 +1,6 @@
 //! Operators behind an operand that are not read.
 
-ghost use Rattle.std.specs.Prelude.{◌≡◌, ◌≤◌, OnOk};
+ghost use Rattle.std.specs.Prelude.{◌≤◌, OnOk};
 ghost use Rattle.sql_reader.specs.Ahead.{to_read};
 ghost use Rattle.sql_reader.specs.Expressions as spec;
 ghost use Rattle.sql_reader.specs.Items.{size};

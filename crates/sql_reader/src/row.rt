@@ -1,6 +1,6 @@
 //! Rows as they are written.
 
-ghost use Rattle.std.specs.Prelude.{◌≡◌, ◌<◌, ◌≤◌, IsSome, OnOk, map};
+ghost use Rattle.std.specs.Prelude.{◌<◌, ◌≤◌, IsSome, OnOk, map};
 ghost use Rattle.filter_tree.specs.Values.{datum_of};
 ghost use Rattle.sql_reader.specs.Ahead.{to_read};
 ghost use Rattle.sql_reader.specs.Items.{size};

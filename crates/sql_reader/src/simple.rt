@@ -1,6 +1,6 @@
 //! Operands of an expression that are no parentheses: literals and columns.
 
-ghost use Rattle.std.specs.Prelude.{◌≡◌, ◌<◌, ◌≤◌, IsSome, OnOk};
+ghost use Rattle.std.specs.Prelude.{◌<◌, ◌≤◌, IsSome, OnOk};
 ghost use Rattle.sql_reader.specs.Ahead.{to_read};
 ghost use Rattle.sql_reader.specs.Expressions as spec;
 ghost use Rattle.sql_reader.specs.Items.{size};

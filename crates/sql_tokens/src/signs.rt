@@ -1,6 +1,6 @@
 //! Operators.
 
-ghost use Rattle.std.specs.Prelude.{◌≡◌, ◌≤◌, ◌<◌, ◌-◌, ◌+◌, max, length, slice_index, false, true, take};
+ghost use Rattle.std.specs.Prelude.{◌≡◌, ◌≤◌, ◌<◌, ◌-◌, ◌+◌, max, length, slice_index, false, true};
 ghost use Rattle.std.specs.List.{suffix_len, list_any};
 ghost use Rattle.sql_tokens.specs.declared.bytes.Class.TheVariants as class;
 ghost use Rattle.sql_tokens.specs.Bytes.{is_of};
