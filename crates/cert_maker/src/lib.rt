@@ -14,7 +14,7 @@ mod question;
 mod rows;
 mod scores;
 mod search;
-mod tested;
+mod takers;
 #[cfg(test)]
 mod tests;
 

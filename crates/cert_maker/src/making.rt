@@ -1,4 +1,4 @@
-//! The test of what was found, which alone is answered.
+//! `make`: what the search finds is tested, and only that is answered.
 
 ghost use Rattle.std.specs.Prelude.{◌≡◌, ◌≤◌, IfOk, length};
 ghost use Rattle.pub_reader.specs.CatalogView.{catalog_of};
@@ -11,7 +11,7 @@ ghost use Rattle.cert_maker.specs.declared.made.Made.TheVariants.{Unknown};
 
 use crate::made::Made;
 use crate::search::{Found, look};
-use crate::tested::owners_of;
+use crate::takers::owners_of;
 use bumpalo::Bump;
 use filter_tree::{Row, Table, valid};
 use pub_reader::Catalog;

@@ -2,7 +2,7 @@
 
 use crate::choices::{Choice, empty_text};
 use crate::question::{Asks, Question, number};
-use crate::tested::is_counter;
+use crate::takers::is_counter;
 use filter_tree::{ColType, Column, Row, Table, Text, Value};
 use replica_identity::Share;
 use std::alloc::{AllocError, Global};

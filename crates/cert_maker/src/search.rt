@@ -6,7 +6,7 @@ use crate::masks::{is_sure, mask_at};
 use crate::question::{Asks, Condition, Question};
 use crate::rows::{row_of, simple_counter};
 use crate::scores::Aim;
-use crate::tested::is_counter;
+use crate::takers::is_counter;
 use bumpalo::Bump;
 use filter_tree::{Mask, Row, Table, Tri};
 use replica_identity::Share;

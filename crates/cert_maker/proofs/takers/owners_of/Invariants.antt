@@ -1,7 +1,7 @@
 use Rattle.std.proofs.Common.{◌≡◌, ◌++◌, drop}
 use Rattle.shard_checker.specs.Owners.{shares_of}
 use Rattle.cert_maker.specs.Takers.{takers}
-use Rattle.cert_maker.proofs.tested.owners_of.Given as goal
+use Rattle.cert_maker.proofs.takers.owners_of.Given as goal
 
 -- the takers so far, and those of the shares that are left
 abbrev pub invariant-loop-number : goal.invariant-loop-number
