@@ -1,19 +1,19 @@
 -- A certificate that is accepted is accepted by whatever number of the table: the number stands in refusals alone.
 use Rattle.std.proofs.Common.{◌≡◌, ℕ, Bool, true, false, List, [], ◌∷◌, ◌++◌, refl}
 use Rattle.std.specs.Prelude.{Option, Some, None, if◌then◌else◌, slice_get}
-use Rattle.filter_tree.specs.Expr.{Condition}
+use Rattle.filter_tree.specs.Expr.{AtomOf}
 use Rattle.filter_tree.specs.Paths.{Path}
 use Rattle.filter_tree.specs.declared.filter.Term.{Term}
 use Rattle.filter_tree.specs.declared.table.Table.{Table}
 use Rattle.filter_tree.specs.declared.tri.Tri.TheVariants.{True, False, Null}
 use Rattle.replica_identity.specs.Shares.{ShareOf}
 use Rattle.shard_checker.specs.Facts.{is_never_null}
-use Rattle.shard_checker.specs.Numbering.{numbered_conditions, numbered_terms}
+use Rattle.shard_checker.specs.Numbering.{numbered_atoms, numbered_terms}
 use Rattle.shard_checker.specs.Owners.{must_take, second_owner}
 use Rattle.shard_checker.specs.Refusal.{Subject, first_of, first_refusal, refusal, second_refusal, others_refusal, owner_refusal, is_empty, empty_refusal, never_null_refusal, split_refusal, numbered_subject, later}
 use Rattle.shard_checker.specs.declared.error.CheckError.{CheckError}
 use Rattle.shard_checker.specs.declared.error.CheckError.TheVariants.{NotOwner, NotEmpty, MayBeNull}
-use Rattle.split_cert.specs.Tree.{Tree, Branches, Owned, Void, Never, nodes}
+use Rattle.split_cert.specs.Tree.{Tree, Split, Owner, Empty, NeverNull, nodes}
 
 if_none : (b : Bool) (x y : Option CheckError) (e f : CheckError) → (x ≡ None → y ≡ None) → (if b then x else Some e) ≡ None → (if b then y else Some f) ≡ None
 if_none true x y e f step h = step h
@@ -29,7 +29,7 @@ both_none (Some error) next e h = absurd cc
 
 -- the subject whose table has another number
 abbrev renumbered : ℕ → Subject → Subject
-renumbered number subject = numbered_subject number subject.columns subject.shares subject.conditions subject.terms
+renumbered number subject = numbered_subject number subject.columns subject.shares subject.atoms_in subject.terms
 
 second_none : (number : ℕ) (subject : Subject) (node : ℕ) (found : Option ℕ) → second_refusal subject node found ≡ None → second_refusal (renumbered number subject) node found ≡ None
 second_none number subject node None h = refl
@@ -45,10 +45,10 @@ empty_none : (number : ℕ) (subject : Subject) (path : Path) (node : ℕ) (foun
 empty_none number subject path node None h = absurd cc
 empty_none number subject path node (Some term) h = if_none (is_empty subject.columns term path) None None (NotEmpty subject.table node) (NotEmpty number node) (λ e. e) h
 
-never_null_none : (number : ℕ) (subject : Subject) (path : Path) (node : ℕ) (found : Option Condition) → never_null_refusal subject path node found ≡ None → never_null_refusal (renumbered number subject) path node found ≡ None
+never_null_none : (number : ℕ) (subject : Subject) (path : Path) (node : ℕ) (found : Option AtomOf) → never_null_refusal subject path node found ≡ None → never_null_refusal (renumbered number subject) path node found ≡ None
 never_null_none number subject path node None h = absurd cc
-never_null_none number subject path node (Some condition) h =
-    if_none (is_never_null subject.columns condition path) None None (MayBeNull subject.table node) (MayBeNull number node) (λ e. e) h
+never_null_none number subject path node (Some atom) h =
+    if_none (is_never_null subject.columns atom path) None None (MayBeNull subject.table node) (MayBeNull number node) (λ e. e) h
 
 three_none : (a b c d e f : Option CheckError) → (a ≡ None → d ≡ None) → (b ≡ None → e ≡ None) → (c ≡ None → f ≡ None) → first_of a (first_of b c) ≡ None → first_of d (first_of e f) ≡ None
 three_none a b c d e f one two three h =
@@ -59,17 +59,17 @@ three_none a b c d e f one two three h =
 abbrev Refused : Type 0
 Refused = Path → Option CheckError
 
-split_none : (number : ℕ) (subject : Subject) (path : Path) (node : ℕ) (found : Option Condition) (a b c d e f : Refused)
+split_none : (number : ℕ) (subject : Subject) (path : Path) (node : ℕ) (found : Option AtomOf) (a b c d e f : Refused)
     → ((longer : Path) → a longer ≡ None → d longer ≡ None) → ((longer : Path) → b longer ≡ None → e longer ≡ None) → ((longer : Path) → c longer ≡ None → f longer ≡ None)
     → split_refusal subject path node found a b c ≡ None → split_refusal (renumbered number subject) path node found d e f ≡ None
 split_none number subject path node None a b c d e f one two three h = absurd cc
-split_none number subject path node (Some condition) a b c d e f one two three h =
-    three_none (a (path ++ (condition, True) ∷ [])) (b (path ++ (condition, False) ∷ [])) (c (path ++ (condition, Null) ∷ [])) (d (path ++ (condition, True) ∷ [])) (e (path ++ (condition, False) ∷ [])) (f (path ++ (condition, Null) ∷ []))
-    (one (path ++ (condition, True) ∷ [])) (two (path ++ (condition, False) ∷ [])) (three (path ++ (condition, Null) ∷ [])) h
+split_none number subject path node (Some atom) a b c d e f one two three h =
+    three_none (a (path ++ (atom, True) ∷ [])) (b (path ++ (atom, False) ∷ [])) (c (path ++ (atom, Null) ∷ [])) (d (path ++ (atom, True) ∷ [])) (e (path ++ (atom, False) ∷ [])) (f (path ++ (atom, Null) ∷ []))
+    (one (path ++ (atom, True) ∷ [])) (two (path ++ (atom, False) ∷ [])) (three (path ++ (atom, Null) ∷ [])) h
 
 none_renumbered : (number : ℕ) (subject : Subject) (tree : Tree) (path : Path) (node : ℕ) → refusal subject tree path node ≡ None → refusal (renumbered number subject) tree path node ≡ None
-none_renumbered number subject (Branches atom if_true if_false if_null) path node h =
-    split_none number subject path node (slice_get subject.conditions atom)
+none_renumbered number subject (Split index if_true if_false if_null) path node h =
+    split_none number subject path node (slice_get subject.atoms_in index)
     (λ longer. refusal subject if_true longer (later node 1))
     (λ longer. refusal subject if_false longer (later (later node 1) (nodes if_true)))
     (λ longer. refusal subject if_null longer (later (later (later node 1) (nodes if_true)) (nodes if_false)))
@@ -80,10 +80,10 @@ none_renumbered number subject (Branches atom if_true if_false if_null) path nod
     (λ longer. none_renumbered number subject if_false longer (later (later node 1) (nodes if_true)))
     (λ longer. none_renumbered number subject if_null longer (later (later (later node 1) (nodes if_true)) (nodes if_false)))
     h
-none_renumbered number subject (Owned subscriber) path node h = owner_none number subject path node subscriber (slice_get subject.shares subscriber) h
-none_renumbered number subject (Void term) path node h = empty_none number subject path node (slice_get subject.terms term) h
-none_renumbered number subject (Never atom) path node h = never_null_none number subject path node (slice_get subject.conditions atom) h
+none_renumbered number subject (Owner subscriber) path node h = owner_none number subject path node subscriber (slice_get subject.shares subscriber) h
+none_renumbered number subject (Empty term) path node h = empty_none number subject path node (slice_get subject.terms term) h
+none_renumbered number subject (NeverNull index) path node h = never_null_none number subject path node (slice_get subject.atoms_in index) h
 
 pub accepted_anyhow : (one other : ℕ) (table : Table) (shares : List ShareOf) (tree : Tree) → first_refusal one table shares tree ≡ None → first_refusal other table shares tree ≡ None
 accepted_anyhow one other table shares tree h =
-    none_renumbered other (numbered_subject one table.columns shares (numbered_conditions shares) (numbered_terms shares)) tree [] 0 h
+    none_renumbered other (numbered_subject one table.columns shares (numbered_atoms shares) (numbered_terms shares)) tree [] 0 h

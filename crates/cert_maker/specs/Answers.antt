@@ -11,13 +11,13 @@ use Rattle.replica_identity.specs.Plans.{PlanOf, plan_of}
 use Rattle.shard_checker.specs.CatalogRefusal.{table_shares}
 use Rattle.shard_checker.specs.Refusal.{first_refusal}
 use Rattle.split_cert.specs.Tree.{Tree}
-use Rattle.split_cert.specs.Where.{tree_of}
+use Rattle.split_cert.specs.Where.{tree_view}
 use Rattle.cert_maker.specs.declared.made.Made.{Made}
 use Rattle.cert_maker.specs.declared.made.Made.TheVariants.{Cert, Counter, Unknown, TooLarge, OutOfMemory}
 
 -- a fact about the certificate, where the answer is one
 abbrev pub IfCert : Made → (Tree → Type 0) → Type 0
-IfCert (Cert cert) Fact = Fact (tree_of cert)
+IfCert (Cert cert) Fact = Fact (tree_view cert)
 IfCert (Counter cells owners) Fact = Unit {0}
 IfCert Unknown Fact = Unit {0}
 IfCert TooLarge Fact = Unit {0}

@@ -1,10 +1,10 @@
 //! `make`: what the search finds is tested, and only that is answered.
 
 ghost use Rattle.std.specs.Prelude.{◌≡◌, ◌≤◌, IfOk, length};
-ghost use Rattle.pub_reader.specs.CatalogView.{catalog_of};
+ghost use Rattle.pub_reader.specs.CatalogView.{catalog_view};
 ghost use Rattle.replica_identity.specs.PlanView.{plan_view};
 ghost use Rattle.shard_checker.specs.CatalogRefusal.{table_shares};
-ghost use Rattle.shard_checker.specs.Owners.{shares_of};
+ghost use Rattle.shard_checker.specs.Owners.{shares_view};
 ghost use Rattle.cert_maker.specs.Answers.{IfCert, IfCounter, IsAccepted, IsCounter};
 ghost use Rattle.cert_maker.specs.Takers.{IsRight};
 ghost use Rattle.cert_maker.specs.declared.made.Made.TheVariants.{Unknown};
@@ -27,7 +27,7 @@ fn tested_cert<'b>(
     shares: &[&Share],
     cert: Cert<&'b Bump>,
 ) -> Made<'b>
-    ensures { IsRight table.now (shares_of shares.now) result }
+    ensures { IsRight table.now (shares_view shares.now) result }
 {
     match check_one(alloc, table, shares, &cert) {
         Ok(()) => Made::Cert(cert),
@@ -43,7 +43,7 @@ fn tested_row<'b>(
     shares: &[&Share],
     row: Row,
 ) -> Result<Made<'b>, AllocError>
-    ensures { IfOk result (IsRight table.now (shares_of shares.now)) }
+    ensures { IfOk result (IsRight table.now (shares_view shares.now)) }
 {
     let owners = owners_of(alloc, shares, &row)?;
     match valid(table, &row) {
@@ -59,7 +59,7 @@ fn tested<'b>(
     table: &Table,
     shares: &[&Share],
 ) -> Result<Made<'b>, AllocError>
-    ensures { IfOk result (IsRight table.now (shares_of shares.now)) }
+    ensures { IfOk result (IsRight table.now (shares_view shares.now)) }
 {
     match look(alloc, arena, &*table, &*shares)? {
         Found::Cert(cert) => Ok(tested_cert(alloc, table, shares, cert)),
@@ -78,7 +78,7 @@ fn answer<'b>(
     number: usize,
     table: &Table,
 ) -> Result<Made<'b>, AllocError>
-    ensures { IfOk result (IsRight table.now (table_shares (plan_view plan.now) number 0 (catalog_of catalog.now).subscriptions)) }
+    ensures { IfOk result (IsRight table.now (table_shares (plan_view plan.now) number 0 (catalog_view catalog.now).subscriptions)) }
 {
     let shares = shares_in(alloc, plan, number, catalog.subscriptions.as_slice())?;
     Ok(tested(alloc, arena, table, &shares)?)
@@ -99,8 +99,8 @@ pub fn make<'b>(
     table: usize,
 ) -> Made<'b>
     ensures absent { length catalog.now.tables.items ≤ table → result ≡ Unknown }
-    ensures cert { IfCert result (IsAccepted (catalog_of catalog.now) (plan_view plan.now) table) }
-    ensures counter { IfCounter result (IsCounter (catalog_of catalog.now) (plan_view plan.now) table) }
+    ensures cert { IfCert result (IsAccepted (catalog_view catalog.now) (plan_view plan.now) table) }
+    ensures counter { IfCounter result (IsCounter (catalog_view catalog.now) (plan_view plan.now) table) }
 {
     match catalog.tables.get(table) {
         None => Made::Unknown,

@@ -1,7 +1,7 @@
 //! Which shares take a row.
 
 ghost use Rattle.std.specs.Prelude.{◌≡◌, IfOk};
-ghost use Rattle.shard_checker.specs.Owners.{shares_of};
+ghost use Rattle.shard_checker.specs.Owners.{shares_view};
 ghost use Rattle.cert_maker.specs.Takers.{takers};
 
 use filter_tree::{Row, Table, valid};
@@ -10,7 +10,7 @@ use std::alloc::{AllocError, Global};
 
 /// The numbers of the shares that take the row.
 pub fn owners_of(alloc: Global, shares: &[&Share], row: &Row) -> Result<Vec<usize>, AllocError>
-    ensures { IfOk result (λ owners. owners.items ≡ takers 0 (shares_of shares.now) row.now) }
+    ensures { IfOk result (λ owners. owners.items ≡ takers 0 (shares_view shares.now) row.now) }
 {
     let mut owners = Vec::new(alloc);
     for (number, share) in shares.iter().enumerate() {

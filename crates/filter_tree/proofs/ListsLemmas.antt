@@ -4,10 +4,10 @@ use Rattle.std.specs.Prelude.{nat_eq, fold}
 use Rattle.std.specs.List.{list_any}
 use Rattle.std.specs.Cmp.{unsigned_Decides}
 use Rattle.filter_tree.specs.Datum.{Datum, value_at}
-use Rattle.filter_tree.specs.Logic.{not_of, asks_of}
+use Rattle.filter_tree.specs.Logic.{not_of, is_of}
 use Rattle.filter_tree.specs.Compare.{compare_of}
-use Rattle.filter_tree.specs.Expr.{Condition, Compares, Lacks, Expr, Always, Holds, Negation, Both, Either, Asks, remainder_of, is_missing, condition_meaning, meaning}
-use Rattle.filter_tree.specs.Lists.{with_item, conditions, term_of, column_of, columns_in, distinct_columns, AgreesOn, IsDeterminedBy}
+use Rattle.filter_tree.specs.Expr.{AtomOf, Cmp, IsNull, Expr, Const, Atom, Not, And, Or, Is, remainder_of, is_missing, atom_meaning, meaning}
+use Rattle.filter_tree.specs.Lists.{with_item, atoms_in, term_of, column_of, columns_in, distinct_columns, AgreesOn, IsDeterminedBy}
 use Rattle.filter_tree.specs.declared.filter.Term.TheVariants.{Col, Mod}
 
 by_test : {P : Type 0} (b : Bool) → (b ≡ true → P) → (b ≡ false → P) → P
@@ -48,41 +48,41 @@ agrees_distinct one other held (c ∷ columns) h =
     let here = agrees_with_item one other held c both.0 in
     (here.0, (here.1, both.1))
 
-agrees_parts : (one other : List Datum) (found more : List Condition) → AgreesOn (columns_in (found ++ more)) one other
+agrees_parts : (one other : List Datum) (found more : List AtomOf) → AgreesOn (columns_in (found ++ more)) one other
     → AgreesOn (columns_in found) one other × AgreesOn (columns_in more) one other
 agrees_parts one other [] more h = (tt, h)
 agrees_parts one other (c ∷ found) more h =
     let both = agrees_parts one other found more h.1 in
     ((h.0, both.0), both.1)
 
-condition_agrees : (one other : List Datum) (condition : Condition) → value_at one (column_of (term_of condition)) ≡ value_at other (column_of (term_of condition))
-    → condition_meaning condition one ≡ condition_meaning condition other
-condition_agrees one other (Compares (Col c) op k) h = ap (λ v. compare_of op v k) h
-condition_agrees one other (Compares (Mod c m) op k) h = ap (λ v. compare_of op (remainder_of v m) k) h
-condition_agrees one other (Lacks c) h = ap is_missing h
+atom_agrees : (one other : List Datum) (atom : AtomOf) → value_at one (column_of (term_of atom)) ≡ value_at other (column_of (term_of atom))
+    → atom_meaning atom one ≡ atom_meaning atom other
+atom_agrees one other (Cmp (Col c) op k) h = ap (λ v. compare_of op v k) h
+atom_agrees one other (Cmp (Mod c m) op k) h = ap (λ v. compare_of op (remainder_of v m) k) h
+atom_agrees one other (IsNull c) h = ap is_missing h
 
-filter_agrees : (one other : List Datum) (filter : Expr) → AgreesOn (columns_in (conditions filter)) one other
+filter_agrees : (one other : List Datum) (filter : Expr) → AgreesOn (columns_in (atoms_in filter)) one other
     → meaning filter one ≡ meaning filter other
-filter_agrees one other (Always known) h = refl
-filter_agrees one other (Holds condition) h = condition_agrees one other condition h.0
-filter_agrees one other (Negation part) h = ap not_of (filter_agrees one other part h)
-filter_agrees one other (Both left right) h =
-    let both = agrees_parts one other (conditions left) (conditions right) h in
+filter_agrees one other (Const known) h = refl
+filter_agrees one other (Atom atom) h = atom_agrees one other atom h.0
+filter_agrees one other (Not part) h = ap not_of (filter_agrees one other part h)
+filter_agrees one other (And left right) h =
+    let both = agrees_parts one other (atoms_in left) (atoms_in right) h in
     let l = filter_agrees one other left both.0 in
     let r = filter_agrees one other right both.1 in
     rw (l, r) refl
-filter_agrees one other (Either left right) h =
-    let both = agrees_parts one other (conditions left) (conditions right) h in
+filter_agrees one other (Or left right) h =
+    let both = agrees_parts one other (atoms_in left) (atoms_in right) h in
     let l = filter_agrees one other left both.0 in
     let r = filter_agrees one other right both.1 in
     rw (l, r) refl
-filter_agrees one other (Asks test part) h = ap (asks_of test) (filter_agrees one other part h)
+filter_agrees one other (Is test part) h = ap (is_of test) (filter_agrees one other part h)
 
 pub determined_by_columns : (filter : Expr) (columns : List ℕ) → columns ≡ distinct_columns filter
     → IsDeterminedBy filter columns
 determined_by_columns filter columns e = record {
   same_meaning = λ one other h.
       let agrees : AgreesOn (distinct_columns filter) one other = rw e at h in
-      let parts = agrees_distinct one other [] (columns_in (conditions filter)) agrees in
+      let parts = agrees_distinct one other [] (columns_in (atoms_in filter)) agrees in
       filter_agrees one other filter parts.1;
 }

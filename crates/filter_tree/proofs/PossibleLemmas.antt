@@ -3,15 +3,15 @@ use Rattle.std.proofs.Common.{◌≡◌, Bool, true, false, ◌&&◌, ◌||◌, 
 use Rattle.std.specs.Prelude.{Option, Some, None}
 use Rattle.std.specs.List.{list_any}
 use Rattle.filter_tree.specs.Datum.{Datum, Missing, Known, value_at}
-use Rattle.filter_tree.specs.Logic.{and_of, or_of, not_of, asks_of, tri_of}
-use Rattle.filter_tree.specs.Expr.{Condition, Compares, Lacks, Expr, Always, Holds, Negation, Both, Either, Asks, is_missing, condition_meaning, meaning}
+use Rattle.filter_tree.specs.Logic.{and_of, or_of, not_of, is_of, tri_of}
+use Rattle.filter_tree.specs.Expr.{AtomOf, Cmp, IsNull, Expr, Const, Atom, Not, And, Or, Is, is_missing, atom_meaning, meaning}
 use Rattle.filter_tree.specs.Mask.{same_tri, all_three, member, mask_where, single_of, lift_one, lift_two}
-use Rattle.filter_tree.specs.Same.{same_condition}
+use Rattle.filter_tree.specs.Same.{same_atom}
 use Rattle.filter_tree.specs.Paths.{Path, Agrees, first_value, open_mask, known_or_open, possible_of}
 use Rattle.filter_tree.specs.declared.mask.Mask.{Mask}
 use Rattle.filter_tree.specs.declared.tri.Tri.{Tri}
 use Rattle.filter_tree.specs.declared.tri.Tri.TheVariants.{True, False, Null}
-use Rattle.filter_tree.proofs.SameLemmas.{same_condition_is}
+use Rattle.filter_tree.proofs.SameLemmas.{same_atom_is}
 
 by_test : {P : Type 0} (b : Bool) → (b ≡ true → P) → (b ≡ false → P) → P
 by_test true at_true at_false = at_true refl
@@ -56,70 +56,70 @@ two_has f left right a b h k =
     member_where (λ t. list_any (λ x. list_any (λ y. member left x && (member right y && same_tri (f x y) t)) all_three) all_three) (f a b)
     ∙ any_of_three (λ x. list_any (λ y. member left x && (member right y && same_tri (f x y) (f a b))) all_three) a outer
 
--- a value that the path has is the condition's
-first_value_is : (cells : List Datum) (condition : Condition) (path : Path) (value : Tri) → Agrees cells path
-    → first_value condition path ≡ Some value → condition_meaning condition cells ≡ value
-first_value_is cells condition [] value agrees h = absurd cc
-first_value_is cells condition (entry ∷ path) value agrees h = by_test (same_condition condition entry.0)
-    (λ same. let e : condition ≡ entry.0 = same_condition_is condition entry.0 same in
+-- a value that the path has is the atom's
+first_value_is : (cells : List Datum) (atom : AtomOf) (path : Path) (value : Tri) → Agrees cells path
+    → first_value atom path ≡ Some value → atom_meaning atom cells ≡ value
+first_value_is cells atom [] value agrees h = absurd cc
+first_value_is cells atom (entry ∷ path) value agrees h = by_test (same_atom atom entry.0)
+    (λ same. let e : atom ≡ entry.0 = same_atom_is atom entry.0 same in
     let found : Some entry.1 ≡ Some value = rw same at h in
     let this : entry.1 ≡ value = cc in
-    ap (λ c. condition_meaning c cells) e ∙ (agrees.0 ∙ this))
-    (λ differs. let later : first_value condition path ≡ Some value = rw differs at h in
-    first_value_is cells condition path value agrees.1 later)
+    ap (λ c. atom_meaning c cells) e ∙ (agrees.0 ∙ this))
+    (λ differs. let later : first_value atom path ≡ Some value = rw differs at h in
+    first_value_is cells atom path value agrees.1 later)
 
-missing_open : (column : _) (value : Datum) → member (open_mask (Lacks column)) (is_missing value) ≡ true
+missing_open : (column : _) (value : Datum) → member (open_mask (IsNull column)) (is_missing value) ≡ true
 missing_open column Missing = refl
 missing_open column (Known constant) = refl
 
-open_has : (cells : List Datum) (condition : Condition) → member (open_mask condition) (condition_meaning condition cells) ≡ true
-open_has cells (Compares term op constant) = member_where (λ _. true) _
-open_has cells (Lacks column) = missing_open column (value_at cells column)
+open_has : (cells : List Datum) (atom : AtomOf) → member (open_mask atom) (atom_meaning atom cells) ≡ true
+open_has cells (Cmp term op constant) = member_where (λ _. true) _
+open_has cells (IsNull column) = missing_open column (value_at cells column)
 
-known_has : (cells : List Datum) (condition : Condition) (known : Option Tri)
-    → ((value : Tri) → known ≡ Some value → condition_meaning condition cells ≡ value)
-    → member (known_or_open known condition) (condition_meaning condition cells) ≡ true
-known_has cells condition (Some value) h = rw (h value refl) (single_has value)
-known_has cells condition None h = open_has cells condition
+known_has : (cells : List Datum) (atom : AtomOf) (known : Option Tri)
+    → ((value : Tri) → known ≡ Some value → atom_meaning atom cells ≡ value)
+    → member (known_or_open known atom) (atom_meaning atom cells) ≡ true
+known_has cells atom (Some value) h = rw (h value refl) (single_has value)
+known_has cells atom None h = open_has cells atom
 
 pub possible_holds : (filter : Expr) (path : Path) (cells : List Datum) → Agrees cells path
     → member (possible_of filter path) (meaning filter cells) ≡ true
-possible_holds (Always known) path cells h = single_has (tri_of known)
-possible_holds (Holds condition) path cells h =
-    known_has cells condition (first_value condition path) (λ value. first_value_is cells condition path value h)
-possible_holds (Negation part) path cells h = one_has not_of (possible_of part path) (meaning part cells) (possible_holds part path cells h)
-possible_holds (Both left right) path cells h =
+possible_holds (Const known) path cells h = single_has (tri_of known)
+possible_holds (Atom atom) path cells h =
+    known_has cells atom (first_value atom path) (λ value. first_value_is cells atom path value h)
+possible_holds (Not part) path cells h = one_has not_of (possible_of part path) (meaning part cells) (possible_holds part path cells h)
+possible_holds (And left right) path cells h =
     two_has and_of (possible_of left path) (possible_of right path) (meaning left cells) (meaning right cells) (possible_holds left path cells h) (possible_holds right path cells h)
-possible_holds (Either left right) path cells h =
+possible_holds (Or left right) path cells h =
     two_has or_of (possible_of left path) (possible_of right path) (meaning left cells) (meaning right cells) (possible_holds left path cells h) (possible_holds right path cells h)
-possible_holds (Asks test part) path cells h = one_has (asks_of test) (possible_of part path) (meaning part cells) (possible_holds part path cells h)
+possible_holds (Is test part) path cells h = one_has (is_of test) (possible_of part path) (meaning part cells) (possible_holds part path cells h)
 
-open_has_true : (condition : Condition) → member (open_mask condition) True ≡ true
-open_has_true (Compares term op constant) = refl
-open_has_true (Lacks column) = refl
+open_has_true : (atom : AtomOf) → member (open_mask atom) True ≡ true
+open_has_true (Cmp term op constant) = refl
+open_has_true (IsNull column) = refl
 
-some_known : (known : Option Tri) (condition : Condition) → (t : Tri) × (member (known_or_open known condition) t ≡ true)
-some_known (Some value) condition = (value, single_has value)
-some_known None condition = (True, open_has_true condition)
+some_known : (known : Option Tri) (atom : AtomOf) → (t : Tri) × (member (known_or_open known atom) t ≡ true)
+some_known (Some value) atom = (value, single_has value)
+some_known None atom = (True, open_has_true atom)
 
 -- some truth value is left to each filter, also on a path with which no row agrees
 some_possible : (filter : Expr) (path : Path) → (t : Tri) × (member (possible_of filter path) t ≡ true)
-some_possible (Always known) path = (tri_of known, single_has (tri_of known))
-some_possible (Holds condition) path = some_known (first_value condition path) condition
-some_possible (Negation part) path =
+some_possible (Const known) path = (tri_of known, single_has (tri_of known))
+some_possible (Atom atom) path = some_known (first_value atom path) atom
+some_possible (Not part) path =
     let some = some_possible part path in
     (not_of some.0, one_has not_of (possible_of part path) some.0 some.1)
-some_possible (Both left right) path =
+some_possible (And left right) path =
     let one = some_possible left path in
     let other = some_possible right path in
     (and_of one.0 other.0, two_has and_of (possible_of left path) (possible_of right path) one.0 other.0 one.1 other.1)
-some_possible (Either left right) path =
+some_possible (Or left right) path =
     let one = some_possible left path in
     let other = some_possible right path in
     (or_of one.0 other.0, two_has or_of (possible_of left path) (possible_of right path) one.0 other.0 one.1 other.1)
-some_possible (Asks test part) path =
+some_possible (Is test part) path =
     let some = some_possible part path in
-    (asks_of test some.0, one_has (asks_of test) (possible_of part path) some.0 some.1)
+    (is_of test some.0, one_has (is_of test) (possible_of part path) some.0 some.1)
 
 false_absorbs : (truth falsity null : Bool) (t : Tri) → member (record { truth = truth; falsity = falsity; null = null }) t ≡ true
     → lift_two and_of (single_of False) (record { truth = truth; falsity = falsity; null = null }) ≡ single_of False

@@ -8,8 +8,8 @@ use Rattle.std.specs.Ordering.{int_eq}
 use Rattle.std.specs.Cmp.{unsigned_Decides, signed_Decides, booleans_Decides}
 use Rattle.std.proofs.lemmas.Slice.Eq.{bytes_eq-Decides}
 use Rattle.filter_tree.specs.Datum.{Constant, Number, Truth, Bytes, Datum, Missing, Known, value_at}
-use Rattle.filter_tree.specs.Expr.{Condition, Compares, Lacks}
-use Rattle.filter_tree.specs.Same.{same_constant, same_datum, same_from, same_cells, same_term, same_op, same_condition}
+use Rattle.filter_tree.specs.Expr.{AtomOf, Cmp, IsNull}
+use Rattle.filter_tree.specs.Same.{same_constant, same_datum, same_from, same_cells, same_term, same_op, same_atom}
 use Rattle.filter_tree.specs.declared.filter.Term.{Term}
 use Rattle.filter_tree.specs.declared.filter.Term.TheVariants.{Col, Mod}
 use Rattle.filter_tree.specs.declared.filter.Op.{Op}
@@ -50,16 +50,16 @@ same_op_is Gt Gt h = refl
 same_op_is Ge Ge h = refl
 same_op_is op other h = absurd cc
 
-pub same_condition_is : (c d : Condition) → same_condition c d ≡ true → c ≡ d
-same_condition_is (Compares s op k) (Compares t other l) h =
+pub same_atom_is : (c d : AtomOf) → same_atom c d ≡ true → c ≡ d
+same_atom_is (Cmp s op k) (Cmp t other l) h =
     let both : (same_term s t ≡ true) × ((same_op op other && same_constant k l) ≡ true) = both_true _ _ h in
     let rest : (same_op op other ≡ true) × (same_constant k l ≡ true) = both_true _ _ both.1 in
     let terms : s ≡ t = same_term_is s t both.0 in
     let ops : op ≡ other = same_op_is op other rest.0 in
     let constants : k ≡ l = same_constant_is k l rest.1 in
     cc
-same_condition_is (Lacks c) (Lacks d) h = ap Lacks ((unsigned_Decides c d).0 h)
-same_condition_is c d h = absurd cc
+same_atom_is (IsNull c) (IsNull d) h = ap IsNull ((unsigned_Decides c d).0 h)
+same_atom_is c d h = absurd cc
 
 -- ---- the same as itself
 
@@ -90,16 +90,16 @@ same_op_self Le = refl
 same_op_self Gt = refl
 same_op_self Ge = refl
 
-same_condition_self : (c : Condition) → same_condition c c ≡ true
-same_condition_self (Compares t op k) =
+same_atom_self : (c : AtomOf) → same_atom c c ≡ true
+same_atom_self (Cmp t op k) =
     let terms : same_term t t ≡ true = same_term_self t in
     let ops : same_op op op ≡ true = same_op_self op in
     let constants : same_constant k k ≡ true = same_constant_self k in
     rw (terms, ops, constants) refl
-same_condition_self (Lacks c) = (unsigned_Decides c c).1 refl
+same_atom_self (IsNull c) = (unsigned_Decides c c).1 refl
 
-pub same_condition_of_equal : (c d : Condition) → c ≡ d → same_condition c d ≡ true
-same_condition_of_equal c d e = subst (λ x. same_condition c x ≡ true) e (same_condition_self c)
+pub same_atom_of_equal : (c d : AtomOf) → c ≡ d → same_atom c d ≡ true
+same_atom_of_equal c d e = subst (λ x. same_atom c x ≡ true) e (same_atom_self c)
 
 -- ---- rows
 

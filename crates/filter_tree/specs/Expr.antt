@@ -1,7 +1,7 @@
 -- Row filters ("31.3 Row Filters") as plain data, and their meaning on a row: "4.2 Value Expressions" with the operators of "9.1 Logical Operators", "9.2 Comparison Functions and Operators" and "9.3 Mathematical Functions and Operators".
 use Rattle.std.specs.Prelude.{ℕ, ℤ, Bool, List, int_rem}
 use Rattle.filter_tree.specs.Datum.{Constant, Number, Datum, Missing, Known, value_at}
-use Rattle.filter_tree.specs.Logic.{and_of, or_of, not_of, asks_of, tri_of}
+use Rattle.filter_tree.specs.Logic.{and_of, or_of, not_of, is_of, tri_of}
 use Rattle.filter_tree.specs.Compare.{compare_of}
 use Rattle.filter_tree.specs.declared.tri.Tri.{Tri}
 use Rattle.filter_tree.specs.declared.tri.Tri.TheVariants.{True, False}
@@ -11,18 +11,18 @@ use Rattle.filter_tree.specs.declared.filter.Op.{Op}
 use Rattle.filter_tree.specs.declared.filter.Test.{Test}
 
 -- a test of one column: a comparison of a term with a constant, or `IS NULL`
-pub data Condition : Type 0 where
-  Compares : Term → Op → Constant → Condition
-  Lacks : ℕ → Condition
+pub data AtomOf : Type 0 where
+  Cmp : Term → Op → Constant → AtomOf
+  IsNull : ℕ → AtomOf
 
--- a filter: a constant, a condition, NOT, AND, OR, or an IS test
+-- a filter: a constant, an atom, NOT, AND, OR, or an IS test
 pub data Expr : Type 0 where
-  Always : Bool → Expr
-  Holds : Condition → Expr
-  Negation : Expr → Expr
-  Both : Expr → Expr → Expr
-  Either : Expr → Expr → Expr
-  Asks : Test → Expr → Expr
+  Const : Bool → Expr
+  Atom : AtomOf → Expr
+  Not : Expr → Expr
+  And : Expr → Expr → Expr
+  Or : Expr → Expr → Expr
+  Is : Test → Expr → Expr
 
 -- the remainder of a number, which truncates towards zero, and by 0 is the number itself; any other value stays as it is
 abbrev pub remainder_of : Datum → ℤ → Datum
@@ -38,15 +38,15 @@ abbrev pub is_missing : Datum → Tri
 is_missing Missing = True
 is_missing (Known value) = False
 
-abbrev pub condition_meaning : Condition → List Datum → Tri
-condition_meaning (Compares term op constant) cells = compare_of op (term_value term cells) constant
-condition_meaning (Lacks column) cells = is_missing (value_at cells column)
+abbrev pub atom_meaning : AtomOf → List Datum → Tri
+atom_meaning (Cmp term op constant) cells = compare_of op (term_value term cells) constant
+atom_meaning (IsNull column) cells = is_missing (value_at cells column)
 
 -- what a filter says of a row
 abbrev pub meaning : Expr → List Datum → Tri
-meaning (Always known) cells = tri_of known
-meaning (Holds condition) cells = condition_meaning condition cells
-meaning (Negation part) cells = not_of (meaning part cells)
-meaning (Both left right) cells = and_of (meaning left cells) (meaning right cells)
-meaning (Either left right) cells = or_of (meaning left cells) (meaning right cells)
-meaning (Asks test part) cells = asks_of test (meaning part cells)
+meaning (Const known) cells = tri_of known
+meaning (Atom atom) cells = atom_meaning atom cells
+meaning (Not part) cells = not_of (meaning part cells)
+meaning (And left right) cells = and_of (meaning left cells) (meaning right cells)
+meaning (Or left right) cells = or_of (meaning left cells) (meaning right cells)
+meaning (Is test part) cells = is_of test (meaning part cells)

@@ -4,6 +4,7 @@ pub mod Expr
 pub mod Lists
 pub mod Logic
 pub mod Mask
+pub mod Memory
 pub mod Paths
 pub mod Range
 pub mod Same

@@ -1,9 +1,9 @@
--- What a row filter ("31.3 Row Filters") is made of: its conditions, the terms that they look at, and their columns, each once, in the order of first appearance.
+-- What a row filter ("31.3 Row Filters") is made of: its atoms, the terms that they look at, and their columns, each once, in the order of first appearance.
 use Rattle.std.specs.Prelude.{ℕ, Bool, nat_eq, List, [], ◌∷◌, ◌++◌, ◌≡◌, if◌then◌else◌, map, fold}
 use Rattle.std.specs.List.{list_any}
 use Rattle.filter_tree.specs.Datum.{Datum, value_at}
-use Rattle.filter_tree.specs.Expr.{Condition, Compares, Lacks, Expr, Always, Holds, Negation, Both, Either, Asks, meaning}
-use Rattle.filter_tree.specs.Same.{same_term, same_condition}
+use Rattle.filter_tree.specs.Expr.{AtomOf, Cmp, IsNull, Expr, Const, Atom, Not, And, Or, Is, meaning}
+use Rattle.filter_tree.specs.Same.{same_term, same_atom}
 use Rattle.filter_tree.specs.declared.filter.Term.{Term}
 use Rattle.filter_tree.specs.declared.filter.Term.TheVariants.{Col, Mod}
 
@@ -15,36 +15,36 @@ with_item same xs x = if list_any (same x) xs then xs else xs ++ x ∷ []
 abbrev pub distinct : {X : Type 0} → (X → X → Bool) → List X → List X
 distinct same xs = fold (with_item same) [] xs
 
--- the conditions of a filter from left to right
-abbrev pub conditions : Expr → List Condition
-conditions (Always known) = []
-conditions (Holds condition) = condition ∷ []
-conditions (Negation part) = conditions part
-conditions (Both left right) = conditions left ++ conditions right
-conditions (Either left right) = conditions left ++ conditions right
-conditions (Asks test part) = conditions part
+-- the atoms of a filter from left to right
+abbrev pub atoms_in : Expr → List AtomOf
+atoms_in (Const known) = []
+atoms_in (Atom atom) = atom ∷ []
+atoms_in (Not part) = atoms_in part
+atoms_in (And left right) = atoms_in left ++ atoms_in right
+atoms_in (Or left right) = atoms_in left ++ atoms_in right
+atoms_in (Is test part) = atoms_in part
 
--- what a condition looks at; `IS NULL` looks at its column
-abbrev pub term_of : Condition → Term
-term_of (Compares term op constant) = term
-term_of (Lacks column) = Col column
+-- what an atom looks at; `IS NULL` looks at its column
+abbrev pub term_of : AtomOf → Term
+term_of (Cmp term op constant) = term
+term_of (IsNull column) = Col column
 
 abbrev pub column_of : Term → ℕ
 column_of (Col column) = column
 column_of (Mod column divisor) = column
 
--- the columns of some conditions
-abbrev pub columns_in : List Condition → List ℕ
-columns_in found = map (λ condition. column_of (term_of condition)) found
+-- the columns of some atoms
+abbrev pub columns_in : List AtomOf → List ℕ
+columns_in found = map (λ atom. column_of (term_of atom)) found
 
-abbrev pub distinct_conditions : Expr → List Condition
-distinct_conditions filter = distinct same_condition (conditions filter)
+abbrev pub distinct_atoms : Expr → List AtomOf
+distinct_atoms filter = distinct same_atom (atoms_in filter)
 
 abbrev pub distinct_terms : Expr → List Term
-distinct_terms filter = distinct same_term (map term_of (conditions filter))
+distinct_terms filter = distinct same_term (map term_of (atoms_in filter))
 
 abbrev pub distinct_columns : Expr → List ℕ
-distinct_columns filter = distinct nat_eq (columns_in (conditions filter))
+distinct_columns filter = distinct nat_eq (columns_in (atoms_in filter))
 
 -- the rows have the same values in these columns
 abbrev pub AgreesOn : List ℕ → List Datum → List Datum → Type 0

@@ -28,11 +28,11 @@ not_of False = True
 not_of Null = Null
 
 -- `IS TRUE`, `IS FALSE`, `IS UNKNOWN`: whether it is that truth value, never null
-abbrev pub asks_of : Test → Tri → Tri
-asks_of AskTrue True = True
-asks_of AskFalse False = True
-asks_of AskUnknown Null = True
-asks_of _ _ = False
+abbrev pub is_of : Test → Tri → Tri
+is_of AskTrue True = True
+is_of AskFalse False = True
+is_of AskUnknown Null = True
+is_of _ _ = False
 
 -- a test whose answer is known
 abbrev pub tri_of : Bool → Tri

@@ -1,10 +1,10 @@
--- Tests that two values, two terms or two conditions are the same.
+-- Tests that two values, two terms or two atoms are the same.
 use Rattle.std.specs.Prelude.{ℕ, ◌+◌, Bool, true, false, ◌&&◌, nat_eq, List, [], ◌∷◌, length}
 use Rattle.std.specs.Ordering.{int_eq}
 use Rattle.std.specs.Bool.{beq}
 use Rattle.std.specs.Str.{bytes_eq}
 use Rattle.filter_tree.specs.Datum.{Constant, Number, Truth, Bytes, Datum, Missing, Known, value_at}
-use Rattle.filter_tree.specs.Expr.{Condition, Compares, Lacks}
+use Rattle.filter_tree.specs.Expr.{AtomOf, Cmp, IsNull}
 use Rattle.filter_tree.specs.declared.filter.Term.{Term}
 use Rattle.filter_tree.specs.declared.filter.Term.TheVariants.{Col, Mod}
 use Rattle.filter_tree.specs.declared.filter.Op.{Op}
@@ -43,7 +43,7 @@ same_op Gt Gt = true
 same_op Ge Ge = true
 same_op _ _ = false
 
-abbrev pub same_condition : Condition → Condition → Bool
-same_condition (Compares s op k) (Compares t op' l) = same_term s t && (same_op op op' && same_constant k l)
-same_condition (Lacks c) (Lacks d) = nat_eq c d
-same_condition _ _ = false
+abbrev pub same_atom : AtomOf → AtomOf → Bool
+same_atom (Cmp s op k) (Cmp t op' l) = same_term s t && (same_op op op' && same_constant k l)
+same_atom (IsNull c) (IsNull d) = nat_eq c d
+same_atom _ _ = false

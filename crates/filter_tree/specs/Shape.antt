@@ -1,26 +1,27 @@
 -- Which filter a tree of the program stands for, in whatever memory it lies.
 use Rattle.std.specs.Prelude.{List, map}
 use Rattle.std.specs.Borrow.{Bor}
-use Rattle.filter_tree.specs.Values.{constant_of}
-use Rattle.filter_tree.specs.Expr.{Condition, Compares, Lacks, Expr, Always, Holds, Negation, Both, Either, Asks}
+use Rattle.filter_tree.specs.Values.{constant_view}
+use Rattle.filter_tree.specs.Expr.{AtomOf, Expr}
+use Rattle.filter_tree.specs.Expr as e
 use Rattle.filter_tree.specs.declared.filter.Atom.{Atom}
 use Rattle.filter_tree.specs.declared.filter.Atom.TheVariants.{Cmp, IsNull}
 use Rattle.filter_tree.specs.declared.filter.Filter.{Filter}
 use Rattle.filter_tree.specs.declared.filter.Filter.TheVariants.{Const, Atom as Leaf, Not', And', Or', Is'}
 
-abbrev pub condition_of : {A : _} → Atom A → Condition
-condition_of (Cmp term op literal) = Compares term op (constant_of literal)
-condition_of (IsNull column) = Lacks column
+abbrev pub atom_view : {A : _} → Atom A → AtomOf
+atom_view (Cmp term op literal) = e.Cmp term op (constant_view literal)
+atom_view (IsNull column) = e.IsNull column
 
--- the conditions of a list of references to atoms
-abbrev pub conditions_of : {A : _} → List (Bor (Atom A)) → List Condition
-conditions_of atoms = map (λ atom. condition_of atom.now) atoms
+-- the atoms of a list of references to atoms
+abbrev pub atoms_view : {A : _} → List (Bor (Atom A)) → List AtomOf
+atoms_view atoms = map (λ atom. atom_view atom.now) atoms
 
 -- `p` and `q` are where the boxes lie
-abbrev pub expr_of : {A : _} → Filter A → Expr
-expr_of (Const known) = Always known
-expr_of (Leaf atom) = Holds (condition_of atom)
-expr_of (Not' p part) = Negation (expr_of part)
-expr_of (And' p left q right) = Both (expr_of left) (expr_of right)
-expr_of (Or' p left q right) = Either (expr_of left) (expr_of right)
-expr_of (Is' test p part) = Asks test (expr_of part)
+abbrev pub expr_view : {A : _} → Filter A → Expr
+expr_view (Const known) = e.Const known
+expr_view (Leaf atom) = e.Atom (atom_view atom)
+expr_view (Not' p part) = e.Not (expr_view part)
+expr_view (And' p left q right) = e.And (expr_view left) (expr_view right)
+expr_view (Or' p left q right) = e.Or (expr_view left) (expr_view right)
+expr_view (Is' test p part) = e.Is test (expr_view part)

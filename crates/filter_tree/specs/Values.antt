@@ -5,13 +5,13 @@ use Rattle.filter_tree.specs.declared.value.Value.TheVariants.{Null, Int, Bool, 
 use Rattle.filter_tree.specs.declared.value.Literal.{Literal}
 use Rattle.filter_tree.specs.declared.value.Literal.TheVariants.{Int as IntLiteral, Bool as BoolLiteral, Text as TextLiteral}
 
-abbrev pub datum_of : {A : _} → Value A → Datum
-datum_of Null = Missing
-datum_of (Int number) = Known (Number number)
-datum_of (Bool truth) = Known (Truth truth)
-datum_of (Text bytes) = Known (Bytes bytes)
+abbrev pub datum_view : {A : _} → Value A → Datum
+datum_view Null = Missing
+datum_view (Int number) = Known (Number number)
+datum_view (Bool truth) = Known (Truth truth)
+datum_view (Text bytes) = Known (Bytes bytes)
 
-abbrev pub constant_of : {A : _} → Literal A → Constant
-constant_of (IntLiteral number) = Number number
-constant_of (BoolLiteral truth) = Truth truth
-constant_of (TextLiteral bytes) = Bytes bytes
+abbrev pub constant_view : {A : _} → Literal A → Constant
+constant_view (IntLiteral number) = Number number
+constant_view (BoolLiteral truth) = Truth truth
+constant_view (TextLiteral bytes) = Bytes bytes

@@ -1,5 +1,5 @@
 ghost use Rattle.std.specs.Prelude.{◌≡◌};
-ghost use Rattle.filter_tree.specs.Values.{datum_of, constant_of};
+ghost use Rattle.filter_tree.specs.Values.{datum_view, constant_view};
 ghost use Rattle.filter_tree.specs.Compare.{compare_of, compare_known};
 ghost use Rattle.filter_tree.specs.Compare.{compare_numbers_of, compare_truths_of, compare_texts_of};
 
@@ -11,7 +11,7 @@ use std::alloc::Allocator;
 
 /// SQL's `value op literal`: null where the value is null.
 pub fn compare<A: Allocator, B: Allocator>(op: Op, value: &Value<A>, literal: &Literal<B>) -> Tri
-    ensures { result ≡ compare_of op (datum_of value.now) (constant_of literal.now) }
+    ensures { result ≡ compare_of op (datum_view value.now) (constant_view literal.now) }
 {
     match (value, literal) {
         (Value::Null, _) => Tri::Null,
@@ -28,7 +28,7 @@ pub fn compare_literals<A: Allocator, B: Allocator>(
     left: &Literal<A>,
     right: &Literal<B>,
 ) -> bool
-    ensures { result ≡ compare_known op (constant_of left.now) (constant_of right.now) }
+    ensures { result ≡ compare_known op (constant_view left.now) (constant_view right.now) }
 {
     match (left, right) {
         (Literal::Int(left), Literal::Int(right)) => compare_numbers(op, *left, *right),

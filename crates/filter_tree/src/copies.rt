@@ -1,6 +1,6 @@
 ghost use Rattle.std.specs.Prelude.{◌≡◌, IfOk};
-ghost use Rattle.filter_tree.specs.Values.{datum_of, constant_of};
-ghost use Rattle.filter_tree.specs.Shape.{condition_of, expr_of};
+ghost use Rattle.filter_tree.specs.Values.{datum_view, constant_view};
+ghost use Rattle.filter_tree.specs.Shape.{atom_view, expr_view};
 
 use crate::filter::{Atom, Filter};
 use crate::text::Text;
@@ -12,7 +12,7 @@ pub fn copy_in<A: Allocator, B: Allocator + Clone>(
     alloc: B,
     filter: &Filter<A>,
 ) -> Result<Filter<B>, AllocError>
-    ensures { IfOk result (λ copy. expr_of copy ≡ expr_of filter.now) }
+    ensures { IfOk result (λ copy. expr_view copy ≡ expr_view filter.now) }
 {
     copy_filter(&alloc, filter)
 }
@@ -22,7 +22,7 @@ fn copy_filter<A: Allocator, B: Allocator + Clone>(
     alloc: &B,
     filter: &Filter<A>,
 ) -> Result<Filter<B>, AllocError>
-    ensures { IfOk result (λ copy. expr_of copy ≡ expr_of filter.now) }
+    ensures { IfOk result (λ copy. expr_view copy ≡ expr_view filter.now) }
 {
     match filter {
         Filter::Const(known) => Ok(Filter::Const(*known)),
@@ -45,7 +45,7 @@ fn copy_boxed<A: Allocator, B: Allocator + Clone>(
     alloc: &B,
     filter: &Filter<A>,
 ) -> Result<Box<Filter<B>, B>, AllocError>
-    ensures { IfOk result (λ copy. expr_of copy.value ≡ expr_of filter.now) }
+    ensures { IfOk result (λ copy. expr_view copy.value ≡ expr_view filter.now) }
 {
     let copy = copy_filter(alloc, filter)?;
     Ok(Box::new(alloc.clone()?, copy)?)
@@ -55,7 +55,7 @@ fn copy_atom<A: Allocator, B: Allocator + Clone>(
     alloc: &B,
     atom: &Atom<A>,
 ) -> Result<Atom<B>, AllocError>
-    ensures { IfOk result (λ copy. condition_of copy ≡ condition_of atom.now) }
+    ensures { IfOk result (λ copy. atom_view copy ≡ atom_view atom.now) }
 {
     match atom {
         Atom::Cmp(term, op, literal) => Ok(Atom::Cmp(*term, *op, copy_literal(alloc, literal)?)),
@@ -67,7 +67,7 @@ fn copy_literal<A: Allocator, B: Allocator + Clone>(
     alloc: &B,
     literal: &Literal<A>,
 ) -> Result<Literal<B>, AllocError>
-    ensures { IfOk result (λ copy. constant_of copy ≡ constant_of literal.now) }
+    ensures { IfOk result (λ copy. constant_view copy ≡ constant_view literal.now) }
 {
     match literal {
         Literal::Int(number) => Ok(Literal::Int(*number)),
@@ -95,7 +95,7 @@ fn copy_value<A: Allocator, B: Allocator + Clone>(
     alloc: &B,
     value: &Value<A>,
 ) -> Result<Value<B>, AllocError>
-    ensures { IfOk result (λ copy. datum_of copy ≡ datum_of value.now) }
+    ensures { IfOk result (λ copy. datum_view copy ≡ datum_view value.now) }
 {
     match value {
         Value::Null => Ok(Value::Null),

@@ -1,7 +1,7 @@
 ghost use Rattle.std.specs.Prelude.{◌≡◌};
-ghost use Rattle.filter_tree.specs.Expr.{meaning, condition_meaning, remainder_of};
-ghost use Rattle.filter_tree.specs.Values.{datum_of, constant_of};
-ghost use Rattle.filter_tree.specs.Shape.{condition_of, expr_of};
+ghost use Rattle.filter_tree.specs.Expr.{meaning, atom_meaning, remainder_of};
+ghost use Rattle.filter_tree.specs.Values.{datum_view, constant_view};
+ghost use Rattle.filter_tree.specs.Shape.{atom_view, expr_view};
 ghost use Rattle.filter_tree.specs.Compare.{compare_of};
 ghost use Rattle.filter_tree.specs.Expr.{term_value};
 
@@ -14,7 +14,7 @@ use std::alloc::Allocator;
 /// What the filter says of the row. A column past the row's end reads as null, and a comparison of unlike types is
 /// false, so each filter has a value on each row.
 pub fn eval<A: Allocator, R: Allocator>(filter: &Filter<A>, row: &Row<R>) -> Tri
-    ensures { result ≡ meaning (expr_of filter.now) row.now }
+    ensures { result ≡ meaning (expr_view filter.now) row.now }
 {
     match filter {
         Filter::Const(known) => Tri::from(*known),
@@ -33,7 +33,7 @@ pub fn eval<A: Allocator, R: Allocator>(filter: &Filter<A>, row: &Row<R>) -> Tri
 }
 
 fn eval_atom<A: Allocator, R: Allocator>(atom: &Atom<A>, row: &Row<R>) -> Tri
-    ensures { result ≡ condition_meaning (condition_of atom.now) row.now }
+    ensures { result ≡ atom_meaning (atom_view atom.now) row.now }
 {
     match atom {
         Atom::Cmp(term, op, literal) => compare_term(*term, *op, literal, row),
@@ -50,7 +50,7 @@ fn compare_term<A: Allocator, R: Allocator>(
     literal: &Literal<A>,
     row: &Row<R>,
 ) -> Tri
-    ensures { result ≡ compare_of op (term_value term row.now) (constant_of literal.now) }
+    ensures { result ≡ compare_of op (term_value term row.now) (constant_view literal.now) }
 {
     match term {
         Term::Col(column) => match row.get(column) {
@@ -71,7 +71,7 @@ fn compare_remainder<A: Allocator, R: Allocator>(
     op: Op,
     literal: &Literal<A>,
 ) -> Tri
-    ensures { result ≡ compare_of op (remainder_of (datum_of value.now) divisor) (constant_of literal.now) }
+    ensures { result ≡ compare_of op (remainder_of (datum_view value.now) divisor) (constant_view literal.now) }
 {
     match value {
         Value::Int(number) if divisor != 0 => compare(

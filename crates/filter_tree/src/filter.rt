@@ -43,11 +43,11 @@ pub enum Atom<A: Allocator = Global> {
 
 impl<A: Allocator> Atom<A> {
     ghost use Rattle.filter_tree.specs.Lists.{term_of};
-    ghost use Rattle.filter_tree.specs.Shape.{condition_of};
+    ghost use Rattle.filter_tree.specs.Shape.{atom_view};
 
     /// The term that the atom looks at; `IS NULL` looks at its column.
     pub fn term(&self) -> Term
-        ensures { result ≡ term_of (condition_of self.now) }
+        ensures { result ≡ term_of (atom_view self.now) }
     {
         match self {
             Atom::Cmp(term, _, _) => *term,

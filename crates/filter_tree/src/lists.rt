@@ -1,9 +1,9 @@
 ghost use Rattle.std.specs.Prelude.{◌≡◌, IfOk, OnOk, map, fold, nat_eq};
 ghost use Rattle.std.specs.List.{list_any};
-ghost use Rattle.filter_tree.specs.Shape.{condition_of, conditions_of, expr_of};
-ghost use Rattle.filter_tree.specs.Same.{same_term, same_condition};
-ghost use Rattle.filter_tree.specs.Lists.{with_item, conditions, term_of, columns_in};
-ghost use Rattle.filter_tree.specs.Lists.{distinct_conditions, distinct_terms, distinct_columns, IsDeterminedBy};
+ghost use Rattle.filter_tree.specs.Shape.{atom_view, atoms_view, expr_view};
+ghost use Rattle.filter_tree.specs.Same.{same_term, same_atom};
+ghost use Rattle.filter_tree.specs.Lists.{with_item, atoms_in, term_of, columns_in};
+ghost use Rattle.filter_tree.specs.Lists.{distinct_atoms, distinct_terms, distinct_columns, IsDeterminedBy};
 
 use crate::filter::{Atom, Filter, Term};
 use crate::same::{same_atom, same_term};
@@ -15,7 +15,7 @@ pub fn atoms_of<'a, A: Allocator, B: Allocator>(
     alloc: B,
     filter: &'a Filter<A>,
 ) -> Result<Vec<&'a Atom<A>, B>, AllocError>
-    ensures { IfOk result (λ atoms. conditions_of atoms.items ≡ distinct_conditions (expr_of filter.now)) }
+    ensures { IfOk result (λ atoms. atoms_view atoms.items ≡ distinct_atoms (expr_view filter.now)) }
 {
     let mut atoms = Vec::new(alloc);
     gather_atoms(&mut atoms, filter)?;
@@ -28,7 +28,7 @@ pub fn terms_of<A: Allocator, B: Allocator>(
     alloc: B,
     filter: &Filter<A>,
 ) -> Result<Vec<Term, B>, AllocError>
-    ensures { IfOk result (λ terms. terms.items ≡ distinct_terms (expr_of filter.now)) }
+    ensures { IfOk result (λ terms. terms.items ≡ distinct_terms (expr_view filter.now)) }
 {
     let mut terms = Vec::new(alloc);
     gather_terms(&mut terms, filter)?;
@@ -42,8 +42,8 @@ pub fn columns_of<A: Allocator, B: Allocator>(
     alloc: B,
     filter: &Filter<A>,
 ) -> Result<Vec<usize, B>, AllocError>
-    ensures list { IfOk result (λ columns. columns.items ≡ distinct_columns (expr_of filter.now)) }
-    ensures determined { IfOk result (λ columns. IsDeterminedBy (expr_of filter.now) columns.items) }
+    ensures list { IfOk result (λ columns. columns.items ≡ distinct_columns (expr_view filter.now)) }
+    ensures determined { IfOk result (λ columns. IsDeterminedBy (expr_view filter.now) columns.items) }
 {
     let mut columns = Vec::new(alloc);
     gather_columns(&mut columns, filter)?;
@@ -54,8 +54,8 @@ fn gather_atoms<'a, A: Allocator, B: Allocator>(
     atoms: &mut Vec<&'a Atom<A>, B>,
     filter: &'a Filter<A>,
 ) -> Result<(), AllocError>
-    ensures { OnOk result (conditions_of atoms.new.items
-        ≡ fold (with_item same_condition) (conditions_of atoms.old.items) (conditions (expr_of filter.now))) }
+    ensures { OnOk result (atoms_view atoms.new.items
+        ≡ fold (with_item same_atom) (atoms_view atoms.old.items) (atoms_in (expr_view filter.now))) }
 {
     match filter {
         Filter::Const(_) => Ok(()),
@@ -72,8 +72,8 @@ fn add_atom<'a, A: Allocator, B: Allocator>(
     atoms: &mut Vec<&'a Atom<A>, B>,
     atom: &'a Atom<A>,
 ) -> Result<(), AllocError>
-    ensures { OnOk result (conditions_of atoms.new.items
-        ≡ with_item same_condition (conditions_of atoms.old.items) (condition_of atom.now)) }
+    ensures { OnOk result (atoms_view atoms.new.items
+        ≡ with_item same_atom (atoms_view atoms.old.items) (atom_view atom.now)) }
 {
     if has_atom(atoms, atom) {
         return Ok(());
@@ -83,7 +83,7 @@ fn add_atom<'a, A: Allocator, B: Allocator>(
 }
 
 fn has_atom<A: Allocator>(atoms: &[&Atom<A>], atom: &Atom<A>) -> bool
-    ensures { result ≡ list_any (same_condition (condition_of atom.now)) (conditions_of atoms.now) }
+    ensures { result ≡ list_any (same_atom (atom_view atom.now)) (atoms_view atoms.now) }
 {
     for held in atoms {
         if same_atom(atom, *held) {
@@ -98,7 +98,7 @@ fn gather_terms<A: Allocator, B: Allocator>(
     filter: &Filter<A>,
 ) -> Result<(), AllocError>
     ensures { OnOk result (terms.new.items
-        ≡ fold (with_item same_term) terms.old.items (map term_of (conditions (expr_of filter.now)))) }
+        ≡ fold (with_item same_term) terms.old.items (map term_of (atoms_in (expr_view filter.now)))) }
 {
     match filter {
         Filter::Const(_) => Ok(()),
@@ -137,7 +137,7 @@ fn gather_columns<A: Allocator, B: Allocator>(
     filter: &Filter<A>,
 ) -> Result<(), AllocError>
     ensures { OnOk result (columns.new.items
-        ≡ fold (with_item nat_eq) columns.old.items (columns_in (conditions (expr_of filter.now)))) }
+        ≡ fold (with_item nat_eq) columns.old.items (columns_in (atoms_in (expr_view filter.now)))) }
 {
     match filter {
         Filter::Const(_) => Ok(()),

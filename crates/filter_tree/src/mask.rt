@@ -1,5 +1,5 @@
 ghost use Rattle.std.specs.Prelude.{◌≡◌, ◌||◌};
-ghost use Rattle.filter_tree.specs.Logic.{and_of, or_of, not_of, asks_of};
+ghost use Rattle.filter_tree.specs.Logic.{and_of, or_of, not_of, is_of};
 ghost use Rattle.filter_tree.specs.Mask.{member, single_of, lift_one, lift_two};
 
 use crate::filter::Test;
@@ -71,7 +71,7 @@ impl Mask {
 
     /// What `IS TRUE`, `IS FALSE` or `IS UNKNOWN` may give of a member.
     pub fn is(self, test: Test) -> Mask
-        ensures { result ≡ lift_one (asks_of test) self }
+        ensures { result ≡ lift_one (is_of test) self }
     {
         let (asked, others) = match test {
             Test::True => (self.truth, self.falsity || self.null),

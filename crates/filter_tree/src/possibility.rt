@@ -1,9 +1,10 @@
 ghost use Rattle.std.specs.Prelude.{◌≡◌, List, IsTrue};
 ghost use Rattle.filter_tree.specs.Datum.{Datum};
-ghost use Rattle.filter_tree.specs.Expr.{Holds, meaning};
-ghost use Rattle.filter_tree.specs.Shape.{condition_of, expr_of};
+ghost use Rattle.filter_tree.specs.Expr.{meaning};
+ghost use Rattle.filter_tree.specs.Expr as expr;
+ghost use Rattle.filter_tree.specs.Shape.{atom_view, expr_view};
 ghost use Rattle.filter_tree.specs.Mask.{member};
-ghost use Rattle.filter_tree.specs.Paths.{path_of, Agrees, first_value, possible_of};
+ghost use Rattle.filter_tree.specs.Paths.{path_view, Agrees, first_value, possible_of};
 
 use crate::filter::{Atom, Filter};
 use crate::mask::Mask;
@@ -15,9 +16,9 @@ use std::alloc::Allocator;
 /// atom that stands twice, the first entry counts.
 #[tactic(auto, using(crate::proofs::PossibleLemmas::possible_holds))]
 pub fn possible<A: Allocator>(filter: &Filter<A>, path: &[(&Atom<A>, Tri)]) -> Mask
-    ensures set { result ≡ possible_of (expr_of filter.now) (path_of path.now) }
-    ensures sound { (cells : List Datum) → Agrees cells (path_of path.now)
-        → IsTrue (member result (meaning (expr_of filter.now) cells)) }
+    ensures set { result ≡ possible_of (expr_view filter.now) (path_view path.now) }
+    ensures sound { (cells : List Datum) → Agrees cells (path_view path.now)
+        → IsTrue (member result (meaning (expr_view filter.now) cells)) }
 {
     mask_of(filter, path)
 }
@@ -25,7 +26,7 @@ pub fn possible<A: Allocator>(filter: &Filter<A>, path: &[(&Atom<A>, Tri)]) -> M
 /// As `possible`. A part whose value cannot matter any more is not looked at.
 #[tactic(auto, using(crate::proofs::PossibleLemmas::both_false, crate::proofs::PossibleLemmas::either_true))]
 fn mask_of<A: Allocator>(filter: &Filter<A>, path: &[(&Atom<A>, Tri)]) -> Mask
-    ensures { result ≡ possible_of (expr_of filter.now) (path_of path.now) }
+    ensures { result ≡ possible_of (expr_view filter.now) (path_view path.now) }
 {
     match filter {
         Filter::Const(known) => Mask::single(Tri::from(*known)),
@@ -50,7 +51,7 @@ fn mask_of<A: Allocator>(filter: &Filter<A>, path: &[(&Atom<A>, Tri)]) -> Mask
 }
 
 fn mask_of_atom<A: Allocator>(atom: &Atom<A>, path: &[(&Atom<A>, Tri)]) -> Mask
-    ensures { result ≡ possible_of (Holds (condition_of atom.now)) (path_of path.now) }
+    ensures { result ≡ possible_of (expr.Atom (atom_view atom.now)) (path_view path.now) }
 {
     match (value_on_path(atom, path), atom) {
         (Some(value), _) => Mask::single(value),
@@ -68,7 +69,7 @@ fn mask_of_atom<A: Allocator>(atom: &Atom<A>, path: &[(&Atom<A>, Tri)]) -> Mask
 }
 
 fn value_on_path<A: Allocator>(atom: &Atom<A>, path: &[(&Atom<A>, Tri)]) -> Option<Tri>
-    ensures { result ≡ first_value (condition_of atom.now) (path_of path.now) }
+    ensures { result ≡ first_value (atom_view atom.now) (path_view path.now) }
 {
     for (tested, value) in path {
         if same_atom(atom, *tested) {

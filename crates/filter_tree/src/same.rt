@@ -1,18 +1,18 @@
 ghost use Rattle.std.specs.Prelude.{◌≡◌, ◌↔◌, IsTrue};
 ghost use Rattle.filter_tree.specs.Datum.{value_at};
-ghost use Rattle.filter_tree.specs.Values.{datum_of, constant_of};
-ghost use Rattle.filter_tree.specs.Shape.{condition_of};
-ghost use Rattle.filter_tree.specs.Same.{same_constant, same_datum, same_term, same_op, same_condition, same_cells};
+ghost use Rattle.filter_tree.specs.Values.{datum_view, constant_view};
+ghost use Rattle.filter_tree.specs.Shape.{atom_view};
+ghost use Rattle.filter_tree.specs.Same.{same_constant, same_datum, same_term, same_op, same_atom, same_cells};
 
 use crate::filter::{Atom, Op, Term};
 use crate::value::{Literal, Row, Value};
 use std::alloc::Allocator;
 
 /// Whether two atoms have equal terms, operators and constants.
-#[tactic(auto, using(crate::proofs::SameLemmas::same_condition_is, crate::proofs::SameLemmas::same_condition_of_equal))]
+#[tactic(auto, using(crate::proofs::SameLemmas::same_atom_is, crate::proofs::SameLemmas::same_atom_of_equal))]
 pub fn same_atom<A: Allocator, B: Allocator>(one: &Atom<A>, other: &Atom<B>) -> bool
-    ensures test { result ≡ same_condition (condition_of one.now) (condition_of other.now) }
-    ensures equal { IsTrue result ↔ (condition_of one.now ≡ condition_of other.now) }
+    ensures test { result ≡ same_atom (atom_view one.now) (atom_view other.now) }
+    ensures equal { IsTrue result ↔ (atom_view one.now ≡ atom_view other.now) }
 {
     match (one, other) {
         (Atom::Cmp(term, op, literal), Atom::Cmp(other_term, other_op, other_literal)) => {
@@ -51,7 +51,7 @@ fn has_cells_of<A: Allocator, B: Allocator>(one: &Row<A>, other: &Row<B>) -> boo
 
 /// Whether the row has this value in the column; past the row's end it has null.
 fn is_at<A: Allocator, B: Allocator>(column: usize, value: &Value<A>, other: &Row<B>) -> bool
-    ensures { result ≡ same_datum (datum_of value.now) (value_at other.now column) }
+    ensures { result ≡ same_datum (datum_view value.now) (value_at other.now column) }
 {
     match other.get(column) {
         None => matches!(value, Value::Null),
@@ -60,7 +60,7 @@ fn is_at<A: Allocator, B: Allocator>(column: usize, value: &Value<A>, other: &Ro
 }
 
 fn same_value<A: Allocator, B: Allocator>(one: &Value<A>, other: &Value<B>) -> bool
-    ensures { result ≡ same_datum (datum_of one.now) (datum_of other.now) }
+    ensures { result ≡ same_datum (datum_view one.now) (datum_view other.now) }
 {
     match (one, other) {
         (Value::Null, Value::Null) => true,
@@ -72,7 +72,7 @@ fn same_value<A: Allocator, B: Allocator>(one: &Value<A>, other: &Value<B>) -> b
 }
 
 fn same_literal<A: Allocator, B: Allocator>(one: &Literal<A>, other: &Literal<B>) -> bool
-    ensures { result ≡ same_constant (constant_of one.now) (constant_of other.now) }
+    ensures { result ≡ same_constant (constant_view one.now) (constant_view other.now) }
 {
     match (one, other) {
         (Literal::Int(number), Literal::Int(other_number)) => number == other_number,

@@ -1,5 +1,5 @@
 ghost use Rattle.std.specs.Prelude.{◌≡◌};
-ghost use Rattle.filter_tree.specs.Logic.{and_of, or_of, not_of, asks_of};
+ghost use Rattle.filter_tree.specs.Logic.{and_of, or_of, not_of, is_of};
 
 use crate::filter::Test;
 
@@ -47,7 +47,7 @@ impl Tri {
 
     /// SQL's `self IS TRUE`, `IS FALSE` or `IS UNKNOWN`: whether it is the value that the test asks for; never null.
     pub fn is(self, test: Test) -> Tri
-        ensures { result ≡ asks_of test self }
+        ensures { result ≡ is_of test self }
     {
         match (test, self) {
             (Test::True, Tri::True) | (Test::False, Tri::False) | (Test::Unknown, Tri::Null) =>

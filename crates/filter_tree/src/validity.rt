@@ -1,5 +1,5 @@
 ghost use Rattle.std.specs.Prelude.{◌≡◌, IsOk};
-ghost use Rattle.filter_tree.specs.Values.{datum_of};
+ghost use Rattle.filter_tree.specs.Values.{datum_view};
 ghost use Rattle.filter_tree.specs.Datum.{value_at};
 ghost use Rattle.filter_tree.specs.Valid.{IsValid, row_fault, verdict_of, value_fault, number_fault, text_fault};
 
@@ -78,7 +78,7 @@ fn fault_of_value<R: Allocator>(
     column: &Column,
     value: &Value<R>,
 ) -> Option<RowFault>
-    ensures { result ≡ value_fault number column.now (datum_of value.now) }
+    ensures { result ≡ value_fault number column.now (datum_view value.now) }
 {
     match (value, column.kind) {
         (Value::Null, _) if column.not_null => Some(RowFault::NullInNotNull(number)),

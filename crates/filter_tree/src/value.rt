@@ -1,6 +1,6 @@
 ghost use Rattle.std.specs.Prelude.{◌≡◌, ◌==◌, map, length, slice_get};
 ghost use Rattle.std.specs.Option.{option_map};
-ghost use Rattle.filter_tree.specs.Values.{datum_of};
+ghost use Rattle.filter_tree.specs.Values.{datum_view};
 
 use crate::text::Text;
 use std::alloc::{Allocator, Global};
@@ -36,22 +36,22 @@ impl<A: Allocator> Model for Row<A> {
 
     ghost Value = { List Datum };
 
-    ghost use Rattle.filter_tree.specs.Values.{datum_of};
+    ghost use Rattle.filter_tree.specs.Values.{datum_view};
 
-    ghost view = { λ r. map datum_of r.values.items };
+    ghost view = { λ r. map datum_view r.values.items };
 }
 
 impl<A: Allocator> Row<A> {
     /// The row of these values.
     pub fn from_values(values: Vec<Value<A>, A>) -> Row<A>
-        ensures { result ≡ map datum_of values.items }
+        ensures { result ≡ map datum_view values.items }
     {
         Row { values }
     }
 
     /// The values in the order of the columns.
     pub fn values(&self) -> &[Value<A>]
-        ensures { map datum_of result.now ≡ self.now }
+        ensures { map datum_view result.now ≡ self.now }
     {
         self.values.as_slice()
     }
@@ -72,14 +72,14 @@ impl<A: Allocator> Row<A> {
 
     /// The value of the column numbered `column` from 0; `None` past the row's end.
     pub fn get(&self, column: usize) -> Option<&Value<A>>
-        ensures { option_map (λ value. datum_of value.now) result ≡ slice_get self.now column }
+        ensures { option_map (λ value. datum_view value.now) result ≡ slice_get self.now column }
     {
         self.values.get(column)
     }
 
     /// The `Vec` of the values.
     pub fn into_values(self) -> Vec<Value<A>, A>
-        ensures { map datum_of result.items ≡ self }
+        ensures { map datum_view result.items ≡ self }
     {
         let Row { values } = self;
         values

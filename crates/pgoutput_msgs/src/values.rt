@@ -1,7 +1,7 @@
 ghost use Rattle.std.specs.Prelude.{◌≡◌, ◌<◌, ◌^◌, IfOk, List, length};
 ghost use Rattle.filter_tree.specs.declared.table.Column.{Column};
 ghost use Rattle.filter_tree.specs.Valid.{IsValid};
-ghost use Rattle.filter_tree.specs.Values.{datum_of};
+ghost use Rattle.filter_tree.specs.Values.{datum_view};
 ghost use Rattle.pgoutput_msgs.specs.Spelling.{IsTupleWithinRange};
 ghost use Rattle.pgoutput_msgs.specs.ValueText.{cell_of, cells_of};
 
@@ -25,7 +25,7 @@ pub fn tuple_of<A: Allocator>(alloc: Global, row: &Row<A>) -> Result<Tuple, Allo
 }
 
 fn value_text<A: Allocator>(alloc: Global, value: &Value<A>) -> Result<Cell, AllocError>
-    ensures { IfOk result (λ cell. cell ≡ cell_of (datum_of value.now)) }
+    ensures { IfOk result (λ cell. cell ≡ cell_of (datum_view value.now)) }
 {
     match value {
         Value::Null => Ok(Cell::Null),

@@ -24,7 +24,7 @@ use Rattle.pub_reader.specs.declared.catalog.Catalog.{Catalog}
 use Rattle.pub_reader.specs.declared.table_name.NewName.{NewName}
 use Rattle.pub_reader.specs.CatalogLimits.{IsNarrowTable, IsLimited}
 use Rattle.pub_reader.specs.Catalogs.{CatalogOf, identified}
-use Rattle.pub_reader.specs.CatalogView.{catalog_of}
+use Rattle.pub_reader.specs.CatalogView.{catalog_view}
 use Rattle.pub_reader.specs.Drafts.{DraftOf, no_draft, resolved, resolved_publication, find_table, find_publication, find_subscription}
 use Rattle.pub_reader.specs.Identities.{replica_identity, alter_table}
 use Rattle.pub_reader.specs.Publications.{new_publication, publication_name, for_clause, create_publication}
@@ -203,6 +203,6 @@ pub within_limits : {S : Type 0} (forms : Forms S) (text : List ℕ) (catalog : 
 unfolding catalog_by
 within_limits forms text catalog e = finished-within (statements forms no_draft (items_of text)) catalog (statements-gives forms (items_of text)) e
 
-pub answered-within : (text : List ℕ) (answer : Result Catalog ReadError) → Answers catalog_of (catalog_by as_filter text) answer → IfOk answer (λ catalog. IsLimited (catalog_of catalog))
-answered-within text (Ok catalog) e = within_limits as_filter text (catalog_of catalog) e
+pub answered-within : (text : List ℕ) (answer : Result Catalog ReadError) → Answers catalog_view (catalog_by as_filter text) answer → IfOk answer (λ catalog. IsLimited (catalog_view catalog))
+answered-within text (Ok catalog) e = within_limits as_filter text (catalog_view catalog) e
 answered-within text (Err error) e = tt

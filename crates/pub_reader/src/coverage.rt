@@ -26,14 +26,14 @@ impl Coverage {
     ghost use Rattle.std.specs.Prelude.{◌≡◌, OnOk};
     ghost use Rattle.std.specs.List.{list_any};
     ghost use Rattle.sql_reader.specs.Reading.{Answers};
-    ghost use Rattle.pub_reader.specs.CatalogView.{entry_of};
+    ghost use Rattle.pub_reader.specs.CatalogView.{entry_view};
     ghost use Rattle.pub_reader.specs.Drafts.{nothing_covered, is_covered};
-    ghost use Rattle.pub_reader.specs.DraftView.{coverage_of};
+    ghost use Rattle.pub_reader.specs.DraftView.{coverage_view};
     ghost use Rattle.pub_reader.specs.Objects as spec;
 
     /// Nothing.
     pub fn new(alloc: Global) -> Coverage
-        ensures { coverage_of result ≡ nothing_covered }
+        ensures { coverage_view result ≡ nothing_covered }
     {
         Coverage {
             entries: Vec::new(alloc),
@@ -51,14 +51,14 @@ impl Coverage {
 
     /// Adds the tables of a schema, if they are new here.
     pub fn add_schema(&mut self, schema: Text) -> Result<(), AllocError>
-        ensures { OnOk result (coverage_of self.new ≡ spec.with_schema (coverage_of self.old) schema) }
+        ensures { OnOk result (coverage_view self.new ≡ spec.with_schema (coverage_view self.old) schema) }
     {
         self.schemas.add(schema.into_string())
     }
 
     /// Whether a table is named.
     fn has_table(&self, number: usize) -> bool
-        ensures { result ≡ list_any (spec.is_of number) (coverage_of self.now).entries }
+        ensures { result ≡ list_any (spec.is_of number) (coverage_view self.now).entries }
     {
         for entry in &self.entries {
             if entry.table == number {
@@ -70,7 +70,7 @@ impl Coverage {
 
     /// Whether a table is named with a filter.
     fn has_filter(&self, number: usize) -> bool
-        ensures { result ≡ list_any (spec.is_filtered number) (coverage_of self.now).entries }
+        ensures { result ≡ list_any (spec.is_filtered number) (coverage_view self.now).entries }
     {
         for entry in &self.entries {
             if entry.table == number && entry.filter.is_some() {
@@ -84,7 +84,7 @@ impl Coverage {
     /// mention has a filter.
     #[tactic(auto, unfolding(crate::specs::Objects::table_mentioned))]
     pub fn add_table(&mut self, place: usize, entry: Entry) -> Result<(), ReadError>
-        ensures { Answers (λ _. coverage_of self.new) (spec.table_mentioned (coverage_of self.old) place (entry_of entry)) result }
+        ensures { Answers (λ _. coverage_view self.new) (spec.table_mentioned (coverage_view self.old) place (entry_view entry)) result }
     {
         if !self.has_table(entry.table) {
             self.entries.push(entry)?;

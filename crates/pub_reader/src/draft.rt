@@ -45,12 +45,12 @@ pub struct Draft {
 
 impl Draft {
     ghost use Rattle.std.specs.Prelude.{◌≡◌, ◌<◌, ◌∷◌, ◌++◌, [], length, map, IfOk, IfSome, None, OnOk};
-    ghost use Rattle.filter_tree.specs.Shape.{expr_of};
+    ghost use Rattle.filter_tree.specs.Shape.{expr_view};
     ghost use Rattle.sql_reader.specs.Reading.{Answers};
     ghost use Rattle.pub_reader.specs.Catalogs.{columns_at, identified};
-    ghost use Rattle.pub_reader.specs.CatalogView.{catalog_of};
+    ghost use Rattle.pub_reader.specs.CatalogView.{catalog_view};
     ghost use Rattle.pub_reader.specs.Drafts as spec;
-    ghost use Rattle.pub_reader.specs.DraftView.{draft_of, draft_publication_of};
+    ghost use Rattle.pub_reader.specs.DraftView.{draft_view, draft_publication_view};
     ghost use Rattle.pub_reader.specs.Publications.{new_publication};
     ghost use Rattle.pub_reader.specs.Schemas.{known, new_schema, known_schema};
     ghost use Rattle.pub_reader.specs.Subscriptions.{new_subscription};
@@ -58,7 +58,7 @@ impl Draft {
 
     /// Nothing made but the schema `public`.
     pub fn new(alloc: Global) -> Result<Draft, AllocError>
-        ensures { IfOk result (λ draft. draft_of draft ≡ spec.no_draft) }
+        ensures { IfOk result (λ draft. draft_view draft ≡ spec.no_draft) }
     {
         let mut schemas = Names::new(alloc);
         schemas.add(String::from_str(alloc, PUBLIC)?)?;
@@ -75,7 +75,7 @@ impl Draft {
     /// Refuses a schema whose name is taken.
     #[tactic(auto, unfolding(crate::specs::Schemas::new_schema))]
     pub fn new_schema(&self, name: &PlacedName) -> Result<usize, ReadError>
-        ensures { Answers (λ n. n) (new_schema (draft_of self.now).schemas name.now) result }
+        ensures { Answers (λ n. n) (new_schema (draft_view self.now).schemas name.now) result }
     {
         let found = self.schemas.find(name.text.as_str());
         if found.is_some() {
@@ -90,22 +90,22 @@ impl Draft {
     /// The number of a schema that was made before.
     #[tactic(auto, unfolding(crate::specs::Schemas::known_schema))]
     pub fn known_schema(&self, name: &PlacedName) -> Result<usize, ReadError>
-        ensures { Answers (λ n. n) (known_schema (draft_of self.now).schemas name.now) result }
+        ensures { Answers (λ n. n) (known_schema (draft_view self.now).schemas name.now) result }
     {
         known_number(name, self.schemas.find(name.text.as_str()))
     }
 
     /// Adds a schema.
     pub fn add_schema(&mut self, name: Text) -> Result<(), AllocError>
-        ensures { OnOk result (draft_of self.new ≡ record (draft_of self.old) { schemas = spec.with_name (draft_of self.old).schemas name }) }
+        ensures { OnOk result (draft_view self.new ≡ record (draft_view self.old) { schemas = spec.with_name (draft_view self.old).schemas name }) }
     {
         self.schemas.add(name.into_string())
     }
 
     /// The number of the table of a schema and a name.
     fn find_table(&self, schema: &str, name: &str) -> Option<usize>
-        ensures value { result ≡ spec.find_table schema.now name.now (draft_of self.now).tables }
-        ensures within { IfSome result (λ n. n < length (draft_of self.now).tables) }
+        ensures value { result ≡ spec.find_table schema.now name.now (draft_view self.now).tables }
+        ensures within { IfSome result (λ n. n < length (draft_view self.now).tables) }
     {
         self.tables.iter().position(|table| schema == table.schema.as_str()
             && name == table.name.as_str())
@@ -113,14 +113,14 @@ impl Draft {
 
     /// The number of the publication of a name.
     fn find_publication(&self, name: &str) -> Option<usize>
-        ensures { result ≡ spec.find_publication name.now (draft_of self.now).publications }
+        ensures { result ≡ spec.find_publication name.now (draft_view self.now).publications }
     {
         self.publication_names.find(name)
     }
 
     /// The number of the subscription of a name.
     fn find_subscription(&self, name: &str) -> Option<usize>
-        ensures { result ≡ spec.find_subscription name.now (draft_of self.now).subscriptions }
+        ensures { result ≡ spec.find_subscription name.now (draft_view self.now).subscriptions }
     {
         self.subscription_names.find(name)
     }
@@ -128,7 +128,7 @@ impl Draft {
     /// Refuses a table whose name is taken in its schema, or that is one too many.
     #[tactic(auto, unfolding(crate::specs::TableNames::new_table))]
     pub fn new_table(&self, name: &NewName) -> Result<usize, ReadError>
-        ensures { Answers (λ n. n) (new_table (draft_of self.now).tables name.now) result }
+        ensures { Answers (λ n. n) (new_table (draft_view self.now).tables name.now) result }
     {
         let found = self.find_table(name.schema.as_str(), name.name.text.as_str());
         new_number(
@@ -142,8 +142,8 @@ impl Draft {
     /// Refuses a publication whose name is taken, or that is one too many.
     #[tactic(auto, unfolding(crate::specs::Publications::new_publication))]
     pub fn new_publication(&self, name: &PlacedName) -> Result<usize, ReadError>
-        ensures answer { Answers (λ n. n) (new_publication (draft_of self.now) name.now) result }
-        ensures free { OnOk result (spec.find_publication name.now.text (draft_of self.now).publications ≡ None) }
+        ensures answer { Answers (λ n. n) (new_publication (draft_view self.now) name.now) result }
+        ensures free { OnOk result (spec.find_publication name.now.text (draft_view self.now).publications ≡ None) }
     {
         let found = self.find_publication(name.text.as_str());
         new_number(
@@ -157,8 +157,8 @@ impl Draft {
     /// Refuses a subscription whose name is taken, or that is one too many.
     #[tactic(auto, unfolding(crate::specs::Subscriptions::new_subscription))]
     pub fn new_subscription(&self, name: &PlacedName) -> Result<usize, ReadError>
-        ensures answer { Answers (λ n. n) (new_subscription (draft_of self.now) name.now) result }
-        ensures free { OnOk result (spec.find_subscription name.now.text (draft_of self.now).subscriptions ≡ None) }
+        ensures answer { Answers (λ n. n) (new_subscription (draft_view self.now) name.now) result }
+        ensures free { OnOk result (spec.find_subscription name.now.text (draft_view self.now).subscriptions ≡ None) }
     {
         let found = self.find_subscription(name.text.as_str());
         new_number(
@@ -172,15 +172,15 @@ impl Draft {
     /// The number of a table that was made before.
     #[tactic(auto, unfolding(crate::specs::TableNames::known_table))]
     pub fn known_table(&self, schema: &str, name: &PlacedName) -> Result<usize, ReadError>
-        ensures answer { Answers (λ n. n) (known_table (draft_of self.now).tables schema.now name.now) result }
-        ensures within { IfOk result (λ n. n < length (draft_of self.now).tables) }
+        ensures answer { Answers (λ n. n) (known_table (draft_view self.now).tables schema.now name.now) result }
+        ensures within { IfOk result (λ n. n < length (draft_view self.now).tables) }
     {
         known_number(name, self.find_table(schema, name.text.as_str()))
     }
 
     /// The number of a publication that was made before.
     pub fn known_publication(&self, name: &PlacedName) -> Result<usize, ReadError>
-        ensures { Answers (λ n. n) (known name.now (spec.find_publication name.now.text (draft_of self.now).publications)) result }
+        ensures { Answers (λ n. n) (known name.now (spec.find_publication name.now.text (draft_view self.now).publications)) result }
     {
         known_number(name, self.find_publication(name.text.as_str()))
     }
@@ -188,15 +188,15 @@ impl Draft {
     /// The columns of a table.
     #[tactic(auto, using(crate::proofs::TableLemmas::table_numbers))]
     pub fn columns(&self, number: usize) -> &[Column]
-        requires { number < length (draft_of self.now).tables }
-        ensures { result.now ≡ columns_at (draft_of self.now).tables number }
+        requires { number < length (draft_view self.now).tables }
+        ensures { result.now ≡ columns_at (draft_view self.now).tables number }
     {
         self.tables[number].columns.as_slice()
     }
 
     /// The filters on a table.
     pub fn filters(&self, alloc: Global, number: usize) -> Result<Vec<&Filter>, AllocError>
-        ensures { IfOk result (λ filters. map (λ f. expr_of f.now) filters.items ≡ spec.filters_on (λ f. f) number (draft_of self.now).publications) }
+        ensures { IfOk result (λ filters. map (λ f. expr_view f.now) filters.items ≡ spec.filters_on (λ f. f) number (draft_view self.now).publications) }
     {
         let mut filters = Vec::new(alloc);
         for publication in &self.publications {
@@ -211,7 +211,7 @@ impl Draft {
 
     /// Adds a table.
     pub fn add_table(&mut self, table: Table) -> Result<(), AllocError>
-        ensures { OnOk result (draft_of self.new ≡ record (draft_of self.old) { tables = (draft_of self.old).tables ++ table ∷ [] }) }
+        ensures { OnOk result (draft_view self.new ≡ record (draft_view self.old) { tables = (draft_view self.old).tables ++ table ∷ [] }) }
     {
         self.tables.push(table)?;
         Ok(())
@@ -223,8 +223,8 @@ impl Draft {
         alloc: Global,
         publication: DraftPublication,
     ) -> Result<(), AllocError>
-        requires { spec.find_publication publication.name (draft_of self.old).publications ≡ None }
-        ensures { OnOk result (draft_of self.new ≡ record (draft_of self.old) { publications = (draft_of self.old).publications ++ draft_publication_of publication ∷ [] }) }
+        requires { spec.find_publication publication.name (draft_view self.old).publications ≡ None }
+        ensures { OnOk result (draft_view self.new ≡ record (draft_view self.old) { publications = (draft_view self.old).publications ++ draft_publication_view publication ∷ [] }) }
     {
         let name = String::from_str(alloc, publication.name.as_str())?;
         self.publications.try_reserve(1)?;
@@ -239,8 +239,8 @@ impl Draft {
         alloc: Global,
         subscription: Subscription,
     ) -> Result<(), AllocError>
-        requires { spec.find_subscription subscription.name (draft_of self.old).subscriptions ≡ None }
-        ensures { OnOk result (draft_of self.new ≡ record (draft_of self.old) { subscriptions = (draft_of self.old).subscriptions ++ subscription ∷ [] }) }
+        requires { spec.find_subscription subscription.name (draft_view self.old).subscriptions ≡ None }
+        ensures { OnOk result (draft_view self.new ≡ record (draft_view self.old) { subscriptions = (draft_view self.old).subscriptions ++ subscription ∷ [] }) }
     {
         let name = String::from_str(alloc, subscription.name.as_str())?;
         self.subscriptions.try_reserve(1)?;
@@ -252,15 +252,15 @@ impl Draft {
     /// Gives a table another replica identity.
     #[tactic(auto, using(crate::proofs::TableLemmas::table_numbers))]
     pub fn identify(&mut self, number: usize, identity: Identity)
-        requires { number < length (draft_of self.old).tables }
-        ensures { draft_of self.new ≡ record (draft_of self.old) { tables = identified (draft_of self.old).tables number identity } }
+        requires { number < length (draft_view self.old).tables }
+        ensures { draft_view self.new ≡ record (draft_view self.old) { tables = identified (draft_view self.old).tables number identity } }
     {
         self.tables[number].identity = identity;
     }
 
     /// The catalog, once it is read: what the publications cover is resolved.
     pub fn finish(self, alloc: Global) -> Result<Catalog, AllocError>
-        ensures { IfOk result (λ catalog. catalog_of catalog ≡ spec.resolved (draft_of self)) }
+        ensures { IfOk result (λ catalog. catalog_view catalog ≡ spec.resolved (draft_view self)) }
     {
         let Draft {
             schemas: _,

@@ -2,13 +2,13 @@
 
 ghost use Rattle.std.specs.Prelude.{◌<◌, ◌≤◌, ◌∷◌, ◌++◌, [], OnOk, length, map};
 ghost use Rattle.std.specs.Option.{option_map};
-ghost use Rattle.filter_tree.specs.Shape.{expr_of};
+ghost use Rattle.filter_tree.specs.Shape.{expr_view};
 ghost use Rattle.sql_reader.specs.Ahead.{to_read};
 ghost use Rattle.sql_reader.specs.Items.{size};
 ghost use Rattle.sql_reader.specs.Reading.{Reads, Answers};
 ghost use Rattle.sql_reader.specs.Written.{as_filter};
 ghost use Rattle.pub_reader.specs.Drafts.{filters_in, filters_on};
-ghost use Rattle.pub_reader.specs.DraftView.{coverage_of, draft_of};
+ghost use Rattle.pub_reader.specs.DraftView.{coverage_view, draft_view};
 ghost use Rattle.pub_reader.specs.Objects as spec;
 
 use crate::coverage::Coverage;
@@ -21,7 +21,7 @@ use std::alloc::Global;
 /// Refuses a filter with which the filters on its table pass a limit.
 #[tactic(auto, unfolding(crate::specs::Objects::limited))]
 fn limited(alloc: Global, place: usize, filters: &[&Filter]) -> Result<usize, ReadError>
-    ensures { Answers (λ n. n) (spec.limited place (map (λ f. expr_of f.now) filters.now)) result }
+    ensures { Answers (λ n. n) (spec.limited place (map (λ f. expr_view f.now) filters.now)) result }
 {
     match exceeded_limit(alloc, filters)? {
         None => Ok(0),
@@ -41,7 +41,7 @@ fn within_limits(
     place: usize,
     filter: &Filter,
 ) -> Result<usize, ReadError>
-    ensures { Answers (λ n. n) (spec.limited place ((filters_on (λ f. f) number (draft_of draft.now).publications ++ filters_in (λ f. f) number (coverage_of coverage.now).entries) ++ expr_of filter.now ∷ [])) result }
+    ensures { Answers (λ n. n) (spec.limited place ((filters_on (λ f. f) number (draft_view draft.now).publications ++ filters_in (λ f. f) number (coverage_view coverage.now).entries) ++ expr_view filter.now ∷ [])) result }
 {
     let mut filters = draft.filters(alloc, number)?;
     add_filters(&mut filters, coverage.entries.as_slice(), number)?;
@@ -60,7 +60,7 @@ fn ended(
     place: usize,
     filter: Filter,
 ) -> Result<Option<Filter>, ReadError>
-    ensures reads { Reads (λ filter. option_map expr_of filter) (spec.ended as_filter (draft_of draft.now) (coverage_of coverage.now) number place (expr_of filter) (to_read r.old)) result (to_read r.new) }
+    ensures reads { Reads (λ filter. option_map expr_view filter) (spec.ended as_filter (draft_view draft.now) (coverage_view coverage.now) number place (expr_view filter) (to_read r.old)) result (to_read r.new) }
     ensures fewer { OnOk result (size (to_read r.new) < size (to_read r.old)) }
 {
     r.expect(Item::Close, "AND, OR or `)`")?;
@@ -77,8 +77,8 @@ fn where_clause(
     coverage: &Coverage,
     number: usize,
 ) -> Result<Option<Filter>, ReadError>
-    requires { number < length (draft_of draft.now).tables }
-    ensures reads { Reads (λ filter. option_map expr_of filter) (spec.where_clause as_filter (draft_of draft.now) (coverage_of coverage.now) number (to_read r.old)) result (to_read r.new) }
+    requires { number < length (draft_view draft.now).tables }
+    ensures reads { Reads (λ filter. option_map expr_view filter) (spec.where_clause as_filter (draft_view draft.now) (coverage_view coverage.now) number (to_read r.old)) result (to_read r.new) }
     ensures fewer { OnOk result (size (to_read r.new) < size (to_read r.old)) }
 {
     let place = r.expect(Item::Keyword(Keyword::Where), "WHERE")?;
@@ -96,8 +96,8 @@ pub fn filter_clause(
     coverage: &Coverage,
     number: usize,
 ) -> Result<Option<Filter>, ReadError>
-    requires { number < length (draft_of draft.now).tables }
-    ensures reads { Reads (λ filter. option_map expr_of filter) (spec.filter_clause as_filter (draft_of draft.now) (coverage_of coverage.now) number (to_read r.old)) result (to_read r.new) }
+    requires { number < length (draft_view draft.now).tables }
+    ensures reads { Reads (λ filter. option_map expr_view filter) (spec.filter_clause as_filter (draft_view draft.now) (coverage_view coverage.now) number (to_read r.old)) result (to_read r.new) }
     ensures fewer { OnOk result (size (to_read r.new) ≤ size (to_read r.old)) }
 {
     r.look()?;

@@ -1,8 +1,8 @@
 //! The filters on a table.
 
 ghost use Rattle.std.specs.Prelude.{◌≡◌, ◌++◌, OnOk, map};
-ghost use Rattle.filter_tree.specs.Shape.{expr_of};
-ghost use Rattle.pub_reader.specs.CatalogView.{entry_of};
+ghost use Rattle.filter_tree.specs.Shape.{expr_view};
+ghost use Rattle.pub_reader.specs.CatalogView.{entry_view};
 ghost use Rattle.pub_reader.specs.Drafts as spec;
 
 use crate::catalog::Entry;
@@ -15,7 +15,7 @@ fn add_filter<'a>(
     entry: &'a Entry,
     number: usize,
 ) -> Result<(), AllocError>
-    ensures { OnOk result (map (λ f. expr_of f.now) filters.new.items ≡ map (λ f. expr_of f.now) filters.old.items ++ spec.filter_on (λ f. f) number (entry_of entry.now)) }
+    ensures { OnOk result (map (λ f. expr_view f.now) filters.new.items ≡ map (λ f. expr_view f.now) filters.old.items ++ spec.filter_on (λ f. f) number (entry_view entry.now)) }
 {
     if entry.table != number {
         return Ok(());
@@ -32,7 +32,7 @@ pub fn add_filters<'a>(
     entries: &'a [Entry],
     number: usize,
 ) -> Result<(), AllocError>
-    ensures { OnOk result (map (λ f. expr_of f.now) filters.new.items ≡ map (λ f. expr_of f.now) filters.old.items ++ spec.filters_in (λ f. f) number (map entry_of entries.now)) }
+    ensures { OnOk result (map (λ f. expr_view f.now) filters.new.items ≡ map (λ f. expr_view f.now) filters.old.items ++ spec.filters_in (λ f. f) number (map entry_view entries.now)) }
 {
     for entry in entries {
         add_filter(filters, entry, number)?;

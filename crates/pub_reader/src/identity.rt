@@ -4,7 +4,7 @@ ghost use Rattle.std.specs.Prelude.{◌<◌, ◌≤◌, OnOk};
 ghost use Rattle.sql_reader.specs.Ahead.{to_read};
 ghost use Rattle.sql_reader.specs.Items.{size};
 ghost use Rattle.sql_reader.specs.Reading.{Reads};
-ghost use Rattle.pub_reader.specs.DraftView.{draft_of};
+ghost use Rattle.pub_reader.specs.DraftView.{draft_view};
 ghost use Rattle.pub_reader.specs.Identities as spec;
 
 use crate::draft::Draft;
@@ -68,7 +68,7 @@ fn replica_identity(r: &mut Reader<'_>) -> Result<Identity, ReadError>
 /// Takes ALTER TABLE, and gives the table its replica identity.
 #[tactic(auto, unfolding(crate::specs::Identities::alter_table))]
 pub fn alter_table(r: &mut Reader<'_>, alloc: Global, draft: &mut Draft) -> Result<(), ReadError>
-    ensures reads { Reads (λ _. draft_of draft.new) (spec.alter_table (draft_of draft.old) (to_read r.old)) result (to_read r.new) }
+    ensures reads { Reads (λ _. draft_view draft.new) (spec.alter_table (draft_view draft.old) (to_read r.old)) result (to_read r.new) }
     ensures fewer { OnOk result (size (to_read r.new) < size (to_read r.old)) }
 {
     r.expect(Item::Keyword(Keyword::Alter), "ALTER")?;

@@ -6,7 +6,7 @@ ghost use Rattle.sql_reader.specs.Items.{size};
 ghost use Rattle.sql_reader.specs.Reading.{Reads, Answers};
 ghost use Rattle.sql_reader.specs.Written.{as_filter};
 ghost use Rattle.pub_reader.specs.Drafts.{nothing_covered};
-ghost use Rattle.pub_reader.specs.DraftView.{coverage_of, draft_of, objects_of};
+ghost use Rattle.pub_reader.specs.DraftView.{coverage_view, draft_view, objects_view};
 ghost use Rattle.pub_reader.specs.Objects as spec;
 
 use crate::catalog::Entry;
@@ -22,7 +22,7 @@ use std::alloc::Global;
 /// Adds a schema that was made before.
 #[tactic(auto, unfolding(crate::specs::Objects::schema_mentioned, crate::specs::Schemas::known_schema))]
 fn mention_schema(draft: &Draft, coverage: &mut Coverage, name: PlacedName) -> Result<(), ReadError>
-    ensures { Answers (λ _. coverage_of coverage.new) (spec.schema_mentioned (draft_of draft.now) (coverage_of coverage.old) name) result }
+    ensures { Answers (λ _. coverage_view coverage.new) (spec.schema_mentioned (draft_view draft.now) (coverage_view coverage.old) name) result }
 {
     draft.known_schema(&name)?;
     coverage.add_schema(name.text)?;
@@ -37,7 +37,7 @@ fn named_schema(
     draft: &Draft,
     coverage: &mut Coverage,
 ) -> Result<ObjectKind, ReadError>
-    ensures reads { Reads (λ kind. objects_of kind coverage.new) (spec.named_schema (draft_of draft.now) (coverage_of coverage.old) (to_read r.old)) result (to_read r.new) }
+    ensures reads { Reads (λ kind. objects_view kind coverage.new) (spec.named_schema (draft_view draft.now) (coverage_view coverage.old) (to_read r.old)) result (to_read r.new) }
     ensures fewer { OnOk result (size (to_read r.new) < size (to_read r.old)) }
 {
     let name = read_name(r, alloc, "the name of a schema")?;
@@ -52,7 +52,7 @@ fn current_schema(
     alloc: Global,
     coverage: &mut Coverage,
 ) -> Result<ObjectKind, ReadError>
-    ensures reads { Reads (λ kind. objects_of kind coverage.new) (spec.current_schema (coverage_of coverage.old) (to_read r.old)) result (to_read r.new) }
+    ensures reads { Reads (λ kind. objects_view kind coverage.new) (spec.current_schema (coverage_view coverage.old) (to_read r.old)) result (to_read r.new) }
     ensures fewer { OnOk result (size (to_read r.new) < size (to_read r.old)) }
 {
     r.expect(Item::Keyword(Keyword::CurrentSchema), "CURRENT_SCHEMA")?;
@@ -69,7 +69,7 @@ fn schema_object(
     draft: &Draft,
     coverage: &mut Coverage,
 ) -> Result<ObjectKind, ReadError>
-    ensures reads { Reads (λ kind. objects_of kind coverage.new) (spec.schema_object (draft_of draft.now) (coverage_of coverage.old) (to_read r.old)) result (to_read r.new) }
+    ensures reads { Reads (λ kind. objects_view kind coverage.new) (spec.schema_object (draft_view draft.now) (coverage_view coverage.old) (to_read r.old)) result (to_read r.new) }
     ensures fewer { OnOk result (size (to_read r.new) < size (to_read r.old)) }
 {
     match r.item() {
@@ -86,7 +86,7 @@ fn in_schema(
     draft: &Draft,
     coverage: &mut Coverage,
 ) -> Result<ObjectKind, ReadError>
-    ensures reads { Reads (λ kind. objects_of kind coverage.new) (spec.in_schema (draft_of draft.now) (coverage_of coverage.old) (to_read r.old)) result (to_read r.new) }
+    ensures reads { Reads (λ kind. objects_view kind coverage.new) (spec.in_schema (draft_view draft.now) (coverage_view coverage.old) (to_read r.old)) result (to_read r.new) }
     ensures fewer { OnOk result (size (to_read r.new) < size (to_read r.old)) }
 {
     r.expect(Item::Keyword(Keyword::In), "IN SCHEMA")?;
@@ -102,7 +102,7 @@ fn taken_schema(
     coverage: &mut Coverage,
     name: PlacedName,
 ) -> Result<ObjectKind, ReadError>
-    ensures { Reads (λ kind. objects_of kind coverage.new) (spec.taken_schema (draft_of draft.now) (coverage_of coverage.old) name (to_read r.now)) result (to_read r.now) }
+    ensures { Reads (λ kind. objects_view kind coverage.new) (spec.taken_schema (draft_view draft.now) (coverage_view coverage.old) name (to_read r.now)) result (to_read r.now) }
 {
     mention_schema(draft, coverage, name)?;
     Ok(ObjectKind::Schema)
@@ -129,7 +129,7 @@ fn taken_table(
     coverage: &mut Coverage,
     name: &PlacedName,
 ) -> Result<ObjectKind, ReadError>
-    ensures reads { Reads (λ kind. objects_of kind coverage.new) (spec.taken_table as_filter (draft_of draft.now) (coverage_of coverage.old) name.now (to_read r.old)) result (to_read r.new) }
+    ensures reads { Reads (λ kind. objects_view kind coverage.new) (spec.taken_table as_filter (draft_view draft.now) (coverage_view coverage.old) name.now (to_read r.old)) result (to_read r.new) }
     ensures fewer { OnOk result (size (to_read r.new) ≤ size (to_read r.old)) }
 {
     let number = table_named(r, alloc, draft, name)?;
@@ -153,7 +153,7 @@ fn table_object(
     draft: &Draft,
     coverage: &mut Coverage,
 ) -> Result<ObjectKind, ReadError>
-    ensures reads { Reads (λ kind. objects_of kind coverage.new) (spec.table_object as_filter (draft_of draft.now) (coverage_of coverage.old) (to_read r.old)) result (to_read r.new) }
+    ensures reads { Reads (λ kind. objects_view kind coverage.new) (spec.table_object as_filter (draft_view draft.now) (coverage_view coverage.old) (to_read r.old)) result (to_read r.new) }
     ensures fewer { OnOk result (size (to_read r.new) < size (to_read r.old)) }
 {
     only_or_none(r)?;
@@ -170,7 +170,7 @@ fn taken_object(
     coverage: &mut Coverage,
     name: PlacedName,
 ) -> Result<ObjectKind, ReadError>
-    ensures reads { Reads (λ kind. objects_of kind coverage.new) (spec.taken_by as_filter kind (draft_of draft.now) (coverage_of coverage.old) name (to_read r.old)) result (to_read r.new) }
+    ensures reads { Reads (λ kind. objects_view kind coverage.new) (spec.taken_by as_filter kind (draft_view draft.now) (coverage_view coverage.old) name (to_read r.old)) result (to_read r.new) }
     ensures fewer { OnOk result (size (to_read r.new) ≤ size (to_read r.old)) }
 {
     match kind {
@@ -189,7 +189,7 @@ fn behind_tables(
     coverage: &mut Coverage,
     name: PlacedName,
 ) -> Result<ObjectKind, ReadError>
-    ensures reads { Reads (λ kind. objects_of kind coverage.new) (spec.behind_tables as_filter (draft_of draft.now) (objects_of kind coverage.old) name (to_read r.old)) result (to_read r.new) }
+    ensures reads { Reads (λ kind. objects_view kind coverage.new) (spec.behind_tables as_filter (draft_view draft.now) (objects_view kind coverage.old) name (to_read r.old)) result (to_read r.new) }
     ensures fewer { OnOk result (size (to_read r.new) ≤ size (to_read r.old)) }
 {
     r.look()?;
@@ -208,7 +208,7 @@ fn tables_object(
     kind: ObjectKind,
     coverage: &mut Coverage,
 ) -> Result<ObjectKind, ReadError>
-    ensures reads { Reads (λ kind. objects_of kind coverage.new) (spec.tables_object as_filter (draft_of draft.now) (objects_of kind coverage.old) (to_read r.old)) result (to_read r.new) }
+    ensures reads { Reads (λ kind. objects_view kind coverage.new) (spec.tables_object as_filter (draft_view draft.now) (objects_view kind coverage.old) (to_read r.old)) result (to_read r.new) }
     ensures fewer { OnOk result (size (to_read r.new) < size (to_read r.old)) }
 {
     let name = read_name(r, alloc, "TABLES")?;
@@ -223,7 +223,7 @@ fn object_of(
     kind: ObjectKind,
     coverage: &mut Coverage,
 ) -> Result<ObjectKind, ReadError>
-    ensures reads { Reads (λ kind. objects_of kind coverage.new) (spec.object_of as_filter kind (draft_of draft.now) (coverage_of coverage.old) (to_read r.old)) result (to_read r.new) }
+    ensures reads { Reads (λ kind. objects_view kind coverage.new) (spec.object_of as_filter kind (draft_view draft.now) (coverage_view coverage.old) (to_read r.old)) result (to_read r.new) }
     ensures fewer { OnOk result (size (to_read r.new) < size (to_read r.old)) }
 {
     match kind {
@@ -241,7 +241,7 @@ fn object(
     kind: ObjectKind,
     coverage: &mut Coverage,
 ) -> Result<ObjectKind, ReadError>
-    ensures reads { Reads (λ kind. objects_of kind coverage.new) (spec.object as_filter (draft_of draft.now) (objects_of kind coverage.old) (to_read r.old)) result (to_read r.new) }
+    ensures reads { Reads (λ kind. objects_view kind coverage.new) (spec.object as_filter (draft_view draft.now) (objects_view kind coverage.old) (to_read r.old)) result (to_read r.new) }
     ensures fewer { OnOk result (size (to_read r.new) < size (to_read r.old)) }
 {
     match r.item() {
@@ -262,7 +262,7 @@ fn first_object(
     draft: &Draft,
     coverage: &mut Coverage,
 ) -> Result<ObjectKind, ReadError>
-    ensures reads { Reads (λ kind. objects_of kind coverage.new) (spec.first_object as_filter (draft_of draft.now) (coverage_of coverage.old) (to_read r.old)) result (to_read r.new) }
+    ensures reads { Reads (λ kind. objects_view kind coverage.new) (spec.first_object as_filter (draft_view draft.now) (coverage_view coverage.old) (to_read r.old)) result (to_read r.new) }
     ensures fewer { OnOk result (size (to_read r.new) < size (to_read r.old)) }
 {
     match r.item() {
@@ -286,8 +286,8 @@ pub fn objects(
     draft: &Draft,
     coverage: &mut Coverage,
 ) -> Result<ObjectKind, ReadError>
-    requires { coverage_of coverage.old ≡ nothing_covered }
-    ensures reads { Reads (λ kind. objects_of kind coverage.new) (spec.objects as_filter (draft_of draft.now) (to_read r.old)) result (to_read r.new) }
+    requires { coverage_view coverage.old ≡ nothing_covered }
+    ensures reads { Reads (λ kind. objects_view kind coverage.new) (spec.objects as_filter (draft_view draft.now) (to_read r.old)) result (to_read r.new) }
     ensures fewer { OnOk result (size (to_read r.new) < size (to_read r.old)) }
 {
     let mut kind = first_object(r, alloc, draft, coverage)?;

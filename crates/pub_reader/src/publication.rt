@@ -6,7 +6,7 @@ ghost use Rattle.sql_reader.specs.Items.{size};
 ghost use Rattle.sql_reader.specs.Reading.{Reads};
 ghost use Rattle.sql_reader.specs.Written.{as_filter};
 ghost use Rattle.pub_reader.specs.Drafts.{find_publication};
-ghost use Rattle.pub_reader.specs.DraftView.{coverage_of, draft_of};
+ghost use Rattle.pub_reader.specs.DraftView.{coverage_view, draft_view};
 ghost use Rattle.pub_reader.specs.Publications as spec;
 
 use crate::catalog::Operations;
@@ -32,9 +32,9 @@ fn publication_name(
     alloc: Global,
     draft: &Draft,
 ) -> Result<PlacedName, ReadError>
-    ensures reads { Reads (λ name. name) (spec.publication_name (draft_of draft.now) (to_read r.old)) result (to_read r.new) }
+    ensures reads { Reads (λ name. name) (spec.publication_name (draft_view draft.now) (to_read r.old)) result (to_read r.new) }
     ensures fewer { OnOk result (size (to_read r.new) < size (to_read r.old)) }
-    ensures free { IfOk result (λ name. find_publication name.text (draft_of draft.now).publications ≡ None) }
+    ensures free { IfOk result (λ name. find_publication name.text (draft_view draft.now).publications ≡ None) }
 {
     let name = read_name(r, alloc, "the name of a publication")?;
     draft.new_publication(&name)?;
@@ -44,7 +44,7 @@ fn publication_name(
 /// Takes ALL TABLES.
 #[tactic(auto, unfolding(crate::specs::Publications::all_tables))]
 fn all_tables(r: &mut Reader<'_>, alloc: Global) -> Result<Coverage, ReadError>
-    ensures reads { Reads (λ coverage. coverage_of coverage) (spec.all_tables (to_read r.old)) result (to_read r.new) }
+    ensures reads { Reads (λ coverage. coverage_view coverage) (spec.all_tables (to_read r.old)) result (to_read r.new) }
     ensures fewer { OnOk result (size (to_read r.new) < size (to_read r.old)) }
 {
     r.expect(Item::Keyword(Keyword::All), "ALL TABLES")?;
@@ -57,7 +57,7 @@ fn all_tables(r: &mut Reader<'_>, alloc: Global) -> Result<Coverage, ReadError>
 /// Takes tables and schemas.
 #[tactic(auto, unfolding(crate::specs::Publications::listed_objects))]
 fn listed_objects(r: &mut Reader<'_>, alloc: Global, draft: &Draft) -> Result<Coverage, ReadError>
-    ensures reads { Reads (λ coverage. coverage_of coverage) (spec.listed_objects as_filter (draft_of draft.now) (to_read r.old)) result (to_read r.new) }
+    ensures reads { Reads (λ coverage. coverage_view coverage) (spec.listed_objects as_filter (draft_view draft.now) (to_read r.old)) result (to_read r.new) }
     ensures fewer { OnOk result (size (to_read r.new) < size (to_read r.old)) }
 {
     let mut coverage = Coverage::new(alloc);
@@ -68,7 +68,7 @@ fn listed_objects(r: &mut Reader<'_>, alloc: Global, draft: &Draft) -> Result<Co
 /// Takes what the publication is for, behind FOR.
 #[tactic(auto, unfolding(crate::specs::Publications::scope))]
 fn scope(r: &mut Reader<'_>, alloc: Global, draft: &Draft) -> Result<Coverage, ReadError>
-    ensures reads { Reads (λ coverage. coverage_of coverage) (spec.scope as_filter (draft_of draft.now) (to_read r.old)) result (to_read r.new) }
+    ensures reads { Reads (λ coverage. coverage_view coverage) (spec.scope as_filter (draft_view draft.now) (to_read r.old)) result (to_read r.new) }
     ensures fewer { OnOk result (size (to_read r.new) < size (to_read r.old)) }
 {
     match r.item() {
@@ -80,7 +80,7 @@ fn scope(r: &mut Reader<'_>, alloc: Global, draft: &Draft) -> Result<Coverage, R
 /// Takes FOR and what the publication is for; without FOR it has no tables.
 #[tactic(auto, using(sql_reader::proofs::Ahead::rest_is_no_more), unfolding(crate::specs::Publications::for_clause))]
 fn for_clause(r: &mut Reader<'_>, alloc: Global, draft: &Draft) -> Result<Coverage, ReadError>
-    ensures reads { Reads (λ coverage. coverage_of coverage) (spec.for_clause as_filter (draft_of draft.now) (to_read r.old)) result (to_read r.new) }
+    ensures reads { Reads (λ coverage. coverage_view coverage) (spec.for_clause as_filter (draft_view draft.now) (to_read r.old)) result (to_read r.new) }
     ensures fewer { OnOk result (size (to_read r.new) ≤ size (to_read r.old)) }
 {
     match r.item() {
@@ -100,8 +100,8 @@ fn add_publication(
     coverage: Coverage,
     given: Given,
 ) -> Result<(), AllocError>
-    requires { find_publication name.text (draft_of draft.old).publications ≡ None }
-    ensures { OnOk result (draft_of draft.new ≡ spec.with_publication (draft_of draft.old) name (coverage_of coverage) given) }
+    requires { find_publication name.text (draft_view draft.old).publications ≡ None }
+    ensures { OnOk result (draft_view draft.new ≡ spec.with_publication (draft_view draft.old) name (coverage_view coverage) given) }
 {
     let publication = DraftPublication {
         name: name.text,
@@ -118,7 +118,7 @@ pub fn create_publication(
     alloc: Global,
     draft: &mut Draft,
 ) -> Result<(), ReadError>
-    ensures reads { Reads (λ _. draft_of draft.new) (spec.create_publication as_filter (draft_of draft.old) (to_read r.old)) result (to_read r.new) }
+    ensures reads { Reads (λ _. draft_view draft.new) (spec.create_publication as_filter (draft_view draft.old) (to_read r.old)) result (to_read r.new) }
     ensures fewer { OnOk result (size (to_read r.new) < size (to_read r.old)) }
 {
     let name = publication_name(r, alloc, draft)?;

@@ -1,9 +1,9 @@
 //! What publications cover, once all tables are made.
 
 ghost use Rattle.std.specs.Prelude.{◌≡◌, IfOk, map};
-ghost use Rattle.pub_reader.specs.CatalogView.{entry_of, publication_of};
+ghost use Rattle.pub_reader.specs.CatalogView.{entry_view, publication_view};
 ghost use Rattle.pub_reader.specs.Drafts as spec;
-ghost use Rattle.pub_reader.specs.DraftView.{coverage_of, draft_publication_of};
+ghost use Rattle.pub_reader.specs.DraftView.{coverage_view, draft_publication_view};
 
 use crate::catalog::{Entry, Publication};
 use crate::coverage::Coverage;
@@ -13,7 +13,7 @@ use std::alloc::{AllocError, Global};
 
 /// The entries of a publication: the tables that it names, and then each table that it carries whole.
 fn resolved_entries(tables: &[Table], coverage: Coverage) -> Result<Vec<Entry>, AllocError>
-    ensures { IfOk result (λ entries. map entry_of entries.items ≡ spec.resolved_entries tables.now (coverage_of coverage)) }
+    ensures { IfOk result (λ entries. map entry_view entries.items ≡ spec.resolved_entries tables.now (coverage_view coverage)) }
 {
     let mut coverage = coverage;
     for (number, table) in tables.iter().enumerate() {
@@ -36,7 +36,7 @@ fn resolved_publication(
     tables: &[Table],
     publication: DraftPublication,
 ) -> Result<Publication, AllocError>
-    ensures { IfOk result (λ made. publication_of made ≡ spec.resolved_publication tables.now (draft_publication_of publication)) }
+    ensures { IfOk result (λ made. publication_view made ≡ spec.resolved_publication tables.now (draft_publication_view publication)) }
 {
     let DraftPublication {
         name,
@@ -57,7 +57,7 @@ pub fn resolved(
     tables: &[Table],
     publications: Vec<DraftPublication>,
 ) -> Result<Vec<Publication>, AllocError>
-    ensures { IfOk result (λ made. map publication_of made.items ≡ map (spec.resolved_publication tables.now) (map draft_publication_of publications.items)) }
+    ensures { IfOk result (λ made. map publication_view made.items ≡ map (spec.resolved_publication tables.now) (map draft_publication_view publications.items)) }
 {
     let mut made = Vec::new(alloc);
     for publication in publications {

@@ -7,8 +7,8 @@ ghost use Rattle.sql_reader.specs.Reading.{Reads, Answers};
 ghost use Rattle.sql_reader.specs.Written.{as_filter, as_written};
 ghost use Rattle.pub_reader.specs.CatalogLimits.{IsLimited};
 ghost use Rattle.pub_reader.specs.CatalogMeaning.{MeansAsWritten};
-ghost use Rattle.pub_reader.specs.CatalogView.{catalog_of};
-ghost use Rattle.pub_reader.specs.DraftView.{draft_of};
+ghost use Rattle.pub_reader.specs.CatalogView.{catalog_view};
+ghost use Rattle.pub_reader.specs.DraftView.{draft_view};
 ghost use Rattle.pub_reader.specs.Statements as spec;
 
 use crate::catalog::Catalog;
@@ -24,7 +24,7 @@ use std::alloc::Global;
 /// Takes what is made, behind CREATE.
 #[tactic(auto, using(sql_reader::proofs::Ahead::rest_is_no_more), unfolding(crate::specs::Statements::created))]
 fn created(r: &mut Reader<'_>, alloc: Global, draft: &mut Draft) -> Result<(), ReadError>
-    ensures reads { Reads (λ _. draft_of draft.new) (spec.created as_filter (draft_of draft.old) (to_read r.old)) result (to_read r.new) }
+    ensures reads { Reads (λ _. draft_view draft.new) (spec.created as_filter (draft_view draft.old) (to_read r.old)) result (to_read r.new) }
     ensures fewer { OnOk result (size (to_read r.new) < size (to_read r.old)) }
 {
     match r.item() {
@@ -53,7 +53,7 @@ fn created(r: &mut Reader<'_>, alloc: Global, draft: &mut Draft) -> Result<(), R
 
 #[tactic(auto, unfolding(crate::specs::Statements::create))]
 fn create(r: &mut Reader<'_>, alloc: Global, draft: &mut Draft) -> Result<(), ReadError>
-    ensures reads { Reads (λ _. draft_of draft.new) (spec.create as_filter (draft_of draft.old) (to_read r.old)) result (to_read r.new) }
+    ensures reads { Reads (λ _. draft_view draft.new) (spec.create as_filter (draft_view draft.old) (to_read r.old)) result (to_read r.new) }
     ensures fewer { OnOk result (size (to_read r.new) < size (to_read r.old)) }
 {
     r.expect(Item::Keyword(Keyword::Create), "CREATE")?;
@@ -63,7 +63,7 @@ fn create(r: &mut Reader<'_>, alloc: Global, draft: &mut Draft) -> Result<(), Re
 /// Takes a statement, which may be empty, up to its semicolon.
 #[tactic(auto, unfolding(crate::specs::Statements::statement))]
 fn statement(r: &mut Reader<'_>, alloc: Global, draft: &mut Draft) -> Result<(), ReadError>
-    ensures reads { Reads (λ _. draft_of draft.new) (spec.statement as_filter (draft_of draft.old) (to_read r.old)) result (to_read r.new) }
+    ensures reads { Reads (λ _. draft_view draft.new) (spec.statement as_filter (draft_view draft.old) (to_read r.old)) result (to_read r.new) }
     ensures fewer { OnOk result (size (to_read r.new) ≤ size (to_read r.old)) }
 {
     match r.item() {
@@ -77,7 +77,7 @@ fn statement(r: &mut Reader<'_>, alloc: Global, draft: &mut Draft) -> Result<(),
 /// Takes a statement and its semicolon.
 #[tactic(auto, unfolding(crate::specs::Statements::ended_statement))]
 fn ended_statement(r: &mut Reader<'_>, alloc: Global, draft: &mut Draft) -> Result<(), ReadError>
-    ensures reads { Reads (λ _. draft_of draft.new) (spec.ended_statement as_filter (draft_of draft.old) (to_read r.old)) result (to_read r.new) }
+    ensures reads { Reads (λ _. draft_view draft.new) (spec.ended_statement as_filter (draft_view draft.old) (to_read r.old)) result (to_read r.new) }
     ensures fewer { OnOk result (size (to_read r.new) < size (to_read r.old)) }
 {
     statement(r, alloc, draft)?;
@@ -88,7 +88,7 @@ fn ended_statement(r: &mut Reader<'_>, alloc: Global, draft: &mut Draft) -> Resu
 /// Takes statements to the end of a text.
 #[tactic(auto, using(sql_reader::proofs::Turning::turns), unfolding(crate::specs::Statements::statements))]
 fn statements(r: &mut Reader<'_>, alloc: Global, draft: &mut Draft) -> Result<(), ReadError>
-    ensures { Reads (λ _. draft_of draft.new) (spec.statements as_filter (draft_of draft.old) (to_read r.old)) result (to_read r.new) }
+    ensures { Reads (λ _. draft_view draft.new) (spec.statements as_filter (draft_view draft.old) (to_read r.old)) result (to_read r.new) }
 {
     while r.more_ahead()? {
         ended_statement(r, alloc, draft)?;
@@ -106,16 +106,16 @@ fn statements(r: &mut Reader<'_>, alloc: Global, draft: &mut Draft) -> Result<()
 /// The first fault of the text, or `OutOfMemory` where an allocation was refused.
 #[tactic(auto, using(crate::proofs::CarryingCatalogs::means_as_written))]
 pub fn read_catalog(alloc: Global, text: &str) -> Result<Catalog, ReadError>
-    ensures catalog { Answers catalog_of (spec.catalog_by as_filter text.now) result }
-    ensures written { IfOk result (λ catalog. MeansAsWritten (spec.catalog_by as_written text.now) (catalog_of catalog)) }
-    ensures limits { IfOk result (λ catalog. IsLimited (catalog_of catalog)) }
+    ensures catalog { Answers catalog_view (spec.catalog_by as_filter text.now) result }
+    ensures written { IfOk result (λ catalog. MeansAsWritten (spec.catalog_by as_written text.now) (catalog_view catalog)) }
+    ensures limits { IfOk result (λ catalog. IsLimited (catalog_view catalog)) }
 {
     whole_catalog(alloc, text)
 }
 
 #[tactic(auto, unfolding(crate::specs::Statements::catalog_by))]
 fn whole_catalog(alloc: Global, text: &str) -> Result<Catalog, ReadError>
-    ensures { Answers catalog_of (spec.catalog_by as_filter text.now) result }
+    ensures { Answers catalog_view (spec.catalog_by as_filter text.now) result }
 {
     let mut draft = Draft::new(alloc)?;
     statements(&mut Reader::new(text), alloc, &mut draft)?;

@@ -5,7 +5,7 @@ ghost use Rattle.sql_reader.specs.Ahead.{to_read};
 ghost use Rattle.sql_reader.specs.Items.{size};
 ghost use Rattle.sql_reader.specs.Reading.{Reads, Answers};
 ghost use Rattle.pub_reader.specs.Drafts.{find_subscription};
-ghost use Rattle.pub_reader.specs.DraftView.{draft_of};
+ghost use Rattle.pub_reader.specs.DraftView.{draft_view};
 ghost use Rattle.pub_reader.specs.Subscriptions as spec;
 
 use crate::catalog::Subscription;
@@ -21,9 +21,9 @@ fn subscription_name(
     alloc: Global,
     draft: &Draft,
 ) -> Result<PlacedName, ReadError>
-    ensures reads { Reads (λ name. name) (spec.subscription_name (draft_of draft.now) (to_read r.old)) result (to_read r.new) }
+    ensures reads { Reads (λ name. name) (spec.subscription_name (draft_view draft.now) (to_read r.old)) result (to_read r.new) }
     ensures fewer { OnOk result (size (to_read r.new) < size (to_read r.old)) }
-    ensures free { IfOk result (λ name. find_subscription name.text (draft_of draft.now).subscriptions ≡ None) }
+    ensures free { IfOk result (λ name. find_subscription name.text (draft_view draft.now).subscriptions ≡ None) }
 {
     let name = read_name(r, alloc, "the name of a subscription")?;
     draft.new_subscription(&name)?;
@@ -33,7 +33,7 @@ fn subscription_name(
 /// The number of a publication that was made before, if it isn't among these numbers.
 #[tactic(auto, unfolding(crate::specs::Subscriptions::subscribed))]
 fn subscribed(draft: &Draft, numbers: &[usize], name: &PlacedName) -> Result<usize, ReadError>
-    ensures { Answers (λ n. n) (spec.subscribed (draft_of draft.now) numbers.now name.now) result }
+    ensures { Answers (λ n. n) (spec.subscribed (draft_view draft.now) numbers.now name.now) result }
 {
     let number = draft.known_publication(name)?;
     if numbers.contains(&number) {
@@ -53,7 +53,7 @@ fn one_publication(
     draft: &Draft,
     numbers: &mut Vec<usize>,
 ) -> Result<(), ReadError>
-    ensures reads { Reads (λ _. numbers.new.items) (spec.one_publication (draft_of draft.now) numbers.old.items (to_read r.old)) result (to_read r.new) }
+    ensures reads { Reads (λ _. numbers.new.items) (spec.one_publication (draft_view draft.now) numbers.old.items (to_read r.old)) result (to_read r.new) }
     ensures fewer { OnOk result (size (to_read r.new) < size (to_read r.old)) }
 {
     let name = read_name(r, alloc, "the name of a publication")?;
@@ -69,7 +69,7 @@ fn publication_list(
     alloc: Global,
     draft: &Draft,
 ) -> Result<Vec<usize>, ReadError>
-    ensures reads { Reads (λ numbers. numbers.items) (spec.publication_list (draft_of draft.now) (to_read r.old)) result (to_read r.new) }
+    ensures reads { Reads (λ numbers. numbers.items) (spec.publication_list (draft_view draft.now) (to_read r.old)) result (to_read r.new) }
     ensures fewer { OnOk result (size (to_read r.new) < size (to_read r.old)) }
 {
     let mut numbers = Vec::new(alloc);
@@ -99,7 +99,7 @@ fn subscription_body(
     alloc: Global,
     draft: &Draft,
 ) -> Result<Vec<usize>, ReadError>
-    ensures reads { Reads (λ numbers. numbers.items) (spec.subscription_body (draft_of draft.now) (to_read r.old)) result (to_read r.new) }
+    ensures reads { Reads (λ numbers. numbers.items) (spec.subscription_body (draft_view draft.now) (to_read r.old)) result (to_read r.new) }
     ensures fewer { OnOk result (size (to_read r.new) < size (to_read r.old)) }
 {
     r.expect(Item::Keyword(Keyword::Connection), "CONNECTION")?;
@@ -117,7 +117,7 @@ pub fn create_subscription(
     alloc: Global,
     draft: &mut Draft,
 ) -> Result<(), ReadError>
-    ensures reads { Reads (λ _. draft_of draft.new) (spec.create_subscription (draft_of draft.old) (to_read r.old)) result (to_read r.new) }
+    ensures reads { Reads (λ _. draft_view draft.new) (spec.create_subscription (draft_view draft.old) (to_read r.old)) result (to_read r.new) }
     ensures fewer { OnOk result (size (to_read r.new) < size (to_read r.old)) }
 {
     let name = subscription_name(r, alloc, draft)?;

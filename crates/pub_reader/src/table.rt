@@ -5,7 +5,7 @@ ghost use Rattle.sql_reader.specs.Ahead.{to_read};
 ghost use Rattle.sql_reader.specs.Items.{size};
 ghost use Rattle.sql_reader.specs.Reading.{Reads, Answers};
 ghost use Rattle.sql_reader.specs.PartsView.{parts_of};
-ghost use Rattle.pub_reader.specs.DraftView.{draft_of};
+ghost use Rattle.pub_reader.specs.DraftView.{draft_view};
 ghost use Rattle.pub_reader.specs.Tables as spec;
 
 use crate::draft::Draft;
@@ -75,7 +75,7 @@ fn table_body(r: &mut Reader<'_>, alloc: Global, name: &PlacedName) -> Result<Ta
 /// Takes what stands behind CREATE TABLE, and makes the table.
 #[tactic(auto, unfolding(crate::specs::Tables::create_table))]
 pub fn create_table(r: &mut Reader<'_>, alloc: Global, draft: &mut Draft) -> Result<(), ReadError>
-    ensures reads { Reads (λ _. draft_of draft.new) (spec.create_table (draft_of draft.old) (to_read r.old)) result (to_read r.new) }
+    ensures reads { Reads (λ _. draft_view draft.new) (spec.create_table (draft_view draft.old) (to_read r.old)) result (to_read r.new) }
     ensures fewer { OnOk result (size (to_read r.new) < size (to_read r.old)) }
 {
     let name = new_name(r, alloc, draft)?;

@@ -4,7 +4,7 @@ ghost use Rattle.std.specs.Prelude.{◌<◌, ◌≤◌, IfOk, OnOk, length};
 ghost use Rattle.sql_reader.specs.Ahead.{to_read};
 ghost use Rattle.sql_reader.specs.Items.{size};
 ghost use Rattle.sql_reader.specs.Reading.{Reads};
-ghost use Rattle.pub_reader.specs.DraftView.{draft_of};
+ghost use Rattle.pub_reader.specs.DraftView.{draft_view};
 ghost use Rattle.pub_reader.specs.TableNames as spec;
 
 use crate::draft::{Draft, PUBLIC};
@@ -41,7 +41,7 @@ fn name_in_schema(
     draft: &Draft,
     schema: &PlacedName,
 ) -> Result<PlacedName, ReadError>
-    ensures reads { Reads (λ name. name) (spec.name_in_schema (draft_of draft.now).schemas schema.now (to_read r.old)) result (to_read r.new) }
+    ensures reads { Reads (λ name. name) (spec.name_in_schema (draft_view draft.now).schemas schema.now (to_read r.old)) result (to_read r.new) }
     ensures fewer { OnOk result (size (to_read r.new) < size (to_read r.old)) }
 {
     draft.known_schema(schema)?;
@@ -57,9 +57,9 @@ fn table_in_schema(
     draft: &Draft,
     schema: &PlacedName,
 ) -> Result<usize, ReadError>
-    ensures reads { Reads (λ number. number) (spec.table_in_schema (draft_of draft.now) schema.now (to_read r.old)) result (to_read r.new) }
+    ensures reads { Reads (λ number. number) (spec.table_in_schema (draft_view draft.now) schema.now (to_read r.old)) result (to_read r.new) }
     ensures fewer { OnOk result (size (to_read r.new) < size (to_read r.old)) }
-    ensures within { IfOk result (λ number. number < length (draft_of draft.now).tables) }
+    ensures within { IfOk result (λ number. number < length (draft_view draft.now).tables) }
 {
     let name = name_in_schema(r, alloc, draft, schema)?;
     Ok(draft.known_table(schema.text.as_str(), &name)?)
@@ -73,9 +73,9 @@ pub fn table_named(
     draft: &Draft,
     name: &PlacedName,
 ) -> Result<usize, ReadError>
-    ensures reads { Reads (λ number. number) (spec.table_named (draft_of draft.now) name.now (to_read r.old)) result (to_read r.new) }
+    ensures reads { Reads (λ number. number) (spec.table_named (draft_view draft.now) name.now (to_read r.old)) result (to_read r.new) }
     ensures fewer { OnOk result (size (to_read r.new) ≤ size (to_read r.old)) }
-    ensures within { IfOk result (λ number. number < length (draft_of draft.now).tables) }
+    ensures within { IfOk result (λ number. number < length (draft_view draft.now).tables) }
 {
     r.look()?;
     if r.is(Item::Dot) {
@@ -87,9 +87,9 @@ pub fn table_named(
 /// Takes the name of a table that was made before, and tells its number.
 #[tactic(auto, unfolding(crate::specs::TableNames::table_number))]
 pub fn table_number(r: &mut Reader<'_>, alloc: Global, draft: &Draft) -> Result<usize, ReadError>
-    ensures reads { Reads (λ number. number) (spec.table_number (draft_of draft.now) (to_read r.old)) result (to_read r.new) }
+    ensures reads { Reads (λ number. number) (spec.table_number (draft_view draft.now) (to_read r.old)) result (to_read r.new) }
     ensures fewer { OnOk result (size (to_read r.new) < size (to_read r.old)) }
-    ensures within { IfOk result (λ number. number < length (draft_of draft.now).tables) }
+    ensures within { IfOk result (λ number. number < length (draft_view draft.now).tables) }
 {
     let name = read_name(r, alloc, "the name of a table")?;
     Ok(table_named(r, alloc, draft, &name)?)
@@ -103,7 +103,7 @@ fn new_in_schema(
     draft: &Draft,
     schema: PlacedName,
 ) -> Result<NewName, ReadError>
-    ensures reads { Reads (λ name. name) (spec.new_in_schema (draft_of draft.now).schemas schema (to_read r.old)) result (to_read r.new) }
+    ensures reads { Reads (λ name. name) (spec.new_in_schema (draft_view draft.now).schemas schema (to_read r.old)) result (to_read r.new) }
     ensures fewer { OnOk result (size (to_read r.new) < size (to_read r.old)) }
 {
     let name = name_in_schema(r, alloc, draft, &schema)?;
@@ -122,7 +122,7 @@ fn new_named(
     is_if: bool,
     name: PlacedName,
 ) -> Result<NewName, ReadError>
-    ensures reads { Reads (λ name. name) (spec.new_named (draft_of draft.now).schemas is_if name (to_read r.old)) result (to_read r.new) }
+    ensures reads { Reads (λ name. name) (spec.new_named (draft_view draft.now).schemas is_if name (to_read r.old)) result (to_read r.new) }
     ensures fewer { OnOk result (size (to_read r.new) ≤ size (to_read r.old)) }
 {
     r.look()?;
@@ -153,7 +153,7 @@ fn table_head(r: &Reader<'_>) -> Result<usize, ReadError>
 /// Takes the name of a new table.
 #[tactic(auto, unfolding(crate::specs::TableNames::new_name))]
 pub fn new_name(r: &mut Reader<'_>, alloc: Global, draft: &Draft) -> Result<NewName, ReadError>
-    ensures reads { Reads (λ name. name) (spec.new_name (draft_of draft.now) (to_read r.old)) result (to_read r.new) }
+    ensures reads { Reads (λ name. name) (spec.new_name (draft_view draft.now) (to_read r.old)) result (to_read r.new) }
     ensures fewer { OnOk result (size (to_read r.new) < size (to_read r.old)) }
 {
     let is_if = r.is(Item::Keyword(Keyword::If));

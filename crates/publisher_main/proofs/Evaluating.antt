@@ -1,7 +1,7 @@
 -- What `eval` answers, from what its steps gave.
 use Rattle.std.proofs.Common.{◌≡◌, ℕ, List, Option, Some, Result, Ok, Err, IfOk, OnOk, IfErr, slice_get, subst}
 use Rattle.filter_tree.specs.declared.table.Table.{Table}
-use Rattle.pub_reader.specs.CatalogView.{catalog_of}
+use Rattle.pub_reader.specs.CatalogView.{catalog_view}
 use Rattle.pub_reader.specs.Statements.{catalog_by}
 use Rattle.sql_reader.specs.Written.{as_filter}
 use Rattle.pub_reader.specs.declared.catalog.Catalog.{Catalog}
@@ -27,7 +27,7 @@ stopped input word f.OutOfMemory h = tt
 
 -- the rows were written, or writing stopped
 pub evaluated : (question : Question) (input word : List ℕ) (old new : Option (List ℕ)) (cut : Cut) (catalog : Catalog) (number : ℕ) (table : Table) (carriers : List CarrierOf) → carriers ≡ carriers_of number catalog.publications.items → two_parts input ≡ Some cut
-    → catalog_by as_filter cut.part ≡ Ok (catalog_of catalog) → table_of word catalog.tables.items ≡ Some number → slice_get catalog.tables.items number ≡ Some table
+    → catalog_by as_filter cut.part ≡ Ok (catalog_view catalog) → table_of word catalog.tables.items ≡ Some number → slice_get catalog.tables.items number ≡ Some table
     → (result : Result Status Failure) → IfOk result (λ status. status ≡ status_of table.columns (lines_of cut.rest))
     → OnOk result (Writes question number carriers table.columns (lines_of cut.rest) old new) → IfErr result IsOfWriting → IsEvaluated question input word old new result
 evaluated question input word old new cut catalog number table carriers same parts reads named stands (Ok status) answers writes stops = record {

@@ -7,25 +7,25 @@ use Rattle.cert_maker.specs.declared.made.Made.TheVariants.{Cert, Counter, Unkno
 use Rattle.filter_tree.specs.Expr.{Expr}
 use Rattle.pub_reader.specs.Catalogs.{CatalogOf}
 use Rattle.replica_identity.specs.Plans.{PlanOf, plan_of}
-use Rattle.split_cert.specs.Where.{tree_of}
+use Rattle.split_cert.specs.Where.{tree_view}
 use Rattle.publisher_main.proofs.Writing.{appends_more, appends_nothing}
-use Rattle.publisher_main.specs.FindingView.{finding_of}
+use Rattle.publisher_main.specs.FindingView.{finding_view}
 use Rattle.publisher_main.specs.Making.{IsTrueOf, is_certificate, line_for, AreLines, NoTable, OneMore, WritesLine, WritesLines}
 
 -- what the maker answers is so
 finding_is_true : (catalog : CatalogOf Expr) (plan : PlanOf) (number : ℕ) (made : Made) → plan ≡ plan_of catalog
-    → IfCert made (IsAccepted catalog plan number) → IfCounter made (IsCounter catalog plan number) → IsTrueOf catalog number (finding_of made)
-finding_is_true catalog plan number (Cert cert) own accepted counter = subst (λ (p : PlanOf). IsAccepted catalog p number (tree_of cert)) own accepted
+    → IfCert made (IsAccepted catalog plan number) → IfCounter made (IsCounter catalog plan number) → IsTrueOf catalog number (finding_view made)
+finding_is_true catalog plan number (Cert cert) own accepted counter = subst (λ (p : PlanOf). IsAccepted catalog p number (tree_view cert)) own accepted
 finding_is_true catalog plan number (Counter cells owners) own accepted counter = subst (λ (p : PlanOf). IsCounter catalog p number cells owners.items) own counter
 finding_is_true catalog plan number Unknown own accepted counter = tt
 finding_is_true catalog plan number TooLarge own accepted counter = tt
 finding_is_true catalog plan number OutOfMemory own accepted counter = tt
 
 pub line_written : (catalog : CatalogOf Expr) (plan : PlanOf) (number : ℕ) (made : Made) (certified : Bool) (old new : Option (List ℕ)) → plan ≡ plan_of catalog
-    → IfCert made (IsAccepted catalog plan number) → IfCounter made (IsCounter catalog plan number) → certified ≡ is_certificate (finding_of made)
-    → Appends old new (line_for catalog number (finding_of made) ++ 10 ∷ []) → WritesLine catalog number certified old new
+    → IfCert made (IsAccepted catalog plan number) → IfCounter made (IsCounter catalog plan number) → certified ≡ is_certificate (finding_view made)
+    → Appends old new (line_for catalog number (finding_view made) ++ 10 ∷ []) → WritesLine catalog number certified old new
 line_written catalog plan number made certified old new own accepted counter is appends = record {
-  finding = finding_of made;
+  finding = finding_view made;
   true_of = finding_is_true catalog plan number made own accepted counter;
   is = is;
   appends = appends;

@@ -5,7 +5,7 @@ use Rattle.std.proofs.lemmas.List.{take_more, map-append}
 use Rattle.filter_tree.specs.Datum.{Datum}
 use Rattle.publisher_main.specs.declared.carriers.Carrier.{Carrier}
 use Rattle.publisher_main.specs.Answers.{answer_of, said_by, line_of, with_said, word_of}
-use Rattle.publisher_main.specs.Carriers.{CarrierOf, carrier_of}
+use Rattle.publisher_main.specs.Carriers.{CarrierOf, carrier_view}
 
 -- the pieces of a line, and one more
 join-next : (first : List ℕ) (pieces : List (List ℕ)) (said : List ℕ) → join_with_byte 32 (first ∷ (pieces ++ said ∷ [])) ≡ join_with_byte 32 (first ∷ pieces) ++ 32 ∷ said
@@ -35,8 +35,8 @@ line_of-append cells carriers next =
 
 -- the line of one more carrier of a list
 pub line_of-next : (cells : List Datum) (carriers : List Carrier) (i : ℕ) (next : Carrier) → i < length carriers → next ≡ get_or carriers i next
-    → line_of cells (map carrier_of (take (i + 1) carriers)) ≡ with_said (line_of cells (map carrier_of (take i carriers))) (said_by cells (carrier_of next))
+    → line_of cells (map carrier_view (take (i + 1) carriers)) ≡ with_said (line_of cells (map carrier_view (take i carriers))) (said_by cells (carrier_view next))
 line_of-next cells carriers i next within e =
     let front = take i carriers in
     let more : take (i + 1) carriers ≡ front ++ next ∷ [] = take_more carriers i next within ∙ ap (λ p. front ++ p ∷ []) (sym e) in
-    ap (λ c. line_of cells (map carrier_of c)) more ∙ ap (line_of cells) (map-append carrier_of front (next ∷ [])) ∙ sym (line_of-append cells (map carrier_of front) (carrier_of next))
+    ap (λ c. line_of cells (map carrier_view c)) more ∙ ap (line_of cells) (map-append carrier_view front (next ∷ [])) ∙ sym (line_of-append cells (map carrier_view front) (carrier_view next))

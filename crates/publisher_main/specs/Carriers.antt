@@ -3,7 +3,7 @@ use Rattle.std.specs.Prelude.{ℕ, ◌==◌, Bool, ◌&&◌, if◌then◌else◌
 use Rattle.std.specs.List.{list_any}
 use Rattle.std.specs.Option.{option_map}
 use Rattle.filter_tree.specs.Expr.{Expr}
-use Rattle.filter_tree.specs.Shape.{expr_of}
+use Rattle.filter_tree.specs.Shape.{expr_view}
 use Rattle.pub_reader.specs.declared.catalog.Entry.{Entry}
 use Rattle.pub_reader.specs.declared.catalog.Publication.{Publication}
 use Rattle.publisher_main.specs.declared.carriers.Carrier.{Carrier}
@@ -23,12 +23,12 @@ is_whole table entry = is_for table entry && is_none entry.filter
 abbrev pub carried_by : ℕ → Publication → Option CarrierOf
 carried_by table publication =
     if list_any (is_whole table) publication.entries.items then Some (record { name = publication.name; filter = None })
-    else option_map (λ filter. record { name = publication.name; filter = Some (expr_of filter) }) (option_and_then (λ entry. entry.filter) (find (is_for table) publication.entries.items))
+    else option_map (λ filter. record { name = publication.name; filter = Some (expr_view filter) }) (option_and_then (λ entry. entry.filter) (find (is_for table) publication.entries.items))
 
 -- the publications that carry the table, in their order
 abbrev pub carriers_of : ℕ → List Publication → List CarrierOf
 carriers_of table publications = filter_map (carried_by table) publications
 
 -- what a carrier of the code stands for
-abbrev pub carrier_of : Carrier → CarrierOf
-carrier_of carrier = record { name = carrier.name.now; filter = option_map (λ filter. expr_of filter.now) carrier.filter }
+abbrev pub carrier_view : Carrier → CarrierOf
+carrier_view carrier = record { name = carrier.name.now; filter = option_map (λ filter. expr_view filter.now) carrier.filter }

@@ -7,7 +7,7 @@ use Rattle.filter_tree.specs.Valid.{row_fault}
 use Rattle.filter_tree.specs.declared.table.Column.{Column}
 use Rattle.filter_tree.specs.declared.table.Table.{Table}
 use Rattle.filter_tree.specs.declared.validity.RowFault.{RowFault}
-use Rattle.pub_reader.specs.CatalogView.{catalog_of}
+use Rattle.pub_reader.specs.CatalogView.{catalog_view}
 use Rattle.sql_reader.specs.Reading.{Fault, Tells}
 use Rattle.sql_reader.specs.Rows.{row_of}
 use Rattle.pub_reader.specs.Statements.{catalog_by}
@@ -74,7 +74,7 @@ pub record IsAnswered (question : Question) (input word : List ℕ) (old new : O
   pub number : ℕ
   pub table : Table
   pub parts : two_parts input ≡ Some cut
-  pub reads : catalog_by as_filter cut.part ≡ Ok (catalog_of catalog)
+  pub reads : catalog_by as_filter cut.part ≡ Ok (catalog_view catalog)
   pub named : table_of word catalog.tables.items ≡ Some number
   pub stands : slice_get catalog.tables.items number ≡ Some table
   pub answers : status ≡ status_of table.columns (lines_of cut.rest)
@@ -92,7 +92,7 @@ pub record IsUnknown (input word : List ℕ) : Type 0 where
   pub cut : Cut
   pub catalog : Catalog
   pub parts : two_parts input ≡ Some cut
-  pub reads : catalog_by as_filter cut.part ≡ Ok (catalog_of catalog)
+  pub reads : catalog_by as_filter cut.part ≡ Ok (catalog_view catalog)
   pub unknown : table_of word catalog.tables.items ≡ None
 
 -- why there is no answer; for want of memory or of room for output it says nothing of the input

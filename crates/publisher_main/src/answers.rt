@@ -3,8 +3,8 @@
 ghost use Rattle.std.specs.Prelude.{◌≡◌, [], OnOk, map};
 ghost use Rattle.std.specs.Option.{option_map};
 ghost use Rattle.std.specs.String.{string_bytes};
-ghost use Rattle.filter_tree.specs.Shape.{expr_of};
-ghost use Rattle.publisher_main.specs.Carriers.{carrier_of};
+ghost use Rattle.filter_tree.specs.Shape.{expr_view};
+ghost use Rattle.publisher_main.specs.Carriers.{carrier_view};
 ghost use Rattle.publisher_main.specs.Answers as spec;
 
 use crate::carriers::Carrier;
@@ -39,7 +39,7 @@ impl Answer {
 
 /// What a publication with this filter says of a row.
 pub fn answer_of(filter: Option<&Filter>, row: &Row) -> Answer
-    ensures { result ≡ spec.answer_of row.now (option_map (λ filter. expr_of filter.now) filter.entry) }
+    ensures { result ≡ spec.answer_of row.now (option_map (λ filter. expr_view filter.now) filter.entry) }
 {
     match filter {
         None => Answer::All,
@@ -61,7 +61,7 @@ fn push_answer(line: &mut String, name: &str, answer: Answer) -> Result<(), Allo
 
 /// Writes what a publication says of a row behind what stands on the line.
 fn push_said(line: &mut String, carrier: Carrier<'_>, row: &Row) -> Result<(), AllocError>
-    ensures { OnOk result (string_bytes line.new ≡ spec.with_said (string_bytes line.old) (spec.said_by row.now (carrier_of carrier.entry))) }
+    ensures { OnOk result (string_bytes line.new ≡ spec.with_said (string_bytes line.old) (spec.said_by row.now (carrier_view carrier.entry))) }
 {
     push_answer(line, carrier.name, answer_of(carrier.filter, row))
 }
@@ -73,7 +73,7 @@ pub fn push_answers(
     row: &Row,
 ) -> Result<(), AllocError>
     requires { string_bytes line.old ≡ [] }
-    ensures { OnOk result (string_bytes line.new ≡ spec.line_of row.now (map carrier_of carriers.now)) }
+    ensures { OnOk result (string_bytes line.new ≡ spec.line_of row.now (map carrier_view carriers.now)) }
 {
     for carrier in carriers {
         push_said(line, *carrier, row)?;

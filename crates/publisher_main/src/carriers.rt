@@ -34,7 +34,7 @@ fn entry_for(entries: &[Entry], table: usize) -> Option<&Entry>
 
 /// What a publication carries of a table; `None` if it does not carry it.
 fn carrier_in(publication: &Publication, table: usize) -> Option<Carrier<'_>>
-    ensures { option_map spec.carrier_of result ≡ spec.carried_by table publication.now }
+    ensures { option_map spec.carrier_view result ≡ spec.carried_by table publication.now }
 {
     let name = publication.name.as_str();
     let entries = publication.entries.as_slice();
@@ -58,7 +58,7 @@ fn add_carrier<'a>(
     publication: &'a Publication,
     table: usize,
 ) -> Result<(), AllocError>
-    ensures { OnOk result (map spec.carrier_of carriers.new.items ≡ map spec.carrier_of carriers.old.items ++ cons_option (spec.carried_by table publication.now) []) }
+    ensures { OnOk result (map spec.carrier_view carriers.new.items ≡ map spec.carrier_view carriers.old.items ++ cons_option (spec.carried_by table publication.now) []) }
 {
     match carrier_in(publication, table) {
         None => Ok(()),
@@ -75,7 +75,7 @@ pub fn carriers_of(
     publications: &[Publication],
     table: usize,
 ) -> Result<Vec<Carrier<'_>>, AllocError>
-    ensures { IfOk result (λ carriers. map spec.carrier_of carriers.items ≡ spec.carriers_of table publications.now) }
+    ensures { IfOk result (λ carriers. map spec.carrier_view carriers.items ≡ spec.carriers_of table publications.now) }
 {
     let mut carriers = Vec::new(alloc);
     for publication in publications {

@@ -2,7 +2,7 @@
 
 ghost use Rattle.std.specs.Prelude.{◌≡◌, IfErr, IfOk, Ok, map};
 ghost use Rattle.split_cert.specs.Text.{certificate_of};
-ghost use Rattle.split_cert.specs.Where.{tree_of};
+ghost use Rattle.split_cert.specs.Where.{tree_view};
 ghost use Rattle.publisher_main.specs.Certificates.{AreCertificates, IsOfLine, IsOfLines, failure_of_certificate};
 ghost use Rattle.publisher_main.specs.Parts.{lines_of};
 
@@ -23,7 +23,7 @@ fn failure_of<'a>(line: usize, error: CertError) -> Failure<'a>
 
 /// Reads the certificate that the line of this number is.
 fn read_certificate<'a>(alloc: Global, number: usize, line: &str) -> Result<Cert, Failure<'a>>
-    ensures ok { IfOk result (λ cert. certificate_of line.now ≡ Ok (tree_of cert)) }
+    ensures ok { IfOk result (λ cert. certificate_of line.now ≡ Ok (tree_view cert)) }
     ensures err { IfErr result (IsOfLine number line.now) }
 {
     match read_in(alloc, line) {
@@ -38,7 +38,7 @@ fn read_certificate<'a>(alloc: Global, number: usize, line: &str) -> Result<Cert
 ///
 /// `Certificate` with the number of the first line that is none, from 1, and its fault; `OutOfMemory`.
 pub fn read_certificates<'a>(alloc: Global, text: &str) -> Result<Vec<Cert>, Failure<'a>>
-    ensures ok { IfOk result (λ certs. AreCertificates (lines_of text.now) (map tree_of certs.items)) }
+    ensures ok { IfOk result (λ certs. AreCertificates (lines_of text.now) (map tree_view certs.items)) }
     ensures err { IfErr result (IsOfLines (lines_of text.now)) }
 {
     let mut certs = Vec::new(alloc);

@@ -2,11 +2,11 @@
 
 ghost use Rattle.std.specs.Prelude.{◌≡◌, ◌++◌, ◌∷◌, [], IfErr, IfOk, IfSome, OnOk, None, codes, map};
 ghost use Rattle.std.specs.Io.KnownBytes.{Appends};
-ghost use Rattle.pub_reader.specs.CatalogView.{catalog_of};
+ghost use Rattle.pub_reader.specs.CatalogView.{catalog_view};
 ghost use Rattle.replica_identity.specs.Plans.{plan_of};
 ghost use Rattle.shard_checker.specs.CatalogTruth.{ShardingIsWrong};
 ghost use Rattle.shard_checker.specs.Sound.{IsSound};
-ghost use Rattle.split_cert.specs.Where.{tree_of};
+ghost use Rattle.split_cert.specs.Where.{tree_view};
 ghost use Rattle.publisher_main.specs.Checking as spec;
 ghost use Rattle.publisher_main.specs.Refusals.{refused_line};
 ghost use Rattle.publisher_main.specs.Statuses.{IsOfWriting, status_of_failure};
@@ -30,9 +30,9 @@ fn refusal_of(
     catalog: Catalog,
     certs: &[Cert],
 ) -> Result<Option<CheckError>, AllocError>
-    ensures sound { IfOk result (λ refusal. refusal ≡ None → IsSound (catalog_of catalog)) }
-    ensures first { IfOk result (λ refusal. spec.first_refusal (catalog_of catalog) (map tree_of certs.now) ≡ refusal) }
-    ensures wrong { IfOk result (λ refusal. IfSome refusal (ShardingIsWrong (catalog_of catalog) (plan_of (catalog_of catalog)) (map tree_of certs.now))) }
+    ensures sound { IfOk result (λ refusal. refusal ≡ None → IsSound (catalog_view catalog)) }
+    ensures first { IfOk result (λ refusal. spec.first_refusal (catalog_view catalog) (map tree_view certs.now) ≡ refusal) }
+    ensures wrong { IfOk result (λ refusal. IfSome refusal (ShardingIsWrong (catalog_view catalog) (plan_of (catalog_view catalog)) (map tree_view certs.now))) }
 {
     let plan = plan(alloc, &catalog)?;
     match check(alloc, catalog, plan, certs) {
@@ -59,7 +59,7 @@ fn write_refused<'a, W: Write>(
     writer: &mut W,
 ) -> Result<Status, Failure<'a>>
     ensures status { IfOk result (λ status. status ≡ Refused) }
-    ensures written { OnOk result (Appends (W.contents writer.old) (W.contents writer.new) (refused_line (catalog_of catalog.now) refusal ++ 10 ∷ [])) }
+    ensures written { OnOk result (Appends (W.contents writer.old) (W.contents writer.new) (refused_line (catalog_view catalog.now) refusal ++ 10 ∷ [])) }
     ensures stopped { IfErr result IsOfWriting }
 {
     let mut line = String::new(alloc);

@@ -4,7 +4,7 @@ ghost use Rattle.std.specs.Prelude.{◌≡◌, [], IfErr, IfOk, OnOk, map};
 ghost use Rattle.std.specs.String.{string_bytes};
 ghost use Rattle.filter_tree.specs.Valid.{IsValid};
 ghost use Rattle.publisher_main.specs.BadRows.{is_answered};
-ghost use Rattle.publisher_main.specs.Carriers.{carrier_of};
+ghost use Rattle.publisher_main.specs.Carriers.{carrier_view};
 ghost use Rattle.publisher_main.specs.Evaluation as spec;
 ghost use Rattle.publisher_main.specs.Parts.{lines_of};
 ghost use Rattle.publisher_main.specs.Statuses.{IsOfWriting, status_of_failure};
@@ -34,7 +34,7 @@ fn push_told(
 ) -> Result<(), AllocError>
     requires empty { string_bytes line.old ≡ [] }
     requires fits { IsValid carried.table.now.columns row.now }
-    ensures { OnOk result (string_bytes line.new ≡ spec.told question carried.entry.number row.now (map carrier_of carried.entry.carriers.now)) }
+    ensures { OnOk result (string_bytes line.new ≡ spec.told question carried.entry.number row.now (map carrier_view carried.entry.carriers.now)) }
 {
     match question {
         Question::Answers => push_answers(line, carried.carriers, row),
@@ -53,7 +53,7 @@ fn push_line(
 ) -> Result<bool, AllocError>
     requires { string_bytes line.old ≡ [] }
     ensures answered { IfOk result (λ answered. answered ≡ is_answered carried.entry.table.now.columns text.now) }
-    ensures line { OnOk result (spec.IsLine question carried.entry.number (map carrier_of carried.entry.carriers.now) carried.entry.table.now.columns text.now (string_bytes line.new)) }
+    ensures line { OnOk result (spec.IsLine question carried.entry.number (map carrier_view carried.entry.carriers.now) carried.entry.table.now.columns text.now (string_bytes line.new)) }
 {
     match table_row(alloc, carried.table, text) {
         Ok(row) => {
@@ -79,7 +79,7 @@ pub fn write_rows<'a, W: Write>(
     writer: &mut W,
 ) -> Result<Status, Failure<'a>>
     ensures status { IfOk result (λ status. status ≡ spec.status_of carried.entry.table.now.columns (lines_of rows.now)) }
-    ensures written { OnOk result (spec.Writes question carried.entry.number (map carrier_of carried.entry.carriers.now) carried.entry.table.now.columns (lines_of rows.now) (W.contents writer.old) (W.contents writer.new)) }
+    ensures written { OnOk result (spec.Writes question carried.entry.number (map carrier_view carried.entry.carriers.now) carried.entry.table.now.columns (lines_of rows.now) (W.contents writer.old) (W.contents writer.new)) }
     ensures stopped { IfErr result IsOfWriting }
 {
     let mut status = Status::Done;

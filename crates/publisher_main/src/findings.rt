@@ -2,8 +2,8 @@
 
 ghost use Rattle.std.specs.Prelude.{◌≡◌, ◌++◌, ◌∷◌, [], IfOk, OnOk, codes};
 ghost use Rattle.std.specs.String.{string_bytes};
-ghost use Rattle.pub_reader.specs.CatalogView.{catalog_of};
-ghost use Rattle.publisher_main.specs.FindingView.{finding_of};
+ghost use Rattle.pub_reader.specs.CatalogView.{catalog_view};
+ghost use Rattle.publisher_main.specs.FindingView.{finding_view};
 ghost use Rattle.publisher_main.specs.Making as spec;
 ghost use Rattle.publisher_main.specs.Refusals.{spaced, table_name};
 
@@ -44,7 +44,7 @@ fn counter_line(
     row: &Row,
     owners: &[usize],
 ) -> Result<String, AllocError>
-    ensures { IfOk result (λ line. string_bytes line ≡ codes "counter" ++ spaced (spec.counter_words (catalog_of catalog.now) number row.now owners.now)) }
+    ensures { IfOk result (λ line. string_bytes line ≡ codes "counter" ++ spaced (spec.counter_words (catalog_view catalog.now) number row.now owners.now)) }
 {
     let mut line = String::from_str(alloc, "counter")?;
     push_table(&mut line, catalog.tables.as_slice(), number)?;
@@ -61,7 +61,7 @@ fn undecided_line(
     number: usize,
     words: &str,
 ) -> Result<String, AllocError>
-    ensures { IfOk result (λ line. string_bytes line ≡ words.now ++ spaced (table_name (catalog_of catalog.now).tables number ∷ [])) }
+    ensures { IfOk result (λ line. string_bytes line ≡ words.now ++ spaced (table_name (catalog_view catalog.now).tables number ∷ [])) }
 {
     let mut line = String::from_str(alloc, words)?;
     push_table(&mut line, catalog.tables.as_slice(), number)?;
@@ -75,7 +75,7 @@ pub fn finding_line(
     number: usize,
     made: &Made<'_>,
 ) -> Result<String, AllocError>
-    ensures { IfOk result (λ line. string_bytes line ≡ spec.line_for (catalog_of catalog.now) number (finding_of made.now)) }
+    ensures { IfOk result (λ line. string_bytes line ≡ spec.line_for (catalog_view catalog.now) number (finding_view made.now)) }
 {
     match made {
         Made::Cert(cert) => write(alloc, cert),

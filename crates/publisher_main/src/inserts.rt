@@ -4,7 +4,7 @@ ghost use Rattle.std.specs.Prelude.{◌≡◌, ◌++◌, [], map, IfOk, OnOk};
 ghost use Rattle.std.specs.String.{string_bytes};
 ghost use Rattle.filter_tree.specs.Valid.{IsValid};
 ghost use Rattle.pgoutput_msgs.specs.Spelling.{IsWithinRange};
-ghost use Rattle.publisher_main.specs.Carriers.{carrier_of};
+ghost use Rattle.publisher_main.specs.Carriers.{carrier_view};
 ghost use Rattle.publisher_main.specs.Inserts as spec;
 
 use crate::answers::{Answer, answer_of};
@@ -20,7 +20,7 @@ const FIRST_OID: u32 = 16_384;
 
 /// Whether a publication carries the row.
 fn carries(carrier: Carrier<'_>, row: &Row) -> bool
-    ensures { result ≡ spec.carries row.now (carrier_of carrier.entry) }
+    ensures { result ≡ spec.carries row.now (carrier_view carrier.entry) }
 {
     matches!(
         answer_of(carrier.filter, row),
@@ -30,7 +30,7 @@ fn carries(carrier: Carrier<'_>, row: &Row) -> bool
 
 /// Whether some publication carries the row.
 fn is_carried(carriers: &[Carrier<'_>], row: &Row) -> bool
-    ensures { result ≡ spec.is_carried row.now (map carrier_of carriers.now) }
+    ensures { result ≡ spec.is_carried row.now (map carrier_view carriers.now) }
 {
     for carrier in carriers {
         if carries(*carrier, row) {
@@ -76,7 +76,7 @@ pub fn push_insert(
 ) -> Result<(), AllocError>
     requires empty { string_bytes line.old ≡ [] }
     requires fits { IsValid carried.table.now.columns row.now }
-    ensures { OnOk result (string_bytes line.new ≡ spec.insert_line carried.entry.number row.now (map carrier_of carried.entry.carriers.now)) }
+    ensures { OnOk result (string_bytes line.new ≡ spec.insert_line carried.entry.number row.now (map carrier_view carried.entry.carriers.now)) }
 {
     if is_carried(carried.carriers, row) {
         return push_message(alloc, line, carried, row);

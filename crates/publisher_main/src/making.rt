@@ -1,7 +1,7 @@
 //! `make`: a certificate for each table of a catalog, or a row that shows that there is none.
 
 ghost use Rattle.std.specs.Prelude.{◌≡◌, IfErr, IfOk, length};
-ghost use Rattle.pub_reader.specs.CatalogView.{catalog_of};
+ghost use Rattle.pub_reader.specs.CatalogView.{catalog_view};
 ghost use Rattle.publisher_main.specs.Making as spec;
 ghost use Rattle.publisher_main.specs.Statuses.{IsOfWriting, status_of_failure};
 ghost use Rattle.publisher_main.specs.declared.failure.Status.TheVariants.{Input};
@@ -29,8 +29,8 @@ fn write_table<'a, W: Write>(
     number: usize,
     writer: &mut W,
 ) -> Result<bool, Failure<'a>>
-    requires { plan_view plan.now ≡ plan_of (catalog_of catalog.now) }
-    ensures written { IfOk result (λ certified. spec.WritesLine (catalog_of catalog.now) number certified (W.contents writer.old) (W.contents writer.new)) }
+    requires { plan_view plan.now ≡ plan_of (catalog_view catalog.now) }
+    ensures written { IfOk result (λ certified. spec.WritesLine (catalog_view catalog.now) number certified (W.contents writer.old) (W.contents writer.new)) }
     ensures stopped { IfErr result IsOfWriting }
 {
     let made = make(alloc, arena, catalog, plan, number);
@@ -48,8 +48,8 @@ fn write_tables<'a, W: Write>(
     plan: &Plan,
     writer: &mut W,
 ) -> Result<bool, Failure<'a>>
-    requires { plan_view plan.now ≡ plan_of (catalog_of catalog.now) }
-    ensures written { IfOk result (λ all. spec.WritesLines (catalog_of catalog.now) (length (catalog_of catalog.now).tables) all (W.contents writer.old) (W.contents writer.new)) }
+    requires { plan_view plan.now ≡ plan_of (catalog_view catalog.now) }
+    ensures written { IfOk result (λ all. spec.WritesLines (catalog_view catalog.now) (length (catalog_view catalog.now).tables) all (W.contents writer.old) (W.contents writer.new)) }
     ensures stopped { IfErr result IsOfWriting }
 {
     let mut arena = Bump::new(alloc);

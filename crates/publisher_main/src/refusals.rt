@@ -2,7 +2,7 @@
 
 ghost use Rattle.std.specs.Prelude.{◌≡◌, ◌++◌, ◌∷◌, [], OnOk, Some, map, slice_get};
 ghost use Rattle.std.specs.String.{string_bytes};
-ghost use Rattle.pub_reader.specs.CatalogView.{catalog_of, publication_of};
+ghost use Rattle.pub_reader.specs.CatalogView.{catalog_view, publication_view};
 ghost use Rattle.publisher_main.specs.Refusals as spec;
 
 use filter_tree::{Column, Table};
@@ -39,7 +39,7 @@ fn refusal_name(error: CheckError) -> &'static str
 }
 
 fn publication_name(publications: &[Publication], number: usize) -> &str
-    ensures { result.now ≡ spec.publication_name (map publication_of publications.now) number }
+    ensures { result.now ≡ spec.publication_name (map publication_view publications.now) number }
 {
     match publications.get(number) {
         None => "",
@@ -117,7 +117,7 @@ fn push_node(
 
 /// Writes the arguments of a refusal, with a space before each.
 fn push_arguments(line: &mut String, catalog: &Catalog, error: CheckError) -> Result<(), AllocError>
-    ensures { OnOk result (string_bytes line.new ≡ string_bytes line.old ++ spec.spaced (spec.arguments_of (catalog_of catalog.now) error)) }
+    ensures { OnOk result (string_bytes line.new ≡ string_bytes line.old ++ spec.spaced (spec.arguments_of (catalog_view catalog.now) error)) }
 {
     let tables = catalog.tables.as_slice();
     let publications = catalog.publications.as_slice();
@@ -165,7 +165,7 @@ pub fn push_refusal(
     error: CheckError,
 ) -> Result<(), AllocError>
     requires { string_bytes line.old ≡ [] }
-    ensures { OnOk result (string_bytes line.new ≡ spec.refused_line (catalog_of catalog.now) error) }
+    ensures { OnOk result (string_bytes line.new ≡ spec.refused_line (catalog_view catalog.now) error) }
 {
     line.push_str("refused")?;
     push_word(line, refusal_name(error))?;

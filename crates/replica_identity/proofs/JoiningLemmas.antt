@@ -7,7 +7,7 @@ use Rattle.std.proofs.lemmas.List.Sums.{fold-append}
 use Rattle.std.specs.Prelude.{Option, Some, None, fold, filter, filter_map, replicate, is_none, if◌then◌else◌}
 use Rattle.std.specs.List.{list_any}
 use Rattle.std.specs.Cmp.{unsigned_Decides}
-use Rattle.filter_tree.specs.Expr.{Expr, Either}
+use Rattle.filter_tree.specs.Expr.{Expr, Or}
 use Rattle.filter_tree.specs.declared.table.Table.{Table}
 use Rattle.pub_reader.specs.Catalogs.{EntryOf}
 use Rattle.replica_identity.specs.Joining.{joined, joined_at}
@@ -27,7 +27,7 @@ joined_whole (Where filter) = refl
 
 any_of_more : (filters : List Expr) (more : Expr) → any_of (filters ++ more ∷ []) ≡ joined (any_of filters) (Some more)
 any_of_more [] more = refl
-any_of_more (filter ∷ filters) more = ap Where (fold-append Either filter filters (more ∷ []))
+any_of_more (filter ∷ filters) more = ap Where (fold-append Or filter filters (more ∷ []))
 
 share_by_more : (filters : List (Option Expr)) (more : Option Expr) → share_by (filters ++ more ∷ []) ≡ joined (share_by filters) more
 share_by_more filters None = by_test (list_any is_none filters)

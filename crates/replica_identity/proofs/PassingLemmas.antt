@@ -4,7 +4,7 @@ use Rattle.std.proofs.lemmas.List.Folds.{list_any-append}
 use Rattle.std.specs.Prelude.{Option, Some, None, slice_get, fold, filter_map, is_none}
 use Rattle.std.specs.List.{list_any}
 use Rattle.filter_tree.specs.Datum.{Datum}
-use Rattle.filter_tree.specs.Expr.{Expr, Either, meaning}
+use Rattle.filter_tree.specs.Expr.{Expr, Or, meaning}
 use Rattle.filter_tree.specs.Logic.{or_of}
 use Rattle.filter_tree.specs.declared.table.Table.{Table}
 use Rattle.filter_tree.specs.declared.tri.Tri.{Tri}
@@ -43,10 +43,10 @@ is_true_or Null Null = refl
 abbrev is_met : List Datum → Expr → Bool
 is_met row f = is_true (meaning f row)
 
-any_is_met : (first : Expr) (filters : List Expr) (row : List Datum) → is_met row (fold Either first filters) ≡ (is_met row first || list_any (is_met row) filters)
+any_is_met : (first : Expr) (filters : List Expr) (row : List Datum) → is_met row (fold Or first filters) ≡ (is_met row first || list_any (is_met row) filters)
 any_is_met first [] row = or_false (is_met row first)
 any_is_met first (f ∷ filters) row =
-    any_is_met (Either first f) filters row
+    any_is_met (Or first f) filters row
     ∙ ap (λ b. b || list_any (is_met row) filters) (is_true_or (meaning first row) (meaning f row))
     ∙ or_or (is_met row first) (is_met row f) (list_any (is_met row) filters)
 

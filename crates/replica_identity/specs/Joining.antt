@@ -1,6 +1,6 @@
 -- Shares that grow by the entries of publications, one after another: PostgreSQL 15, "Logical Replication", 31.3.6 Combining Multiple Row Filters.
 use Rattle.std.specs.Prelude.{List, Option, Some, None, slice_index_or, slice_set}
-use Rattle.filter_tree.specs.Expr.{Expr, Either}
+use Rattle.filter_tree.specs.Expr.{Expr, Or}
 use Rattle.pub_reader.specs.Catalogs.{EntryOf}
 use Rattle.replica_identity.specs.Shares.{ShareOf, Nothing, Everything, Where}
 
@@ -10,7 +10,7 @@ joined Everything more = Everything
 joined Nothing None = Everything
 joined (Where filter) None = Everything
 joined Nothing (Some more) = Where more
-joined (Where filter) (Some more) = Where (Either filter more)
+joined (Where filter) (Some more) = Where (Or filter more)
 
 -- the shares of the tables with one entry more for its table
 abbrev pub joined_at : List ShareOf → EntryOf Expr → List ShareOf

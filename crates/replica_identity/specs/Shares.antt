@@ -2,8 +2,8 @@
 use Rattle.std.specs.Prelude.{Bool, true, false, List, [], ◌∷◌, Option, fold, is_none, filter_map, if◌then◌else◌}
 use Rattle.std.specs.List.{list_any}
 use Rattle.filter_tree.specs.Datum.{Datum}
-use Rattle.filter_tree.specs.Expr.{Expr, Either, meaning}
-use Rattle.filter_tree.specs.Shape.{expr_of}
+use Rattle.filter_tree.specs.Expr.{Expr, Or, meaning}
+use Rattle.filter_tree.specs.Shape.{expr_view}
 use Rattle.filter_tree.specs.declared.tri.Tri.{Tri}
 use Rattle.filter_tree.specs.declared.tri.Tri.TheVariants.{True}
 use Rattle.replica_identity.specs.declared.share.Share.{Share}
@@ -16,10 +16,10 @@ pub data ShareOf : Type 0 where
   Where : Expr → ShareOf
 
 -- what a share of the code stands for
-abbrev pub share_of : {A : _} → Share A → ShareOf
-share_of s.Nothing = Nothing
-share_of s.Everything = Everything
-share_of (s.Where filter) = Where (expr_of filter)
+abbrev pub share_view : {A : _} → Share A → ShareOf
+share_view s.Nothing = Nothing
+share_view s.Everything = Everything
+share_view (s.Where filter) = Where (expr_view filter)
 
 abbrev pub is_true : Tri → Bool
 is_true True = true
@@ -34,7 +34,7 @@ takes (Where filter) row = is_true (meaning filter row)
 -- filters joined by OR, to the left
 abbrev pub any_of : List Expr → ShareOf
 any_of [] = Nothing
-any_of (filter ∷ filters) = Where (fold Either filter filters)
+any_of (filter ∷ filters) = Where (fold Or filter filters)
 
 -- the share of entries with these filters, in their order: none stands for the whole table
 abbrev pub share_by : List (Option Expr) → ShareOf

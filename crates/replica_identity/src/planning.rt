@@ -1,11 +1,11 @@
 //! How the shares of subscribers are made from a catalog.
 
 ghost use Rattle.std.specs.Prelude.{◌≡◌, IfOk, OnOk, fold, map, replicate};
-ghost use Rattle.pub_reader.specs.CatalogView.{catalog_of, entry_of, publication_of};
+ghost use Rattle.pub_reader.specs.CatalogView.{catalog_view, entry_view, publication_view};
 ghost use Rattle.replica_identity.specs.Joining.{joined as joined_of, joined_at};
 ghost use Rattle.replica_identity.specs.Plans as spec;
 ghost use Rattle.replica_identity.specs.PlanView.{plan_view};
-ghost use Rattle.replica_identity.specs.Shares.{share_of, Nothing};
+ghost use Rattle.replica_identity.specs.Shares.{share_view, Nothing};
 
 use crate::share::{Share, joined};
 use crate::shares::Plan;
@@ -15,7 +15,7 @@ use std::mem;
 
 /// Joins an entry to the share of its table.
 fn join_to(alloc: Global, share: &mut Share, entry: &Entry) -> Result<(), AllocError>
-    ensures { OnOk result (share_of share.new ≡ joined_of (share_of share.old) (entry_of entry.now).filter) }
+    ensures { OnOk result (share_view share.new ≡ joined_of (share_view share.old) (entry_view entry.now).filter) }
 {
     let earlier = mem::replace(share, Share::Nothing);
     *share = joined(alloc, earlier, entry.filter.as_ref())?;
@@ -25,7 +25,7 @@ fn join_to(alloc: Global, share: &mut Share, entry: &Entry) -> Result<(), AllocE
 /// Joins an entry to the share of its table, if the table is there.
 #[tactic(auto, using(crate::proofs::PlanLemmas::joins))]
 fn join(alloc: Global, shares: &mut Vec<Share>, entry: &Entry) -> Result<(), AllocError>
-    ensures { OnOk result (map share_of shares.new.items ≡ joined_at (map share_of shares.old.items) (entry_of entry.now)) }
+    ensures { OnOk result (map share_view shares.new.items ≡ joined_at (map share_view shares.old.items) (entry_view entry.now)) }
 {
     if entry.table >= shares.len() {
         return Ok(());
@@ -36,7 +36,7 @@ fn join(alloc: Global, shares: &mut Vec<Share>, entry: &Entry) -> Result<(), All
 
 /// Joins entries to the shares of their tables.
 fn join_entries(alloc: Global, shares: &mut Vec<Share>, entries: &[Entry]) -> Result<(), AllocError>
-    ensures { OnOk result (map share_of shares.new.items ≡ fold joined_at (map share_of shares.old.items) (map entry_of entries.now)) }
+    ensures { OnOk result (map share_view shares.new.items ≡ fold joined_at (map share_view shares.old.items) (map entry_view entries.now)) }
 {
     for entry in entries {
         join(alloc, shares, entry)?;
@@ -51,7 +51,7 @@ fn join_publication(
     publications: &[Publication],
     number: usize,
 ) -> Result<(), AllocError>
-    ensures { OnOk result (map share_of shares.new.items ≡ fold joined_at (map share_of shares.old.items) (spec.entries_at (map publication_of publications.now) number)) }
+    ensures { OnOk result (map share_view shares.new.items ≡ fold joined_at (map share_view shares.old.items) (spec.entries_at (map publication_view publications.now) number)) }
 {
     match publications.get(number) {
         None => Ok(()),
@@ -66,7 +66,7 @@ fn join_publications(
     publications: &[Publication],
     numbers: &[usize],
 ) -> Result<(), AllocError>
-    ensures { OnOk result (map share_of shares.new.items ≡ fold joined_at (map share_of shares.old.items) (spec.entries_listed (map publication_of publications.now) numbers.now)) }
+    ensures { OnOk result (map share_view shares.new.items ≡ fold joined_at (map share_view shares.old.items) (spec.entries_listed (map publication_view publications.now) numbers.now)) }
 {
     for number in numbers {
         join_publication(alloc, shares, publications, *number)?;
@@ -76,7 +76,7 @@ fn join_publications(
 
 /// Nothing of so many tables.
 fn no_shares(alloc: Global, tables: usize) -> Result<Vec<Share>, AllocError>
-    ensures { IfOk result (λ shares. map share_of shares.items ≡ replicate tables Nothing) }
+    ensures { IfOk result (λ shares. map share_view shares.items ≡ replicate tables Nothing) }
 {
     let mut shares = Vec::new(alloc);
     for _ in 0..tables {
@@ -92,7 +92,7 @@ fn shares_for(
     catalog: &Catalog,
     subscription: &Subscription,
 ) -> Result<Vec<Share>, AllocError>
-    ensures { IfOk result (λ shares. map share_of shares.items ≡ spec.shares_for (catalog_of catalog.now) subscription.now) }
+    ensures { IfOk result (λ shares. map share_view shares.items ≡ spec.shares_for (catalog_view catalog.now) subscription.now) }
 {
     let tables = catalog.tables.as_slice();
     let mut shares = no_shares(alloc, tables.len())?;
@@ -108,7 +108,7 @@ fn shares_for(
 
 /// The shares of each subscriber.
 fn all_shares(alloc: Global, catalog: &Catalog) -> Result<Vec<Vec<Share>>, AllocError>
-    ensures { IfOk result (λ all. map (λ shares. map share_of shares.items) all.items ≡ spec.plan_of (catalog_of catalog.now)) }
+    ensures { IfOk result (λ all. map (λ shares. map share_view shares.items) all.items ≡ spec.plan_of (catalog_view catalog.now)) }
 {
     let mut all = Vec::new(alloc);
     for subscription in &catalog.subscriptions {
@@ -124,8 +124,8 @@ fn all_shares(alloc: Global, catalog: &Catalog) -> Result<Vec<Vec<Share>>, Alloc
 /// PostgreSQL 15, "Logical Replication", 31.3.6 Combining Multiple Row Filters.
 #[tactic(auto, using(crate::proofs::PassingLemmas::takes_what_passes))]
 pub fn plan(alloc: Global, catalog: &Catalog) -> Result<Plan, AllocError>
-    ensures shares { IfOk result (λ plan. plan_view plan ≡ spec.plan_of (catalog_of catalog.now)) }
-    ensures passes { IfOk result (λ plan. spec.TakesWhatPasses (catalog_of catalog.now) (plan_view plan)) }
+    ensures shares { IfOk result (λ plan. plan_view plan ≡ spec.plan_of (catalog_view catalog.now)) }
+    ensures passes { IfOk result (λ plan. spec.TakesWhatPasses (catalog_view catalog.now) (plan_view plan)) }
 {
     Ok(Plan::new(all_shares(alloc, catalog)?))
 }

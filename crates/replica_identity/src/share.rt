@@ -2,10 +2,10 @@
 
 ghost use Rattle.std.specs.Prelude.{◌≡◌, IfOk};
 ghost use Rattle.std.specs.Option.{option_map};
-ghost use Rattle.filter_tree.specs.Shape.{expr_of};
-ghost use Rattle.filter_tree.specs.Expr.{Either};
+ghost use Rattle.filter_tree.specs.Shape.{expr_view};
+ghost use Rattle.filter_tree.specs.Expr.{Or};
 ghost use Rattle.replica_identity.specs.Joining.{joined as joined_of};
-ghost use Rattle.replica_identity.specs.Shares.{share_of, Where};
+ghost use Rattle.replica_identity.specs.Shares.{share_view, Where};
 
 use filter_tree::{Filter, Row, Tri, copy_in, eval};
 use std::alloc::{AllocError, Allocator, Global};
@@ -20,11 +20,11 @@ pub enum Share<A: Allocator = Global> {
 
 impl<A: Allocator> Share<A> {
     ghost use Rattle.std.specs.Prelude.{◌≡◌};
-    ghost use Rattle.replica_identity.specs.Shares.{share_of, takes};
+    ghost use Rattle.replica_identity.specs.Shares.{share_view, takes};
 
     /// Whether the subscriber takes the row. Where a filter is null it does not.
     pub fn takes<R: Allocator>(&self, row: &Row<R>) -> bool
-        ensures { result ≡ takes (share_of self.now) row.now }
+        ensures { result ≡ takes (share_view self.now) row.now }
     {
         match self {
             Share::Nothing => false,
@@ -36,7 +36,7 @@ impl<A: Allocator> Share<A> {
 
 /// A filter that is true where either of two is.
 fn either(alloc: Global, left: Filter, right: Filter) -> Result<Filter, AllocError>
-    ensures { IfOk result (λ filter. expr_of filter ≡ Either (expr_of left) (expr_of right)) }
+    ensures { IfOk result (λ filter. expr_view filter ≡ Or (expr_view left) (expr_view right)) }
 {
     let left = Box::new(alloc, left)?;
     let right = Box::new(alloc, right)?;
@@ -45,7 +45,7 @@ fn either(alloc: Global, left: Filter, right: Filter) -> Result<Filter, AllocErr
 
 /// The share with one filter more, of which there are some already.
 fn with_filter(alloc: Global, filter: Filter, more: &Filter) -> Result<Share, AllocError>
-    ensures { IfOk result (λ share. share_of share ≡ Where (Either (expr_of filter) (expr_of more.now))) }
+    ensures { IfOk result (λ share. share_view share ≡ Where (Or (expr_view filter) (expr_view more.now))) }
 {
     let more = copy_in(alloc, more)?;
     Ok(Share::Where(either(alloc, filter, more)?))
@@ -53,14 +53,14 @@ fn with_filter(alloc: Global, filter: Filter, more: &Filter) -> Result<Share, Al
 
 /// The share of one filter.
 fn first_filter(alloc: Global, filter: &Filter) -> Result<Share, AllocError>
-    ensures { IfOk result (λ share. share_of share ≡ Where (expr_of filter.now)) }
+    ensures { IfOk result (λ share. share_view share ≡ Where (expr_view filter.now)) }
 {
     Ok(Share::Where(copy_in(alloc, filter)?))
 }
 
 /// What is taken where a publication more carries the table: whole, or the rows of a filter.
 pub fn joined(alloc: Global, share: Share, more: Option<&Filter>) -> Result<Share, AllocError>
-    ensures { IfOk result (λ joined. share_of joined ≡ joined_of (share_of share) (option_map (λ filter. expr_of filter.now) more.entry)) }
+    ensures { IfOk result (λ joined. share_view joined ≡ joined_of (share_view share) (option_map (λ filter. expr_view filter.now) more.entry)) }
 {
     match (share, more) {
         (Share::Everything, _) => Ok(Share::Everything),

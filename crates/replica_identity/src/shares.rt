@@ -1,7 +1,7 @@
 //! The shares of subscribers.
 
 ghost use Rattle.std.specs.Prelude.{◌≡◌, true};
-ghost use Rattle.replica_identity.specs.Shares.{share_of, is_nothing};
+ghost use Rattle.replica_identity.specs.Shares.{share_view, is_nothing};
 
 use crate::share::Share;
 
@@ -10,18 +10,18 @@ use crate::share::Share;
 pub struct Plan {
     shares: Vec<Vec<Share>>,
     nothing: Share,
-    ghost no_share: { is_nothing (share_of nothing) ≡ true },
+    ghost no_share: { is_nothing (share_view nothing) ≡ true },
 }
 
 impl Plan {
     ghost use Rattle.std.specs.Prelude.{◌≡◌, map};
     ghost use Rattle.replica_identity.specs.Plans.{share_at};
     ghost use Rattle.replica_identity.specs.PlanView.{plan_view};
-    ghost use Rattle.replica_identity.specs.Shares.{share_of};
+    ghost use Rattle.replica_identity.specs.Shares.{share_view};
 
     /// A plan of these shares: a list for each subscriber, with its share of each table.
     pub(crate) fn new(shares: Vec<Vec<Share>>) -> Plan
-        ensures { plan_view result ≡ map (λ of_one. map share_of of_one.items) shares.items }
+        ensures { plan_view result ≡ map (λ of_one. map share_view of_one.items) shares.items }
     {
         Plan {
             shares,
@@ -33,7 +33,7 @@ impl Plan {
     /// catalog lacks it is nothing.
     #[tactic(auto, using(crate::proofs::PlanLemmas::past_the_plan))]
     pub fn share(&self, subscriber: usize, table: usize) -> &Share
-        ensures { share_of result.now ≡ share_at (plan_view self.now) subscriber table }
+        ensures { share_view result.now ≡ share_at (plan_view self.now) subscriber table }
     {
         match self.shares.get(subscriber) {
             None => &self.nothing,

@@ -5,7 +5,7 @@ use Rattle.std.specs.Str.{bytes_eq}
 use Rattle.std.proofs.lemmas.List.{length-replicate}
 use Rattle.std.proofs.lemmas.Slice.Eq.{bytes_eq-Decides}
 use Rattle.filter_tree.specs.Datum.{Constant, Number, Truth, Bytes}
-use Rattle.filter_tree.specs.Expr.{Condition, Compares, Lacks}
+use Rattle.filter_tree.specs.Expr.{AtomOf, Cmp, IsNull}
 use Rattle.filter_tree.specs.Paths.{Path}
 use Rattle.filter_tree.specs.Same.{same_term}
 use Rattle.filter_tree.specs.declared.filter.Term.{Term}
@@ -26,15 +26,15 @@ record HasServing (range : Range) (term : Term) (path : Path) : Type 0 where
   number : ℤ
   serving : serves range term path number ≡ true
 
-serving_named : (range : Range) (term : Term) (path : Path) (condition : Condition) → names_number range term path condition ≡ true → HasServing range term path
-serving_named range term path (Compares other op (Number k)) h =
+serving_named : (range : Range) (term : Term) (path : Path) (atom : AtomOf) → names_number range term path atom ≡ true → HasServing range term path
+serving_named range term path (Cmp other op (Number k)) h =
     let both = both_true (same_term other term) (serves range term path k || serves range term path (k +ℤ pos 1)) h in
     by_either (serves range term path k) (serves range term path (k +ℤ pos 1)) both.1
     (λ here. record { number = k; serving = here })
     (λ next. record { number = k +ℤ pos 1; serving = next })
-serving_named range term path (Compares other op (Truth b)) h = absurd cc
-serving_named range term path (Compares other op (Bytes s)) h = absurd cc
-serving_named range term path (Lacks column) h = absurd cc
+serving_named range term path (Cmp other op (Truth b)) h = absurd cc
+serving_named range term path (Cmp other op (Bytes s)) h = absurd cc
+serving_named range term path (IsNull column) h = absurd cc
 
 serving_in : (range : Range) (term : Term) (path part : Path) → has_named_number range term path part ≡ true → HasServing range term path
 serving_in range term path [] h = absurd cc
@@ -61,9 +61,9 @@ number_exists kind term path domain h =
 
 -- ---- texts
 
-abbrev text_length : Condition → ℕ
-text_length (Compares term op (Bytes text)) = length text
-text_length condition = 0
+abbrev text_length : AtomOf → ℕ
+text_length (Cmp term op (Bytes text)) = length text
+text_length atom = 0
 
 abbrev all_lengths : Path → ℕ
 all_lengths [] = 0
@@ -74,22 +74,22 @@ longer_apart : (text named : List ℕ) → length named < length text → bytes_
 longer_apart text named h = not_true_false (bytes_eq text named)
     (λ same. let e : length text ≡ length named = ap length ((bytes_eq-Decides text named).0 same) in absurd (omega arith))
 
-constant_apart : (text : List ℕ) (term : Term) (op : _) (constant : Constant) → text_length (Compares term op constant) < length text
+constant_apart : (text : List ℕ) (term : Term) (op : _) (constant : Constant) → text_length (Cmp term op constant) < length text
     → (named : List ℕ) → constant ≡ Bytes named → bytes_eq text named ≡ false
 constant_apart text term op constant h named is =
-    longer_apart text named (subst (λ c. text_length (Compares term op c) < length text) is h)
+    longer_apart text named (subst (λ c. text_length (Cmp term op c) < length text) is h)
 
--- a text that is longer than the one that the condition names is left by it as any that it doesn't name
-leaves_longer : (term : Term) (text : List ℕ) (condition : Condition) (found : Tri) → text_length condition < length text
-    → leaves term None condition found ≡ true → leaves term (Some (Bytes text)) condition found ≡ true
-leaves_longer term text (Compares other op constant) True long h = by_test (same_term other term)
+-- a text that is longer than the one that the atom names is left by it as any that it doesn't name
+leaves_longer : (term : Term) (text : List ℕ) (atom : AtomOf) (found : Tri) → text_length atom < length text
+    → leaves term None atom found ≡ true → leaves term (Some (Bytes text)) atom found ≡ true
+leaves_longer term text (Cmp other op constant) True long h = by_test (same_term other term)
     (λ same. rw same (unnamed_text op text constant (constant_apart text other op constant long) ∙ (rw same at h)))
     (λ differs. rw differs refl)
-leaves_longer term text (Compares other op constant) False long h = by_test (same_term other term)
+leaves_longer term text (Cmp other op constant) False long h = by_test (same_term other term)
     (λ same. rw same (ap not (unnamed_text op text constant (constant_apart text other op constant long)) ∙ (rw same at h)))
     (λ differs. rw differs refl)
-leaves_longer term text (Compares other op constant) Null long h = refl
-leaves_longer term text (Lacks column) found long h = refl
+leaves_longer term text (Cmp other op constant) Null long h = refl
+leaves_longer term text (IsNull column) found long h = refl
 
 all_leave_longer : (term : Term) (text : List ℕ) (path : Path) → all_lengths path < length text → may_be term path None ≡ true → may_be term path (Some (Bytes text)) ≡ true
 all_leave_longer term text [] long h = refl
@@ -111,12 +111,12 @@ record HasText (term : Term) (path : Path) : Type 0 where
   text : List ℕ
   left : may_be term path (Some (Bytes text)) ≡ true
 
-text_named : (term : Term) (path : Path) (condition : Condition) → names_text term path condition ≡ true → HasText term path
-text_named term path (Compares other op (Bytes text)) h =
+text_named : (term : Term) (path : Path) (atom : AtomOf) → names_text term path atom ≡ true → HasText term path
+text_named term path (Cmp other op (Bytes text)) h =
     let both = both_true (same_term other term) (may_be term path (Some (Bytes text))) h in record { text = text; left = both.1 }
-text_named term path (Compares other op (Number k)) h = let both = both_true (same_term other term) false h in absurd (let clash = both.1 in cc)
-text_named term path (Compares other op (Truth b)) h = let both = both_true (same_term other term) false h in absurd (let clash = both.1 in cc)
-text_named term path (Lacks column) h = absurd cc
+text_named term path (Cmp other op (Number k)) h = let both = both_true (same_term other term) false h in absurd (let clash = both.1 in cc)
+text_named term path (Cmp other op (Truth b)) h = let both = both_true (same_term other term) false h in absurd (let clash = both.1 in cc)
+text_named term path (IsNull column) h = absurd cc
 
 text_in : (term : Term) (path part : Path) → has_named_text term path part ≡ true → HasText term path
 text_in term path [] h = absurd cc

@@ -5,18 +5,18 @@ use Rattle.std.specs.List.{list_any}
 use Rattle.filter_tree.specs.Datum.{Constant, Number, Truth, Bytes, Datum, Missing, Known, value_at}
 use Rattle.filter_tree.specs.Logic.{tri_of}
 use Rattle.filter_tree.specs.Compare.{compare_of, compare_known}
-use Rattle.filter_tree.specs.Expr.{Condition, Compares, Lacks, remainder_of, term_value, is_missing, condition_meaning}
+use Rattle.filter_tree.specs.Expr.{AtomOf, Cmp, IsNull, remainder_of, term_value, is_missing, atom_meaning}
 use Rattle.filter_tree.specs.Lists.{column_of, term_of}
 use Rattle.filter_tree.specs.Mask.{same_tri}
 use Rattle.filter_tree.specs.Paths.{Path, Agrees}
-use Rattle.filter_tree.specs.Same.{same_term, same_condition}
+use Rattle.filter_tree.specs.Same.{same_term, same_atom}
 use Rattle.filter_tree.specs.declared.filter.Op.{Op}
 use Rattle.filter_tree.specs.declared.filter.Term.{Term}
 use Rattle.filter_tree.specs.declared.filter.Term.TheVariants.{Col, Mod}
 use Rattle.filter_tree.specs.declared.table.Column.{Column}
 use Rattle.filter_tree.specs.declared.tri.Tri.{Tri}
 use Rattle.filter_tree.specs.declared.tri.Tri.TheVariants.{True, False, Null}
-use Rattle.filter_tree.proofs.SameLemmas.{both_true, same_condition_is, same_term_is}
+use Rattle.filter_tree.proofs.SameLemmas.{both_true, same_atom_is, same_term_is}
 use Rattle.shard_checker.specs.Facts.{says_null, says_present, not_null_in, is_declared, is_null, is_present, has_null, is_null_test, is_never_null, holds_of, leaves, may_be}
 use Rattle.shard_checker.specs.Rows.{MayStand, IsTyped}
 use Rattle.shard_checker.proofs.Testing.{two_true, by_either, clash, same_number}
@@ -49,15 +49,15 @@ missing_is : (value : Datum) → is_missing value ≡ True → value ≡ Missing
 missing_is Missing h = refl
 missing_is (Known value) h = absurd cc
 
-says_null_is : (cells : List Datum) (column : ℕ) (condition : Condition) (value : Tri) → condition_meaning condition cells ≡ value
-    → says_null column condition value ≡ true → value_at cells column ≡ Missing
-says_null_is cells column (Compares term op constant) Null meant says =
+says_null_is : (cells : List Datum) (column : ℕ) (atom : AtomOf) (value : Tri) → atom_meaning atom cells ≡ value
+    → says_null column atom value ≡ true → value_at cells column ≡ Missing
+says_null_is cells column (Cmp term op constant) Null meant says =
     let same : column_of term ≡ column = same_number _ _ says in
     subst (λ k. value_at cells k ≡ Missing) same (term_missing term cells (compared_null op (term_value term cells) constant meant))
-says_null_is cells column (Lacks other) True meant says =
+says_null_is cells column (IsNull other) True meant says =
     let same : other ≡ column = same_number _ _ says in
     subst (λ k. value_at cells k ≡ Missing) same (missing_is (value_at cells other) meant)
-says_null_is cells column condition value meant says = absurd cc
+says_null_is cells column atom value meant says = absurd cc
 
 pub null_is : (cells : List Datum) (column : ℕ) (path : Path) → Agrees cells path → is_null column path ≡ true → value_at cells column ≡ Missing
 null_is cells column [] agrees h = absurd cc
@@ -69,22 +69,22 @@ null_is cells column (entry ∷ path) agrees h =
 known_missing : (op : Op) (constant : Constant) (value : Datum) → value ≡ Missing → compare_of op value constant ≡ Null
 known_missing op constant value h = ap (λ v. compare_of op v constant) h
 
-says_present_is : (cells : List Datum) (column : ℕ) (condition : Condition) (value : Tri) → condition_meaning condition cells ≡ value
-    → says_present column condition value ≡ true → value_at cells column ≡ Missing → ⊥
-says_present_is cells column (Compares term op constant) True meant says missing =
+says_present_is : (cells : List Datum) (column : ℕ) (atom : AtomOf) (value : Tri) → atom_meaning atom cells ≡ value
+    → says_present column atom value ≡ true → value_at cells column ≡ Missing → ⊥
+says_present_is cells column (Cmp term op constant) True meant says missing =
     let same : column_of term ≡ column = same_number _ _ says in
     let gone = known_missing op constant (term_value term cells) (missing_term term cells (subst (λ k. value_at cells k ≡ Missing) (sym same) missing)) in
     cc
-says_present_is cells column (Compares term op constant) False meant says missing =
+says_present_is cells column (Cmp term op constant) False meant says missing =
     let same : column_of term ≡ column = same_number _ _ says in
     let gone = known_missing op constant (term_value term cells) (missing_term term cells (subst (λ k. value_at cells k ≡ Missing) (sym same) missing)) in
     cc
-says_present_is cells column (Lacks other) False meant says missing =
+says_present_is cells column (IsNull other) False meant says missing =
     let same : other ≡ column = same_number _ _ says in
     let gone : value_at cells other ≡ Missing = subst (λ k. value_at cells k ≡ Missing) (sym same) missing in
     let test : is_missing (value_at cells other) ≡ True = ap is_missing gone in
     cc
-says_present_is cells column condition value meant says missing = absurd cc
+says_present_is cells column atom value meant says missing = absurd cc
 
 declared_in : (found : Option Column) (value : Datum) → IfSome found (λ column. MayStand column value) → not_null_in found ≡ true → value ≡ Missing → ⊥
 declared_in None value fits declared missing = cc
@@ -114,30 +114,30 @@ same_null Null h = refl
 same_null True h = absurd cc
 same_null False h = absurd cc
 
-has_null_is : (cells : List Datum) (condition : Condition) (path : Path) → Agrees cells path → has_null condition path ≡ true → condition_meaning condition cells ≡ Null
-has_null_is cells condition [] agrees h = absurd cc
-has_null_is cells condition (entry ∷ path) agrees h =
-    by_either (same_condition condition entry.0 && same_tri entry.1 Null) (has_null condition path) h
-    (λ here. let both = both_true (same_condition condition entry.0) (same_tri entry.1 Null) here in
-    ap (λ c. condition_meaning c cells) (same_condition_is condition entry.0 both.0) ∙ (agrees.0 ∙ same_null entry.1 both.1))
-    (λ there. has_null_is cells condition path agrees.1 there)
+has_null_is : (cells : List Datum) (atom : AtomOf) (path : Path) → Agrees cells path → has_null atom path ≡ true → atom_meaning atom cells ≡ Null
+has_null_is cells atom [] agrees h = absurd cc
+has_null_is cells atom (entry ∷ path) agrees h =
+    by_either (same_atom atom entry.0 && same_tri entry.1 Null) (has_null atom path) h
+    (λ here. let both = both_true (same_atom atom entry.0) (same_tri entry.1 Null) here in
+    ap (λ c. atom_meaning c cells) (same_atom_is atom entry.0 both.0) ∙ (agrees.0 ∙ same_null entry.1 both.1))
+    (λ there. has_null_is cells atom path agrees.1 there)
 
 test_known : (value : Datum) → is_missing value ≡ Null → ⊥
 test_known Missing h = cc
 test_known (Known value) h = cc
 
-null_condition : (columns : List Column) (cells : List Datum) (condition : Condition) → IsTyped columns cells → condition_meaning condition cells ≡ Null
-    → (is_null_test condition || is_declared columns (column_of (term_of condition))) ≡ true → ⊥
-null_condition columns cells (Compares term op constant) valid null h =
+null_atom : (columns : List Column) (cells : List Datum) (atom : AtomOf) → IsTyped columns cells → atom_meaning atom cells ≡ Null
+    → (is_null_test atom || is_declared columns (column_of (term_of atom))) ≡ true → ⊥
+null_atom columns cells (Cmp term op constant) valid null h =
     declared_is columns cells (column_of term) valid h (term_missing term cells (compared_null op (term_value term cells) constant null))
-null_condition columns cells (Lacks column) valid null h = test_known (value_at cells column) null
+null_atom columns cells (IsNull column) valid null h = test_known (value_at cells column) null
 
--- no row that fits the columns agrees with a path on which a condition is null that never is
-pub never_null_is : (columns : List Column) (cells : List Datum) (condition : Condition) (path : Path) → IsTyped columns cells → Agrees cells path
-    → is_never_null columns condition path ≡ true → ⊥
-never_null_is columns cells condition path valid agrees h =
-    let both = both_true (has_null condition path) (is_null_test condition || is_declared columns (column_of (term_of condition))) h in
-    null_condition columns cells condition valid (has_null_is cells condition path agrees both.0) both.1
+-- no row that fits the columns agrees with a path on which an atom is null that never is
+pub never_null_is : (columns : List Column) (cells : List Datum) (atom : AtomOf) (path : Path) → IsTyped columns cells → Agrees cells path
+    → is_never_null columns atom path ≡ true → ⊥
+never_null_is columns cells atom path valid agrees h =
+    let both = both_true (has_null atom path) (is_null_test atom || is_declared columns (column_of (term_of atom))) h in
+    null_atom columns cells atom valid (has_null_is cells atom path agrees both.0) both.1
 
 -- ---- values
 
@@ -154,18 +154,18 @@ counts_where : (b p : Bool) → (b ≡ true → p ≡ true) → (if b then p els
 counts_where true p h = h refl
 counts_where false p h = refl
 
-leaves_found : (cells : List Datum) (term : Term) (value : Constant) (condition : Condition) (found : Tri) → condition_meaning condition cells ≡ found
-    → term_value term cells ≡ Known value → leaves term (Some value) condition found ≡ true
-leaves_found cells term value (Compares other op constant) True meant is =
+leaves_found : (cells : List Datum) (term : Term) (value : Constant) (atom : AtomOf) (found : Tri) → atom_meaning atom cells ≡ found
+    → term_value term cells ≡ Known value → leaves term (Some value) atom found ≡ true
+leaves_found cells term value (Cmp other op constant) True meant is =
     counts_where (same_term other term) (compare_known op value constant)
     (λ same. let held : term_value other cells ≡ Known value = ap (λ t. term_value t cells) (same_term_is other term same) ∙ is in
     tri_true (compare_known op value constant) (sym (ap (λ v. compare_of op v constant) held) ∙ meant))
-leaves_found cells term value (Compares other op constant) False meant is =
+leaves_found cells term value (Cmp other op constant) False meant is =
     counts_where (same_term other term) (not (compare_known op value constant))
     (λ same. let held : term_value other cells ≡ Known value = ap (λ t. term_value t cells) (same_term_is other term same) ∙ is in
     tri_false (compare_known op value constant) (sym (ap (λ v. compare_of op v constant) held) ∙ meant))
-leaves_found cells term value (Compares other op constant) Null meant is = refl
-leaves_found cells term value (Lacks column) found meant is = refl
+leaves_found cells term value (Cmp other op constant) Null meant is = refl
+leaves_found cells term value (IsNull column) found meant is = refl
 
 -- the value that a term has on a row is left by what was found
 pub value_left : (cells : List Datum) (term : Term) (value : Constant) (path : Path) → Agrees cells path → term_value term cells ≡ Known value
@@ -174,18 +174,18 @@ value_left cells term value [] agrees is = refl
 value_left cells term value (entry ∷ path) agrees is =
     two_true (leaves term (Some value) entry.0 entry.1) (may_be term path (Some value)) (leaves_found cells term value entry.0 entry.1 agrees.0 is) (value_left cells term value path agrees.1 is)
 
-leaves_missing : (cells : List Datum) (term : Term) (value : Option Constant) (condition : Condition) (found : Tri) → condition_meaning condition cells ≡ found
-    → term_value term cells ≡ Missing → leaves term value condition found ≡ true
-leaves_missing cells term value (Compares other op constant) True meant is =
+leaves_missing : (cells : List Datum) (term : Term) (value : Option Constant) (atom : AtomOf) (found : Tri) → atom_meaning atom cells ≡ found
+    → term_value term cells ≡ Missing → leaves term value atom found ≡ true
+leaves_missing cells term value (Cmp other op constant) True meant is =
     counts_where (same_term other term) (holds_of op value constant)
     (λ same. let gone : compare_of op (term_value other cells) constant ≡ Null = known_missing op constant (term_value other cells) (ap (λ t. term_value t cells) (same_term_is other term same) ∙ is) in
     absurd cc)
-leaves_missing cells term value (Compares other op constant) False meant is =
+leaves_missing cells term value (Cmp other op constant) False meant is =
     counts_where (same_term other term) (not (holds_of op value constant))
     (λ same. let gone : compare_of op (term_value other cells) constant ≡ Null = known_missing op constant (term_value other cells) (ap (λ t. term_value t cells) (same_term_is other term same) ∙ is) in
     absurd cc)
-leaves_missing cells term value (Compares other op constant) Null meant is = refl
-leaves_missing cells term value (Lacks column) found meant is = refl
+leaves_missing cells term value (Cmp other op constant) Null meant is = refl
+leaves_missing cells term value (IsNull column) found meant is = refl
 
 -- where a term is null, what was found says nothing of its values
 pub all_left : (cells : List Datum) (term : Term) (value : Option Constant) (path : Path) → Agrees cells path → term_value term cells ≡ Missing → may_be term path value ≡ true

@@ -2,7 +2,7 @@
 use Rattle.std.proofs.Common.{◌≡◌, ℕ, suc, ◌+◌, Bool, true, false, List, [], ◌∷◌, length, refl, sym, ◌∙◌, ap, subst, inl, inr, arith}
 use Rattle.std.specs.Prelude.{Option, Some, None, if◌then◌else◌, ◌==◌, ◌⊎◌, Contains, slice_get}
 use Rattle.std.specs.Cmp.{unsigned_Decides}
-use Rattle.filter_tree.specs.Expr.{Expr, Condition}
+use Rattle.filter_tree.specs.Expr.{Expr, AtomOf}
 use Rattle.filter_tree.specs.Lists.{distinct_columns}
 use Rattle.filter_tree.specs.Paths.{Path}
 use Rattle.filter_tree.specs.declared.filter.Term.{Term}
@@ -14,7 +14,7 @@ use Rattle.pub_reader.specs.declared.catalog.Operations.{Operations}
 use Rattle.pub_reader.specs.declared.catalog.Subscription.{Subscription}
 use Rattle.replica_identity.specs.Plans.{PlanOf}
 use Rattle.replica_identity.specs.Shares.{ShareOf}
-use Rattle.split_cert.specs.Tree.{Tree, Branches, Owned, Void, Never, nodes}
+use Rattle.split_cert.specs.Tree.{Tree, Split, Owner, Empty, NeverNull, nodes}
 use Rattle.shard_checker.specs.CatalogRefusal.{missing_operation, missing_by, publication_refusal, publishing_refusal, table_refusal, identity_refusal, column_refusal, filter_refusal, entry_refusal, entries_refusal, taken_refusal, coverage_refusal, table_shares, certificates_refusal, count_refusal, catalog_refusal, sharding_refusal}
 use Rattle.shard_checker.specs.CatalogTruth.{has_operation, NamesUncovered, HasWrongCertificate, ShardingIsWrong}
 use Rattle.shard_checker.specs.Refusal.{Subject, later, first_of, first_refusal}
@@ -264,26 +264,26 @@ empty_names : (subject : Subject) (path : Path) (node : ℕ) (found : Option Ter
 empty_names subject path node None error h = subst (NamesNode subject.table) (sym h) refl
 empty_names subject path node (Some term) error h = subst (NamesNode subject.table) (sym h.0) refl
 
-never_null_names : (subject : Subject) (path : Path) (node : ℕ) (found : Option Condition) (error : CheckError) → NeverNullIsWrong subject path node found error → NamesNode subject.table error
+never_null_names : (subject : Subject) (path : Path) (node : ℕ) (found : Option AtomOf) (error : CheckError) → NeverNullIsWrong subject path node found error → NamesNode subject.table error
 never_null_names subject path node None error h = subst (NamesNode subject.table) (sym h) refl
-never_null_names subject path node (Some condition) error h = subst (NamesNode subject.table) (sym h.0) refl
+never_null_names subject path node (Some atom) error h = subst (NamesNode subject.table) (sym h.0) refl
 
 owner_names : (subject : Subject) (path : Path) (node owner : ℕ) (found : Option ShareOf) (error : CheckError) → OwnerIsWrong subject path node owner found error → NamesNode subject.table error
 owner_names subject path node owner None error h = subst (NamesNode subject.table) (sym h) refl
 owner_names subject path node owner (Some share) error (inl h) = subst (NamesNode subject.table) (sym h.0) refl
 owner_names subject path node owner (Some share) error (inr h) = subst (NamesNode subject.table) (sym h.is) refl
 
-split_names : (subject : Subject) (path : Path) (node : ℕ) (found : Option Condition) (if_true if_false if_null : Path → Type 0) (error : CheckError)
+split_names : (subject : Subject) (path : Path) (node : ℕ) (found : Option AtomOf) (if_true if_false if_null : Path → Type 0) (error : CheckError)
     → ((longer : Path) → if_true longer → NamesNode subject.table error) → ((longer : Path) → if_false longer → NamesNode subject.table error) → ((longer : Path) → if_null longer → NamesNode subject.table error)
     → SplitIsWrong subject path node found if_true if_false if_null error → NamesNode subject.table error
 split_names subject path node None if_true if_false if_null error at_true at_false at_null h = subst (NamesNode subject.table) (sym h) refl
-split_names subject path node (Some condition) if_true if_false if_null error at_true at_false at_null (inl h) = at_true _ h
-split_names subject path node (Some condition) if_true if_false if_null error at_true at_false at_null (inr (inl h)) = at_false _ h
-split_names subject path node (Some condition) if_true if_false if_null error at_true at_false at_null (inr (inr h)) = at_null _ h
+split_names subject path node (Some atom) if_true if_false if_null error at_true at_false at_null (inl h) = at_true _ h
+split_names subject path node (Some atom) if_true if_false if_null error at_true at_false at_null (inr (inl h)) = at_false _ h
+split_names subject path node (Some atom) if_true if_false if_null error at_true at_false at_null (inr (inr h)) = at_null _ h
 
 names_node : (subject : Subject) (tree : Tree) (path : Path) (node : ℕ) (error : CheckError) → IsWrong subject tree path node error → NamesNode subject.table error
-names_node subject (Branches atom if_true if_false if_null) path node error h =
-    split_names subject path node (slice_get subject.conditions atom)
+names_node subject (Split index if_true if_false if_null) path node error h =
+    split_names subject path node (slice_get subject.atoms_in index)
     (λ longer. IsWrong subject if_true longer (later node 1) error)
     (λ longer. IsWrong subject if_false longer (later (later node 1) (nodes if_true)) error)
     (λ longer. IsWrong subject if_null longer (later (later (later node 1) (nodes if_true)) (nodes if_false)) error)
@@ -292,9 +292,9 @@ names_node subject (Branches atom if_true if_false if_null) path node error h =
     (λ longer wrong. names_node subject if_false longer (later (later node 1) (nodes if_true)) error wrong)
     (λ longer wrong. names_node subject if_null longer (later (later (later node 1) (nodes if_true)) (nodes if_false)) error wrong)
     h
-names_node subject (Owned subscriber) path node error h = owner_names subject path node subscriber (slice_get subject.shares subscriber) error h
-names_node subject (Void term) path node error h = empty_names subject path node (slice_get subject.terms term) error h
-names_node subject (Never atom) path node error h = never_null_names subject path node (slice_get subject.conditions atom) error h
+names_node subject (Owner subscriber) path node error h = owner_names subject path node subscriber (slice_get subject.shares subscriber) error h
+names_node subject (Empty term) path node error h = empty_names subject path node (slice_get subject.terms term) error h
+names_node subject (NeverNull index) path node error h = never_null_names subject path node (slice_get subject.atoms_in index) error h
 
 wrong_by_table : (catalog : CatalogOf Expr) (plan : PlanOf) (trees : List Tree) (number : ℕ) (error : CheckError) → NamesNode number error
     → HasWrongCertificate catalog plan trees number error → ShardingIsWrong catalog plan trees error

@@ -3,7 +3,7 @@ use Rattle.std.proofs.Common.{◌≡◌, ℕ, zero, suc, ◌+◌, Bool, true, fa
 use Rattle.std.specs.Prelude.{Option, Some, None, if◌then◌else◌, slice_get}
 use Rattle.std.proofs.lemmas.Option.{get_or_from_slice_get}
 use Rattle.filter_tree.specs.Datum.{Constant, Datum, Missing, Known, value_at}
-use Rattle.filter_tree.specs.Expr.{Condition, condition_meaning, meaning}
+use Rattle.filter_tree.specs.Expr.{AtomOf, atom_meaning, meaning}
 use Rattle.filter_tree.specs.Lists.{column_of}
 use Rattle.filter_tree.specs.Mask.{member}
 use Rattle.filter_tree.specs.Paths.{Path, Agrees, possible_of}
@@ -16,7 +16,7 @@ use Rattle.filter_tree.specs.declared.tri.Tri.TheVariants.{True, False, Null}
 use Rattle.filter_tree.proofs.PossibleLemmas.{possible_holds}
 use Rattle.filter_tree.proofs.SameLemmas.{both_true}
 use Rattle.replica_identity.specs.Shares.{ShareOf, Nothing, Everything, Where, takes, is_true}
-use Rattle.split_cert.specs.Tree.{Tree, Branches, Owned, Void, Never, nodes}
+use Rattle.split_cert.specs.Tree.{Tree, Split, Owner, Empty, NeverNull, nodes}
 use Rattle.shard_checker.specs.Domain.{kind_at, has_value}
 use Rattle.shard_checker.specs.Facts.{is_null, is_present, is_never_null}
 use Rattle.shard_checker.specs.Owners.{share_in, HasOneOwner, is_surely_true, must_take, may_take, is_second, second_owner}
@@ -68,10 +68,10 @@ empty_sound subject path node (Some term) h = record {
   one_owner = λ cells valid agrees. absurd (empty_is subject.columns cells term path valid agrees (passed (is_empty subject.columns term path) (NotEmpty subject.table node) h));
 }
 
-never_null_sound : (subject : Subject) (path : Path) (node : ℕ) (found : Option Condition) → never_null_refusal subject path node found ≡ None → IsSound subject.columns subject.shares path
+never_null_sound : (subject : Subject) (path : Path) (node : ℕ) (found : Option AtomOf) → never_null_refusal subject path node found ≡ None → IsSound subject.columns subject.shares path
 never_null_sound subject path node None h = absurd cc
-never_null_sound subject path node (Some condition) h = record {
-  one_owner = λ cells valid agrees. absurd (never_null_is subject.columns cells condition path valid agrees (passed (is_never_null subject.columns condition path) (MayBeNull subject.table node) h));
+never_null_sound subject path node (Some atom) h = record {
+  one_owner = λ cells valid agrees. absurd (never_null_is subject.columns cells atom path valid agrees (passed (is_never_null subject.columns atom path) (MayBeNull subject.table node) h));
 }
 
 -- ---- nodes that name an owner
@@ -145,41 +145,41 @@ owner_sound subject path node owner (Some share) e h =
 
 -- ---- splits
 
-agrees_longer : (cells : List Datum) (path : Path) (condition : Condition) (value : Tri) → Agrees cells path → condition_meaning condition cells ≡ value
-    → Agrees cells (path ++ (condition, value) ∷ [])
-agrees_longer cells [] condition value agrees is = (is, tt)
-agrees_longer cells (entry ∷ path) condition value agrees is = (agrees.0, agrees_longer cells path condition value agrees.1 is)
+agrees_longer : (cells : List Datum) (path : Path) (atom : AtomOf) (value : Tri) → Agrees cells path → atom_meaning atom cells ≡ value
+    → Agrees cells (path ++ (atom, value) ∷ [])
+agrees_longer cells [] atom value agrees is = (is, tt)
+agrees_longer cells (entry ∷ path) atom value agrees is = (agrees.0, agrees_longer cells path atom value agrees.1 is)
 
 first_none : (one next : Option CheckError) → first_of one next ≡ None → (one ≡ None) × (next ≡ None)
 first_none None next h = (refl, h)
 first_none (Some error) next h = absurd cc
 
--- a row goes to the branch of the value that the condition has on it
-one_branch : (columns : List Column) (shares : List ShareOf) (path : Path) (condition : Condition)
-    → IsSound columns shares (path ++ (condition, True) ∷ []) → IsSound columns shares (path ++ (condition, False) ∷ []) → IsSound columns shares (path ++ (condition, Null) ∷ [])
-    → (cells : List Datum) (value : Tri) → IsTyped columns cells → Agrees cells path → condition_meaning condition cells ≡ value → HasOneOwner shares cells
-one_branch columns shares path condition if_true if_false if_null cells True valid agrees is = if_true.one_owner cells valid (agrees_longer cells path condition True agrees is)
-one_branch columns shares path condition if_true if_false if_null cells False valid agrees is = if_false.one_owner cells valid (agrees_longer cells path condition False agrees is)
-one_branch columns shares path condition if_true if_false if_null cells Null valid agrees is = if_null.one_owner cells valid (agrees_longer cells path condition Null agrees is)
+-- a row goes to the branch of the value that the atom has on it
+one_branch : (columns : List Column) (shares : List ShareOf) (path : Path) (atom : AtomOf)
+    → IsSound columns shares (path ++ (atom, True) ∷ []) → IsSound columns shares (path ++ (atom, False) ∷ []) → IsSound columns shares (path ++ (atom, Null) ∷ [])
+    → (cells : List Datum) (value : Tri) → IsTyped columns cells → Agrees cells path → atom_meaning atom cells ≡ value → HasOneOwner shares cells
+one_branch columns shares path atom if_true if_false if_null cells True valid agrees is = if_true.one_owner cells valid (agrees_longer cells path atom True agrees is)
+one_branch columns shares path atom if_true if_false if_null cells False valid agrees is = if_false.one_owner cells valid (agrees_longer cells path atom False agrees is)
+one_branch columns shares path atom if_true if_false if_null cells Null valid agrees is = if_null.one_owner cells valid (agrees_longer cells path atom Null agrees is)
 
-split_sound : (subject : Subject) (path : Path) (node : ℕ) (found : Option Condition) (if_true if_false if_null : Path → Option CheckError)
+split_sound : (subject : Subject) (path : Path) (node : ℕ) (found : Option AtomOf) (if_true if_false if_null : Path → Option CheckError)
     → ((longer : Path) → if_true longer ≡ None → IsSound subject.columns subject.shares longer)
     → ((longer : Path) → if_false longer ≡ None → IsSound subject.columns subject.shares longer)
     → ((longer : Path) → if_null longer ≡ None → IsSound subject.columns subject.shares longer)
     → split_refusal subject path node found if_true if_false if_null ≡ None → IsSound subject.columns subject.shares path
 split_sound subject path node None if_true if_false if_null at_true at_false at_null h = absurd cc
-split_sound subject path node (Some condition) if_true if_false if_null at_true at_false at_null h =
-    let both = first_none (if_true (path ++ (condition, True) ∷ [])) (first_of (if_false (path ++ (condition, False) ∷ [])) (if_null (path ++ (condition, Null) ∷ []))) h in
-    let rest = first_none (if_false (path ++ (condition, False) ∷ [])) (if_null (path ++ (condition, Null) ∷ [])) both.1 in
+split_sound subject path node (Some atom) if_true if_false if_null at_true at_false at_null h =
+    let both = first_none (if_true (path ++ (atom, True) ∷ [])) (first_of (if_false (path ++ (atom, False) ∷ [])) (if_null (path ++ (atom, Null) ∷ []))) h in
+    let rest = first_none (if_false (path ++ (atom, False) ∷ [])) (if_null (path ++ (atom, Null) ∷ [])) both.1 in
     record {
-      one_owner = λ cells valid agrees. one_branch subject.columns subject.shares path condition
-          (at_true (path ++ (condition, True) ∷ []) both.0) (at_false (path ++ (condition, False) ∷ []) rest.0) (at_null (path ++ (condition, Null) ∷ []) rest.1)
-          cells (condition_meaning condition cells) valid agrees refl;
+      one_owner = λ cells valid agrees. one_branch subject.columns subject.shares path atom
+          (at_true (path ++ (atom, True) ∷ []) both.0) (at_false (path ++ (atom, False) ∷ []) rest.0) (at_null (path ++ (atom, Null) ∷ []) rest.1)
+          cells (atom_meaning atom cells) valid agrees refl;
     }
 
 pub refusal_sound : (subject : Subject) (tree : Tree) (path : Path) (node : ℕ) → refusal subject tree path node ≡ None → IsSound subject.columns subject.shares path
-refusal_sound subject (Branches atom if_true if_false if_null) path node h =
-    split_sound subject path node (slice_get subject.conditions atom)
+refusal_sound subject (Split index if_true if_false if_null) path node h =
+    split_sound subject path node (slice_get subject.atoms_in index)
     (λ longer. refusal subject if_true longer (later node 1))
     (λ longer. refusal subject if_false longer (later (later node 1) (nodes if_true)))
     (λ longer. refusal subject if_null longer (later (later (later node 1) (nodes if_true)) (nodes if_false)))
@@ -187,9 +187,9 @@ refusal_sound subject (Branches atom if_true if_false if_null) path node h =
     (λ longer. refusal_sound subject if_false longer (later (later node 1) (nodes if_true)))
     (λ longer. refusal_sound subject if_null longer (later (later (later node 1) (nodes if_true)) (nodes if_false)))
     h
-refusal_sound subject (Owned subscriber) path node h = owner_sound subject path node subscriber (slice_get subject.shares subscriber) refl h
-refusal_sound subject (Void term) path node h = empty_sound subject path node (slice_get subject.terms term) h
-refusal_sound subject (Never atom) path node h = never_null_sound subject path node (slice_get subject.conditions atom) h
+refusal_sound subject (Owner subscriber) path node h = owner_sound subject path node subscriber (slice_get subject.shares subscriber) refl h
+refusal_sound subject (Empty term) path node h = empty_sound subject path node (slice_get subject.terms term) h
+refusal_sound subject (NeverNull index) path node h = never_null_sound subject path node (slice_get subject.atoms_in index) h
 
 -- a certificate without a refusal
 pub certificate_sound : (number : ℕ) (table : Table) (shares : List ShareOf) (tree : Tree) → first_refusal number table shares tree ≡ None

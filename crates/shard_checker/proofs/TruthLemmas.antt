@@ -2,7 +2,7 @@
 use Rattle.std.proofs.Common.{◌≡◌, ℕ, zero, suc, ◌+◌, ◌<◌, Bool, true, false, not, ◌&&◌, List, [], ◌∷◌, ◌++◌, refl, ◌∙◌, subst, inl, inr, arith}
 use Rattle.std.specs.Prelude.{Option, Some, None, if◌then◌else◌, ◌==◌, ◌⊎◌, slice_get}
 use Rattle.std.specs.Cmp.{unsigned_Decides}
-use Rattle.filter_tree.specs.Expr.{Condition}
+use Rattle.filter_tree.specs.Expr.{AtomOf}
 use Rattle.filter_tree.specs.Lists.{column_of}
 use Rattle.filter_tree.specs.Paths.{Path}
 use Rattle.filter_tree.specs.declared.filter.Term.{Term}
@@ -10,7 +10,7 @@ use Rattle.filter_tree.specs.declared.table.Table.{Table}
 use Rattle.filter_tree.specs.declared.tri.Tri.TheVariants.{True, False, Null}
 use Rattle.filter_tree.proofs.SameLemmas.{both_true}
 use Rattle.replica_identity.specs.Shares.{ShareOf}
-use Rattle.split_cert.specs.Tree.{Tree, Branches, Owned, Void, Never, nodes}
+use Rattle.split_cert.specs.Tree.{Tree, Split, Owner, Empty, NeverNull, nodes}
 use Rattle.shard_checker.specs.Domain.{kind_at, has_value}
 use Rattle.shard_checker.specs.Facts.{is_null, is_present, is_never_null}
 use Rattle.shard_checker.specs.Owners.{share_in, must_take, may_take, is_second, second_owner}
@@ -41,11 +41,11 @@ empty_wrong subject path node (Some term) error h =
     let parts = both_false (is_null (column_of term) path && is_present subject.columns (column_of term) path) (not (has_value (kind_at subject.columns (column_of term)) term path)) both.0 in
     (both.1, record { value = value_exists (kind_at subject.columns (column_of term)) term path (not_false _ parts.1); not_torn = parts.0 })
 
-never_null_wrong : (subject : Subject) (path : Path) (node : ℕ) (found : Option Condition) (error : CheckError)
+never_null_wrong : (subject : Subject) (path : Path) (node : ℕ) (found : Option AtomOf) (error : CheckError)
     → never_null_refusal subject path node found ≡ Some error → NeverNullIsWrong subject path node found error
 never_null_wrong subject path node None error h = same_some (BadIndex subject.table node) error h
-never_null_wrong subject path node (Some condition) error h =
-    let both = failed (is_never_null subject.columns condition path) (MayBeNull subject.table node) error h in (both.1, both.0)
+never_null_wrong subject path node (Some atom) error h =
+    let both = failed (is_never_null subject.columns atom path) (MayBeNull subject.table node) error h in (both.1, both.0)
 
 -- ---- owners
 
@@ -140,21 +140,21 @@ of_three one two three error at_one at_two at_three (inl h) = inl (at_one h)
 of_three one None three error at_one at_two at_three (inr h) = inr (inr (at_three h))
 of_three one (Some two) three error at_one at_two at_three (inr h) = inr (inl (at_two h))
 
-split_wrong : (subject : Subject) (path : Path) (node : ℕ) (found : Option Condition) (error : CheckError) (if_true if_false if_null : Path → Option CheckError)
+split_wrong : (subject : Subject) (path : Path) (node : ℕ) (found : Option AtomOf) (error : CheckError) (if_true if_false if_null : Path → Option CheckError)
     (true_wrong false_wrong null_wrong : Path → Type 0)
     → ((longer : Path) → if_true longer ≡ Some error → true_wrong longer)
     → ((longer : Path) → if_false longer ≡ Some error → false_wrong longer)
     → ((longer : Path) → if_null longer ≡ Some error → null_wrong longer)
     → split_refusal subject path node found if_true if_false if_null ≡ Some error → SplitIsWrong subject path node found true_wrong false_wrong null_wrong error
 split_wrong subject path node None error if_true if_false if_null true_wrong false_wrong null_wrong at_true at_false at_null h = same_some (BadIndex subject.table node) error h
-split_wrong subject path node (Some condition) error if_true if_false if_null true_wrong false_wrong null_wrong at_true at_false at_null h =
-    of_three (if_true (path ++ (condition, True) ∷ [])) (if_false (path ++ (condition, False) ∷ [])) (if_null (path ++ (condition, Null) ∷ [])) error
-    (at_true (path ++ (condition, True) ∷ [])) (at_false (path ++ (condition, False) ∷ [])) (at_null (path ++ (condition, Null) ∷ []))
-    (first_some (if_true (path ++ (condition, True) ∷ [])) (first_of (if_false (path ++ (condition, False) ∷ [])) (if_null (path ++ (condition, Null) ∷ []))) error h)
+split_wrong subject path node (Some atom) error if_true if_false if_null true_wrong false_wrong null_wrong at_true at_false at_null h =
+    of_three (if_true (path ++ (atom, True) ∷ [])) (if_false (path ++ (atom, False) ∷ [])) (if_null (path ++ (atom, Null) ∷ [])) error
+    (at_true (path ++ (atom, True) ∷ [])) (at_false (path ++ (atom, False) ∷ [])) (at_null (path ++ (atom, Null) ∷ []))
+    (first_some (if_true (path ++ (atom, True) ∷ [])) (first_of (if_false (path ++ (atom, False) ∷ [])) (if_null (path ++ (atom, Null) ∷ []))) error h)
 
 refusal_true : (subject : Subject) (tree : Tree) (path : Path) (node : ℕ) (error : CheckError) → refusal subject tree path node ≡ Some error → IsWrong subject tree path node error
-refusal_true subject (Branches atom if_true if_false if_null) path node error h =
-    split_wrong subject path node (slice_get subject.conditions atom) error
+refusal_true subject (Split index if_true if_false if_null) path node error h =
+    split_wrong subject path node (slice_get subject.atoms_in index) error
     (λ longer. refusal subject if_true longer (later node 1))
     (λ longer. refusal subject if_false longer (later (later node 1) (nodes if_true)))
     (λ longer. refusal subject if_null longer (later (later (later node 1) (nodes if_true)) (nodes if_false)))
@@ -165,9 +165,9 @@ refusal_true subject (Branches atom if_true if_false if_null) path node error h 
     (λ longer. refusal_true subject if_false longer (later (later node 1) (nodes if_true)) error)
     (λ longer. refusal_true subject if_null longer (later (later (later node 1) (nodes if_true)) (nodes if_false)) error)
     h
-refusal_true subject (Owned subscriber) path node error h = owner_wrong subject path node subscriber (slice_get subject.shares subscriber) error h
-refusal_true subject (Void term) path node error h = empty_wrong subject path node (slice_get subject.terms term) error h
-refusal_true subject (Never atom) path node error h = never_null_wrong subject path node (slice_get subject.conditions atom) error h
+refusal_true subject (Owner subscriber) path node error h = owner_wrong subject path node subscriber (slice_get subject.shares subscriber) error h
+refusal_true subject (Empty term) path node error h = empty_wrong subject path node (slice_get subject.terms term) error h
+refusal_true subject (NeverNull index) path node error h = never_null_wrong subject path node (slice_get subject.atoms_in index) error h
 
 pub certificate_wrong : (number : ℕ) (table : Table) (shares : List ShareOf) (tree : Tree) (error : CheckError) → first_refusal number table shares tree ≡ Some error
     → CertificateIsWrong number table shares tree error

@@ -9,7 +9,7 @@ use Rattle.std.proofs.lemmas.Int.{ints}
 use Rattle.std.proofs.lemmas.Slice.Eq.{bytes_eq-Decides}
 use Rattle.filter_tree.specs.Datum.{Constant, Number, Truth, Bytes}
 use Rattle.filter_tree.specs.Compare.{compare_numbers_of, compare_known}
-use Rattle.filter_tree.specs.Expr.{Condition, Compares, Lacks}
+use Rattle.filter_tree.specs.Expr.{AtomOf, Cmp, IsNull}
 use Rattle.filter_tree.specs.Paths.{Path}
 use Rattle.filter_tree.specs.Same.{same_term}
 use Rattle.filter_tree.specs.declared.filter.Op.{Op}
@@ -56,7 +56,7 @@ number_stays op before number (Bytes s) e above below = refl
 
 -- the number of a comparison of the term is neither the number that serves nor the one before
 not_named : (range : Range) (term other : Term) (path : Path) (before number : ℤ) (op : Op) (constant : Constant) → number ≡ before +ℤ pos 1
-    → serves range term path number ≡ true → names_number range term path (Compares other op constant) ≡ false → same_term other term ≡ true
+    → serves range term path number ≡ true → names_number range term path (Cmp other op constant) ≡ false → same_term other term ≡ true
     → (constant ≡ Number number → ⊥) × (constant ≡ Number before → ⊥)
 not_named range term other path before number op (Number k) e here names same =
     let none : (serves range term path k || serves range term path (k +ℤ pos 1)) ≡ false = rw same at names in
@@ -69,22 +69,22 @@ not_named range term other path before number op (Bytes s) e here names same = (
 
 -- what leaves a number that is not named, nor comes after one that is, leaves the one before
 leaves_before : (range : Range) (term : Term) (path : Path) (before number : ℤ) → number ≡ before +ℤ pos 1 → serves range term path number ≡ true
-    → (condition : Condition) (found : Tri) → names_number range term path condition ≡ false
-    → leaves term (Some (Number number)) condition found ≡ true → leaves term (Some (Number before)) condition found ≡ true
-leaves_before range term path before number e here (Compares other op constant) True names h = by_test (same_term other term)
+    → (atom : AtomOf) (found : Tri) → names_number range term path atom ≡ false
+    → leaves term (Some (Number number)) atom found ≡ true → leaves term (Some (Number before)) atom found ≡ true
+leaves_before range term path before number e here (Cmp other op constant) True names h = by_test (same_term other term)
     (λ same. let apart = not_named range term other path before number op constant e here names same in
     let equal = number_stays op before number constant e apart.0 apart.1 in
     let was : compare_known op (Number number) constant ≡ true = rw same at h in
     rw same (sym equal ∙ was))
     (λ differs. rw differs refl)
-leaves_before range term path before number e here (Compares other op constant) False names h = by_test (same_term other term)
+leaves_before range term path before number e here (Cmp other op constant) False names h = by_test (same_term other term)
     (λ same. let apart = not_named range term other path before number op constant e here names same in
     let equal = number_stays op before number constant e apart.0 apart.1 in
     let was : not (compare_known op (Number number) constant) ≡ true = rw same at h in
     rw same (ap not (sym equal) ∙ was))
     (λ differs. rw differs refl)
-leaves_before range term path before number e here (Compares other op constant) Null names h = refl
-leaves_before range term path before number e here (Lacks column) found names h = refl
+leaves_before range term path before number e here (Cmp other op constant) Null names h = refl
+leaves_before range term path before number e here (IsNull column) found names h = refl
 
 all_before : (range : Range) (term : Term) (path : Path) (before number : ℤ) → number ≡ before +ℤ pos 1 → serves range term path number ≡ true
     → (part : Path) → list_any (λ entry. names_number range term path entry.0) part ≡ false
@@ -156,24 +156,24 @@ unnamed_text Gt text (Bytes named) apart = refl
 unnamed_text Ge text (Bytes named) apart = refl
 
 named_apart : (term other : Term) (path : Path) (text : List ℕ) (op : Op) (constant : Constant) → may_be term path (Some (Bytes text)) ≡ true
-    → names_text term path (Compares other op constant) ≡ false → same_term other term ≡ true
+    → names_text term path (Cmp other op constant) ≡ false → same_term other term ≡ true
     → (named : List ℕ) → constant ≡ Bytes named → bytes_eq text named ≡ false
 named_apart term other path text op constant left names same named is =
-    let there : names_text term path (Compares other op (Bytes named)) ≡ false = subst (λ c. names_text term path (Compares other op c) ≡ false) is names in
+    let there : names_text term path (Cmp other op (Bytes named)) ≡ false = subst (λ c. names_text term path (Cmp other op c) ≡ false) is names in
     let gone : may_be term path (Some (Bytes named)) ≡ false = rw same at there in
     text_apart term path text named left gone
 
 -- what leaves a text that no comparison names leaves each such text
-leaves_unnamed : (term : Term) (path : Path) (text : List ℕ) → may_be term path (Some (Bytes text)) ≡ true → (condition : Condition) (found : Tri) → names_text term path condition ≡ false
-    → leaves term (Some (Bytes text)) condition found ≡ leaves term None condition found
-leaves_unnamed term path text left (Compares other op constant) True names = by_test (same_term other term)
+leaves_unnamed : (term : Term) (path : Path) (text : List ℕ) → may_be term path (Some (Bytes text)) ≡ true → (atom : AtomOf) (found : Tri) → names_text term path atom ≡ false
+    → leaves term (Some (Bytes text)) atom found ≡ leaves term None atom found
+leaves_unnamed term path text left (Cmp other op constant) True names = by_test (same_term other term)
     (λ same. rw same (unnamed_text op text constant (named_apart term other path text op constant left names same)))
     (λ differs. rw differs refl)
-leaves_unnamed term path text left (Compares other op constant) False names = by_test (same_term other term)
+leaves_unnamed term path text left (Cmp other op constant) False names = by_test (same_term other term)
     (λ same. rw same (ap not (unnamed_text op text constant (named_apart term other path text op constant left names same))))
     (λ differs. rw differs refl)
-leaves_unnamed term path text left (Compares other op constant) Null names = refl
-leaves_unnamed term path text left (Lacks column) found names = refl
+leaves_unnamed term path text left (Cmp other op constant) Null names = refl
+leaves_unnamed term path text left (IsNull column) found names = refl
 
 all_unnamed : (term : Term) (path : Path) (text : List ℕ) → may_be term path (Some (Bytes text)) ≡ true → (part : Path) → list_any (λ entry. names_text term path entry.0) part ≡ false
     → may_be term part (Some (Bytes text)) ≡ may_be term part None

@@ -1,6 +1,6 @@
 -- What a checked catalog of the code stands for: a catalog and its plan, of which it is known that the sharding is sound.
 use Rattle.filter_tree.specs.Expr.{Expr}
-use Rattle.pub_reader.specs.CatalogView.{catalog_of}
+use Rattle.pub_reader.specs.CatalogView.{catalog_view}
 use Rattle.pub_reader.specs.Catalogs.{CatalogOf}
 use Rattle.pub_reader.specs.declared.catalog.Catalog.{Catalog}
 use Rattle.replica_identity.specs.Plans.{PlanOf}
@@ -14,7 +14,7 @@ pub record CheckedOf : Type 0 where
   pub plan : PlanOf
 
 abbrev pub checked_of : Catalog → Plan → CheckedOf
-checked_of catalog plan = record { catalog = catalog_of catalog; plan = plan_view plan }
+checked_of catalog plan = record { catalog = catalog_view catalog; plan = plan_view plan }
 
 abbrev pub checked_view : Checked → CheckedOf
 checked_view checked = checked_of checked.catalog checked.plan

@@ -1,10 +1,10 @@
--- Which values a term has when its column isn't null, and whether some of them is left by what was found of conditions: "8.1 Numeric Types" and the remainder of "9.3 Mathematical Functions and Operators", whose sign is that of the number.
+-- Which values a term has when its column isn't null, and whether some of them is left by what was found of atoms: "8.1 Numeric Types" and the remainder of "9.3 Mathematical Functions and Operators", whose sign is that of the number.
 use Rattle.std.specs.Prelude.{◌≡◌, ℕ, ◌-◌, ℤ, pos, negsuc, neg_ℤ, ◌+ℤ◌, ◌≤ℤ◌, int_le, Bool, true, false, ◌&&◌, ◌||◌, if◌then◌else◌, List, Option, Some, None, slice_get}
 use Rattle.std.specs.Int.{int_max, int_min}
 use Rattle.std.specs.Ordering.{int_eq}
 use Rattle.std.specs.List.{list_any}
 use Rattle.filter_tree.specs.Datum.{Constant, Number, Truth, Bytes}
-use Rattle.filter_tree.specs.Expr.{Condition, Compares, Lacks}
+use Rattle.filter_tree.specs.Expr.{AtomOf, Cmp, IsNull}
 use Rattle.filter_tree.specs.Paths.{Path}
 use Rattle.filter_tree.specs.Range.{least_of, greatest_of}
 use Rattle.filter_tree.specs.Same.{same_term}
@@ -74,12 +74,12 @@ a_truth truth = Some (Truth truth)
 abbrev pub serves : Range → Term → Path → ℤ → Bool
 serves range term path number = int_le range.least number && (int_le number range.greatest && may_be term path (Some (Number number)))
 
--- the number that the condition compares the term with serves, or the next one
-abbrev pub names_number : Range → Term → Path → Condition → Bool
-names_number range term path (Compares other op (Number number)) = same_term other term && (serves range term path number || serves range term path (number +ℤ pos 1))
-names_number range term path condition = false
+-- the number that the atom compares the term with serves, or the next one
+abbrev pub names_number : Range → Term → Path → AtomOf → Bool
+names_number range term path (Cmp other op (Number number)) = same_term other term && (serves range term path number || serves range term path (number +ℤ pos 1))
+names_number range term path atom = false
 
--- a condition of part of the path names a number that serves
+-- an atom of part of the path names a number that serves
 abbrev pub has_named_number : Range → Term → Path → Path → Bool
 has_named_number range term path part = list_any (λ entry. names_number range term path entry.0) part
 
@@ -91,12 +91,12 @@ abbrev pub is_text : Constant → Bool
 is_text (Bytes text) = true
 is_text constant = false
 
--- the text that the condition compares the term with is left to it
-abbrev pub names_text : Term → Path → Condition → Bool
-names_text term path (Compares other op constant) = same_term other term && (is_text constant && may_be term path (Some constant))
-names_text term path (Lacks column) = false
+-- the text that the atom compares the term with is left to it
+abbrev pub names_text : Term → Path → AtomOf → Bool
+names_text term path (Cmp other op constant) = same_term other term && (is_text constant && may_be term path (Some constant))
+names_text term path (IsNull column) = false
 
--- a condition of part of the path names a text that is left to the term
+-- an atom of part of the path names a text that is left to the term
 abbrev pub has_named_text : Term → Path → Path → Bool
 has_named_text term path part = list_any (λ entry. names_text term path entry.0) part
 

@@ -1,19 +1,19 @@
--- How the certificates of a table number its conditions and terms: from 0, in the order in which the filters of the shares have them first. Certificates are this project's own, and restate no section of PostgreSQL's documentation.
+-- How the certificates of a table number its atoms and terms: from 0, in the order in which the filters of the shares have them first. Certificates are this project's own, and restate no section of PostgreSQL's documentation.
 use Rattle.std.specs.Prelude.{List, [], flat_map}
-use Rattle.filter_tree.specs.Expr.{Condition}
-use Rattle.filter_tree.specs.Lists.{distinct, distinct_conditions, distinct_terms}
-use Rattle.filter_tree.specs.Same.{same_term, same_condition}
+use Rattle.filter_tree.specs.Expr.{AtomOf}
+use Rattle.filter_tree.specs.Lists.{distinct, distinct_atoms, distinct_terms}
+use Rattle.filter_tree.specs.Same.{same_term, same_atom}
 use Rattle.filter_tree.specs.declared.filter.Term.{Term}
 use Rattle.replica_identity.specs.Shares.{ShareOf, Nothing, Everything, Where}
 
-abbrev pub share_conditions : ShareOf → List Condition
-share_conditions Nothing = []
-share_conditions Everything = []
-share_conditions (Where filter) = distinct_conditions filter
+abbrev pub share_atoms : ShareOf → List AtomOf
+share_atoms Nothing = []
+share_atoms Everything = []
+share_atoms (Where filter) = distinct_atoms filter
 
--- share by share, each condition where it first appears
-abbrev pub numbered_conditions : List ShareOf → List Condition
-numbered_conditions shares = distinct same_condition (flat_map share_conditions shares)
+-- share by share, each atom where it first appears
+abbrev pub numbered_atoms : List ShareOf → List AtomOf
+numbered_atoms shares = distinct same_atom (flat_map share_atoms shares)
 
 abbrev pub share_terms : ShareOf → List Term
 share_terms Nothing = []

@@ -4,12 +4,12 @@ use Rattle.std.specs.Borrow.{Bor}
 use Rattle.filter_tree.specs.Datum.{Datum}
 use Rattle.filter_tree.specs.Paths.{Path, possible_of}
 use Rattle.filter_tree.specs.declared.mask.Mask.{Mask}
-use Rattle.replica_identity.specs.Shares.{ShareOf, Nothing, Everything, Where, share_of, takes}
+use Rattle.replica_identity.specs.Shares.{ShareOf, Nothing, Everything, Where, share_view, takes}
 use Rattle.replica_identity.specs.declared.share.Share.{Share}
 
 -- the shares of a list of references
-abbrev pub shares_of : {A : _} → List (Bor (Share A)) → List ShareOf
-shares_of shares = map (λ share. share_of share.now) shares
+abbrev pub shares_view : {A : _} → List (Bor (Share A)) → List ShareOf
+shares_view shares = map (λ share. share_view share.now) shares
 
 -- the share of this number; of others nothing
 abbrev pub share_in : List ShareOf → ℕ → ShareOf

@@ -5,11 +5,11 @@ use Rattle.std.specs.Cmp.{booleans_Decides}
 use mathlib.Core.HLevel.{Discrete, hedberg, prop→set, Unit-prop}
 use mathlib.Core.List.{is_set}
 use mathlib.Core.Sum.{⊎_set}
-use Rattle.filter_tree.specs.Expr.{Expr, Always, Holds, Negation, Both, Either, Asks}
-use Rattle.filter_tree.specs.Same.{same_condition}
+use Rattle.filter_tree.specs.Expr.{Expr, Const, Atom, Not, And, Or, Is}
+use Rattle.filter_tree.specs.Same.{same_atom}
 use Rattle.filter_tree.specs.declared.filter.Test.{Test}
 use Rattle.filter_tree.specs.declared.filter.Test.TheVariants.{True, False, Unknown}
-use Rattle.filter_tree.proofs.SameLemmas.{both_true, same_condition_is, same_condition_of_equal}
+use Rattle.filter_tree.proofs.SameLemmas.{both_true, same_atom_is, same_atom_of_equal}
 use Rattle.replica_identity.specs.Plans.{PlanOf}
 use Rattle.replica_identity.specs.Shares.{ShareOf}
 
@@ -20,12 +20,12 @@ same_test Unknown Unknown = true
 same_test _ _ = false
 
 abbrev same_expr : Expr → Expr → Bool
-same_expr (Always p) (Always q) = beq p q
-same_expr (Holds c) (Holds d) = same_condition c d
-same_expr (Negation f) (Negation g) = same_expr f g
-same_expr (Both f g) (Both h k) = same_expr f h && same_expr g k
-same_expr (Either f g) (Either h k) = same_expr f h && same_expr g k
-same_expr (Asks s f) (Asks t g) = same_test s t && same_expr f g
+same_expr (Const p) (Const q) = beq p q
+same_expr (Atom c) (Atom d) = same_atom c d
+same_expr (Not f) (Not g) = same_expr f g
+same_expr (And f g) (And h k) = same_expr f h && same_expr g k
+same_expr (Or f g) (Or h k) = same_expr f h && same_expr g k
+same_expr (Is s f) (Is t g) = same_test s t && same_expr f g
 same_expr _ _ = false
 
 -- ---- the test holds of equal filters only, and of each filter with itself
@@ -42,20 +42,20 @@ same_test_self False = refl
 same_test_self Unknown = refl
 
 same_expr_is : (f g : Expr) → same_expr f g ≡ true → f ≡ g
-same_expr_is (Always p) (Always q) h = ap Always ((booleans_Decides p q).0 h)
-same_expr_is (Holds c) (Holds d) h = ap Holds (same_condition_is c d h)
-same_expr_is (Negation f) (Negation g) h = ap Negation (same_expr_is f g h)
-same_expr_is (Both f g) (Both h k) e =
+same_expr_is (Const p) (Const q) h = ap Const ((booleans_Decides p q).0 h)
+same_expr_is (Atom c) (Atom d) h = ap Atom (same_atom_is c d h)
+same_expr_is (Not f) (Not g) h = ap Not (same_expr_is f g h)
+same_expr_is (And f g) (And h k) e =
     let both = both_true (same_expr f h) (same_expr g k) e in
     let left : f ≡ h = same_expr_is f h both.0 in
     let right : g ≡ k = same_expr_is g k both.1 in
     cc
-same_expr_is (Either f g) (Either h k) e =
+same_expr_is (Or f g) (Or h k) e =
     let both = both_true (same_expr f h) (same_expr g k) e in
     let left : f ≡ h = same_expr_is f h both.0 in
     let right : g ≡ k = same_expr_is g k both.1 in
     cc
-same_expr_is (Asks s f) (Asks t g) e =
+same_expr_is (Is s f) (Is t g) e =
     let both = both_true (same_test s t) (same_expr f g) e in
     let tests : s ≡ t = same_test_is s t both.0 in
     let parts : f ≡ g = same_expr_is f g both.1 in
@@ -63,12 +63,12 @@ same_expr_is (Asks s f) (Asks t g) e =
 same_expr_is f g h = absurd cc
 
 same_expr_self : (f : Expr) → same_expr f f ≡ true
-same_expr_self (Always p) = (booleans_Decides p p).1 refl
-same_expr_self (Holds c) = same_condition_of_equal c c refl
-same_expr_self (Negation f) = same_expr_self f
-same_expr_self (Both f g) = ap (λ b. b && same_expr g g) (same_expr_self f) ∙ same_expr_self g
-same_expr_self (Either f g) = ap (λ b. b && same_expr g g) (same_expr_self f) ∙ same_expr_self g
-same_expr_self (Asks t f) = ap (λ b. b && same_expr f f) (same_test_self t) ∙ same_expr_self f
+same_expr_self (Const p) = (booleans_Decides p p).1 refl
+same_expr_self (Atom c) = same_atom_of_equal c c refl
+same_expr_self (Not f) = same_expr_self f
+same_expr_self (And f g) = ap (λ b. b && same_expr g g) (same_expr_self f) ∙ same_expr_self g
+same_expr_self (Or f g) = ap (λ b. b && same_expr g g) (same_expr_self f) ∙ same_expr_self g
+same_expr_self (Is t f) = ap (λ b. b && same_expr f f) (same_test_self t) ∙ same_expr_self f
 
 told_apart : (f g : Expr) (b : Bool) → same_expr f g ≡ b → Dec (f ≡ g)
 told_apart f g true h = yes (same_expr_is f g h)

@@ -1,7 +1,7 @@
 -- The first node, in the order in which a certificate is written, at which it says something that isn't so. Certificates are this project's own, and restate no section of PostgreSQL's documentation.
 use Rattle.std.specs.Prelude.{ℕ, ◌+◌, ◌-◌, ◌^◌, min, not, ◌&&◌, ◌||◌, Bool, if◌then◌else◌, List, [], ◌∷◌, ◌++◌, Option, Some, None, slice_get}
 use Rattle.filter_tree.specs.Datum.{Datum}
-use Rattle.filter_tree.specs.Expr.{Condition}
+use Rattle.filter_tree.specs.Expr.{AtomOf}
 use Rattle.filter_tree.specs.Lists.{column_of}
 use Rattle.filter_tree.specs.Paths.{Path, Agrees}
 use Rattle.filter_tree.specs.declared.filter.Term.{Term}
@@ -9,28 +9,28 @@ use Rattle.filter_tree.specs.declared.table.Column.{Column}
 use Rattle.filter_tree.specs.declared.table.Table.{Table}
 use Rattle.filter_tree.specs.declared.tri.Tri.TheVariants.{True, False, Null}
 use Rattle.replica_identity.specs.Shares.{ShareOf}
-use Rattle.split_cert.specs.Tree.{Tree, Branches, Owned, Void, Never, nodes}
+use Rattle.split_cert.specs.Tree.{Tree, Split, Owner, Empty, NeverNull, nodes}
 use Rattle.shard_checker.specs.Domain.{kind_at, has_value}
 use Rattle.shard_checker.specs.Facts.{is_null, is_present, is_never_null}
-use Rattle.shard_checker.specs.Numbering.{numbered_conditions, numbered_terms}
+use Rattle.shard_checker.specs.Numbering.{numbered_atoms, numbered_terms}
 use Rattle.shard_checker.specs.Owners.{HasOneOwner, must_take, second_owner}
 use Rattle.shard_checker.specs.Rows.{IsTyped}
 use Rattle.shard_checker.specs.declared.error.CheckError.{CheckError}
 use Rattle.shard_checker.specs.declared.error.CheckError.TheVariants.{BadIndex, NotEmpty, MayBeNull, NotOwner, SecondOwner}
 
--- what a certificate speaks of: a table, by its number, its columns, the share of each subscriber, and the conditions and terms that the certificate names by their numbers
+-- what a certificate speaks of: a table, by its number, its columns, the share of each subscriber, and the atoms and terms that the certificate names by their numbers
 pub record Subject : Type 0 where
   pub table : ℕ
   pub columns : List Column
   pub shares : List ShareOf
-  pub conditions : List Condition
+  pub atoms_in : List AtomOf
   pub terms : List Term
 
-abbrev pub numbered_subject : ℕ → List Column → List ShareOf → List Condition → List Term → Subject
-numbered_subject table columns shares conditions terms = record { table = table; columns = columns; shares = shares; conditions = conditions; terms = terms }
+abbrev pub numbered_subject : ℕ → List Column → List ShareOf → List AtomOf → List Term → Subject
+numbered_subject table columns shares atoms_in terms = record { table = table; columns = columns; shares = shares; atoms_in = atoms_in; terms = terms }
 
 abbrev pub subject_of : ℕ → List Column → List ShareOf → Subject
-subject_of table columns shares = numbered_subject table columns shares (numbered_conditions shares) (numbered_terms shares)
+subject_of table columns shares = numbered_subject table columns shares (numbered_atoms shares) (numbered_terms shares)
 
 -- the number of a node that comes so many nodes later; the numbers end at the greatest of 64 bits, which all later nodes have
 abbrev pub later : ℕ → ℕ → ℕ
@@ -61,9 +61,9 @@ abbrev pub empty_refusal : Subject → Path → ℕ → Option Term → Option C
 empty_refusal subject path node None = Some (BadIndex subject.table node)
 empty_refusal subject path node (Some term) = if is_empty subject.columns term path then None else Some (NotEmpty subject.table node)
 
-abbrev pub never_null_refusal : Subject → Path → ℕ → Option Condition → Option CheckError
+abbrev pub never_null_refusal : Subject → Path → ℕ → Option AtomOf → Option CheckError
 never_null_refusal subject path node None = Some (BadIndex subject.table node)
-never_null_refusal subject path node (Some condition) = if is_never_null subject.columns condition path then None else Some (MayBeNull subject.table node)
+never_null_refusal subject path node (Some atom) = if is_never_null subject.columns atom path then None else Some (MayBeNull subject.table node)
 
 -- ---- trees
 
@@ -71,29 +71,29 @@ abbrev pub first_of : Option CheckError → Option CheckError → Option CheckEr
 first_of None next = next
 first_of (Some error) next = Some error
 
--- the refusal of a split, from those of its branches, each with the path that it has by the value of the condition
-abbrev pub split_refusal : Subject → Path → ℕ → Option Condition → (Path → Option CheckError) → (Path → Option CheckError) → (Path → Option CheckError) → Option CheckError
+-- the refusal of a split, from those of its branches, each with the path that it has by the value of the atom
+abbrev pub split_refusal : Subject → Path → ℕ → Option AtomOf → (Path → Option CheckError) → (Path → Option CheckError) → (Path → Option CheckError) → Option CheckError
 split_refusal subject path node None if_true if_false if_null = Some (BadIndex subject.table node)
-split_refusal subject path node (Some condition) if_true if_false if_null =
-    first_of (if_true (path ++ (condition, True) ∷ [])) (first_of (if_false (path ++ (condition, False) ∷ [])) (if_null (path ++ (condition, Null) ∷ [])))
+split_refusal subject path node (Some atom) if_true if_false if_null =
+    first_of (if_true (path ++ (atom, True) ∷ [])) (first_of (if_false (path ++ (atom, False) ∷ [])) (if_null (path ++ (atom, Null) ∷ [])))
 
 -- the first refusal in a tree at the end of a path, whose first node has this number
 abbrev pub refusal : Subject → Tree → Path → ℕ → Option CheckError
-refusal subject (Branches atom if_true if_false if_null) path node =
-    split_refusal subject path node (slice_get subject.conditions atom)
+refusal subject (Split index if_true if_false if_null) path node =
+    split_refusal subject path node (slice_get subject.atoms_in index)
     (λ longer. refusal subject if_true longer (later node 1))
     (λ longer. refusal subject if_false longer (later (later node 1) (nodes if_true)))
     (λ longer. refusal subject if_null longer (later (later (later node 1) (nodes if_true)) (nodes if_false)))
-refusal subject (Owned subscriber) path node = owner_refusal subject path node subscriber (slice_get subject.shares subscriber)
-refusal subject (Void term) path node = empty_refusal subject path node (slice_get subject.terms term)
-refusal subject (Never atom) path node = never_null_refusal subject path node (slice_get subject.conditions atom)
+refusal subject (Owner subscriber) path node = owner_refusal subject path node subscriber (slice_get subject.shares subscriber)
+refusal subject (Empty term) path node = empty_refusal subject path node (slice_get subject.terms term)
+refusal subject (NeverNull index) path node = never_null_refusal subject path node (slice_get subject.atoms_in index)
 
--- the first refusal in the branches of a split by this condition, the first of which begins with the node of this number
-abbrev pub branches_refusal : Subject → Path → ℕ → Condition → Tree → Tree → Tree → Option CheckError
-branches_refusal subject path node condition if_true if_false if_null =
-    first_of (refusal subject if_true (path ++ (condition, True) ∷ []) node)
-    (first_of (refusal subject if_false (path ++ (condition, False) ∷ []) (later node (nodes if_true)))
-    (refusal subject if_null (path ++ (condition, Null) ∷ []) (later (later node (nodes if_true)) (nodes if_false))))
+-- the first refusal in the branches of a split by this atom, the first of which begins with the node of this number
+abbrev pub branches_refusal : Subject → Path → ℕ → AtomOf → Tree → Tree → Tree → Option CheckError
+branches_refusal subject path node atom if_true if_false if_null =
+    first_of (refusal subject if_true (path ++ (atom, True) ∷ []) node)
+    (first_of (refusal subject if_false (path ++ (atom, False) ∷ []) (later node (nodes if_true)))
+    (refusal subject if_null (path ++ (atom, Null) ∷ []) (later (later node (nodes if_true)) (nodes if_false))))
 
 -- the number of the node after three trees, the first of which begins with the node of this number
 abbrev pub after_branches : ℕ → Tree → Tree → Tree → ℕ

@@ -1,6 +1,6 @@
 -- What the first refusal in a certificate says of the node that it names. Certificates are this project's own, and restate no section of PostgreSQL's documentation.
 use Rattle.std.specs.Prelude.{◌≡◌, ◌≢◌, ℕ, ◌<◌, true, false, ◌&&◌, ◌⊎◌, List, [], ◌∷◌, ◌++◌, Option, Some, None, slice_get}
-use Rattle.filter_tree.specs.Expr.{Condition}
+use Rattle.filter_tree.specs.Expr.{AtomOf}
 use Rattle.filter_tree.specs.Lists.{column_of}
 use Rattle.filter_tree.specs.Paths.{Path}
 use Rattle.filter_tree.specs.declared.filter.Term.{Term}
@@ -8,7 +8,7 @@ use Rattle.filter_tree.specs.declared.table.Column.{Column}
 use Rattle.filter_tree.specs.declared.table.Table.{Table}
 use Rattle.filter_tree.specs.declared.tri.Tri.TheVariants.{True, False, Null}
 use Rattle.replica_identity.specs.Shares.{ShareOf}
-use Rattle.split_cert.specs.Tree.{Tree, Branches, Owned, Void, Never, nodes}
+use Rattle.split_cert.specs.Tree.{Tree, Split, Owner, Empty, NeverNull, nodes}
 use Rattle.shard_checker.specs.Domain.{kind_at, HasValue}
 use Rattle.shard_checker.specs.Facts.{is_null, is_present, is_never_null}
 use Rattle.shard_checker.specs.Owners.{share_in, must_take, may_take}
@@ -27,15 +27,15 @@ pub record IsLeastOther (shares : List ShareOf) (path : Path) (owner second : �
   pub may : may_take (share_in shares second) path ≡ true
   pub least : (number : ℕ) → number < second → may_take (share_in shares number) path ≡ true → number ≡ owner
 
--- what the error says of a node is so: it names the node, and the condition, the term or the share isn't there, or isn't as the node says
+-- what the error says of a node is so: it names the node, and the atom, the term or the share isn't there, or isn't as the node says
 
 abbrev pub EmptyIsWrong : Subject → Path → ℕ → Option Term → CheckError → Type 0
 EmptyIsWrong subject path node None error = error ≡ BadIndex subject.table node
 EmptyIsWrong subject path node (Some term) error = (error ≡ NotEmpty subject.table node) × MayHaveValue subject.columns term path
 
-abbrev pub NeverNullIsWrong : Subject → Path → ℕ → Option Condition → CheckError → Type 0
+abbrev pub NeverNullIsWrong : Subject → Path → ℕ → Option AtomOf → CheckError → Type 0
 NeverNullIsWrong subject path node None error = error ≡ BadIndex subject.table node
-NeverNullIsWrong subject path node (Some condition) error = (error ≡ MayBeNull subject.table node) × (is_never_null subject.columns condition path ≡ false)
+NeverNullIsWrong subject path node (Some atom) error = (error ≡ MayBeNull subject.table node) × (is_never_null subject.columns atom path ≡ false)
 
 -- a second owner, by its number
 pub record HasSecond (subject : Subject) (path : Path) (node owner : ℕ) (error : CheckError) : Type 0 where
@@ -48,22 +48,22 @@ OwnerIsWrong subject path node owner None error = error ≡ BadIndex subject.tab
 OwnerIsWrong subject path node owner (Some share) error =
     ((error ≡ NotOwner subject.table node) × (must_take share path ≡ false)) ⊎ HasSecond subject path node owner error
 
-abbrev pub SplitIsWrong : Subject → Path → ℕ → Option Condition → (Path → Type 0) → (Path → Type 0) → (Path → Type 0) → CheckError → Type 0
+abbrev pub SplitIsWrong : Subject → Path → ℕ → Option AtomOf → (Path → Type 0) → (Path → Type 0) → (Path → Type 0) → CheckError → Type 0
 SplitIsWrong subject path node None if_true if_false if_null error = error ≡ BadIndex subject.table node
-SplitIsWrong subject path node (Some condition) if_true if_false if_null error =
-    if_true (path ++ (condition, True) ∷ []) ⊎ (if_false (path ++ (condition, False) ∷ []) ⊎ if_null (path ++ (condition, Null) ∷ []))
+SplitIsWrong subject path node (Some atom) if_true if_false if_null error =
+    if_true (path ++ (atom, True) ∷ []) ⊎ (if_false (path ++ (atom, False) ∷ []) ⊎ if_null (path ++ (atom, Null) ∷ []))
 
 -- the error says something of a node of the tree that is so
 abbrev pub IsWrong : Subject → Tree → Path → ℕ → CheckError → Type 0
-IsWrong subject (Branches atom if_true if_false if_null) path node error =
-    SplitIsWrong subject path node (slice_get subject.conditions atom)
+IsWrong subject (Split index if_true if_false if_null) path node error =
+    SplitIsWrong subject path node (slice_get subject.atoms_in index)
     (λ longer. IsWrong subject if_true longer (later node 1) error)
     (λ longer. IsWrong subject if_false longer (later (later node 1) (nodes if_true)) error)
     (λ longer. IsWrong subject if_null longer (later (later (later node 1) (nodes if_true)) (nodes if_false)) error)
     error
-IsWrong subject (Owned subscriber) path node error = OwnerIsWrong subject path node subscriber (slice_get subject.shares subscriber) error
-IsWrong subject (Void term) path node error = EmptyIsWrong subject path node (slice_get subject.terms term) error
-IsWrong subject (Never atom) path node error = NeverNullIsWrong subject path node (slice_get subject.conditions atom) error
+IsWrong subject (Owner subscriber) path node error = OwnerIsWrong subject path node subscriber (slice_get subject.shares subscriber) error
+IsWrong subject (Empty term) path node error = EmptyIsWrong subject path node (slice_get subject.terms term) error
+IsWrong subject (NeverNull index) path node error = NeverNullIsWrong subject path node (slice_get subject.atoms_in index) error
 
 -- the error says something of the certificate of the table of this number that is so
 abbrev pub CertificateIsWrong : ℕ → Table → List ShareOf → Tree → CheckError → Type 0

@@ -1,7 +1,7 @@
 //! Catalogs whose sharding is known to be sound.
 
 ghost use Rattle.std.specs.Prelude.{◌≡◌};
-ghost use Rattle.pub_reader.specs.CatalogView.{catalog_of};
+ghost use Rattle.pub_reader.specs.CatalogView.{catalog_view};
 ghost use Rattle.replica_identity.specs.Plans.{plan_of};
 ghost use Rattle.replica_identity.specs.PlanView.{plan_view};
 ghost use Rattle.shard_checker.specs.PlanFacts.{PlanOf-set};
@@ -19,13 +19,13 @@ use replica_identity::Plan;
 pub struct Checked {
     catalog: Catalog,
     plan: Plan,
-    ghost own: { plan_view plan ≡ plan_of (catalog_of catalog) } by { PlanOf-set (plan_view plan) (plan_of (catalog_of catalog)) },
-    ghost sound: { IsSound (catalog_of catalog) } by { IsSound-prop (catalog_of catalog) },
+    ghost own: { plan_view plan ≡ plan_of (catalog_view catalog) } by { PlanOf-set (plan_view plan) (plan_of (catalog_view catalog)) },
+    ghost sound: { IsSound (catalog_view catalog) } by { IsSound-prop (catalog_view catalog) },
 }
 
 impl Checked {
     ghost use Rattle.std.specs.Prelude.{◌≡◌};
-    ghost use Rattle.pub_reader.specs.CatalogView.{catalog_of};
+    ghost use Rattle.pub_reader.specs.CatalogView.{catalog_view};
     ghost use Rattle.replica_identity.specs.Plans.{TakesWhatPasses, plan_of};
     ghost use Rattle.replica_identity.specs.PlanView.{plan_view};
     ghost use Rattle.replica_identity.specs.Standing.{Covered, KeepsApart, Sound};
@@ -34,8 +34,8 @@ impl Checked {
 
     /// A catalog whose sharding is sound, with its plan.
     pub(crate) fn new(catalog: Catalog, plan: Plan) -> Checked
-        requires own { plan_view plan ≡ plan_of (catalog_of catalog) }
-        requires sound { IsSound (catalog_of catalog) }
+        requires own { plan_view plan ≡ plan_of (catalog_view catalog) }
+        requires sound { IsSound (catalog_view catalog) }
         ensures { checked_view result ≡ checked_of catalog plan }
     {
         Checked { catalog, plan }
@@ -46,8 +46,8 @@ impl Checked {
     /// (`apart`), and each row that fits its table passes to exactly one subscriber (`divided`).
     #[tactic(auto, using(crate::proofs::StandingLemmas::standing))]
     pub fn catalog(&self) -> &Catalog
-        ensures shows { catalog_of result.now ≡ (checked_view self.now).catalog }
-        ensures sound { IsSound (catalog_of result.now) }
+        ensures shows { catalog_view result.now ≡ (checked_view self.now).catalog }
+        ensures sound { IsSound (catalog_view result.now) }
         ensures covered { Covered (setting_in (checked_view self.now)) }
         ensures apart { KeepsApart (setting_in (checked_view self.now)) }
         ensures divided { Sound (setting_in (checked_view self.now)) }

@@ -2,9 +2,9 @@
 
 ghost use Rattle.std.specs.Prelude.{◌≡◌, ◌≢◌, List, [], OnOk, IfErr, None, Some};
 ghost use Rattle.filter_tree.specs.Datum.{Datum};
-ghost use Rattle.filter_tree.specs.Shape.{conditions_of};
-ghost use Rattle.split_cert.specs.Where.{tree_of};
-ghost use Rattle.shard_checker.specs.Owners.{shares_of, HasOneOwner};
+ghost use Rattle.filter_tree.specs.Shape.{atoms_view};
+ghost use Rattle.split_cert.specs.Where.{tree_view};
+ghost use Rattle.shard_checker.specs.Owners.{shares_view, HasOneOwner};
 ghost use Rattle.shard_checker.specs.Refusal as spec;
 ghost use Rattle.shard_checker.specs.Rows.{IsTyped};
 ghost use Rattle.shard_checker.specs.Truth.{CertificateIsWrong};
@@ -28,8 +28,8 @@ fn check_numbered<'a, A: Allocator, B: Allocator>(
     terms: &'a [Term],
     cert: &Cert<B>,
 ) -> Result<(), CheckError>
-    ensures ok { OnOk result (spec.refusal (spec.numbered_subject table columns.now (shares_of shares.now) (conditions_of atoms.now) terms.now) (tree_of cert.now) [] 0 ≡ None) }
-    ensures err { IfErr result (λ error. error ≢ CheckError.OutOfMemory → spec.refusal (spec.numbered_subject table columns.now (shares_of shares.now) (conditions_of atoms.now) terms.now) (tree_of cert.now) [] 0 ≡ Some error) }
+    ensures ok { OnOk result (spec.refusal (spec.numbered_subject table columns.now (shares_view shares.now) (atoms_view atoms.now) terms.now) (tree_view cert.now) [] 0 ≡ None) }
+    ensures err { IfErr result (λ error. error ≢ CheckError.OutOfMemory → spec.refusal (spec.numbered_subject table columns.now (shares_view shares.now) (atoms_view atoms.now) terms.now) (tree_view cert.now) [] 0 ≡ Some error) }
 {
     let subject = Subject {
         table,
@@ -51,8 +51,8 @@ pub fn check_table<A: Allocator, B: Allocator>(
     shares: &[&Share<A>],
     cert: &Cert<B>,
 ) -> Result<(), CheckError>
-    ensures ok { OnOk result (spec.first_refusal number table.now (shares_of shares.now) (tree_of cert.now) ≡ None) }
-    ensures err { IfErr result (λ error. error ≢ CheckError.OutOfMemory → spec.first_refusal number table.now (shares_of shares.now) (tree_of cert.now) ≡ Some error) }
+    ensures ok { OnOk result (spec.first_refusal number table.now (shares_view shares.now) (tree_view cert.now) ≡ None) }
+    ensures err { IfErr result (λ error. error ≢ CheckError.OutOfMemory → spec.first_refusal number table.now (shares_view shares.now) (tree_view cert.now) ≡ Some error) }
 {
     let atoms = numbered_atoms(alloc, shares)?;
     let terms = numbered_terms(alloc, shares)?;
@@ -74,10 +74,10 @@ pub fn check_one<A: Allocator, B: Allocator>(
     shares: &[&Share<A>],
     cert: &Cert<B>,
 ) -> Result<(), CheckError>
-    ensures sound { OnOk result ((cells : List Datum) → IsTyped table.now.columns cells → HasOneOwner (shares_of shares.now) cells) }
-    ensures ok { OnOk result (spec.first_refusal 0 table.now (shares_of shares.now) (tree_of cert.now) ≡ None) }
-    ensures err { IfErr result (λ error. error ≢ CheckError.OutOfMemory → spec.first_refusal 0 table.now (shares_of shares.now) (tree_of cert.now) ≡ Some error) }
-    ensures wrong { IfErr result (λ error. error ≢ CheckError.OutOfMemory → CertificateIsWrong 0 table.now (shares_of shares.now) (tree_of cert.now) error) }
+    ensures sound { OnOk result ((cells : List Datum) → IsTyped table.now.columns cells → HasOneOwner (shares_view shares.now) cells) }
+    ensures ok { OnOk result (spec.first_refusal 0 table.now (shares_view shares.now) (tree_view cert.now) ≡ None) }
+    ensures err { IfErr result (λ error. error ≢ CheckError.OutOfMemory → spec.first_refusal 0 table.now (shares_view shares.now) (tree_view cert.now) ≡ Some error) }
+    ensures wrong { IfErr result (λ error. error ≢ CheckError.OutOfMemory → CertificateIsWrong 0 table.now (shares_view shares.now) (tree_view cert.now) error) }
 {
     check_table(alloc, 0, table, shares, cert)
 }

@@ -1,8 +1,8 @@
 //! What replica identities record, and which columns the filters of the publications that are taken name.
 
 ghost use Rattle.std.specs.Prelude.{◌≡◌, ◌≢◌, OnOk, IfErr, None, Some, map, slice_get};
-ghost use Rattle.filter_tree.specs.Shape.{expr_of};
-ghost use Rattle.pub_reader.specs.CatalogView.{entry_of, publication_of};
+ghost use Rattle.filter_tree.specs.Shape.{expr_view};
+ghost use Rattle.pub_reader.specs.CatalogView.{entry_view, publication_view};
 ghost use Rattle.shard_checker.specs.CatalogRefusal as spec;
 ghost use Rattle.shard_checker.specs.Sound as sound;
 
@@ -75,8 +75,8 @@ fn check_filter(
     table: usize,
     filter: &Filter,
 ) -> Result<(), CheckError>
-    ensures ok { OnOk result (spec.filter_refusal publication table (slice_get tables.now table) (Some (expr_of filter.now)) ≡ None) }
-    ensures err { IfErr result (λ error. error ≢ CheckError.OutOfMemory → spec.filter_refusal publication table (slice_get tables.now table) (Some (expr_of filter.now)) ≡ Some error) }
+    ensures ok { OnOk result (spec.filter_refusal publication table (slice_get tables.now table) (Some (expr_view filter.now)) ≡ None) }
+    ensures err { IfErr result (λ error. error ≢ CheckError.OutOfMemory → spec.filter_refusal publication table (slice_get tables.now table) (Some (expr_view filter.now)) ≡ Some error) }
 {
     let columns = columns_of(alloc, filter)?;
     check_columns(tables, publication, table, &columns)
@@ -88,8 +88,8 @@ fn check_entry(
     publication: usize,
     entry: &Entry,
 ) -> Result<(), CheckError>
-    ensures ok { OnOk result (spec.entry_refusal tables.now publication (entry_of entry.now) ≡ None) }
-    ensures err { IfErr result (λ error. error ≢ CheckError.OutOfMemory → spec.entry_refusal tables.now publication (entry_of entry.now) ≡ Some error) }
+    ensures ok { OnOk result (spec.entry_refusal tables.now publication (entry_view entry.now) ≡ None) }
+    ensures err { IfErr result (λ error. error ≢ CheckError.OutOfMemory → spec.entry_refusal tables.now publication (entry_view entry.now) ≡ Some error) }
 {
     match &entry.filter {
         None => Ok(()),
@@ -103,8 +103,8 @@ fn check_entries(
     publication: usize,
     entries: &[Entry],
 ) -> Result<(), CheckError>
-    ensures ok { OnOk result (spec.entries_refusal tables.now publication (map entry_of entries.now) ≡ None) }
-    ensures err { IfErr result (λ error. error ≢ CheckError.OutOfMemory → spec.entries_refusal tables.now publication (map entry_of entries.now) ≡ Some error) }
+    ensures ok { OnOk result (spec.entries_refusal tables.now publication (map entry_view entries.now) ≡ None) }
+    ensures err { IfErr result (λ error. error ≢ CheckError.OutOfMemory → spec.entries_refusal tables.now publication (map entry_view entries.now) ≡ Some error) }
 {
     for entry in entries {
         check_entry(alloc, tables, publication, entry)?;
@@ -119,8 +119,8 @@ fn check_taken(
     number: usize,
     entries: &[Entry],
 ) -> Result<(), CheckError>
-    ensures ok { OnOk result (spec.taken_refusal tables.now subscriptions.now number (map entry_of entries.now) ≡ None) }
-    ensures err { IfErr result (λ error. error ≢ CheckError.OutOfMemory → spec.taken_refusal tables.now subscriptions.now number (map entry_of entries.now) ≡ Some error) }
+    ensures ok { OnOk result (spec.taken_refusal tables.now subscriptions.now number (map entry_view entries.now) ≡ None) }
+    ensures err { IfErr result (λ error. error ≢ CheckError.OutOfMemory → spec.taken_refusal tables.now subscriptions.now number (map entry_view entries.now) ≡ Some error) }
 {
     if is_taken(subscriptions, number) {
         check_entries(alloc, tables, number, entries)
@@ -136,8 +136,8 @@ pub fn check_coverage(
     subscriptions: &[Subscription],
     publications: &[Publication],
 ) -> Result<(), CheckError>
-    ensures ok { OnOk result (spec.coverage_refusal tables.now subscriptions.now 0 (map publication_of publications.now) ≡ None) }
-    ensures err { IfErr result (λ error. error ≢ CheckError.OutOfMemory → spec.coverage_refusal tables.now subscriptions.now 0 (map publication_of publications.now) ≡ Some error) }
+    ensures ok { OnOk result (spec.coverage_refusal tables.now subscriptions.now 0 (map publication_view publications.now) ≡ None) }
+    ensures err { IfErr result (λ error. error ≢ CheckError.OutOfMemory → spec.coverage_refusal tables.now subscriptions.now 0 (map publication_view publications.now) ≡ Some error) }
 {
     for (number, publication) in publications.iter().enumerate() {
         check_taken(

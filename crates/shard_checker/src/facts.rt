@@ -2,8 +2,8 @@
 //! with its value there.
 
 ghost use Rattle.std.specs.Prelude.{◌≡◌};
-ghost use Rattle.filter_tree.specs.Paths.{path_of};
-ghost use Rattle.filter_tree.specs.Shape.{condition_of};
+ghost use Rattle.filter_tree.specs.Paths.{path_view};
+ghost use Rattle.filter_tree.specs.Shape.{atom_view};
 ghost use Rattle.shard_checker.specs.Facts as spec;
 
 use filter_tree::{Atom, Column, Tri, same_atom};
@@ -11,7 +11,7 @@ use std::alloc::Allocator;
 
 /// Whether the atom with this value says that the column is null.
 fn says_null<A: Allocator>(column: usize, atom: &Atom<A>, value: Tri) -> bool
-    ensures { result ≡ spec.says_null column (condition_of atom.now) value }
+    ensures { result ≡ spec.says_null column (atom_view atom.now) value }
 {
     match (atom, value) {
         (Atom::Cmp(term, _, _), Tri::Null) => term.column() == column,
@@ -22,7 +22,7 @@ fn says_null<A: Allocator>(column: usize, atom: &Atom<A>, value: Tri) -> bool
 
 /// Whether the atom with this value says that the column isn't null.
 fn says_present<A: Allocator>(column: usize, atom: &Atom<A>, value: Tri) -> bool
-    ensures { result ≡ spec.says_present column (condition_of atom.now) value }
+    ensures { result ≡ spec.says_present column (atom_view atom.now) value }
 {
     match (atom, value) {
         (Atom::Cmp(term, _, _), Tri::True | Tri::False) => term.column() == column,
@@ -43,7 +43,7 @@ fn is_declared(columns: &[Column], column: usize) -> bool
 
 /// Whether some atom of the path says that the column is null.
 pub fn is_null<A: Allocator>(column: usize, path: &[(&Atom<A>, Tri)]) -> bool
-    ensures { result ≡ spec.is_null column (path_of path.now) }
+    ensures { result ≡ spec.is_null column (path_view path.now) }
 {
     for (atom, value) in path {
         if says_null(column, *atom, *value) {
@@ -55,13 +55,13 @@ pub fn is_null<A: Allocator>(column: usize, path: &[(&Atom<A>, Tri)]) -> bool
 
 /// Whether the column is declared NOT NULL, or some atom of the path says that it isn't null.
 pub fn is_present<A: Allocator>(columns: &[Column], column: usize, path: &[(&Atom<A>, Tri)]) -> bool
-    ensures { result ≡ spec.is_present columns.now column (path_of path.now) }
+    ensures { result ≡ spec.is_present columns.now column (path_view path.now) }
 {
     is_declared(columns, column) || is_found_present(column, path)
 }
 
 fn is_found_present<A: Allocator>(column: usize, path: &[(&Atom<A>, Tri)]) -> bool
-    ensures { result ≡ spec.is_found_present column (path_of path.now) }
+    ensures { result ≡ spec.is_found_present column (path_view path.now) }
 {
     for (atom, value) in path {
         if says_present(column, *atom, *value) {
@@ -72,14 +72,14 @@ fn is_found_present<A: Allocator>(column: usize, path: &[(&Atom<A>, Tri)]) -> bo
 }
 
 fn is_this_null<A: Allocator>(wanted: &Atom<A>, atom: &Atom<A>, value: Tri) -> bool
-    ensures { result ≡ spec.is_this_null (condition_of wanted.now) (condition_of atom.now) value }
+    ensures { result ≡ spec.is_this_null (atom_view wanted.now) (atom_view atom.now) value }
 {
     same_atom(wanted, atom) && matches!(value, Tri::Null)
 }
 
 /// Whether the path has the atom with the value null.
 fn has_null<A: Allocator>(wanted: &Atom<A>, path: &[(&Atom<A>, Tri)]) -> bool
-    ensures { result ≡ spec.has_null (condition_of wanted.now) (path_of path.now) }
+    ensures { result ≡ spec.has_null (atom_view wanted.now) (path_view path.now) }
 {
     for (atom, value) in path {
         if is_this_null(wanted, *atom, *value) {
@@ -90,7 +90,7 @@ fn has_null<A: Allocator>(wanted: &Atom<A>, path: &[(&Atom<A>, Tri)]) -> bool
 }
 
 fn is_null_test<A: Allocator>(atom: &Atom<A>) -> bool
-    ensures { result ≡ spec.is_null_test (condition_of atom.now) }
+    ensures { result ≡ spec.is_null_test (atom_view atom.now) }
 {
     matches!(atom, Atom::IsNull(_))
 }
@@ -102,7 +102,7 @@ pub fn is_never_null<A: Allocator>(
     atom: &Atom<A>,
     path: &[(&Atom<A>, Tri)],
 ) -> bool
-    ensures { result ≡ spec.is_never_null columns.now (condition_of atom.now) (path_of path.now) }
+    ensures { result ≡ spec.is_never_null columns.now (atom_view atom.now) (path_view path.now) }
 {
     has_null(atom, path) && (is_null_test(atom) || is_declared(columns, atom.term().column()))
 }

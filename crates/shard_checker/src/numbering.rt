@@ -3,18 +3,18 @@
 ghost use Rattle.std.specs.Prelude.{◌≡◌, IfOk, OnOk, fold};
 ghost use Rattle.std.specs.List.{list_any};
 ghost use Rattle.filter_tree.specs.Lists.{with_item};
-ghost use Rattle.filter_tree.specs.Same.{same_term, same_condition};
-ghost use Rattle.filter_tree.specs.Shape.{condition_of, conditions_of};
-ghost use Rattle.replica_identity.specs.Shares.{share_of};
+ghost use Rattle.filter_tree.specs.Same.{same_term, same_atom};
+ghost use Rattle.filter_tree.specs.Shape.{atom_view, atoms_view};
+ghost use Rattle.replica_identity.specs.Shares.{share_view};
 ghost use Rattle.shard_checker.specs.Numbering as spec;
-ghost use Rattle.shard_checker.specs.Owners.{shares_of};
+ghost use Rattle.shard_checker.specs.Owners.{shares_view};
 
 use filter_tree::{Atom, Term, atoms_of, same_atom, same_term, terms_of};
 use replica_identity::Share;
 use std::alloc::{AllocError, Allocator, Global};
 
 fn has_atom<A: Allocator>(atoms: &[&Atom<A>], atom: &Atom<A>) -> bool
-    ensures { result ≡ list_any (same_condition (condition_of atom.now)) (conditions_of atoms.now) }
+    ensures { result ≡ list_any (same_atom (atom_view atom.now)) (atoms_view atoms.now) }
 {
     for held in atoms {
         if same_atom(atom, *held) {
@@ -28,7 +28,7 @@ fn add_atom<'a, A: Allocator>(
     atoms: &mut Vec<&'a Atom<A>>,
     atom: &'a Atom<A>,
 ) -> Result<(), AllocError>
-    ensures { OnOk result (conditions_of atoms.new.items ≡ with_item same_condition (conditions_of atoms.old.items) (condition_of atom.now)) }
+    ensures { OnOk result (atoms_view atoms.new.items ≡ with_item same_atom (atoms_view atoms.old.items) (atom_view atom.now)) }
 {
     if has_atom(atoms, atom) {
         return Ok(());
@@ -41,7 +41,7 @@ fn add_atoms<'a, A: Allocator>(
     atoms: &mut Vec<&'a Atom<A>>,
     more: &[&'a Atom<A>],
 ) -> Result<(), AllocError>
-    ensures { OnOk result (conditions_of atoms.new.items ≡ fold (with_item same_condition) (conditions_of atoms.old.items) (conditions_of more.now)) }
+    ensures { OnOk result (atoms_view atoms.new.items ≡ fold (with_item same_atom) (atoms_view atoms.old.items) (atoms_view more.now)) }
 {
     for atom in more {
         add_atom(atoms, *atom)?;
@@ -54,7 +54,7 @@ fn add_share_atoms<'a, A: Allocator>(
     atoms: &mut Vec<&'a Atom<A>>,
     share: &'a Share<A>,
 ) -> Result<(), AllocError>
-    ensures { OnOk result (conditions_of atoms.new.items ≡ fold (with_item same_condition) (conditions_of atoms.old.items) (spec.share_conditions (share_of share.now))) }
+    ensures { OnOk result (atoms_view atoms.new.items ≡ fold (with_item same_atom) (atoms_view atoms.old.items) (spec.share_atoms (share_view share.now))) }
 {
     match share {
         Share::Nothing | Share::Everything => Ok(()),
@@ -68,7 +68,7 @@ pub fn numbered_atoms<'a, A: Allocator>(
     alloc: Global,
     shares: &[&'a Share<A>],
 ) -> Result<Vec<&'a Atom<A>>, AllocError>
-    ensures { IfOk result (λ atoms. conditions_of atoms.items ≡ spec.numbered_conditions (shares_of shares.now)) }
+    ensures { IfOk result (λ atoms. atoms_view atoms.items ≡ spec.numbered_atoms (shares_view shares.now)) }
 {
     let mut atoms = Vec::new(alloc);
     for share in shares {
@@ -112,7 +112,7 @@ fn add_share_terms<A: Allocator>(
     terms: &mut Vec<Term>,
     share: &Share<A>,
 ) -> Result<(), AllocError>
-    ensures { OnOk result (terms.new.items ≡ fold (with_item same_term) terms.old.items (spec.share_terms (share_of share.now))) }
+    ensures { OnOk result (terms.new.items ≡ fold (with_item same_term) terms.old.items (spec.share_terms (share_view share.now))) }
 {
     match share {
         Share::Nothing | Share::Everything => Ok(()),
@@ -126,7 +126,7 @@ pub fn numbered_terms<A: Allocator>(
     alloc: Global,
     shares: &[&Share<A>],
 ) -> Result<Vec<Term>, AllocError>
-    ensures { IfOk result (λ terms. terms.items ≡ spec.numbered_terms (shares_of shares.now)) }
+    ensures { IfOk result (λ terms. terms.items ≡ spec.numbered_terms (shares_view shares.now)) }
 {
     let mut terms = Vec::new(alloc);
     for share in shares {

@@ -1,8 +1,8 @@
 //! What a path tells of the shares of subscribers.
 
 ghost use Rattle.std.specs.Prelude.{◌≡◌, ◌<◌};
-ghost use Rattle.filter_tree.specs.Paths.{path_of};
-ghost use Rattle.replica_identity.specs.Shares.{share_of};
+ghost use Rattle.filter_tree.specs.Paths.{path_view};
+ghost use Rattle.replica_identity.specs.Shares.{share_view};
 ghost use Rattle.shard_checker.specs.Owners as spec;
 
 use filter_tree::{Atom, Mask, Tri, possible};
@@ -18,7 +18,7 @@ fn is_surely_true(mask: Mask) -> bool
 
 /// Whether the share takes every row at the end of the path.
 pub fn must_take<A: Allocator>(share: &Share<A>, path: &[(&Atom<A>, Tri)]) -> bool
-    ensures { result ≡ spec.must_take (share_of share.now) (path_of path.now) }
+    ensures { result ≡ spec.must_take (share_view share.now) (path_view path.now) }
 {
     match share {
         Share::Nothing => false,
@@ -29,7 +29,7 @@ pub fn must_take<A: Allocator>(share: &Share<A>, path: &[(&Atom<A>, Tri)]) -> bo
 
 /// Whether the share may take a row at the end of the path.
 fn may_take<A: Allocator>(share: &Share<A>, path: &[(&Atom<A>, Tri)]) -> bool
-    ensures { result ≡ spec.may_take (share_of share.now) (path_of path.now) }
+    ensures { result ≡ spec.may_take (share_view share.now) (path_view path.now) }
 {
     match share {
         Share::Nothing => false,
@@ -44,7 +44,7 @@ fn is_second<A: Allocator>(
     share: &Share<A>,
     path: &[(&Atom<A>, Tri)],
 ) -> bool
-    ensures { result ≡ spec.is_second owner number (share_of share.now) (path_of path.now) }
+    ensures { result ≡ spec.is_second owner number (share_view share.now) (path_view path.now) }
 {
     number != owner && may_take(share, path)
 }
@@ -55,7 +55,7 @@ pub fn second_owner<A: Allocator>(
     shares: &[&Share<A>],
     path: &[(&Atom<A>, Tri)],
 ) -> Option<usize>
-    ensures { result ≡ spec.second_owner owner 0 (spec.shares_of shares.now) (path_of path.now) }
+    ensures { result ≡ spec.second_owner owner 0 (spec.shares_view shares.now) (path_view path.now) }
 {
     for (number, share) in shares.iter().enumerate() {
         if is_second(owner, number, *share, path) {

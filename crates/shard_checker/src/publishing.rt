@@ -1,7 +1,7 @@
 //! What the publications that are taken publish.
 
 ghost use Rattle.std.specs.Prelude.{◌≡◌, ◌≢◌, OnOk, IfErr, None, Some, map};
-ghost use Rattle.pub_reader.specs.CatalogView.{publication_of};
+ghost use Rattle.pub_reader.specs.CatalogView.{publication_view};
 ghost use Rattle.shard_checker.specs.CatalogRefusal as spec;
 ghost use Rattle.shard_checker.specs.Sound as sound;
 
@@ -77,8 +77,8 @@ pub fn check_publishing(
     subscriptions: &[Subscription],
     publications: &[Publication],
 ) -> Result<(), CheckError>
-    ensures ok { OnOk result (spec.publishing_refusal subscriptions.now 0 (map publication_of publications.now) ≡ None) }
-    ensures err { IfErr result (λ error. spec.publishing_refusal subscriptions.now 0 (map publication_of publications.now) ≡ Some error) }
+    ensures ok { OnOk result (spec.publishing_refusal subscriptions.now 0 (map publication_view publications.now) ≡ None) }
+    ensures err { IfErr result (λ error. spec.publishing_refusal subscriptions.now 0 (map publication_view publications.now) ≡ Some error) }
     ensures told { IfErr result (λ error. error ≢ CheckError.OutOfMemory) }
 {
     for (number, publication) in publications.iter().enumerate() {

@@ -1,16 +1,16 @@
 //! The check of a whole catalog.
 
 ghost use Rattle.std.specs.Prelude.{◌≡◌, ◌≢◌, OnOk, IfOk, IfErr, None, Some, map, length};
-ghost use Rattle.pub_reader.specs.CatalogView.{catalog_of};
+ghost use Rattle.pub_reader.specs.CatalogView.{catalog_view};
 ghost use Rattle.replica_identity.specs.Plans.{plan_of};
 ghost use Rattle.replica_identity.specs.PlanView.{plan_view};
 ghost use Rattle.replica_identity.specs.Setting.{setting_of};
 ghost use Rattle.replica_identity.specs.Standing.{Covered, KeepsApart, Sound};
-ghost use Rattle.split_cert.specs.Where.{tree_of};
+ghost use Rattle.split_cert.specs.Where.{tree_view};
 ghost use Rattle.shard_checker.specs.CatalogRefusal as spec;
 ghost use Rattle.shard_checker.specs.CatalogTruth.{ShardingIsWrong};
 ghost use Rattle.shard_checker.specs.CheckedView.{checked_of, checked_view};
-ghost use Rattle.shard_checker.specs.Owners.{shares_of};
+ghost use Rattle.shard_checker.specs.Owners.{shares_view};
 ghost use Rattle.shard_checker.specs.Refusal.{first_refusal};
 ghost use Rattle.shard_checker.specs.Sound.{IsSound};
 
@@ -32,7 +32,7 @@ pub fn shares_in<'a>(
     table: usize,
     subscriptions: &[Subscription],
 ) -> Result<Vec<&'a Share>, AllocError>
-    ensures { IfOk result (λ shares. shares_of shares.items ≡ spec.table_shares (plan_view plan.now) table 0 subscriptions.now) }
+    ensures { IfOk result (λ shares. shares_view shares.items ≡ spec.table_shares (plan_view plan.now) table 0 subscriptions.now) }
 {
     let mut shares = Vec::new(alloc);
     for (number, _) in subscriptions.iter().enumerate() {
@@ -50,8 +50,8 @@ fn check_certificate<A: Allocator>(
     table: &Table,
     cert: &Cert<A>,
 ) -> Result<(), CheckError>
-    ensures ok { OnOk result (first_refusal number table.now (spec.table_shares (plan_view plan.now) number 0 subscriptions.now) (tree_of cert.now) ≡ None) }
-    ensures err { IfErr result (λ error. error ≢ CheckError.OutOfMemory → first_refusal number table.now (spec.table_shares (plan_view plan.now) number 0 subscriptions.now) (tree_of cert.now) ≡ Some error) }
+    ensures ok { OnOk result (first_refusal number table.now (spec.table_shares (plan_view plan.now) number 0 subscriptions.now) (tree_view cert.now) ≡ None) }
+    ensures err { IfErr result (λ error. error ≢ CheckError.OutOfMemory → first_refusal number table.now (spec.table_shares (plan_view plan.now) number 0 subscriptions.now) (tree_view cert.now) ≡ Some error) }
 {
     let shares = shares_in(alloc, plan, number, subscriptions)?;
     check_table(alloc, number, table, &shares, cert)
@@ -66,8 +66,8 @@ fn check_certificates<A: Allocator>(
     certs: &[Cert<A>],
 ) -> Result<(), CheckError>
     requires { length certs.now ≡ length tables.now }
-    ensures ok { OnOk result (spec.certificates_refusal (plan_view plan.now) subscriptions.now 0 tables.now (map tree_of certs.now) ≡ None) }
-    ensures err { IfErr result (λ error. error ≢ CheckError.OutOfMemory → spec.certificates_refusal (plan_view plan.now) subscriptions.now 0 tables.now (map tree_of certs.now) ≡ Some error) }
+    ensures ok { OnOk result (spec.certificates_refusal (plan_view plan.now) subscriptions.now 0 tables.now (map tree_view certs.now) ≡ None) }
+    ensures err { IfErr result (λ error. error ≢ CheckError.OutOfMemory → spec.certificates_refusal (plan_view plan.now) subscriptions.now 0 tables.now (map tree_view certs.now) ≡ Some error) }
 {
     for (number, table) in tables.iter().enumerate() {
         check_certificate(alloc, plan, subscriptions, number, table, &certs[number])?;
@@ -89,10 +89,10 @@ fn check_count(tables: usize, certificates: usize) -> Result<(), CheckError>
 
 /// Checks what the catalog says of publications and replica identities.
 fn check_catalog(alloc: Global, catalog: &Catalog) -> Result<(), CheckError>
-    ensures ok { OnOk result (spec.catalog_refusal (catalog_of catalog.now) ≡ None) }
-    ensures declared { OnOk result (spec.declared_refusal (catalog_of catalog.now) ≡ None) }
-    ensures err { IfErr result (λ error. error ≢ CheckError.OutOfMemory → spec.catalog_refusal (catalog_of catalog.now) ≡ Some error) }
-    ensures memory { IfErr result (λ error. error ≡ CheckError.OutOfMemory → spec.declared_refusal (catalog_of catalog.now) ≡ None) }
+    ensures ok { OnOk result (spec.catalog_refusal (catalog_view catalog.now) ≡ None) }
+    ensures declared { OnOk result (spec.declared_refusal (catalog_view catalog.now) ≡ None) }
+    ensures err { IfErr result (λ error. error ≢ CheckError.OutOfMemory → spec.catalog_refusal (catalog_view catalog.now) ≡ Some error) }
+    ensures memory { IfErr result (λ error. error ≡ CheckError.OutOfMemory → spec.declared_refusal (catalog_view catalog.now) ≡ None) }
 {
     let tables = catalog.tables.as_slice();
     let publications = catalog.publications.as_slice();
@@ -109,9 +109,9 @@ fn check_sharding<A: Allocator>(
     plan: &Plan,
     certs: &[Cert<A>],
 ) -> Result<(), CheckError>
-    ensures ok { OnOk result (spec.sharding_refusal (catalog_of catalog.now) (plan_view plan.now) (map tree_of certs.now) ≡ None) }
-    ensures err { IfErr result (λ error. error ≢ CheckError.OutOfMemory → spec.sharding_refusal (catalog_of catalog.now) (plan_view plan.now) (map tree_of certs.now) ≡ Some error) }
-    ensures memory { IfErr result (λ error. error ≡ CheckError.OutOfMemory → spec.declared_refusal (catalog_of catalog.now) ≡ None) }
+    ensures ok { OnOk result (spec.sharding_refusal (catalog_view catalog.now) (plan_view plan.now) (map tree_view certs.now) ≡ None) }
+    ensures err { IfErr result (λ error. error ≢ CheckError.OutOfMemory → spec.sharding_refusal (catalog_view catalog.now) (plan_view plan.now) (map tree_view certs.now) ≡ Some error) }
+    ensures memory { IfErr result (λ error. error ≡ CheckError.OutOfMemory → spec.declared_refusal (catalog_view catalog.now) ≡ None) }
 {
     check_catalog(alloc, catalog)?;
     let tables = catalog.tables.as_slice();
@@ -144,16 +144,16 @@ pub fn check<A: Allocator>(
     plan: Plan,
     certs: &[Cert<A>],
 ) -> Result<Checked, CheckError>
-    requires { plan_view plan ≡ plan_of (catalog_of catalog) }
-    ensures sound { OnOk result (IsSound (catalog_of catalog)) }
-    ensures covered { OnOk result (Covered (setting_of (catalog_of catalog) (plan_view plan))) }
-    ensures apart { OnOk result (KeepsApart (setting_of (catalog_of catalog) (plan_view plan))) }
-    ensures divided { OnOk result (Sound (setting_of (catalog_of catalog) (plan_view plan))) }
+    requires { plan_view plan ≡ plan_of (catalog_view catalog) }
+    ensures sound { OnOk result (IsSound (catalog_view catalog)) }
+    ensures covered { OnOk result (Covered (setting_of (catalog_view catalog) (plan_view plan))) }
+    ensures apart { OnOk result (KeepsApart (setting_of (catalog_view catalog) (plan_view plan))) }
+    ensures divided { OnOk result (Sound (setting_of (catalog_view catalog) (plan_view plan))) }
     ensures kept { IfOk result (λ checked. checked_view checked ≡ checked_of catalog plan) }
-    ensures ok { OnOk result (spec.sharding_refusal (catalog_of catalog) (plan_view plan) (map tree_of certs.now) ≡ None) }
-    ensures err { IfErr result (λ error. error ≢ CheckError.OutOfMemory → spec.sharding_refusal (catalog_of catalog) (plan_view plan) (map tree_of certs.now) ≡ Some error) }
-    ensures memory { IfErr result (λ error. error ≡ CheckError.OutOfMemory → spec.declared_refusal (catalog_of catalog) ≡ None) }
-    ensures wrong { IfErr result (λ error. error ≢ CheckError.OutOfMemory → ShardingIsWrong (catalog_of catalog) (plan_view plan) (map tree_of certs.now) error) }
+    ensures ok { OnOk result (spec.sharding_refusal (catalog_view catalog) (plan_view plan) (map tree_view certs.now) ≡ None) }
+    ensures err { IfErr result (λ error. error ≢ CheckError.OutOfMemory → spec.sharding_refusal (catalog_view catalog) (plan_view plan) (map tree_view certs.now) ≡ Some error) }
+    ensures memory { IfErr result (λ error. error ≡ CheckError.OutOfMemory → spec.declared_refusal (catalog_view catalog) ≡ None) }
+    ensures wrong { IfErr result (λ error. error ≢ CheckError.OutOfMemory → ShardingIsWrong (catalog_view catalog) (plan_view plan) (map tree_view certs.now) error) }
 {
     check_sharding(alloc, &catalog, &plan, certs)?;
     Ok(Checked::new(catalog, plan))

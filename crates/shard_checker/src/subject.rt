@@ -2,9 +2,9 @@
 
 ghost use Rattle.std.specs.Prelude.{◌≡◌, slice_get};
 ghost use Rattle.std.specs.Option.{option_map};
-ghost use Rattle.filter_tree.specs.Shape.{condition_of, conditions_of};
-ghost use Rattle.replica_identity.specs.Shares.{share_of};
-ghost use Rattle.shard_checker.specs.Owners.{shares_of};
+ghost use Rattle.filter_tree.specs.Shape.{atom_view, atoms_view};
+ghost use Rattle.replica_identity.specs.Shares.{share_view};
+ghost use Rattle.shard_checker.specs.Owners.{shares_view};
 
 use filter_tree::{Atom, Column, Term};
 use replica_identity::Share;
@@ -24,7 +24,7 @@ pub struct Subject<'a, A: Allocator> {
 /// The atom of this number.
 #[tactic(auto, using(crate::proofs::PlaceLemmas::places))]
 pub fn atom_at<'a, A: Allocator>(atoms: &[&'a Atom<A>], number: u32) -> Option<&'a Atom<A>>
-    ensures { option_map (λ atom. condition_of atom.now) result ≡ slice_get (conditions_of atoms.now) number }
+    ensures { option_map (λ atom. atom_view atom.now) result ≡ slice_get (atoms_view atoms.now) number }
 {
     match atoms.get(number as usize) {
         None => None,
@@ -35,7 +35,7 @@ pub fn atom_at<'a, A: Allocator>(atoms: &[&'a Atom<A>], number: u32) -> Option<&
 /// The share of this number.
 #[tactic(auto, using(crate::proofs::PlaceLemmas::places))]
 pub fn share_at<'a, A: Allocator>(shares: &[&'a Share<A>], number: u32) -> Option<&'a Share<A>>
-    ensures { option_map (λ share. share_of share.now) result ≡ slice_get (shares_of shares.now) number }
+    ensures { option_map (λ share. share_view share.now) result ≡ slice_get (shares_view shares.now) number }
 {
     match shares.get(number as usize) {
         None => None,

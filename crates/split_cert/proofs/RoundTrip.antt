@@ -9,7 +9,8 @@ use Rattle.split_cert.specs.declared.head.Kind.{Kind}
 use Rattle.split_cert.specs.declared.head.Kind.TheVariants.{Split, Owner, Empty, NeverNull}
 use Rattle.split_cert.specs.Reading.{Here, Outcome, Rule, ◌>>=◌, ◌>>◌, pure, start, space, head, Gives}
 use Rattle.split_cert.specs.Text.{words_of, spelling_of, branches, node_of, node, tree, branch, alone, certificate_of}
-use Rattle.split_cert.specs.Tree.{Tree, Branches, Owned, Void, Never, nodes, splits_deep, HasNumbers, max_nodes, max_splits, IsWithinLimits}
+use Rattle.split_cert.specs.Tree.{Tree, nodes, splits_deep, HasNumbers, max_nodes, max_splits, IsWithinLimits}
+use Rattle.split_cert.specs.Tree as T
 use Rattle.split_cert.proofs.WordLemmas.{at, bind_ok, ok_is, EndsWord, not_zero, space_takes}
 use Rattle.split_cert.proofs.HeadLemmas.{TakesHead, head_takes, head_again, space_again}
 use Rattle.split_cert.proofs.TreeLemmas.{tree_opens}
@@ -39,15 +40,15 @@ split_takes : (may_open : ℕ) (rule : Rule Tree) (atom : ℕ) (here behind : He
     → branches rule atom behind ≡ Ok y → TakesTree (suc may_open) here (spelling_of y.0) y.0 y.1
 unfolding branches
 split_takes may_open rule atom here behind y takes begins e =
-    let a = bind_ok (rule behind) (λ if_true. rule >>= (λ if_false. rule >>= (λ if_null. pure (Branches atom if_true if_false if_null)))) y e in
-    let b = bind_ok (rule a.0.1) (λ if_false. rule >>= (λ if_null. pure (Branches atom a.0.0 if_false if_null))) y a.2 in
-    let c = bind_ok (rule b.0.1) (λ if_null. pure (Branches atom a.0.0 b.0.0 if_null)) y b.2 in
+    let a = bind_ok (rule behind) (λ if_true. rule >>= (λ if_false. rule >>= (λ if_null. pure (T.Split atom if_true if_false if_null)))) y e in
+    let b = bind_ok (rule a.0.1) (λ if_false. rule >>= (λ if_null. pure (T.Split atom a.0.0 if_false if_null))) y a.2 in
+    let c = bind_ok (rule b.0.1) (λ if_null. pure (T.Split atom a.0.0 b.0.0 if_null)) y b.2 in
     let t = takes behind a.0 a.1 in
     let f = takes a.0.1 b.0 b.1 in
     let u = takes b.0.1 c.0 c.1 in
     let text : behind.rest ≡ branch_texts (spelling_of a.0.0) (spelling_of b.0.0) (spelling_of c.0.0) c.0.1.rest =
     t.parts ∙ ap (λ r. 32 ∷ (spelling_of a.0.0 ++ r)) (f.parts ∙ ap (λ r. 32 ∷ (spelling_of b.0.0 ++ r)) u.parts) in
-    subst (λ (y : Tree × Here). TakesTree (suc may_open) here (spelling_of y.0) y.0 y.1) (ok_is (Branches atom a.0.0 b.0.0 c.0.0, c.0.1) y c.2) (record {
+    subst (λ (y : Tree × Here). TakesTree (suc may_open) here (spelling_of y.0) y.0 y.1) (ok_is (T.Split atom a.0.0 b.0.0 c.0.0, c.0.1) y c.2) (record {
       parts = begins.parts ∙ ap (λ r. words_of Split atom ++ r) text ∙ regrouped (words_of Split atom) (spelling_of a.0.0) (spelling_of b.0.0) (spelling_of c.0.0) c.0.1.rest;
       nodes = omega (arith, begins.nodes, t.nodes, f.nodes, u.nodes);
       few = u.few;
@@ -70,17 +71,17 @@ leaf_takes may_open kind number here behind t y begins spelled one flat numbers 
 node_takes : (may_open : ℕ) (rule : Rule Tree) (kind : Kind) (number : ℕ) (here behind : Here) (y : Tree × Here) → TakesBranch may_open rule
     → TakesHead (suc may_open) here (record { kind = kind; number = number }) behind → node_of rule kind number behind ≡ Ok y → TakesTree (suc may_open) here (spelling_of y.0) y.0 y.1
 node_takes may_open rule Split number here behind y takes begins e = split_takes may_open rule number here behind y takes begins e
-node_takes may_open rule Owner number here behind y takes begins e = leaf_takes (suc may_open) Owner number here behind (Owned number) y begins refl refl refl begins.number e
-node_takes may_open rule Empty number here behind y takes begins e = leaf_takes (suc may_open) Empty number here behind (Void number) y begins refl refl refl begins.number e
-node_takes may_open rule NeverNull number here behind y takes begins e = leaf_takes (suc may_open) NeverNull number here behind (Never number) y begins refl refl refl begins.number e
+node_takes may_open rule Owner number here behind y takes begins e = leaf_takes (suc may_open) Owner number here behind (T.Owner number) y begins refl refl refl begins.number e
+node_takes may_open rule Empty number here behind y takes begins e = leaf_takes (suc may_open) Empty number here behind (T.Empty number) y begins refl refl refl begins.number e
+node_takes may_open rule NeverNull number here behind y takes begins e = leaf_takes (suc may_open) NeverNull number here behind (T.NeverNull number) y begins refl refl refl begins.number e
 
 -- where no split may open
 flat_takes : (rule : Rule Tree) (kind : Kind) (number : ℕ) (here behind : Here) (y : Tree × Here)
     → TakesHead 0 here (record { kind = kind; number = number }) behind → node_of rule kind number behind ≡ Ok y → TakesTree 0 here (spelling_of y.0) y.0 y.1
 flat_takes rule Split number here behind y begins e = absurd (let h = begins.opens refl in omega arith)
-flat_takes rule Owner number here behind y begins e = leaf_takes 0 Owner number here behind (Owned number) y begins refl refl refl begins.number e
-flat_takes rule Empty number here behind y begins e = leaf_takes 0 Empty number here behind (Void number) y begins refl refl refl begins.number e
-flat_takes rule NeverNull number here behind y begins e = leaf_takes 0 NeverNull number here behind (Never number) y begins refl refl refl begins.number e
+flat_takes rule Owner number here behind y begins e = leaf_takes 0 Owner number here behind (T.Owner number) y begins refl refl refl begins.number e
+flat_takes rule Empty number here behind y begins e = leaf_takes 0 Empty number here behind (T.Empty number) y begins refl refl refl begins.number e
+flat_takes rule NeverNull number here behind y begins e = leaf_takes 0 NeverNull number here behind (T.NeverNull number) y begins refl refl refl begins.number e
 
 branch_takes : (may_open : ℕ) (rule : Rule Tree) → ((here : Here) (y : Tree × Here) → rule here ≡ Ok y → TakesTree may_open here (spelling_of y.0) y.0 y.1) → TakesBranch may_open (space >> rule)
 branch_takes may_open rule takes here y e =
@@ -130,13 +131,13 @@ branch_again n place k text outcome e = rw (space_again place k text) e
 pub tree_again : (t : Tree) (n place k : ℕ) (rest : List ℕ) → splits_deep t ≤ n → k + nodes t ≤ max_nodes → HasNumbers t → EndsWord rest
     → tree n (at place k (spelling_of t ++ rest)) ≡ Ok (t, at (place + length (spelling_of t)) (k + nodes t) rest)
 unfolding branches
-tree_again (Owned i) n place k rest deep few numbers ends =
+tree_again (T.Owner i) n place k rest deep few numbers ends =
     tree_opens n _ (record { kind = Owner; number = i }) _ (head_again n Owner i place k rest (omega arith) (λ e. absurd cc) numbers ends) (λ e. absurd cc)
-tree_again (Void i) n place k rest deep few numbers ends =
+tree_again (T.Empty i) n place k rest deep few numbers ends =
     tree_opens n _ (record { kind = Empty; number = i }) _ (head_again n Empty i place k rest (omega arith) (λ e. absurd cc) numbers ends) (λ e. absurd cc)
-tree_again (Never i) n place k rest deep few numbers ends =
+tree_again (T.NeverNull i) n place k rest deep few numbers ends =
     tree_opens n _ (record { kind = NeverNull; number = i }) _ (head_again n NeverNull i place k rest (omega arith) (λ e. absurd cc) numbers ends) (λ e. absurd cc)
-tree_again (Branches atom t f u) n place k rest deep few numbers ends =
+tree_again (T.Split atom t f u) n place k rest deep few numbers ends =
     let words = words_of Split atom in
     let third = 32 ∷ (spelling_of u ++ rest) in
     let second = 32 ∷ (spelling_of f ++ third) in
@@ -152,12 +153,12 @@ tree_again (Branches atom t f u) n place k rest deep few numbers ends =
     let one = branch_again (n - 1) p1 k1 (spelling_of t ++ second) (Ok (t, at p2 k2 second)) (tree_again t (n - 1) (p1 + 1) k1 second (omega arith) (omega arith) numbers.1 refl) in
     let two = branch_again (n - 1) p2 k2 (spelling_of f ++ third) (Ok (f, at p3 k3 third)) (tree_again f (n - 1) (p2 + 1) k2 third (omega arith) (omega arith) numbers.2 refl) in
     let three = branch_again (n - 1) p3 k3 (spelling_of u ++ rest) (Ok (u, at (p3 + 1 + length (spelling_of u)) (k3 + nodes u) rest)) (tree_again u (n - 1) (p3 + 1) k3 rest (omega arith) (omega arith) numbers.3 ends) in
-    let there : p3 + 1 + length (spelling_of u) ≡ place + length (spelling_of (Branches atom t f u)) =
+    let there : p3 + 1 + length (spelling_of u) ≡ place + length (spelling_of (T.Split atom t f u)) =
     omega (arith, length-append (words ++ 32 ∷ spelling_of t ++ 32 ∷ spelling_of f) (32 ∷ spelling_of u), length-append (words ++ 32 ∷ spelling_of t) (32 ∷ spelling_of f), length-append words (32 ∷ spelling_of t)) in
-    let many : k3 + nodes u ≡ k + nodes (Branches atom t f u) = omega arith in
-    let read : branches (branch (n - 1)) atom (at p1 k1 first) ≡ Ok (Branches atom t f u, at (p3 + 1 + length (spelling_of u)) (k3 + nodes u) rest) = rw (one, two, three) refl in
+    let many : k3 + nodes u ≡ k + nodes (T.Split atom t f u) = omega arith in
+    let read : branches (branch (n - 1)) atom (at p1 k1 first) ≡ Ok (T.Split atom t f u, at (p3 + 1 + length (spelling_of u)) (k3 + nodes u) rest) = rw (one, two, three) refl in
     ap (λ text. tree n (at place k text)) (sym (regrouped words (spelling_of t) (spelling_of f) (spelling_of u) rest))
-    ∙ opened ∙ read ∙ ap (λ p. Ok (Branches atom t f u, at p (k3 + nodes u) rest)) there ∙ ap (λ m. Ok (Branches atom t f u, at (place + length (spelling_of (Branches atom t f u))) m rest)) many
+    ∙ opened ∙ read ∙ ap (λ p. Ok (T.Split atom t f u, at p (k3 + nodes u) rest)) there ∙ ap (λ m. Ok (T.Split atom t f u, at (place + length (spelling_of (T.Split atom t f u))) m rest)) many
 
 -- the law: the spelling of a tree within the limits is read as that tree
 pub spelled_is_read : (t : Tree) → IsWithinLimits t → certificate_of (spelling_of t) ≡ Ok t

@@ -7,7 +7,8 @@ use Rattle.split_cert.specs.declared.head.Head.{Head}
 use Rattle.split_cert.specs.declared.head.Kind.{Kind}
 use Rattle.split_cert.specs.declared.head.Kind.TheVariants.{Split, Owner, Empty, NeverNull}
 use Rattle.split_cert.specs.Reading.{Outcome, Rule, ◌>>=◌, ◌>>◌, pure, head, space, letter_of, start}
-use Rattle.split_cert.specs.Tree.{Tree, Branches, Owned, Void, Never, max_splits}
+use Rattle.split_cert.specs.Tree.{Tree, max_splits}
+use Rattle.split_cert.specs.Tree as T
 
 -- ---- the text of a tree
 
@@ -16,10 +17,10 @@ abbrev pub words_of : Kind → ℕ → List ℕ
 words_of kind number = letter_of kind ∷ 32 ∷ decimal number
 
 abbrev pub spelling_of : Tree → List ℕ
-spelling_of (Branches atom if_true if_false if_null) = words_of Split atom ++ 32 ∷ spelling_of if_true ++ 32 ∷ spelling_of if_false ++ 32 ∷ spelling_of if_null
-spelling_of (Owned subscriber) = words_of Owner subscriber
-spelling_of (Void term) = words_of Empty term
-spelling_of (Never atom) = words_of NeverNull atom
+spelling_of (T.Split atom if_true if_false if_null) = words_of Split atom ++ 32 ∷ spelling_of if_true ++ 32 ∷ spelling_of if_false ++ 32 ∷ spelling_of if_null
+spelling_of (T.Owner subscriber) = words_of Owner subscriber
+spelling_of (T.Empty term) = words_of Empty term
+spelling_of (T.NeverNull atom) = words_of NeverNull atom
 
 -- the text begins with a split: only there is memory taken
 abbrev pub BeginsWithSplit : List ℕ → Type 0
@@ -29,14 +30,14 @@ BeginsWithSplit text = (rest : List ℕ) × (text ≡ letter_of Split ∷ 32 ∷
 
 -- the branches of a split, by the rule that reads one
 unfoldable pub branches : Rule Tree → ℕ → Rule Tree
-branches branch atom = branch >>= (λ if_true. branch >>= (λ if_false. branch >>= (λ if_null. pure (Branches atom if_true if_false if_null))))
+branches branch atom = branch >>= (λ if_true. branch >>= (λ if_false. branch >>= (λ if_null. pure (T.Split atom if_true if_false if_null))))
 
 -- what stands behind a node's two words
 abbrev pub node_of : Rule Tree → Kind → ℕ → Rule Tree
 node_of branch Split number = branches branch number
-node_of branch Owner number = pure (Owned number)
-node_of branch Empty number = pure (Void number)
-node_of branch NeverNull number = pure (Never number)
+node_of branch Owner number = pure (T.Owner number)
+node_of branch Empty number = pure (T.Empty number)
+node_of branch NeverNull number = pure (T.NeverNull number)
 
 abbrev pub node : Rule Tree → Head → Rule Tree
 node branch h = node_of branch h.kind h.number

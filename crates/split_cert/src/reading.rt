@@ -6,7 +6,7 @@ ghost use Rattle.split_cert.specs.declared.head.Kind.TheVariants.{Split};
 ghost use Rattle.split_cert.specs.Reading.{Reads, Gives};
 ghost use Rattle.split_cert.specs.Text as spec;
 ghost use Rattle.split_cert.specs.Tree.{Tree, IsWithinLimits};
-ghost use Rattle.split_cert.specs.Where.{here_of, tree_of};
+ghost use Rattle.split_cert.specs.Where.{here_view, tree_view};
 
 use crate::cert::{Cert, MAX_SPLITS};
 use crate::cursor::Cursor;
@@ -22,8 +22,8 @@ fn tree<A: Allocator + Clone>(
     may_open: usize,
     cursor: &mut Cursor<'_>,
 ) -> Result<Cert<A>, CertError>
-    ensures tree { Reads tree_of (spec.tree may_open (here_of cursor.old)) result (here_of cursor.new) }
-    ensures memory { IfErr result (λ error. error ≡ OutOfMemory → spec.BeginsWithSplit (here_of cursor.old).rest) }
+    ensures tree { Reads tree_view (spec.tree may_open (here_view cursor.old)) result (here_view cursor.new) }
+    ensures memory { IfErr result (λ error. error ≡ OutOfMemory → spec.BeginsWithSplit (here_view cursor.old).rest) }
 {
     let head = cursor.head(may_open)?;
     node(alloc, may_open, head, cursor)
@@ -38,7 +38,7 @@ fn node<A: Allocator + Clone>(
     cursor: &mut Cursor<'_>,
 ) -> Result<Cert<A>, CertError>
     requires { head.kind ≡ Split → 0 < may_open }
-    ensures node { Reads tree_of (spec.node (spec.branch (may_open - 1)) head (here_of cursor.old)) result (here_of cursor.new) }
+    ensures node { Reads tree_view (spec.node (spec.branch (may_open - 1)) head (here_view cursor.old)) result (here_view cursor.new) }
     ensures memory { IfErr result (λ error. error ≡ OutOfMemory → head.kind ≡ Split) }
 {
     match head.kind {
@@ -58,7 +58,7 @@ fn split<A: Allocator + Clone>(
     atom: u32,
     cursor: &mut Cursor<'_>,
 ) -> Result<Cert<A>, CertError>
-    ensures { Reads tree_of (spec.branches (spec.branch may_open) atom (here_of cursor.old)) result (here_of cursor.new) }
+    ensures { Reads tree_view (spec.branches (spec.branch may_open) atom (here_view cursor.old)) result (here_view cursor.new) }
 {
     let if_true = branch(alloc, may_open, cursor)?;
     let if_false = branch(alloc, may_open, cursor)?;
@@ -74,7 +74,7 @@ fn branch<A: Allocator + Clone>(
     may_open: usize,
     cursor: &mut Cursor<'_>,
 ) -> Result<Box<Cert<A>, A>, CertError>
-    ensures { Reads (λ branch. tree_of branch.value) (spec.branch may_open (here_of cursor.old)) result (here_of cursor.new) }
+    ensures { Reads (λ branch. tree_view branch.value) (spec.branch may_open (here_view cursor.old)) result (here_view cursor.new) }
 {
     cursor.space()?;
     let branch = tree(alloc, may_open, cursor)?;
@@ -84,7 +84,7 @@ fn branch<A: Allocator + Clone>(
 /// The certificate of a whole text.
 #[tactic(auto, unfolding(crate::specs::Text::certificate_of))]
 fn certificate<A: Allocator + Clone>(alloc: &A, text: &str) -> Result<Cert<A>, CertError>
-    ensures exact { Gives tree_of (spec.certificate_of text.now) result }
+    ensures exact { Gives tree_view (spec.certificate_of text.now) result }
     ensures memory { IfErr result (λ error. error ≡ OutOfMemory → spec.BeginsWithSplit text.now) }
 {
     let mut cursor = Cursor::new(text);
@@ -109,16 +109,16 @@ fn certificate<A: Allocator + Clone>(alloc: &A, text: &str) -> Result<Cert<A>, C
 #[tactic(auto, using(crate::proofs::RoundTrip::round_trips))]
 pub fn read_in<A: Allocator + Clone>(alloc: A, text: &str) -> Result<Cert<A>, CertError>
     // The answer is the certificate of the text, or its first fault.
-    ensures exact { Gives tree_of (spec.certificate_of text.now) result }
+    ensures exact { Gives tree_view (spec.certificate_of text.now) result }
     // Want of memory is no answer to a text that doesn't begin with a split.
     ensures memory { IfErr result (λ error. error ≡ OutOfMemory → spec.BeginsWithSplit text.now) }
     // What is read is within the limits, and the text is what `write` gives for it.
-    ensures found { IfOk result (λ cert. IsWithinLimits (tree_of cert) × (text.now ≡ spec.spelling_of (tree_of cert))) }
+    ensures found { IfOk result (λ cert. IsWithinLimits (tree_view cert) × (text.now ≡ spec.spelling_of (tree_view cert))) }
     // What `write` gives for a certificate within the limits is read as that certificate.
-    ensures only { (tree : Tree) → IsWithinLimits tree → text.now ≡ spec.spelling_of tree → Gives tree_of (Ok tree) result }
+    ensures only { (tree : Tree) → IsWithinLimits tree → text.now ≡ spec.spelling_of tree → Gives tree_view (Ok tree) result }
     // With a space and whatever else behind it, it is refused there.
     ensures trailing { (tree : Tree) (more : List ℕ) → IsWithinLimits tree → text.now ≡ spec.spelling_of tree ++ 32 ∷ more
-        → Gives tree_of (Err (Trailing (length (spec.spelling_of tree)))) result }
+        → Gives tree_view (Err (Trailing (length (spec.spelling_of tree)))) result }
 {
     certificate(&alloc, text)
 }

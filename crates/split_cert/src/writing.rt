@@ -4,7 +4,7 @@ ghost use Rattle.std.specs.Prelude.{◌≡◌, ◌≤◌, ◌++◌, IfOk, OnOk, 
 ghost use Rattle.std.specs.String.{string_bytes};
 ghost use Rattle.split_cert.specs.Text.{certificate_of, spelling_of, words_of};
 ghost use Rattle.split_cert.specs.Tree.{nodes, splits_deep, HasNumbers, max_nodes, max_splits};
-ghost use Rattle.split_cert.specs.Where.{tree_of};
+ghost use Rattle.split_cert.specs.Where.{tree_view};
 
 use crate::cert::Cert;
 use crate::head::Kind;
@@ -14,10 +14,10 @@ use std::alloc::{AllocError, Allocator, Global};
 /// the splits on a path. The only error is want of memory.
 #[tactic(auto, using(crate::proofs::RoundTrip::is_read_again))]
 pub fn write<A: Allocator>(alloc: Global, cert: &Cert<A>) -> Result<String, AllocError>
-    ensures spelled { IfOk result (λ text. string_bytes text ≡ spelling_of (tree_of cert.now)) }
+    ensures spelled { IfOk result (λ text. string_bytes text ≡ spelling_of (tree_view cert.now)) }
     // Within the limits it is read as that certificate.
-    ensures again { IfOk result (λ text. nodes (tree_of cert.now) ≤ max_nodes → splits_deep (tree_of cert.now) ≤ max_splits
-        → certificate_of (string_bytes text) ≡ Ok (tree_of cert.now)) }
+    ensures again { IfOk result (λ text. nodes (tree_view cert.now) ≤ max_nodes → splits_deep (tree_view cert.now) ≤ max_splits
+        → certificate_of (string_bytes text) ≡ Ok (tree_view cert.now)) }
 {
     let mut text = String::new(alloc);
     write_tree(cert, &mut text)?;
@@ -25,8 +25,8 @@ pub fn write<A: Allocator>(alloc: Global, cert: &Cert<A>) -> Result<String, Allo
 }
 
 fn write_tree<A: Allocator>(cert: &Cert<A>, text: &mut String) -> Result<(), AllocError>
-    ensures numbers { OnOk result (HasNumbers (tree_of cert.now)) }
-    ensures spelled { OnOk result (string_bytes text.new ≡ string_bytes text.old ++ spelling_of (tree_of cert.now)) }
+    ensures numbers { OnOk result (HasNumbers (tree_view cert.now)) }
+    ensures spelled { OnOk result (string_bytes text.new ≡ string_bytes text.old ++ spelling_of (tree_view cert.now)) }
 {
     match cert {
         Cert::Split(atom, if_true, if_false, if_null) => {

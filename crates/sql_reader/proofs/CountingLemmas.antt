@@ -3,10 +3,10 @@ use Rattle.std.proofs.Common.{◌≡◌, ◌≤◌, Bool, true, false, List, [],
 use Rattle.std.specs.Prelude.{fold, nat_lt}
 use Rattle.std.specs.List.{list_any, flat_map}
 use Rattle.std.proofs.lemmas.Bool.Decides.{nat_tests}
-use Rattle.filter_tree.specs.Expr.{Condition, Expr, Always, Holds, Negation, Both, Either, Asks}
+use Rattle.filter_tree.specs.Expr.{AtomOf, Expr, Const, Atom, Not, And, Or, Is}
 use Rattle.filter_tree.specs.Lists.{with_item}
-use Rattle.filter_tree.specs.Same.{same_condition}
-use Rattle.sql_reader.specs.Counting.{conditions_backwards, gathered}
+use Rattle.filter_tree.specs.Same.{same_atom}
+use Rattle.sql_reader.specs.Counting.{atoms_backwards, gathered}
 use Rattle.sql_reader.specs.Limits.{nodes, distinct_count}
 use Rattle.sql_reader.proofs.OrderLemmas.{all_backwards_alike}
 
@@ -14,42 +14,42 @@ by_test : {P : Type 0} (b : Bool) → (b ≡ true → P) → (b ≡ false → P)
 by_test true at_true at_false = at_true refl
 by_test false at_true at_false = at_false refl
 
-with_item_grows : (held : List Condition) (c : Condition) → length held ≤ length (with_item same_condition held c)
-with_item_grows held c = by_test (list_any (same_condition c) held)
+with_item_grows : (held : List AtomOf) (c : AtomOf) → length held ≤ length (with_item same_atom held c)
+with_item_grows held c = by_test (list_any (same_atom c) held)
     (λ found. rw found (omega arith))
     (λ new. rw new (omega (arith, length-append held (c ∷ []))))
 
-distinct_grows : (held found : List Condition) → length held ≤ length (fold (with_item same_condition) held found)
+distinct_grows : (held found : List AtomOf) → length held ≤ length (fold (with_item same_atom) held found)
 distinct_grows held [] = omega arith
 distinct_grows held (c ∷ found) =
     let here = with_item_grows held c in
-    let later = distinct_grows (with_item same_condition held c) found in
+    let later = distinct_grows (with_item same_atom held c) found in
     omega arith
 
-pub full_stays : (held found : List Condition) → nat_lt 64 (length held) ≡ true → fold gathered held found ≡ held
+pub full_stays : (held found : List AtomOf) → nat_lt 64 (length held) ≡ true → fold gathered held found ≡ held
 full_stays held [] full = refl
 full_stays held (c ∷ found) full = rw full (full_stays held found full)
 
-passes_from : (held found : List Condition)
-    → nat_lt 64 (length (fold gathered held found)) ≡ nat_lt 64 (length (fold (with_item same_condition) held found))
+passes_from : (held found : List AtomOf)
+    → nat_lt 64 (length (fold gathered held found)) ≡ nat_lt 64 (length (fold (with_item same_atom) held found))
 passes_from held [] = refl
 passes_from held (c ∷ found) = by_test (nat_lt 64 (length held))
     (λ full.
     let stays : fold gathered held (c ∷ found) ≡ held = full_stays held (c ∷ found) full in
-    let grows : length held ≤ length (fold (with_item same_condition) held (c ∷ found)) = distinct_grows held (c ∷ found) in
+    let grows : length held ≤ length (fold (with_item same_atom) held (c ∷ found)) = distinct_grows held (c ∷ found) in
     grind (arith, nat_tests))
-    (λ room. rw room (passes_from (with_item same_condition held c) found))
+    (λ room. rw room (passes_from (with_item same_atom held c) found))
 
--- the filters have too many conditions exactly if the list that was gathered from right to left has
+-- the filters have too many atoms exactly if the list that was gathered from right to left has
 pub gathered_passes : (filters : List Expr)
-    → nat_lt 64 (length (fold gathered [] (flat_map conditions_backwards filters))) ≡ nat_lt 64 (distinct_count filters)
+    → nat_lt 64 (length (fold gathered [] (flat_map atoms_backwards filters))) ≡ nat_lt 64 (distinct_count filters)
 gathered_passes filters =
-    passes_from [] (flat_map conditions_backwards filters) ∙ ap (λ n. nat_lt 64 n) (all_backwards_alike filters []).lengths
+    passes_from [] (flat_map atoms_backwards filters) ∙ ap (λ n. nat_lt 64 n) (all_backwards_alike filters []).lengths
 
 pub nodes_positive : (filter : Expr) → 1 ≤ nodes filter
-nodes_positive (Always known) = omega arith
-nodes_positive (Holds condition) = omega arith
-nodes_positive (Negation part) = omega arith
-nodes_positive (Both left right) = omega arith
-nodes_positive (Either left right) = omega arith
-nodes_positive (Asks test part) = omega arith
+nodes_positive (Const known) = omega arith
+nodes_positive (Atom atom) = omega arith
+nodes_positive (Not part) = omega arith
+nodes_positive (And left right) = omega arith
+nodes_positive (Or left right) = omega arith
+nodes_positive (Is test part) = omega arith

@@ -10,8 +10,9 @@ use Rattle.filter_tree.specs.declared.filter.Test.{Test}
 use Rattle.filter_tree.specs.Datum.{Constant, Truth, Datum, Missing, Known, value_at}
 use Rattle.filter_tree.specs.Compare.{compare_known}
 use Rattle.filter_tree.specs.Lists.{column_of}
-use Rattle.filter_tree.specs.Logic.{and_of, or_of, not_of, asks_of, tri_of}
-use Rattle.filter_tree.specs.Expr.{Expr, Always, Compares, Lacks, Holds, Negation, Both, Either, Asks, term_value, is_missing}
+use Rattle.filter_tree.specs.Logic.{and_of, or_of, not_of, is_of, tri_of}
+use Rattle.filter_tree.specs.Expr.{Expr, term_value, is_missing}
+use Rattle.filter_tree.specs.Expr as e
 use Rattle.sql_reader.specs.Operands.{Forms}
 
 -- an expression as it is written
@@ -46,7 +47,7 @@ written_meaning (Column column) row = truth_value (value_at row column)
 written_meaning (Compared term op constant) row = compare_values op (term_value term row) (Known constant)
 written_meaning (ComparedFrom constant op term) row = compare_values op (Known constant) (term_value term row)
 written_meaning (IsNull term) row = is_missing (term_value term row)
-written_meaning (Is test part) row = asks_of test (written_meaning part row)
+written_meaning (Is test part) row = is_of test (written_meaning part row)
 written_meaning (Negated part) row = not_of (written_meaning part row)
 written_meaning (And left right) row = and_of (written_meaning left row) (written_meaning right row)
 written_meaning (Or left right) row = or_of (written_meaning left row) (written_meaning right row)
@@ -55,10 +56,10 @@ written_meaning (Or left right) row = or_of (written_meaning left row) (written_
 
 -- a boolean column is compared with TRUE
 abbrev pub held_expr : ℕ → Expr
-held_expr column = Holds (Compares (Col column) Eq (Truth true))
+held_expr column = e.Atom (e.Cmp (Col column) Eq (Truth true))
 
 abbrev pub compared_expr : Term → Op → Constant → Expr
-compared_expr term op constant = Holds (Compares term op constant)
+compared_expr term op constant = e.Atom (e.Cmp term op constant)
 
 -- the comparison with its sides changed over
 abbrev pub turned : Op → Op
@@ -71,22 +72,22 @@ turned Ge = Le
 
 -- a literal on the left is turned round
 abbrev pub compared_from_expr : Constant → Op → Term → Expr
-compared_from_expr constant op term = Holds (Compares term (turned op) constant)
+compared_from_expr constant op term = e.Atom (e.Cmp term (turned op) constant)
 
 -- a remainder is null if its column is
 abbrev pub lacking_expr : Term → Expr
-lacking_expr term = Holds (Lacks (column_of term))
+lacking_expr term = e.Atom (e.IsNull (column_of term))
 
 abbrev pub filter_of : Written → Expr
-filter_of (Told truth) = Always truth
+filter_of (Told truth) = e.Const truth
 filter_of (Column column) = held_expr column
 filter_of (Compared term op constant) = compared_expr term op constant
 filter_of (ComparedFrom constant op term) = compared_from_expr constant op term
 filter_of (IsNull term) = lacking_expr term
-filter_of (Is test part) = Asks test (filter_of part)
-filter_of (Negated part) = Negation (filter_of part)
-filter_of (And left right) = Both (filter_of left) (filter_of right)
-filter_of (Or left right) = Either (filter_of left) (filter_of right)
+filter_of (Is test part) = e.Is test (filter_of part)
+filter_of (Negated part) = e.Not (filter_of part)
+filter_of (And left right) = e.And (filter_of left) (filter_of right)
+filter_of (Or left right) = e.Or (filter_of left) (filter_of right)
 
 -- ---- the grammar read as expressions as they are written, and as filter trees
 
@@ -94,4 +95,4 @@ abbrev pub as_written : Forms Written
 as_written = record { known = Told; held = Column; compared = Compared; compared_from = ComparedFrom; lacking = IsNull; asked = Is; negated = Negated; both = And; either = Or; tree = filter_of }
 
 abbrev pub as_filter : Forms Expr
-as_filter = record { known = Always; held = held_expr; compared = compared_expr; compared_from = compared_from_expr; lacking = lacking_expr; asked = Asks; negated = Negation; both = Both; either = Either; tree = λ filter. filter }
+as_filter = record { known = e.Const; held = held_expr; compared = compared_expr; compared_from = compared_from_expr; lacking = lacking_expr; asked = e.Is; negated = e.Not; both = e.And; either = e.Or; tree = λ filter. filter }

@@ -1,11 +1,11 @@
 //! Comparisons of a column with a literal.
 
 ghost use Rattle.std.specs.Prelude.{◌≡◌};
-ghost use Rattle.filter_tree.specs.Expr.{Compares, Holds};
-ghost use Rattle.filter_tree.specs.Shape.{expr_of};
-ghost use Rattle.filter_tree.specs.Values.{constant_of};
+ghost use Rattle.filter_tree.specs.Expr as expr;
+ghost use Rattle.filter_tree.specs.Shape.{expr_view};
+ghost use Rattle.filter_tree.specs.Values.{constant_view};
 ghost use Rattle.sql_reader.specs.Operands as spec;
-ghost use Rattle.sql_reader.specs.OperandView.{operand_of, part_of};
+ghost use Rattle.sql_reader.specs.OperandView.{operand_view, part_of};
 ghost use Rattle.sql_reader.specs.Reading.{Answers};
 ghost use Rattle.sql_reader.specs.Written as written;
 ghost use Rattle.sql_reader.specs.Written.{as_filter};
@@ -60,7 +60,7 @@ fn equality(place: usize, op: Op) -> Result<(), ReadError>
 
 /// Refuses to compare a column of this type, or a remainder of one, with this literal.
 fn fits(place: usize, kind: ColType, op: Op, literal: &Literal) -> Result<(), ReadError>
-    ensures { Answers (λ u. u) (spec.fits place kind op (constant_of literal.now)) result }
+    ensures { Answers (λ u. u) (spec.fits place kind op (constant_view literal.now)) result }
 {
     match (kind, literal) {
         (ColType::Text, Literal::Text(_)) => equality(place, op),
@@ -85,7 +85,7 @@ fn with_literal(
     op: Op,
     literal: Literal,
 ) -> Result<Filter, ReadError>
-    ensures { Answers expr_of (spec.fitting (spec.fits place kind op (constant_of literal)) (Holds (Compares term op (constant_of literal)))) result }
+    ensures { Answers expr_view (spec.fitting (spec.fits place kind op (constant_view literal)) (expr.Atom (expr.Cmp term op (constant_view literal)))) result }
 {
     fits(place, kind, op, &literal)?;
     Ok(Filter::Atom(Atom::Cmp(term, op, literal)))
@@ -99,7 +99,7 @@ fn from_literal(
     term: Term,
     kind: ColType,
 ) -> Result<Filter, ReadError>
-    ensures { Answers expr_of (spec.fitting (spec.fits place kind op (constant_of literal)) (Holds (Compares term (written.turned op) (constant_of literal)))) result }
+    ensures { Answers expr_view (spec.fitting (spec.fits place kind op (constant_view literal)) (expr.Atom (expr.Cmp term (written.turned op) (constant_view literal)))) result }
 {
     fits(place, kind, op, &literal)?;
     Ok(Filter::Atom(Atom::Cmp(term, turned(op), literal)))
@@ -108,7 +108,7 @@ fn from_literal(
 /// The comparison of two operands, of which one is a column or a remainder and the other a literal of its kind.
 #[tactic(auto, unfolding(crate::specs::Operands::compared))]
 fn compared(place: usize, left: Operand, op: Op, right: Operand) -> Result<Filter, ReadError>
-    ensures { Answers expr_of (spec.compared as_filter place (operand_of left) op (operand_of right)) result }
+    ensures { Answers expr_view (spec.compared as_filter place (operand_view left) op (operand_view right)) result }
 {
     let kind = match (left, right) {
         (Operand::Term(term, kind), Operand::Literal(_, literal)) => {

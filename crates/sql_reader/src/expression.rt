@@ -1,7 +1,7 @@
 //! The filters of WHERE clauses.
 
 ghost use Rattle.std.specs.Prelude.{◌<◌, ◌≤◌, OnOk, false, true};
-ghost use Rattle.filter_tree.specs.Shape.{expr_of};
+ghost use Rattle.filter_tree.specs.Shape.{expr_view};
 ghost use Rattle.sql_reader.specs.Ahead.{to_read};
 ghost use Rattle.sql_reader.specs.Expressions as spec;
 ghost use Rattle.sql_reader.specs.Items.{size};
@@ -356,7 +356,7 @@ pub fn read_filter(
     alloc: Global,
     columns: &[Column],
 ) -> Result<Filter, ReadError>
-    ensures reads { Reads (λ f. expr_of f) (spec.expression as_filter columns.now (to_read r.old)) result (to_read r.new) }
+    ensures reads { Reads (λ f. expr_view f) (spec.expression as_filter columns.now (to_read r.old)) result (to_read r.new) }
     ensures fewer { OnOk result (size (to_read r.new) < size (to_read r.old)) }
 {
     let whole = disjunction(r, alloc, columns, MAX_NESTING)?;

@@ -2,12 +2,12 @@
 
 ghost use Rattle.std.specs.Prelude.{◌≡◌, IfOk, OnOk, fold, length, nat_lt};
 ghost use Rattle.std.specs.List.{list_any};
-ghost use Rattle.filter_tree.specs.Shape.{condition_of, conditions_of, expr_of};
+ghost use Rattle.filter_tree.specs.Shape.{atom_view, atoms_view, expr_view};
 ghost use Rattle.filter_tree.specs.Lists.{with_item};
-ghost use Rattle.filter_tree.specs.Same.{same_condition};
-ghost use Rattle.sql_reader.specs.Limits.{nodes, all_nodes, distinct_count, exprs_of};
+ghost use Rattle.filter_tree.specs.Same.{same_atom};
+ghost use Rattle.sql_reader.specs.Limits.{nodes, all_nodes, distinct_count, exprs_view};
 ghost use Rattle.sql_reader.specs.Limits.{exceeded as exceeded_of};
-ghost use Rattle.sql_reader.specs.Counting.{conditions_backwards, gathered, left_after};
+ghost use Rattle.sql_reader.specs.Counting.{atoms_backwards, gathered, left_after};
 
 use crate::error::Limit;
 use filter_tree::{Atom, Filter, same_atom};
@@ -27,7 +27,7 @@ pub fn exceeded_limit<'a>(
     alloc: Global,
     filters: &[&'a Filter],
 ) -> Result<Option<Limit>, AllocError>
-    ensures { IfOk result (λ found. found ≡ exceeded_of (exprs_of filters.now)) }
+    ensures { IfOk result (λ found. found ≡ exceeded_of (exprs_view filters.now)) }
 {
     if has_too_many_atoms(alloc, filters)? {
         return Ok(Some(Limit::Atoms));
@@ -40,7 +40,7 @@ pub fn exceeded_limit<'a>(
 
 #[tactic(auto, using(std::proofs::lemmas::Grind::common_steps, crate::proofs::CountingLemmas::gathered_passes))]
 fn has_too_many_atoms<'a>(alloc: Global, filters: &[&'a Filter]) -> Result<bool, AllocError>
-    ensures { IfOk result (λ many. many ≡ nat_lt 64 (distinct_count (exprs_of filters.now))) }
+    ensures { IfOk result (λ many. many ≡ nat_lt 64 (distinct_count (exprs_view filters.now))) }
 {
     let mut atoms = Vec::new(alloc);
     for filter in filters {
@@ -50,7 +50,7 @@ fn has_too_many_atoms<'a>(alloc: Global, filters: &[&'a Filter]) -> Result<bool,
 }
 
 fn are_too_many(atoms: &[&Atom]) -> bool
-    ensures { result ≡ nat_lt 64 (length (conditions_of atoms.now)) }
+    ensures { result ≡ nat_lt 64 (length (atoms_view atoms.now)) }
 {
     atoms.len() > MAX_ATOMS
 }
@@ -59,8 +59,8 @@ fn are_too_many(atoms: &[&Atom]) -> bool
 /// each atom is compared with at most `MAX_ATOMS` others.
 #[tactic(auto, using(crate::proofs::CountingLemmas::full_stays))]
 fn gather_atoms<'a>(atoms: &mut Vec<&'a Atom, Global>, filter: &'a Filter) -> Result<(), AllocError>
-    ensures { OnOk result (conditions_of atoms.new.items
-        ≡ fold gathered (conditions_of atoms.old.items) (conditions_backwards (expr_of filter.now))) }
+    ensures { OnOk result (atoms_view atoms.new.items
+        ≡ fold gathered (atoms_view atoms.old.items) (atoms_backwards (expr_view filter.now))) }
 {
     let mut part = filter;
     loop {
@@ -80,8 +80,8 @@ fn gather_atoms<'a>(atoms: &mut Vec<&'a Atom, Global>, filter: &'a Filter) -> Re
 }
 
 fn add_atom<'a>(atoms: &mut Vec<&'a Atom, Global>, atom: &'a Atom) -> Result<(), AllocError>
-    ensures { OnOk result (conditions_of atoms.new.items
-        ≡ with_item same_condition (conditions_of atoms.old.items) (condition_of atom.now)) }
+    ensures { OnOk result (atoms_view atoms.new.items
+        ≡ with_item same_atom (atoms_view atoms.old.items) (atom_view atom.now)) }
 {
     if has_atom(atoms, atom) {
         return Ok(());
@@ -91,7 +91,7 @@ fn add_atom<'a>(atoms: &mut Vec<&'a Atom, Global>, atom: &'a Atom) -> Result<(),
 }
 
 fn has_atom(atoms: &[&Atom], atom: &Atom) -> bool
-    ensures { result ≡ list_any (same_condition (condition_of atom.now)) (conditions_of atoms.now) }
+    ensures { result ≡ list_any (same_atom (atom_view atom.now)) (atoms_view atoms.now) }
 {
     for held in atoms {
         if same_atom(atom, *held) {
@@ -102,7 +102,7 @@ fn has_atom(atoms: &[&Atom], atom: &Atom) -> bool
 }
 
 fn has_too_many_nodes(filters: &[&Filter]) -> bool
-    ensures { result ≡ nat_lt 1000 (all_nodes (exprs_of filters.now)) }
+    ensures { result ≡ nat_lt 1000 (all_nodes (exprs_view filters.now)) }
 {
     let mut left = MAX_NODES;
     for filter in filters {
@@ -118,7 +118,7 @@ fn has_too_many_nodes(filters: &[&Filter]) -> bool
 /// steps.
 #[tactic(auto, using(crate::proofs::CountingLemmas::nodes_positive))]
 fn nodes_left(filter: &Filter, left: usize) -> Option<usize>
-    ensures { result ≡ left_after (nodes (expr_of filter.now)) left }
+    ensures { result ≡ left_after (nodes (expr_view filter.now)) left }
 {
     let rest = left.checked_sub(1)?;
     match filter {

@@ -2,9 +2,9 @@
 
 ghost use Rattle.std.specs.Prelude.{◌≡◌};
 ghost use Rattle.std.specs.Option.{option_map};
-ghost use Rattle.filter_tree.specs.Shape.{expr_of};
+ghost use Rattle.filter_tree.specs.Shape.{expr_view};
 ghost use Rattle.sql_reader.specs.Operands as spec;
-ghost use Rattle.sql_reader.specs.OperandView.{operand_of, part_of};
+ghost use Rattle.sql_reader.specs.OperandView.{operand_view, part_of};
 ghost use Rattle.sql_reader.specs.Reading.{Answers};
 ghost use Rattle.sql_reader.specs.Written.{as_filter};
 
@@ -34,7 +34,7 @@ pub struct Part {
 
 /// The filter that an operand is, if it is a boolean one.
 pub fn truth(operand: Operand) -> Option<Filter>
-    ensures { option_map expr_of result ≡ spec.truth as_filter (operand_of operand) }
+    ensures { option_map expr_view result ≡ spec.truth as_filter (operand_view operand) }
 {
     match operand {
         Operand::Term(Term::Col(column), ColType::Boolean) => Some(Filter::Atom(Atom::Cmp(
@@ -51,7 +51,7 @@ pub fn truth(operand: Operand) -> Option<Filter>
 /// The filter that a part is, where one is wanted.
 #[tactic(auto, unfolding(crate::specs::Operands::wanted))]
 pub fn wanted(part: Part) -> Result<Filter, ReadError>
-    ensures { Answers expr_of (spec.wanted as_filter (part_of part)) result }
+    ensures { Answers expr_view (spec.wanted as_filter (part_of part)) result }
 {
     let place = part.place;
     match truth(part.operand) {
@@ -78,7 +78,7 @@ pub fn negated(alloc: Global, place: usize, part: Part) -> Result<Part, ReadErro
 /// AND of a filter and a part, at the place of the filter.
 #[tactic(auto, unfolding(crate::specs::Operands::joined))]
 pub fn both(alloc: Global, place: usize, left: Filter, right: Part) -> Result<Part, ReadError>
-    ensures { Answers part_of (spec.joined as_filter as_filter.both place (expr_of left) (part_of right)) result }
+    ensures { Answers part_of (spec.joined as_filter as_filter.both place (expr_view left) (part_of right)) result }
 {
     let right = wanted(right)?;
     Ok(Part {
@@ -90,7 +90,7 @@ pub fn both(alloc: Global, place: usize, left: Filter, right: Part) -> Result<Pa
 /// OR of a filter and a part, at the place of the filter.
 #[tactic(auto, unfolding(crate::specs::Operands::joined))]
 pub fn either(alloc: Global, place: usize, left: Filter, right: Part) -> Result<Part, ReadError>
-    ensures { Answers part_of (spec.joined as_filter as_filter.either place (expr_of left) (part_of right)) result }
+    ensures { Answers part_of (spec.joined as_filter as_filter.either place (expr_view left) (part_of right)) result }
 {
     let right = wanted(right)?;
     Ok(Part {
@@ -101,7 +101,7 @@ pub fn either(alloc: Global, place: usize, left: Filter, right: Part) -> Result<
 
 /// The column whose remainder may be taken, if an operand is an integer column.
 pub fn dividend(operand: Operand) -> Option<FoundColumn>
-    ensures { result ≡ spec.dividend (operand_of operand) }
+    ensures { result ≡ spec.dividend (operand_view operand) }
 {
     match operand {
         Operand::Term(
@@ -120,7 +120,7 @@ pub fn remainder(
     dividend: Option<FoundColumn>,
     divisor: Operand,
 ) -> Result<Part, ReadError>
-    ensures { Answers part_of (spec.remainder place first dividend (operand_of divisor)) result }
+    ensures { Answers part_of (spec.remainder place first dividend (operand_view divisor)) result }
 {
     match (dividend, divisor) {
         (Some(_), Operand::Literal(digits, Literal::Int(0))) => Err(ReadError {

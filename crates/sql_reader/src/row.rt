@@ -1,7 +1,7 @@
 //! Rows as they are written.
 
 ghost use Rattle.std.specs.Prelude.{◌<◌, ◌≤◌, IsSome, OnOk, map};
-ghost use Rattle.filter_tree.specs.Values.{datum_of};
+ghost use Rattle.filter_tree.specs.Values.{datum_view};
 ghost use Rattle.sql_reader.specs.Ahead.{to_read};
 ghost use Rattle.sql_reader.specs.Items.{size};
 ghost use Rattle.sql_reader.specs.Reading.{Reads, Answers, item_ahead};
@@ -43,7 +43,7 @@ fn cast_or_none(r: &mut Reader<'_>) -> Result<usize, ReadError>
 #[tactic(auto, using(crate::proofs::Ahead::rest_of_some_is_fewer), unfolding(crate::specs::Rows::string_value))]
 fn string_value(r: &mut Reader<'_>, alloc: Global) -> Result<Value, ReadError>
     requires { IsSome (item_ahead (to_read r.old)) }
-    ensures reads { Reads datum_of (spec.string_value (to_read r.old)) result (to_read r.new) }
+    ensures reads { Reads datum_view (spec.string_value (to_read r.old)) result (to_read r.new) }
     ensures fewer { OnOk result (size (to_read r.new) < size (to_read r.old)) }
 {
     let text = string_text(r, alloc)?;
@@ -54,7 +54,7 @@ fn string_value(r: &mut Reader<'_>, alloc: Global) -> Result<Value, ReadError>
 
 #[tactic(auto, unfolding(crate::specs::Rows::number_value))]
 fn number_value(r: &mut Reader<'_>) -> Result<Value, ReadError>
-    ensures reads { Reads datum_of (spec.number_value (to_read r.old)) result (to_read r.new) }
+    ensures reads { Reads datum_view (spec.number_value (to_read r.old)) result (to_read r.new) }
     ensures fewer { OnOk result (size (to_read r.new) < size (to_read r.old)) }
 {
     Ok(Value::Int(signed_number(r)?))
@@ -63,7 +63,7 @@ fn number_value(r: &mut Reader<'_>) -> Result<Value, ReadError>
 /// Takes a value of a row.
 #[tactic(auto, using(crate::proofs::Ahead::rest_of_some_is_fewer), unfolding(crate::specs::Rows::value))]
 fn value(r: &mut Reader<'_>, alloc: Global) -> Result<Value, ReadError>
-    ensures reads { Reads datum_of (spec.value (to_read r.old)) result (to_read r.new) }
+    ensures reads { Reads datum_view (spec.value (to_read r.old)) result (to_read r.new) }
     ensures fewer { OnOk result (size (to_read r.new) < size (to_read r.old)) }
 {
     match r.item() {
@@ -89,7 +89,7 @@ fn value(r: &mut Reader<'_>, alloc: Global) -> Result<Value, ReadError>
 /// Takes one more value.
 #[tactic(auto, unfolding(crate::specs::Rows::one_value))]
 fn one_value(r: &mut Reader<'_>, alloc: Global, row: &mut Vec<Value>) -> Result<(), ReadError>
-    ensures reads { Reads (λ _. map datum_of row.new.items) (spec.one_value (map datum_of row.old.items) (to_read r.old)) result (to_read r.new) }
+    ensures reads { Reads (λ _. map datum_view row.new.items) (spec.one_value (map datum_view row.old.items) (to_read r.old)) result (to_read r.new) }
     ensures fewer { OnOk result (size (to_read r.new) < size (to_read r.old)) }
 {
     let cell = value(r, alloc)?;
@@ -100,7 +100,7 @@ fn one_value(r: &mut Reader<'_>, alloc: Global, row: &mut Vec<Value>) -> Result<
 /// Takes the values of a row, which commas part.
 #[tactic(auto, using(crate::proofs::Turning::chains), unfolding(crate::specs::Rows::values))]
 fn values(r: &mut Reader<'_>, alloc: Global) -> Result<Vec<Value>, ReadError>
-    ensures { Reads (λ row. map datum_of row.items) (spec.values (to_read r.old)) result (to_read r.new) }
+    ensures { Reads (λ row. map datum_view row.items) (spec.values (to_read r.old)) result (to_read r.new) }
 {
     let mut row = Vec::new(alloc);
     one_value(r, alloc, &mut row)?;

@@ -2,12 +2,12 @@
 
 ghost use Rattle.std.specs.Prelude.{◌≡◌, ◌<◌, ◌≤◌, IfOk, OnOk, Some};
 ghost use Rattle.std.specs.Option.{option_map};
-ghost use Rattle.filter_tree.specs.Shape.{expr_of};
+ghost use Rattle.filter_tree.specs.Shape.{expr_view};
 ghost use Rattle.sql_reader.specs.Ahead.{to_read};
 ghost use Rattle.sql_reader.specs.Expressions as grammar;
 ghost use Rattle.sql_reader.specs.Items.{size};
 ghost use Rattle.sql_reader.specs.Operands as spec;
-ghost use Rattle.sql_reader.specs.OperandView.{operand_of, part_of};
+ghost use Rattle.sql_reader.specs.OperandView.{operand_view, part_of};
 ghost use Rattle.sql_reader.specs.Reading.{Reads, Answers};
 ghost use Rattle.sql_reader.specs.Written.{as_filter};
 ghost use Rattle.sql_reader.specs.declared.truth_test.Asked.TheVariants.{Null, Truth};
@@ -120,7 +120,7 @@ fn asking(
     test: Test,
     part: Option<Filter>,
 ) -> Result<Filter, ReadError>
-    ensures { Answers expr_of (spec.asking as_filter place test (option_map expr_of part)) result }
+    ensures { Answers expr_view (spec.asking as_filter place test (option_map expr_view part)) result }
 {
     match part {
         Some(filter) => Ok(Filter::Is(test, Box::new(alloc, filter)?)),
@@ -133,7 +133,7 @@ fn asking(
 
 /// IS NULL of an operand.
 fn is_null(alloc: Global, place: usize, operand: Operand) -> Result<Filter, ReadError>
-    ensures { Answers expr_of (spec.answered as_filter place Null (operand_of operand)) result }
+    ensures { Answers expr_view (spec.answered as_filter place Null (operand_view operand)) result }
 {
     match operand {
         Operand::Term(term, _) => Ok(Filter::Atom(Atom::IsNull(term.column()))),
@@ -150,7 +150,7 @@ fn is_null(alloc: Global, place: usize, operand: Operand) -> Result<Filter, Read
 
 /// IS TRUE, IS FALSE or IS UNKNOWN of an operand.
 fn is_truth(alloc: Global, place: usize, test: Test, operand: Operand) -> Result<Filter, ReadError>
-    ensures { Answers expr_of (spec.answered as_filter place (Truth test) (operand_of operand)) result }
+    ensures { Answers expr_view (spec.answered as_filter place (Truth test) (operand_view operand)) result }
 {
     match operand {
         Operand::Term(term, kind) => asking(alloc, place, test, truth(Operand::Term(term, kind))),
@@ -172,7 +172,7 @@ fn answered(
     asked: Asked,
     operand: Operand,
 ) -> Result<Filter, ReadError>
-    ensures { Answers expr_of (spec.answered as_filter place asked (operand_of operand)) result }
+    ensures { Answers expr_view (spec.answered as_filter place asked (operand_view operand)) result }
 {
     match asked {
         Asked::Null => is_null(alloc, place, operand),
@@ -182,7 +182,7 @@ fn answered(
 
 /// NOT of a filter, where it is negated.
 fn negated_if(alloc: Global, is_negated: bool, filter: Filter) -> Result<Filter, AllocError>
-    ensures { IfOk result (λ f. expr_of f ≡ spec.negated_if as_filter is_negated (expr_of filter)) }
+    ensures { IfOk result (λ f. expr_view f ≡ spec.negated_if as_filter is_negated (expr_view filter)) }
 {
     if is_negated {
         return Ok(Filter::Not(Box::new(alloc, filter)?));

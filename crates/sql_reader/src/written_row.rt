@@ -5,7 +5,7 @@ ghost use Rattle.std.specs.List.{join_by};
 ghost use Rattle.std.specs.String.{string_bytes};
 ghost use Rattle.filter_tree.specs.Datum.{Known, Bytes};
 ghost use Rattle.filter_tree.specs.Valid.{row_fault};
-ghost use Rattle.filter_tree.specs.Values.{datum_of};
+ghost use Rattle.filter_tree.specs.Values.{datum_view};
 ghost use Rattle.filter_tree.specs.declared.table.Column.{Column};
 ghost use Rattle.sql_reader.specs.Rows.{row_of};
 ghost use Rattle.sql_reader.specs.WrittenRows.{row_text, value_text, IsReadableRow, least};
@@ -39,7 +39,7 @@ pub fn write_row<R: Allocator>(alloc: Global, row: &Row<R>) -> Result<String, Al
 
 /// Writes values with a comma and a space between each two.
 fn write_values<R: Allocator>(values: &[Value<R>], text: &mut String) -> Result<(), AllocError>
-    ensures { OnOk result (string_bytes text.new ≡ string_bytes text.old ++ join_by value_text (codes ", ") (map datum_of values.now)) }
+    ensures { OnOk result (string_bytes text.new ≡ string_bytes text.old ++ join_by value_text (codes ", ") (map datum_view values.now)) }
 {
     if let [first, others @ ..] = values {
         write_value(first, text)?;
@@ -52,7 +52,7 @@ fn write_values<R: Allocator>(values: &[Value<R>], text: &mut String) -> Result<
 }
 
 fn write_value<R: Allocator>(value: &Value<R>, text: &mut String) -> Result<(), AllocError>
-    ensures { OnOk result (string_bytes text.new ≡ string_bytes text.old ++ value_text (datum_of value.now)) }
+    ensures { OnOk result (string_bytes text.new ≡ string_bytes text.old ++ value_text (datum_view value.now)) }
 {
     match value {
         Value::Null => text.push_str("NULL"),

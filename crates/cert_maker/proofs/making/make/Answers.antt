@@ -1,7 +1,7 @@
 use Rattle.std.proofs.Common.{◌≡◌, length, refl}
 use Rattle.std.specs.Prelude.{Some, slice_get}
 use Rattle.std.proofs.lemmas.Option.{slice_get_read}
-use Rattle.pub_reader.specs.CatalogView.{catalog_of}
+use Rattle.pub_reader.specs.CatalogView.{catalog_view}
 use Rattle.replica_identity.specs.PlanView.{plan_view}
 use Rattle.cert_maker.proofs.AnswerLemmas.{right_answer}
 use Rattle.cert_maker.proofs.making.make.Goals as goal
@@ -11,13 +11,13 @@ returns-in-Ok-clause-cert c =
     let tables = c.deref.result.now in
     let found = c.in-Some.ensures.lookup in
     let read : slice_get tables c.args.table ≡ Some c.in-Some.found.now = slice_get_read tables (length tables) c.args.table c.in-Some.found.now refl found.3.0 found.1 in
-    let there : slice_get (catalog_of c.args.catalog.now).tables c.args.table ≡ Some c.in-Some.found.now = cc in
-    (right_answer (catalog_of c.args.catalog.now) (plan_view c.args.plan.now) c.args.table c.in-Some.found.now c.in-Ok.made there c.in-Ok.ensures).cert
+    let there : slice_get (catalog_view c.args.catalog.now).tables c.args.table ≡ Some c.in-Some.found.now = cc in
+    (right_answer (catalog_view c.args.catalog.now) (plan_view c.args.plan.now) c.args.table c.in-Some.found.now c.in-Ok.made there c.in-Ok.ensures).cert
 
 pub returns-in-Ok-clause-counter : goal.returns-in-Ok-clause-counter
 returns-in-Ok-clause-counter c =
     let tables = c.deref.result.now in
     let found = c.in-Some.ensures.lookup in
     let read : slice_get tables c.args.table ≡ Some c.in-Some.found.now = slice_get_read tables (length tables) c.args.table c.in-Some.found.now refl found.3.0 found.1 in
-    let there : slice_get (catalog_of c.args.catalog.now).tables c.args.table ≡ Some c.in-Some.found.now = cc in
-    (right_answer (catalog_of c.args.catalog.now) (plan_view c.args.plan.now) c.args.table c.in-Some.found.now c.in-Ok.made there c.in-Ok.ensures).counter
+    let there : slice_get (catalog_view c.args.catalog.now).tables c.args.table ≡ Some c.in-Some.found.now = cc in
+    (right_answer (catalog_view c.args.catalog.now) (plan_view c.args.plan.now) c.args.table c.in-Some.found.now c.in-Ok.made there c.in-Ok.ensures).counter

@@ -4,13 +4,13 @@ use Rattle.sql_reader.specs.Ahead.{to_read}
 use Rattle.sql_reader.specs.Items.{size}
 use Rattle.sql_reader.specs.Turns.{link, repeat}
 use Rattle.sql_reader.specs.Written.{as_filter}
-use Rattle.pub_reader.specs.DraftView.{draft_of, objects_of}
+use Rattle.pub_reader.specs.DraftView.{draft_view, objects_view}
 use Rattle.pub_reader.specs.Objects as spec
 use Rattle.pub_reader.proofs.object.objects.Given as goal
 
 abbrev pub invariant-loop-r : goal.invariant-loop-r
 invariant-loop-r l = record {
-  so_far : spec.objects as_filter (draft_of l.draft) (to_read l.fn.r) ≡ repeat (link Comma (spec.object as_filter (draft_of l.draft))) (objects_of l.kind l.coverage) (to_read l.r);
+  so_far : spec.objects as_filter (draft_view l.draft) (to_read l.fn.r) ≡ repeat (link Comma (spec.object as_filter (draft_view l.draft))) (objects_view l.kind l.coverage) (to_read l.r);
   fewer : size (to_read l.r) < size (to_read l.fn.r);
 }
 

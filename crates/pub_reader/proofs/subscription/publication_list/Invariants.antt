@@ -3,13 +3,13 @@ use Rattle.sql_reader.specs.declared.item.Item.TheVariants.{Comma}
 use Rattle.sql_reader.specs.Ahead.{to_read}
 use Rattle.sql_reader.specs.Items.{size}
 use Rattle.sql_reader.specs.Turns.{link, repeat}
-use Rattle.pub_reader.specs.DraftView.{draft_of}
+use Rattle.pub_reader.specs.DraftView.{draft_view}
 use Rattle.pub_reader.specs.Subscriptions as spec
 use Rattle.pub_reader.proofs.subscription.publication_list.Given as goal
 
 abbrev pub invariant-loop-numbers : goal.invariant-loop-numbers
 invariant-loop-numbers l = record {
-  so_far : spec.publication_list (draft_of l.draft) (to_read l.fn.r) ≡ repeat (link Comma (spec.one_publication (draft_of l.draft))) l.numbers.items (to_read l.r);
+  so_far : spec.publication_list (draft_view l.draft) (to_read l.fn.r) ≡ repeat (link Comma (spec.one_publication (draft_view l.draft))) l.numbers.items (to_read l.r);
   fewer : size (to_read l.r) < size (to_read l.fn.r);
 }
 

@@ -1,6 +1,6 @@
 use Rattle.std.proofs.Common.{sym, ap, ◌∙◌}
 use Rattle.publisher_main.specs.Answers.{with_said, said_by}
-use Rattle.publisher_main.specs.Carriers.{carrier_of}
+use Rattle.publisher_main.specs.Carriers.{carrier_view}
 use Rattle.publisher_main.proofs.Saying.{line_of-next}
 use Rattle.publisher_main.proofs.answers.push_answers.Goals as goal
 
@@ -8,4 +8,4 @@ pub loop-carrier-preserved : goal.loop-carrier-preserved
 loop-carrier-preserved c =
     let so_far = c.loop-carrier.invariant in
     let next = line_of-next c.args.row.now c.args.carriers.now c.loop-carrier.carrier-index c.carrier-item.result c.loop-carrier-test.true c.carrier-item.is in
-    c.in_ok-push_said.ensures ∙ ap (λ line. with_said line (said_by c.args.row.now (carrier_of c.carrier-item.result))) so_far ∙ sym next
+    c.in_ok-push_said.ensures ∙ ap (λ line. with_said line (said_by c.args.row.now (carrier_view c.carrier-item.result))) so_far ∙ sym next

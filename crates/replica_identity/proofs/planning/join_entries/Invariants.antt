@@ -1,12 +1,12 @@
 use Rattle.std.proofs.Common.{◌≡◌, map, drop}
 use Rattle.std.specs.Prelude.{fold}
-use Rattle.pub_reader.specs.CatalogView.{entry_of}
+use Rattle.pub_reader.specs.CatalogView.{entry_view}
 use Rattle.replica_identity.specs.Joining.{joined_at}
-use Rattle.replica_identity.specs.Shares.{share_of}
+use Rattle.replica_identity.specs.Shares.{share_view}
 use Rattle.replica_identity.proofs.planning.join_entries.Given as goal
 
 -- the entries that are left, joined to the shares so far
 abbrev pub invariant-loop-entry : goal.invariant-loop-entry
 invariant-loop-entry l =
-    fold joined_at (map share_of l.shares.items) (map entry_of (drop l.entry-index l.entries))
-    ≡ fold joined_at (map share_of l.fn.shares.items) (map entry_of l.entries)
+    fold joined_at (map share_view l.shares.items) (map entry_view (drop l.entry-index l.entries))
+    ≡ fold joined_at (map share_view l.fn.shares.items) (map entry_view l.entries)

@@ -1,10 +1,10 @@
 use Rattle.std.proofs.Common.{◌≡◌, drop}
 use Rattle.std.specs.List.{list_any}
-use Rattle.filter_tree.specs.Shape.{condition_of, conditions_of}
-use Rattle.filter_tree.specs.Same.{same_condition}
+use Rattle.filter_tree.specs.Shape.{atom_view, atoms_view}
+use Rattle.filter_tree.specs.Same.{same_atom}
 use Rattle.shard_checker.proofs.numbering.has_atom.Given as goal
 
 -- the atom is among those that are left exactly if it is among all
 abbrev pub invariant-loop-held : goal.invariant-loop-held
 invariant-loop-held g l =
-    list_any (same_condition (condition_of l.atom)) (conditions_of (drop l.held-index l.atoms)) ≡ list_any (same_condition (condition_of l.atom)) (conditions_of l.atoms)
+    list_any (same_atom (atom_view l.atom)) (atoms_view (drop l.held-index l.atoms)) ≡ list_any (same_atom (atom_view l.atom)) (atoms_view l.atoms)
