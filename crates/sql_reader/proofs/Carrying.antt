@@ -173,7 +173,7 @@ simple_by-carried h columns (Some (i.Keyword k.True)) ts = refl
 simple_by-carried h columns (Some (i.Keyword k.False)) ts = refl
 simple_by-carried h columns (Some (i.Keyword k.Null)) ts = refl
 simple_by-carried h columns (Some (i.Keyword k.Case)) ts = refl
-simple_by-carried h columns _ ts = then-same (part_map h) (column columns ts) _ _ (λ found ts2. then-same (part_map h) (no_cast ts2) _ _ (λ u ts3. refl))
+simple_by-carried h columns _ ts = then-same (part_map h) (column columns ts) _ _ (λ found ts2. refl)
 
 simple-carried : {S T : Type 0} (h : S → T) (columns : List Column) (ts : Items) → simple columns ts ≡ mapped (part_map h) (simple columns ts)
 unfolding simple

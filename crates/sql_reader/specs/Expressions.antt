@@ -70,7 +70,6 @@ unfoldable pub column_part : {S : Type 0} → List Column → Rule (PartOf S)
 column_part columns = do
   place ← here
   found ← column columns
-  no_cast
   pure (part place (OfTerm (Col found.number) found.kind))
 
 unfoldable pub number_part : {S : Type 0} → Rule (PartOf S)

@@ -1,17 +1,17 @@
 -- The tokens of a text as the grammar tells them apart: PostgreSQL 15, "SQL Syntax", 4.1 Lexical Structure.
-use Rattle.std.specs.Prelude.{ℕ, suc, ◌+◌, Bool, true, false, not, List, Option, Some, None, ◌==◌}
+use Rattle.std.specs.Prelude.{ℕ, suc, Bool, true, false, not, List, Option, Some, None}
+use denote.Enum.Bare.{sameb}
+use Rattle.sql_tokens.specs.contracts.kinds.Operator.{the_type}
 use Rattle.sql_tokens.specs.declared.kinds.FaultKind.{FaultKind}
 use Rattle.sql_tokens.specs.declared.kinds.TokenKind.{TokenKind}
 use Rattle.sql_tokens.specs.declared.kinds.TokenKind.TheVariants as t
 use Rattle.sql_tokens.specs.declared.kinds.Operator.{Operator}
-use Rattle.sql_tokens.specs.declared.kinds.Operator.TheVariants as o
 use Rattle.sql_tokens.specs.Lexed.{Lexeme, Lexed, End, Bad, Then as After, tokens_of}
 use Rattle.sql_tokens.specs.Meant.{between_quotes}
 use Rattle.sql_reader.specs.declared.word.Keyword.{Keyword}
-use Rattle.sql_reader.specs.declared.word.Keyword.TheVariants as k
 use Rattle.sql_reader.specs.declared.item.Item.{Item}
 use Rattle.sql_reader.specs.declared.item.Item.TheVariants as i
-use Rattle.sql_reader.specs.Keywords.{keyword_of, is_reserved}
+use Rattle.sql_reader.specs.Keywords.{keyword_of, same_keyword, is_reserved}
 
 abbrev pub word_or_keyword : Option Keyword → Item
 word_or_keyword (Some keyword) = i.Keyword keyword
@@ -31,88 +31,25 @@ item_of t.Semicolon written = i.Semicolon
 item_of t.Dot written = i.Dot
 item_of t.DoubleColon written = i.DoubleColon
 
--- a number for each keyword, and for each operator
-abbrev pub keyword_number : Keyword → ℕ
-keyword_number k.All = 0
-keyword_number k.And = 1
-keyword_number k.Check = 2
-keyword_number k.Constraint = 3
-keyword_number k.Create = 4
-keyword_number k.Default = 5
-keyword_number k.Distinct = 6
-keyword_number k.False = 7
-keyword_number k.For = 8
-keyword_number k.Foreign = 9
-keyword_number k.From = 10
-keyword_number k.In = 11
-keyword_number k.Is = 12
-keyword_number k.IsNull = 13
-keyword_number k.Not = 14
-keyword_number k.NotNull = 15
-keyword_number k.Null = 16
-keyword_number k.On = 17
-keyword_number k.Only = 18
-keyword_number k.Or = 19
-keyword_number k.Primary = 20
-keyword_number k.References = 21
-keyword_number k.Table = 22
-keyword_number k.True = 23
-keyword_number k.Unique = 24
-keyword_number k.Using = 25
-keyword_number k.Where = 26
-keyword_number k.With = 27
-keyword_number k.Alter = 28
-keyword_number k.Between = 29
-keyword_number k.Case = 30
-keyword_number k.Connection = 31
-keyword_number k.CurrentSchema = 32
-keyword_number k.Full = 33
-keyword_number k.Identity = 34
-keyword_number k.If = 35
-keyword_number k.Ilike = 36
-keyword_number k.Inherits = 37
-keyword_number k.Key = 38
-keyword_number k.Like = 39
-keyword_number k.Nothing = 40
-keyword_number k.Partition = 41
-keyword_number k.Publication = 42
-keyword_number k.Replica = 43
-keyword_number k.Schema = 44
-keyword_number k.Similar = 45
-keyword_number k.Subscription = 46
-keyword_number k.Tables = 47
-keyword_number k.Text = 48
-keyword_number k.Unknown = 49
+-- equal operators
+abbrev pub same_operator : Operator → Operator → Bool
+same_operator = sameb the_type
 
-abbrev pub operator_number : Operator → ℕ
-operator_number o.Equal = 0
-operator_number o.NotEqual = 1
-operator_number o.Less = 2
-operator_number o.LessOrEqual = 3
-operator_number o.Greater = 4
-operator_number o.GreaterOrEqual = 5
-operator_number o.Percent = 6
-operator_number o.Minus = 7
-operator_number o.Star = 8
-
--- a number for each sort of item
-abbrev pub sort_of : Item → ℕ
-sort_of i.Word = 0
-sort_of i.QuotedName = 1
-sort_of (i.Number number) = 2
-sort_of i.Text = 3
-sort_of i.Open = 4
-sort_of i.Close = 5
-sort_of i.Comma = 6
-sort_of i.Semicolon = 7
-sort_of i.Dot = 8
-sort_of i.DoubleColon = 9
-sort_of (i.Operator operator) = 10 + operator_number operator
-sort_of (i.Keyword keyword) = 30 + keyword_number keyword
-
--- the same keyword, operator or mark, two numbers, two names or two strings
+-- the same keyword, operator or mark, two numbers, two names of a kind or two strings
 abbrev pub is_like : Item → Item → Bool
-is_like item other = sort_of item == sort_of other
+is_like i.Word i.Word = true
+is_like i.QuotedName i.QuotedName = true
+is_like (i.Number number) (i.Number other) = true
+is_like i.Text i.Text = true
+is_like i.Open i.Open = true
+is_like i.Close i.Close = true
+is_like i.Comma i.Comma = true
+is_like i.Semicolon i.Semicolon = true
+is_like i.Dot i.Dot = true
+is_like i.DoubleColon i.DoubleColon = true
+is_like (i.Operator operator) (i.Operator other) = same_operator operator other
+is_like (i.Keyword keyword) (i.Keyword other) = same_keyword keyword other
+is_like _ _ = false
 
 -- whether a name may be written so
 abbrev pub is_name : Item → Bool

@@ -1,6 +1,8 @@
 -- The keywords that the grammar names: PostgreSQL 15, "SQL Syntax", 4.1.1 Identifiers and Key Words, and "SQL Key Words" (Appendix C).
 use Rattle.std.specs.Prelude.{ℕ, Bool, true, false, List, Option, Some, None, codes, if◌then◌else◌}
 use Rattle.std.specs.Str.{str_eq_ignore_ascii_case}
+use denote.Enum.Bare.{sameb}
+use Rattle.sql_reader.specs.contracts.word.Keyword.{the_type}
 use Rattle.sql_reader.specs.declared.word.Keyword.{Keyword}
 use Rattle.sql_reader.specs.declared.word.Keyword.TheVariants as k
 
@@ -107,3 +109,7 @@ is_reserved k.Tables = false
 is_reserved k.Text = false
 is_reserved k.Unknown = false
 is_reserved _ = true
+
+-- equal keywords
+abbrev pub same_keyword : Keyword → Keyword → Bool
+same_keyword = sameb the_type

@@ -53,31 +53,25 @@ impl Item {
         }
     }
 
-    /// A number for each sort of item.
-    fn sort(self) -> u8
-        ensures { result ≡ spec.sort_of self }
-    {
-        match self {
-            Item::Word => 0,
-            Item::QuotedName => 1,
-            Item::Number(_) => 2,
-            Item::Text => 3,
-            Item::Open => 4,
-            Item::Close => 5,
-            Item::Comma => 6,
-            Item::Semicolon => 7,
-            Item::Dot => 8,
-            Item::DoubleColon => 9,
-            Item::Operator(operator) => 10 + operator as u8,
-            Item::Keyword(keyword) => 30 + keyword as u8,
-        }
-    }
-
-    /// Whether two items are of one sort: the same keyword, operator or mark, two numbers, two names or two strings.
+    /// Whether two items are of one sort: the same keyword, operator or mark, two numbers, two names of a kind or two strings.
     pub(crate) fn is_like(self, other: Item) -> bool
         ensures { result ≡ spec.is_like self other }
     {
-        self.sort() == other.sort()
+        match (self, other) {
+            (Item::Keyword(keyword), Item::Keyword(other)) => keyword == other,
+            (Item::Operator(operator), Item::Operator(other)) => operator == other,
+            (Item::Word, Item::Word)
+            | (Item::QuotedName, Item::QuotedName)
+            | (Item::Number(_), Item::Number(_))
+            | (Item::Text, Item::Text)
+            | (Item::Open, Item::Open)
+            | (Item::Close, Item::Close)
+            | (Item::Comma, Item::Comma)
+            | (Item::Semicolon, Item::Semicolon)
+            | (Item::Dot, Item::Dot)
+            | (Item::DoubleColon, Item::DoubleColon) => true,
+            _ => false,
+        }
     }
 
     /// Whether a name may be written so.

@@ -13,7 +13,6 @@ use crate::item::Item;
 use crate::name::{PlacedName, read_name, string_text};
 use crate::number::placed_number;
 use crate::operand::{Operand, Part};
-use crate::operator::no_cast;
 use crate::reader::Reader;
 use crate::word::Keyword;
 use filter_tree::{Column, Literal, Term};
@@ -58,7 +57,6 @@ fn column_part(r: &mut Reader<'_>, alloc: Global, columns: &[Column]) -> Result<
 {
     let place = r.place();
     let found = column(r, alloc, columns)?;
-    no_cast(r)?;
     Ok(Part {
         place,
         operand: Operand::Term(Term::Col(found.number), found.kind),

@@ -5,7 +5,7 @@ ghost use Rattle.std.specs.Prelude.{◌≡◌};
 ghost use Rattle.sql_reader.specs.Keywords as spec;
 
 /// A word with a meaning of its own in the grammar (PostgreSQL 15, "Appendix C. SQL Key Words").
-#[derive(Clone, Copy)]
+#[derive(Clone, Copy, PartialEq, Eq)]
 pub enum Keyword {
     All,
     And,
