@@ -1,3 +1,4 @@
+pub mod DistinctLemmas
 pub mod ListsLemmas
 pub mod PossibleLemmas
 pub mod SameLemmas

@@ -33,6 +33,10 @@ abbrev pub column_of : Term → ℕ
 column_of (Col column) = column
 column_of (Mod column divisor) = column
 
+-- the terms of a filter's atoms from left to right
+abbrev pub terms_in : Expr → List Term
+terms_in filter = map term_of (atoms_in filter)
+
 -- the columns of some atoms
 abbrev pub columns_in : List AtomOf → List ℕ
 columns_in found = map (λ atom. column_of (term_of atom)) found
@@ -41,7 +45,7 @@ abbrev pub distinct_atoms : Expr → List AtomOf
 distinct_atoms filter = distinct same_atom (atoms_in filter)
 
 abbrev pub distinct_terms : Expr → List Term
-distinct_terms filter = distinct same_term (map term_of (atoms_in filter))
+distinct_terms filter = distinct same_term (terms_in filter)
 
 abbrev pub distinct_columns : Expr → List ℕ
 distinct_columns filter = distinct nat_eq (columns_in (atoms_in filter))

@@ -4,6 +4,7 @@
 
 mod comparison;
 mod copies;
+mod distinct;
 mod evaluation;
 mod filter;
 mod items;
@@ -21,10 +22,11 @@ mod value;
 
 pub use comparison::{compare, compare_literals};
 pub use copies::{copy_in, copy_row};
+pub use distinct::{Distinct, add_distinct};
 pub use evaluation::eval;
 pub use filter::{Atom, Filter, Op, Term, Test};
 pub use items::Items;
-pub use lists::{atoms_of, columns_of, terms_of};
+pub use lists::{add_atom, add_atoms, atoms_of, columns_of, terms_of};
 pub use mask::Mask;
 pub use possibility::possible;
 pub use same::{same_atom, same_row, same_term};
