@@ -91,7 +91,8 @@ pub fn copy_row<A: Allocator, B: Allocator + Clone>(
     Ok(Row::from_values(copies))
 }
 
-fn copy_value<A: Allocator, B: Allocator + Clone>(
+/// A copy of the value, whose memory is taken from `alloc`. The only error is want of memory.
+pub fn copy_value<A: Allocator, B: Allocator + Clone>(
     alloc: &B,
     value: &Value<A>,
 ) -> Result<Value<B>, AllocError>

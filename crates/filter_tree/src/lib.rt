@@ -21,7 +21,7 @@ mod validity;
 mod value;
 
 pub use comparison::{compare, compare_literals};
-pub use copies::{copy_in, copy_row};
+pub use copies::{copy_in, copy_row, copy_value};
 pub use distinct::{Distinct, add_distinct};
 pub use evaluation::eval;
 pub use filter::{Atom, Filter, Op, Term, Test};

@@ -116,3 +116,49 @@ fn the_number_of_columns_is_signed(rt: HostRuntime) -> Result<(), Fail> {
     }
     Ok(())
 }
+
+#[test]
+fn messages_follow_one_another(rt: HostRuntime) -> Result<(), Fail> {
+    let mut out = Vec::new(rt.alloc());
+    let rows: [&[Datum]; 3] = [&[Datum::Int(7)], &[], &[Datum::Null, Datum::Text("")]];
+    for row in rows {
+        let message = insert_of(rt.alloc(), row)?;
+        if fits(&message) {
+            encode(&message, &mut out)?;
+        }
+    }
+    let spelled = hexadecimal(rt.alloc(), out.as_slice())?;
+    assert_eq!(rt;
+        spelled.as_str(),
+        concat!(
+            "49000040004e0001740000000137",
+            "49000040004e0000",
+            "49000040004e00026e7400000000",
+        )
+    );
+    Ok(())
+}
+
+#[test]
+fn a_row_may_have_100_of_the_longest_texts(rt: HostRuntime) -> Result<(), Fail> {
+    let mut values = Vec::new(rt.alloc());
+    for _ in 0..100 {
+        values.push(Value::Text(Text::new("a".repeat(rt.alloc(), 65_535)?)))?;
+    }
+    let row: Row = Row::from_values(values);
+    let message = Msg::Insert {
+        relation: 16_447,
+        new: tuple_of(rt.alloc(), &row)?,
+    };
+    let mut out = Vec::new(rt.alloc());
+    if fits(&message) {
+        encode(&message, &mut out)?;
+    }
+    // eight bytes before the columns; of each column a letter, its length and its text
+    assert_eq!(rt; out.len(), 8 + 100 * (1 + 4 + 65_535));
+    assert!(rt;
+        out.as_slice()
+            .starts_with(b"I\0\0\x40\x3fN\0\x64t\0\0\xff\xffa")
+    );
+    Ok(())
+}

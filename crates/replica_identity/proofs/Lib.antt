@@ -1,4 +1,3 @@
-pub mod ChangeLemmas
 pub mod JoiningLemmas
 pub mod NumberLemmas
 pub mod PassingLemmas

@@ -1,4 +1,3 @@
-pub mod Changes
 pub mod Identities
 pub mod Joining
 pub mod Passes
@@ -6,5 +5,3 @@ pub mod PlanView
 pub mod Plans
 pub mod Setting
 pub mod Shares
-pub mod Standing
-pub mod Tables

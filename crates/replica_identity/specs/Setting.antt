@@ -1,52 +1,18 @@
--- What changes of tables depend on, told apart from the catalog that says it: which tables there are, which rows fit them, a row's primary key, what of it the replica identity records, and to whom it passes: PostgreSQL 15, "Logical Replication", 31.1 Publication and 31.3 Row Filters.
-use Rattle.std.specs.Prelude.{ℕ, ◌+◌, ◌==◌, Bool, ◌&&◌, nat_lt, List, [], ◌∷◌, map, length, slice_get, is_none, Option, Some, None, if◌then◌else◌}
-use Rattle.std.specs.List.{list_any}
-use Rattle.filter_tree.specs.Datum.{Datum, Missing, value_at}
+-- What a catalog and its plan say of changes of its tables: PostgreSQL 15, "Logical Replication", 31.1 Publication and 31.3 Row Filters.
+use Rattle.std.specs.Prelude.{ℕ, List, [], length, nat_lt, slice_get, Option, Some, None}
+use Rattle.filter_tree.specs.Datum.{Datum}
 use Rattle.filter_tree.specs.Expr.{Expr}
 use Rattle.filter_tree.specs.Valid.{row_fault}
 use Rattle.filter_tree.specs.declared.table.Identity.{Identity}
 use Rattle.filter_tree.specs.declared.table.Identity.TheVariants.{Default, Full, Nothing}
 use Rattle.filter_tree.specs.declared.table.Table.{Table}
 use Rattle.filter_tree.specs.declared.validity.RowFault.{RowFault}
+use Rattle.table_changes.specs.Columns.{values_at, blanked_from}
+use Rattle.table_changes.specs.Setting.{Setting, Recorded, Columns, Whole, Nowhere}
 use Rattle.pub_reader.specs.Catalogs.{CatalogOf}
 use Rattle.replica_identity.specs.Identities.{identity_columns}
 use Rattle.replica_identity.specs.Plans.{PlanOf, share_at}
 use Rattle.replica_identity.specs.Shares.{takes}
-
--- what is recorded of an old row: the values of some columns, the whole row, or nothing
-pub data Recorded : Type 0 where
-  Columns : Recorded
-  Whole : Recorded
-  Nowhere : Recorded
-
--- tables and subscribers by their numbers
-pub record Setting : Type 0 where
-  -- the table is there
-  pub known : ℕ → Bool
-  -- what first keeps the row from standing in it
-  pub fault : ℕ → List Datum → Option RowFault
-  -- the row's primary key
-  pub key : ℕ → List Datum → List Datum
-  pub recorded : ℕ → Recorded
-  -- the values that identify an old row
-  pub identity : ℕ → List Datum → List Datum
-  -- the row with nulls outside the columns that are recorded
-  pub blanked : ℕ → List Datum → List Datum
-  -- the row passes to the subscriber: subscriber, table, row
-  pub passes : ℕ → ℕ → List Datum → Bool
-
--- the table is there, and the row may stand in it
-abbrev pub fits : Setting → ℕ → List Datum → Bool
-fits setting table row = setting.known table && is_none (setting.fault table row)
-
-abbrev pub values_at : List ℕ → List Datum → List Datum
-values_at columns row = map (value_at row) columns
-
--- the cells that begin at this number, with nulls outside these columns
-abbrev pub blanked_from : List ℕ → ℕ → List Datum → List Datum
-blanked_from columns number [] = []
-blanked_from columns number (cell ∷ cells) =
-    (if list_any (λ column. column == number) columns then cell else Missing) ∷ blanked_from columns (number + 1) cells
 
 abbrev pub recorded_as : Identity → Recorded
 recorded_as Default = Columns

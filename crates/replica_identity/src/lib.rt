@@ -2,7 +2,6 @@
 #![tactic(auto)]
 
 mod identity;
-mod laws;
 mod planning;
 mod share;
 mod shares;
@@ -10,7 +9,6 @@ mod shares;
 mod tests;
 
 pub use identity::{covered, identity_columns};
-pub use laws::commands_change_rows;
 pub use planning::plan;
 pub use share::Share;
 pub use shares::Plan;

@@ -1,0 +1,13 @@
+-- The values that a row has in some columns, as a key or a replica identity names them: PostgreSQL 15, 5.4.4 Primary Keys, and ALTER TABLE, "REPLICA IDENTITY".
+use Rattle.std.specs.Prelude.{ℕ, ◌+◌, ◌==◌, List, [], ◌∷◌, map, if◌then◌else◌}
+use Rattle.std.specs.List.{list_any}
+use Rattle.filter_tree.specs.Datum.{Datum, Missing, value_at}
+
+abbrev pub values_at : List ℕ → List Datum → List Datum
+values_at columns row = map (value_at row) columns
+
+-- the cells that begin at this number, with nulls outside these columns
+abbrev pub blanked_from : List ℕ → ℕ → List Datum → List Datum
+blanked_from columns number [] = []
+blanked_from columns number (cell ∷ cells) =
+    (if list_any (λ column. column == number) columns then cell else Missing) ∷ blanked_from columns (number + 1) cells

@@ -1,0 +1,30 @@
+-- What laws about changes of tables ask of a setting, and nothing else: that a row's identity tells to whom it passes, that identities tell rows apart, and that each row that fits passes to exactly one subscriber: PostgreSQL 15, "Logical Replication", 31.1 Publication and 31.3 Row Filters.
+use Rattle.std.specs.Prelude.{◌≡◌, ◌≢◌, ℕ, true, List, None}
+use Rattle.filter_tree.specs.Datum.{Datum}
+use Rattle.table_changes.specs.Setting.{Setting, Nowhere, fits}
+use Rattle.table_changes.specs.Tables.{Tables, Command, fault_of, applied, Keyed, Apart}
+
+-- What is recorded of an old row tells to whom it passed.
+pub record Covered (setting : Setting) : Type 0 where
+  -- rows with one identity pass alike
+  pub decides : (subscriber table : ℕ) (one other : List Datum) → setting.identity table one ≡ setting.identity table other
+      → setting.passes subscriber table one ≡ setting.passes subscriber table other
+  -- a row with nulls outside the columns that are recorded has the row's identity
+  pub blanked : (table : ℕ) (row : List Datum) → setting.identity table (setting.blanked table row) ≡ setting.identity table row
+  -- of each table something is recorded
+  pub recorded : (table : ℕ) → setting.recorded table ≢ Nowhere
+
+-- A command without a fault leaves no two rows of a table with one identity where there were none.
+pub record KeepsApart (setting : Setting) : Type 0 where
+  pub kept : (tables : Tables) (command : Command) → fault_of setting tables command ≡ None → Keyed setting.key tables → Apart setting tables
+      → Apart setting (applied setting tables command)
+
+-- exactly one subscriber has the row
+pub record PassesToOne (setting : Setting) (table : ℕ) (row : List Datum) : Type 0 where
+  pub subscriber : ℕ
+  pub takes_it : setting.passes subscriber table row ≡ true
+  pub no_other : (other : ℕ) → setting.passes other table row ≡ true → other ≡ subscriber
+
+-- Each row that fits a table passes to exactly one subscriber.
+pub record Sound (setting : Setting) : Type 0 where
+  pub one_subscriber : (table : ℕ) (row : List Datum) → fits setting table row ≡ true → PassesToOne setting table row
