@@ -6,12 +6,12 @@ ghost use Rattle.replica_identity.specs.PlanView.{plan_view};
 ghost use Rattle.shard_checker.specs.CatalogRefusal.{table_shares};
 ghost use Rattle.shard_checker.specs.Owners.{shares_view};
 ghost use Rattle.cert_maker.specs.Answers.{IfCert, IfCounter, IsAccepted, IsCounter};
-ghost use Rattle.cert_maker.specs.Takers.{IsRight};
+ghost use Rattle.cert_maker.specs.Owners.{IsRight};
 ghost use Rattle.cert_maker.specs.declared.made.Made.TheVariants.{Unknown};
 
 use crate::made::Made;
 use crate::search::{Found, look};
-use crate::takers::owners_of;
+use crate::owners::owners_of;
 use bumpalo::Bump;
 use filter_tree::{Row, Table, valid};
 use pub_reader::Catalog;

@@ -19,18 +19,18 @@ pub struct Domain {
 
 /// What an atom asks.
 #[derive(Clone, Copy)]
-pub enum Asks {
+pub enum AtomKind {
     IsNull,
-    Compares(Op, i64),
+    Cmp(Op, i64),
 }
 
 /// An atom: what it asks of which term. The twin of a `=` is the `<>` of the same term with the same number, and of a `<>`
 /// the `=`.
 #[derive(Clone, Copy)]
-pub struct Condition {
+pub struct PlainAtom {
     pub column: usize,
     pub term: usize,
-    pub asks: Asks,
+    pub kind: AtomKind,
     pub twin: Option<usize>,
 }
 
@@ -43,10 +43,10 @@ pub struct Claim {
 
 /// Which share takes the rows of a table.
 #[derive(Drop)]
-pub struct Question<'a> {
+pub struct Problem<'a> {
     pub columns: &'a [Column],
     pub terms: Vec<Domain>,
-    pub atoms: Vec<Condition>,
+    pub atoms: Vec<PlainAtom>,
     /// The numbers of atoms, by the numbers that they compare with.
     pub rising: Vec<(i64, usize)>,
     pub claims: Vec<Claim>,
@@ -167,42 +167,42 @@ fn twin_of<A: Allocator>(
     None
 }
 
-fn condition_of<A: Allocator>(
+fn plain_atom<A: Allocator>(
     atoms: &[&Atom<A>],
     terms: &[Term],
     texts: &[&str],
     atom: &Atom<A>,
-) -> Condition {
+) -> PlainAtom {
     let term = atom.term();
-    let (asks, twin) = match atom {
-        Atom::IsNull(_) => (Asks::IsNull, None),
+    let (kind, twin) = match atom {
+        Atom::IsNull(_) => (AtomKind::IsNull, None),
         Atom::Cmp(_, op, literal) => {
             let number = number_of(texts, literal);
             (
-                Asks::Compares(*op, number),
+                AtomKind::Cmp(*op, number),
                 twin_of(atoms, term, *op, number, texts),
             )
         }
     };
-    Condition {
+    PlainAtom {
         column: term.column(),
         term: place_of_term(terms, term),
-        asks,
+        kind,
         twin,
     }
 }
 
-fn conditions_of<A: Allocator>(
+fn plain_atoms<A: Allocator>(
     alloc: Global,
     atoms: &[&Atom<A>],
     terms: &[Term],
     texts: &[&str],
-) -> Result<Vec<Condition>, AllocError> {
-    let mut conditions = Vec::new(alloc);
+) -> Result<Vec<PlainAtom>, AllocError> {
+    let mut numbered = Vec::new(alloc);
     for atom in atoms {
-        conditions.push(condition_of(atoms, terms, texts, *atom))?;
+        numbered.push(plain_atom(atoms, terms, texts, *atom))?;
     }
-    Ok(conditions)
+    Ok(numbered)
 }
 
 fn domains_of(
@@ -219,10 +219,10 @@ fn domains_of(
 }
 
 /// The atoms that compare, by the numbers that they compare with.
-fn rising_of(alloc: Global, conditions: &[Condition]) -> Result<Vec<(i64, usize)>, AllocError> {
+fn rising_of(alloc: Global, atoms: &[PlainAtom]) -> Result<Vec<(i64, usize)>, AllocError> {
     let mut rising = Vec::new(alloc);
-    for (atom, condition) in conditions.iter().enumerate() {
-        if let Asks::Compares(_, number) = condition.asks {
+    for (atom, plain) in atoms.iter().enumerate() {
+        if let AtomKind::Cmp(_, number) = plain.kind {
             rising.push((number, atom))?;
         }
     }
@@ -256,7 +256,7 @@ fn claims_of<A: Allocator>(
     Ok(claims)
 }
 
-impl<'a> Question<'a> {
+impl<'a> Problem<'a> {
     /// Which of the shares takes the rows of these columns, where the atoms and the terms are those of the shares.
     pub fn new<A: Allocator>(
         alloc: Global,
@@ -264,21 +264,21 @@ impl<'a> Question<'a> {
         shares: &[&'a Share<A>],
         atoms: &[&'a Atom<A>],
         terms: &[Term],
-    ) -> Result<Question<'a>, AllocError> {
+    ) -> Result<Problem<'a>, AllocError> {
         let texts = texts_of(alloc, atoms)?;
-        let conditions = conditions_of(alloc, atoms, terms, &texts)?;
-        Ok(Question {
+        let numbered = plain_atoms(alloc, atoms, terms, &texts)?;
+        Ok(Problem {
             columns,
             terms: domains_of(alloc, columns, &texts, terms)?,
-            rising: rising_of(alloc, &conditions)?,
-            atoms: conditions,
+            rising: rising_of(alloc, &numbered)?,
+            atoms: numbered,
             claims: claims_of(alloc, atoms, shares)?,
             texts,
         })
     }
 
-    /// The condition of this number.
-    pub fn condition(&self, atom: usize) -> Option<Condition> {
-        self.atoms.get(atom).copied()
+    /// The atom of this number.
+    pub fn atom(&self, number: usize) -> Option<PlainAtom> {
+        self.atoms.get(number).copied()
     }
 }

@@ -1,4 +1,4 @@
--- Which shares of a table take a row, and what an answer of the maker says of a table's shares: PostgreSQL 15, "Logical Replication", 31.3 Row Filters.
+-- Which shares of a table take a row: its owners; and what an answer of the maker says of a table's shares: PostgreSQL 15, "Logical Replication", 31.3 Row Filters.
 use Rattle.std.specs.Prelude.{◌≡◌, ◌≢◌, ℕ, ◌+◌, if◌then◌else◌, List, [], ◌∷◌, length, None}
 use Rattle.filter_tree.specs.Datum.{Datum}
 use Rattle.filter_tree.specs.Valid.{IsValid}
@@ -8,15 +8,15 @@ use Rattle.shard_checker.specs.Refusal.{first_refusal}
 use Rattle.cert_maker.specs.Answers.{IfCert, IfCounter}
 use Rattle.cert_maker.specs.declared.made.Made.{Made}
 
--- the numbers of the shares that take the row, of which the first has this number
-abbrev pub takers : ℕ → List ShareOf → List Datum → List ℕ
-takers number [] cells = []
-takers number (share ∷ shares) cells = if takes share cells then number ∷ takers (number + 1) shares cells else takers (number + 1) shares cells
+-- the numbers of the shares that take the row, where the first share has this number
+abbrev pub owners_from : ℕ → List ShareOf → List Datum → List ℕ
+owners_from number [] cells = []
+owners_from number (share ∷ shares) cells = if takes share cells then number ∷ owners_from (number + 1) shares cells else owners_from (number + 1) shares cells
 
--- the row fits the table, and its takers, who are the owners, are not one
+-- the row fits the table, and its owners are not one
 pub record IsCounterOf (table : Table) (shares : List ShareOf) (cells : List Datum) (owners : List ℕ) : Type 0 where
   pub valid : IsValid table.columns cells
-  pub takers : owners ≡ takers 0 shares cells
+  pub all : owners ≡ owners_from 0 shares cells
   pub not_one : length owners ≢ 1
 
 -- what the answer says of the table with these shares is so
