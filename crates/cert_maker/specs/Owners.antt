@@ -5,6 +5,7 @@ use Rattle.filter_tree.specs.Valid.{IsValid}
 use Rattle.filter_tree.specs.declared.table.Table.{Table}
 use Rattle.replica_identity.specs.Shares.{ShareOf, takes}
 use Rattle.shard_checker.specs.Refusal.{first_refusal}
+use Rattle.split_cert.specs.Tree.{Tree, IsWithinLimits}
 use Rattle.cert_maker.specs.Answers.{IfCert, IfCounter}
 use Rattle.cert_maker.specs.declared.made.Made.{Made}
 
@@ -19,7 +20,12 @@ pub record IsCounterOf (table : Table) (shares : List ShareOf) (cells : List Dat
   pub all : owners ≡ owners_from 0 shares cells
   pub not_one : length owners ≢ 1
 
+-- the certificate is within the limits on those that are read, and the check accepts it
+pub record IsCertOf (table : Table) (shares : List ShareOf) (tree : Tree) : Type 0 where
+  pub limits : IsWithinLimits tree
+  pub accepted : first_refusal 0 table shares tree ≡ None
+
 -- what the answer says of the table with these shares is so
 pub record IsRight (table : Table) (shares : List ShareOf) (made : Made) : Type 0 where
-  pub cert : IfCert made (λ tree. first_refusal 0 table shares tree ≡ None)
+  pub cert : IfCert made (IsCertOf table shares)
   pub counter : IfCounter made (IsCounterOf table shares)

@@ -17,10 +17,10 @@ use filter_tree::{Row, Table, valid};
 use pub_reader::Catalog;
 use replica_identity::{Plan, Share};
 use shard_checker::{CheckError, check_one, shares_in};
-use split_cert::Cert;
+use split_cert::{Cert, is_within_limits};
 use std::alloc::{AllocError, Global};
 
-/// The answer with a certificate, if the check accepts it.
+/// The answer with a certificate, if the check accepts it and it is no larger than those that are read.
 fn tested_cert<'b>(
     alloc: Global,
     table: &Table,
@@ -30,7 +30,8 @@ fn tested_cert<'b>(
     ensures { IsRight table.now (shares_view shares.now) result }
 {
     match check_one(alloc, table, shares, &cert) {
-        Ok(()) => Made::Cert(cert),
+        Ok(()) if is_within_limits(&cert) => Made::Cert(cert),
+        Ok(()) => Made::TooLarge,
         Err(CheckError::OutOfMemory) => Made::OutOfMemory,
         Err(_) => Made::Unknown,
     }
@@ -87,10 +88,10 @@ fn answer<'b>(
 /// A certificate of the catalog's table of this number, from 0, or a row that shows that there is none. The plan is the
 /// catalog's own.
 ///
-/// A certificate is answered only if `check_one` accepts it with the table and its shares, and a row only if it fits the
-/// table and not exactly one subscriber takes it. `Unknown` is answered where neither was found, and of a table that isn't
-/// there. The search takes at most `MAX_STEPS` steps, and looks for certificates of at most 1,000,000 nodes and at most 64
-/// splits on a path.
+/// A certificate is answered only if `check_one` accepts it with the table and its shares, and if it has at most 1,000,000
+/// nodes and at most 64 splits on a path, so that `read_in` reads what `write` gives for it. A row is answered only if it
+/// fits the table and not exactly one subscriber takes it. `Unknown` is answered where neither was found, and of a table
+/// that isn't there. The search takes at most `MAX_STEPS` steps.
 pub fn make<'b>(
     alloc: Global,
     arena: &'b Bump,

@@ -1,9 +1,10 @@
 //! What replica identities record, and which columns the filters of the publications that are taken name.
 
-ghost use Rattle.std.specs.Prelude.{◌≡◌, ◌≢◌, OnOk, IfErr, None, Some, map, slice_get};
+ghost use Rattle.std.specs.Prelude.{◌≡◌, ◌≢◌, IfErr, Some, map, slice_get};
 ghost use Rattle.filter_tree.specs.Shape.{expr_view};
 ghost use Rattle.pub_reader.specs.CatalogView.{entry_view, publication_view};
 ghost use Rattle.shard_checker.specs.CatalogRefusal as spec;
+ghost use Rattle.shard_checker.specs.Checks.{Checks, Finds};
 ghost use Rattle.shard_checker.specs.Sound as sound;
 
 use crate::error::CheckError;
@@ -14,8 +15,7 @@ use replica_identity::covered;
 use std::alloc::Global;
 
 fn check_identity(number: usize, identity: Identity) -> Result<(), CheckError>
-    ensures ok { OnOk result (spec.table_refusal number identity ≡ None) }
-    ensures err { IfErr result (λ error. spec.table_refusal number identity ≡ Some error) }
+    ensures exact { Finds (spec.table_refusal number identity) result }
     ensures told { IfErr result (λ error. error ≢ CheckError.OutOfMemory) }
 {
     match identity {
@@ -26,8 +26,7 @@ fn check_identity(number: usize, identity: Identity) -> Result<(), CheckError>
 
 /// Checks that no table's replica identity is NOTHING.
 pub fn check_identities(tables: &[Table]) -> Result<(), CheckError>
-    ensures ok { OnOk result (spec.identity_refusal 0 tables.now ≡ None) }
-    ensures err { IfErr result (λ error. spec.identity_refusal 0 tables.now ≡ Some error) }
+    ensures exact { Finds (spec.identity_refusal 0 tables.now) result }
     ensures told { IfErr result (λ error. error ≢ CheckError.OutOfMemory) }
 {
     for (number, table) in tables.iter().enumerate() {
@@ -36,12 +35,12 @@ pub fn check_identities(tables: &[Table]) -> Result<(), CheckError>
     Ok(())
 }
 
-/// Whether the replica identity of the table of this number has the column.
+/// Whether the replica identity of the table of this number has the column; of a table that isn't there it lacks none.
 fn covers(tables: &[Table], table: usize, column: usize) -> bool
     ensures { result ≡ sound.covers (slice_get tables.now table) column }
 {
     match tables.get(table) {
-        None => false,
+        None => true,
         Some(table) => covered(table, column),
     }
 }
@@ -53,8 +52,7 @@ fn check_columns(
     table: usize,
     columns: &[usize],
 ) -> Result<(), CheckError>
-    ensures ok { OnOk result (spec.column_refusal publication table (slice_get tables.now table) columns.now ≡ None) }
-    ensures err { IfErr result (λ error. spec.column_refusal publication table (slice_get tables.now table) columns.now ≡ Some error) }
+    ensures { Finds (spec.column_refusal publication table (slice_get tables.now table) columns.now) result }
 {
     for column in columns {
         if !covers(tables, table, *column) {
@@ -75,8 +73,8 @@ fn check_filter(
     table: usize,
     filter: &Filter,
 ) -> Result<(), CheckError>
-    ensures ok { OnOk result (spec.filter_refusal publication table (slice_get tables.now table) (Some (expr_view filter.now)) ≡ None) }
-    ensures err { IfErr result (λ error. error ≢ CheckError.OutOfMemory → spec.filter_refusal publication table (slice_get tables.now table) (Some (expr_view filter.now)) ≡ Some error) }
+    ensures { Checks
+        (spec.filter_refusal publication table (slice_get tables.now table) (Some (expr_view filter.now))) result }
 {
     let columns = columns_of(alloc, filter)?;
     check_columns(tables, publication, table, &columns)
@@ -88,8 +86,7 @@ fn check_entry(
     publication: usize,
     entry: &Entry,
 ) -> Result<(), CheckError>
-    ensures ok { OnOk result (spec.entry_refusal tables.now publication (entry_view entry.now) ≡ None) }
-    ensures err { IfErr result (λ error. error ≢ CheckError.OutOfMemory → spec.entry_refusal tables.now publication (entry_view entry.now) ≡ Some error) }
+    ensures { Checks (spec.entry_refusal tables.now publication (entry_view entry.now)) result }
 {
     match &entry.filter {
         None => Ok(()),
@@ -103,8 +100,7 @@ fn check_entries(
     publication: usize,
     entries: &[Entry],
 ) -> Result<(), CheckError>
-    ensures ok { OnOk result (spec.entries_refusal tables.now publication (map entry_view entries.now) ≡ None) }
-    ensures err { IfErr result (λ error. error ≢ CheckError.OutOfMemory → spec.entries_refusal tables.now publication (map entry_view entries.now) ≡ Some error) }
+    ensures { Checks (spec.entries_refusal tables.now publication (map entry_view entries.now)) result }
 {
     for entry in entries {
         check_entry(alloc, tables, publication, entry)?;
@@ -119,8 +115,8 @@ fn check_taken(
     number: usize,
     entries: &[Entry],
 ) -> Result<(), CheckError>
-    ensures ok { OnOk result (spec.taken_refusal tables.now subscriptions.now number (map entry_view entries.now) ≡ None) }
-    ensures err { IfErr result (λ error. error ≢ CheckError.OutOfMemory → spec.taken_refusal tables.now subscriptions.now number (map entry_view entries.now) ≡ Some error) }
+    ensures { Checks
+        (spec.taken_refusal tables.now subscriptions.now number (map entry_view entries.now)) result }
 {
     if is_taken(subscriptions, number) {
         check_entries(alloc, tables, number, entries)
@@ -130,14 +126,14 @@ fn check_taken(
 }
 
 /// Checks that the filters of each publication that is taken name only columns of the tables' replica identities.
-pub fn check_coverage(
+pub fn check_covering(
     alloc: Global,
     tables: &[Table],
     subscriptions: &[Subscription],
     publications: &[Publication],
 ) -> Result<(), CheckError>
-    ensures ok { OnOk result (spec.coverage_refusal tables.now subscriptions.now 0 (map publication_view publications.now) ≡ None) }
-    ensures err { IfErr result (λ error. error ≢ CheckError.OutOfMemory → spec.coverage_refusal tables.now subscriptions.now 0 (map publication_view publications.now) ≡ Some error) }
+    ensures { Checks
+        (spec.covering_refusal tables.now subscriptions.now 0 (map publication_view publications.now)) result }
 {
     for (number, publication) in publications.iter().enumerate() {
         check_taken(

@@ -1,46 +1,35 @@
 //! The check of a table's certificate.
 
-ghost use Rattle.std.specs.Prelude.{◌≡◌, ◌≢◌, List, [], OnOk, IfErr, None, Some};
+ghost use Rattle.std.specs.Prelude.{List, [], OnOk};
 ghost use Rattle.filter_tree.specs.Datum.{Datum};
-ghost use Rattle.filter_tree.specs.Shape.{atoms_view};
 ghost use Rattle.split_cert.specs.Where.{tree_view};
+ghost use Rattle.shard_checker.specs.Checks.{Checks, IfRefused};
 ghost use Rattle.shard_checker.specs.Owners.{shares_view, HasOneOwner};
 ghost use Rattle.shard_checker.specs.Refusal as spec;
 ghost use Rattle.shard_checker.specs.Rows.{IsTyped};
+ghost use Rattle.shard_checker.specs.SubjectView.{subject_view};
 ghost use Rattle.shard_checker.specs.Truth.{CertificateIsWrong};
 
 use crate::error::CheckError;
 use crate::numbering::{numbered_atoms, numbered_terms};
 use crate::subject::Subject;
 use crate::walk::check_tree;
-use filter_tree::{Atom, Column, Table, Term};
+use filter_tree::Table;
 use replica_identity::Share;
 use split_cert::Cert;
 use std::alloc::{Allocator, Global};
 
 /// Checks the certificate of a table whose atoms and terms are numbered.
-fn check_numbered<'a, A: Allocator, B: Allocator>(
+fn check_subject<'a, A: Allocator, B: Allocator>(
     alloc: Global,
-    table: usize,
-    columns: &'a [Column],
-    shares: &'a [&'a Share<A>],
-    atoms: &'a [&'a Atom<A>],
-    terms: &'a [Term],
+    subject: &Subject<'a, A>,
     cert: &Cert<B>,
 ) -> Result<(), CheckError>
-    ensures ok { OnOk result (spec.refusal (spec.numbered_subject table columns.now (shares_view shares.now) (atoms_view atoms.now) terms.now) (tree_view cert.now) [] 0 ≡ None) }
-    ensures err { IfErr result (λ error. error ≢ CheckError.OutOfMemory → spec.refusal (spec.numbered_subject table columns.now (shares_view shares.now) (atoms_view atoms.now) terms.now) (tree_view cert.now) [] 0 ≡ Some error) }
+    ensures { Checks (spec.refusal (subject_view subject.now) (tree_view cert.now) [] 0) result }
 {
-    let subject = Subject {
-        table,
-        columns,
-        shares,
-        atoms,
-        terms,
-    };
     let mut path = Vec::new(alloc);
     let mut node = 0;
-    check_tree(&subject, &mut path, &mut node, cert)
+    check_tree(subject, &mut path, &mut node, cert)
 }
 
 /// Checks the certificate of the table of this number.
@@ -51,13 +40,18 @@ pub fn check_table<A: Allocator, B: Allocator>(
     shares: &[&Share<A>],
     cert: &Cert<B>,
 ) -> Result<(), CheckError>
-    ensures ok { OnOk result (spec.first_refusal number table.now (shares_view shares.now) (tree_view cert.now) ≡ None) }
-    ensures err { IfErr result (λ error. error ≢ CheckError.OutOfMemory → spec.first_refusal number table.now (shares_view shares.now) (tree_view cert.now) ≡ Some error) }
+    ensures { Checks (spec.first_refusal number table.now (shares_view shares.now) (tree_view cert.now)) result }
 {
     let atoms = numbered_atoms(alloc, shares)?;
     let terms = numbered_terms(alloc, shares)?;
-    let columns = table.columns.as_slice();
-    check_numbered(alloc, number, columns, shares, &atoms, &terms, cert)
+    let subject = Subject {
+        table: number,
+        columns: table.columns.as_slice(),
+        shares,
+        atoms: &atoms,
+        terms: &terms,
+    };
+    check_subject(alloc, &subject, cert)
 }
 
 /// Checks that each row that may stand in the table, with texts of any length, is taken by exactly one of the shares, as
@@ -74,10 +68,10 @@ pub fn check_one<A: Allocator, B: Allocator>(
     shares: &[&Share<A>],
     cert: &Cert<B>,
 ) -> Result<(), CheckError>
-    ensures sound { OnOk result ((cells : List Datum) → IsTyped table.now.columns cells → HasOneOwner (shares_view shares.now) cells) }
-    ensures ok { OnOk result (spec.first_refusal 0 table.now (shares_view shares.now) (tree_view cert.now) ≡ None) }
-    ensures err { IfErr result (λ error. error ≢ CheckError.OutOfMemory → spec.first_refusal 0 table.now (shares_view shares.now) (tree_view cert.now) ≡ Some error) }
-    ensures wrong { IfErr result (λ error. error ≢ CheckError.OutOfMemory → CertificateIsWrong 0 table.now (shares_view shares.now) (tree_view cert.now) error) }
+    ensures sound { OnOk result
+        ((cells : List Datum) → IsTyped table.now.columns cells → HasOneOwner (shares_view shares.now) cells) }
+    ensures exact { Checks (spec.first_refusal 0 table.now (shares_view shares.now) (tree_view cert.now)) result }
+    ensures wrong { IfRefused result (CertificateIsWrong 0 table.now (shares_view shares.now) (tree_view cert.now)) }
 {
     check_table(alloc, 0, table, shares, cert)
 }

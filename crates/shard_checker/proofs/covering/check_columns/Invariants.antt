@@ -1,7 +1,7 @@
 use Rattle.std.proofs.Common.{◌≡◌, drop}
 use Rattle.std.specs.Prelude.{slice_get}
 use Rattle.shard_checker.specs.CatalogRefusal.{column_refusal}
-use Rattle.shard_checker.proofs.coverage.check_columns.Given as goal
+use Rattle.shard_checker.proofs.covering.check_columns.Given as goal
 
 -- the refusal of those that are left is that of all
 abbrev pub invariant-loop-column : goal.invariant-loop-column
