@@ -79,7 +79,8 @@ fn answer<'b>(
     number: usize,
     table: &Table,
 ) -> Result<Made<'b>, AllocError>
-    ensures { IfOk result (IsRight table.now (table_shares (plan_view plan.now) number 0 (catalog_view catalog.now).subscriptions)) }
+    ensures { IfOk result (IsRight table.now
+        (table_shares (plan_view plan.now) number 0 (catalog_view catalog.now).subscriptions)) }
 {
     let shares = shares_in(alloc, plan, number, catalog.subscriptions.as_slice())?;
     Ok(tested(alloc, arena, table, &shares)?)
