@@ -14,23 +14,23 @@ use Rattle.shard_checker.specs.CatalogRefusal.{table_shares}
 use Rattle.split_cert.specs.Where.{tree_view}
 use Rattle.cert_maker.proofs.NumberingLemmas.{accepted_anyhow}
 use Rattle.cert_maker.specs.Answers.{IsAnswer, numbers_from, owners_of}
-use Rattle.cert_maker.specs.Takers.{takers, IsRight}
+use Rattle.cert_maker.specs.Owners.{owners_from, IsRight}
 use Rattle.cert_maker.specs.declared.made.Made.{Made}
 use Rattle.cert_maker.specs.declared.made.Made.TheVariants.{Cert, Counter, Unknown, TooLarge, OutOfMemory}
 
--- the takers of shares are the subscribers to whom the row passes
-takers_pass : (catalog : CatalogOf Expr) (plan : PlanOf) (number : ℕ) (cells : List Datum) → TakesWhatPasses catalog plan → number < length catalog.tables → (first : ℕ) (subscriptions : List Subscription) →
-    takers first (table_shares plan number first subscriptions) cells ≡ filter (λ subscriber. passes catalog subscriber number cells) (numbers_from first subscriptions)
-takers_pass catalog plan number cells own within first [] = refl
-takers_pass catalog plan number cells own within first (subscription ∷ subscriptions) =
-    let rest = takers_pass catalog plan number cells own within (first + 1) subscriptions in
+-- the owners among shares are the subscribers to whom the row passes
+owners_pass : (catalog : CatalogOf Expr) (plan : PlanOf) (number : ℕ) (cells : List Datum) → TakesWhatPasses catalog plan → number < length catalog.tables → (first : ℕ) (subscriptions : List Subscription) →
+    owners_from first (table_shares plan number first subscriptions) cells ≡ filter (λ subscriber. passes catalog subscriber number cells) (numbers_from first subscriptions)
+owners_pass catalog plan number cells own within first [] = refl
+owners_pass catalog plan number cells own within first (subscription ∷ subscriptions) =
+    let rest = owners_pass catalog plan number cells own within (first + 1) subscriptions in
     let same = own.same first number within cells in
     cc
 
 pub right_answer : (catalog : CatalogOf Expr) (plan : PlanOf) (number : ℕ) (table : Table) (made : Made) → slice_get catalog.tables number ≡ Some table → IsRight table (table_shares plan number 0 catalog.subscriptions) made → IsAnswer catalog plan number made
-right_answer catalog plan number table (Cert cert) there right = record { cert = record { table = table; there = there; accepted = λ any. accepted_anyhow 0 any table (table_shares plan number 0 catalog.subscriptions) (tree_view cert) right.cert }; counter = tt }
+right_answer catalog plan number table (Cert cert) there right = record { cert = record { table = table; there = there; limits = right.cert.limits; accepted = λ any. accepted_anyhow 0 any table (table_shares plan number 0 catalog.subscriptions) (tree_view cert) right.cert.accepted }; counter = tt }
 right_answer catalog plan number table (Counter cells owners) there right =
-    let passing : plan ≡ plan_of catalog → owners.items ≡ owners_of catalog number cells = λ own. right.counter.takers ∙ takers_pass catalog plan number cells (takes_what_passes catalog plan own) (slice_get_within catalog.tables number table there) 0 catalog.subscriptions in
+    let passing : plan ≡ plan_of catalog → owners.items ≡ owners_of catalog number cells = λ own. right.counter.all ∙ owners_pass catalog plan number cells (takes_what_passes catalog plan own) (slice_get_within catalog.tables number table there) 0 catalog.subscriptions in
     record { cert = tt; counter = record { table = table; there = there; valid = right.counter.valid; passing = passing; not_one = right.counter.not_one } }
 right_answer catalog plan number table Unknown there right = record { cert = tt; counter = tt }
 right_answer catalog plan number table TooLarge there right = record { cert = tt; counter = tt }

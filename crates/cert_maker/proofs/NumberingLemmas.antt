@@ -7,10 +7,11 @@ use Rattle.filter_tree.specs.declared.filter.Term.{Term}
 use Rattle.filter_tree.specs.declared.table.Table.{Table}
 use Rattle.filter_tree.specs.declared.tri.Tri.TheVariants.{True, False, Null}
 use Rattle.replica_identity.specs.Shares.{ShareOf}
+use Rattle.shard_checker.specs.Emptiness.{is_empty}
 use Rattle.shard_checker.specs.Facts.{is_never_null}
 use Rattle.shard_checker.specs.Numbering.{numbered_atoms, numbered_terms}
 use Rattle.shard_checker.specs.Owners.{must_take, second_owner}
-use Rattle.shard_checker.specs.Refusal.{Subject, first_of, first_refusal, refusal, second_refusal, others_refusal, owner_refusal, is_empty, empty_refusal, never_null_refusal, split_refusal, numbered_subject, later}
+use Rattle.shard_checker.specs.Refusal.{Subject, first_of, first_refusal, refusal, second_refusal, others_refusal, owner_refusal, empty_refusal, never_null_refusal, split_refusal, numbered_subject, later}
 use Rattle.shard_checker.specs.declared.error.CheckError.{CheckError}
 use Rattle.shard_checker.specs.declared.error.CheckError.TheVariants.{NotOwner, NotEmpty, MayBeNull}
 use Rattle.split_cert.specs.Tree.{Tree, Split, Owner, Empty, NeverNull, nodes}
@@ -29,7 +30,7 @@ both_none (Some error) next e h = absurd cc
 
 -- the subject whose table has another number
 abbrev renumbered : ℕ → Subject → Subject
-renumbered number subject = numbered_subject number subject.columns subject.shares subject.atoms_in subject.terms
+renumbered number subject = numbered_subject number subject.columns subject.shares subject.atoms subject.terms
 
 second_none : (number : ℕ) (subject : Subject) (node : ℕ) (found : Option ℕ) → second_refusal subject node found ≡ None → second_refusal (renumbered number subject) node found ≡ None
 second_none number subject node None h = refl
@@ -69,7 +70,7 @@ split_none number subject path node (Some atom) a b c d e f one two three h =
 
 none_renumbered : (number : ℕ) (subject : Subject) (tree : Tree) (path : Path) (node : ℕ) → refusal subject tree path node ≡ None → refusal (renumbered number subject) tree path node ≡ None
 none_renumbered number subject (Split index if_true if_false if_null) path node h =
-    split_none number subject path node (slice_get subject.atoms_in index)
+    split_none number subject path node (slice_get subject.atoms index)
     (λ longer. refusal subject if_true longer (later node 1))
     (λ longer. refusal subject if_false longer (later (later node 1) (nodes if_true)))
     (λ longer. refusal subject if_null longer (later (later (later node 1) (nodes if_true)) (nodes if_false)))
@@ -82,7 +83,7 @@ none_renumbered number subject (Split index if_true if_false if_null) path node 
     h
 none_renumbered number subject (Owner subscriber) path node h = owner_none number subject path node subscriber (slice_get subject.shares subscriber) h
 none_renumbered number subject (Empty term) path node h = empty_none number subject path node (slice_get subject.terms term) h
-none_renumbered number subject (NeverNull index) path node h = never_null_none number subject path node (slice_get subject.atoms_in index) h
+none_renumbered number subject (NeverNull index) path node h = never_null_none number subject path node (slice_get subject.atoms index) h
 
 pub accepted_anyhow : (one other : ℕ) (table : Table) (shares : List ShareOf) (tree : Tree) → first_refusal one table shares tree ≡ None → first_refusal other table shares tree ≡ None
 accepted_anyhow one other table shares tree h =

@@ -10,7 +10,7 @@ use Rattle.replica_identity.specs.Passes.{passes}
 use Rattle.replica_identity.specs.Plans.{PlanOf, plan_of}
 use Rattle.shard_checker.specs.CatalogRefusal.{table_shares}
 use Rattle.shard_checker.specs.Refusal.{first_refusal}
-use Rattle.split_cert.specs.Tree.{Tree}
+use Rattle.split_cert.specs.Tree.{Tree, IsWithinLimits}
 use Rattle.split_cert.specs.Where.{tree_view}
 use Rattle.cert_maker.specs.declared.made.Made.{Made}
 use Rattle.cert_maker.specs.declared.made.Made.TheVariants.{Cert, Counter, Unknown, TooLarge, OutOfMemory}
@@ -31,10 +31,11 @@ IfCounter Unknown Fact = Unit {0}
 IfCounter TooLarge Fact = Unit {0}
 IfCounter OutOfMemory Fact = Unit {0}
 
--- the check accepts the certificate of the table of this number, with the shares that the plan gives to the subscribers, whatever number it has for the table in its refusals
+-- the certificate is within the limits on those that are read, and the check accepts it for the table of this number, with the shares that the plan gives to the subscribers, whatever number it has for the table in its refusals
 pub record IsAccepted (catalog : CatalogOf Expr) (plan : PlanOf) (number : ℕ) (tree : Tree) : Type 0 where
   pub table : Table
   pub there : slice_get catalog.tables number ≡ Some table
+  pub limits : IsWithinLimits tree
   pub accepted : (any : ℕ) → first_refusal any table (table_shares plan number 0 catalog.subscriptions) tree ≡ None
 
 -- the numbers of subscribers, who begin at this number

@@ -2,7 +2,7 @@
 
 use crate::facts::Facts;
 use crate::masks::{ANY, NOT_NULL, is_sure, mask_at, put, settled};
-use crate::question::{Asks, Claim, Question};
+use crate::problem::{AtomKind, Claim, Problem};
 use filter_tree::{Mask, Tri};
 use std::alloc::{AllocError, Global};
 
@@ -31,37 +31,37 @@ pub struct Board {
 }
 
 /// Which values an atom may have of which nothing is known.
-fn open(asks: Asks) -> Mask {
+fn open(asks: AtomKind) -> Mask {
     match asks {
-        Asks::IsNull => NOT_NULL,
-        Asks::Compares(..) => ANY,
+        AtomKind::IsNull => NOT_NULL,
+        AtomKind::Cmp(..) => ANY,
     }
 }
 
 /// An item for each of the atoms.
 fn for_atoms<T: Copy + Drop>(
     alloc: Global,
-    question: &Question<'_>,
+    problem: &Problem<'_>,
     item: T,
 ) -> Result<Vec<T>, AllocError> {
     let mut items = Vec::new(alloc);
-    for _ in &question.atoms {
+    for _ in &problem.atoms {
         items.push(item)?;
     }
     Ok(items)
 }
 
-fn open_masks(alloc: Global, question: &Question<'_>) -> Result<Vec<Mask>, AllocError> {
+fn open_masks(alloc: Global, problem: &Problem<'_>) -> Result<Vec<Mask>, AllocError> {
     let mut masks = Vec::new(alloc);
-    for condition in &question.atoms {
-        masks.push(open(condition.asks))?;
+    for plain in &problem.atoms {
+        masks.push(open(plain.kind))?;
     }
     Ok(masks)
 }
 
-fn standings(alloc: Global, question: &Question<'_>) -> Result<Vec<Standing>, AllocError> {
+fn standings(alloc: Global, problem: &Problem<'_>) -> Result<Vec<Standing>, AllocError> {
     let mut standings = Vec::new(alloc);
-    for _ in &question.claims {
+    for _ in &problem.claims {
         standings.push(Standing::Undecided)?;
     }
     Ok(standings)
@@ -69,13 +69,13 @@ fn standings(alloc: Global, question: &Question<'_>) -> Result<Vec<Standing>, Al
 
 impl Board {
     /// Nothing is known of any atom.
-    pub fn new(alloc: Global, question: &Question<'_>) -> Result<Board, AllocError> {
+    pub fn new(alloc: Global, problem: &Problem<'_>) -> Result<Board, AllocError> {
         Ok(Board {
-            known: open_masks(alloc, question)?,
-            likely: open_masks(alloc, question)?,
-            facts: Facts::new(alloc, question)?,
-            standings: standings(alloc, question)?,
-            votes: for_atoms(alloc, question, 0)?,
+            known: open_masks(alloc, problem)?,
+            likely: open_masks(alloc, problem)?,
+            facts: Facts::new(alloc, problem)?,
+            standings: standings(alloc, problem)?,
+            votes: for_atoms(alloc, problem, 0)?,
             steps: 0,
         })
     }
@@ -86,9 +86,9 @@ impl Board {
     }
 
     /// Forgets the atom's value.
-    pub fn forget(&mut self, question: &Question<'_>, atom: usize) {
-        if let Some(condition) = question.condition(atom) {
-            put(&mut self.known, atom, open(condition.asks));
+    pub fn forget(&mut self, problem: &Problem<'_>, atom: usize) {
+        if let Some(plain) = problem.atom(atom) {
+            put(&mut self.known, atom, open(plain.kind));
         }
     }
 
@@ -104,17 +104,17 @@ impl Board {
     }
 
     /// Finds the facts, and what they leave to each atom.
-    pub fn look(&mut self, question: &Question<'_>) {
-        self.facts.find(question, &self.known);
-        for (atom, condition) in question.atoms.iter().enumerate() {
-            let mask = self.facts.expected(&self.known, atom, *condition);
+    pub fn look(&mut self, problem: &Problem<'_>) {
+        self.facts.find(problem, &self.known);
+        for (atom, plain) in problem.atoms.iter().enumerate() {
+            let mask = self.facts.expected(&self.known, atom, *plain);
             put(&mut self.likely, atom, mask);
         }
     }
 
     /// Finds how each share stands, by what was found of the atoms.
-    pub fn judge(&mut self, question: &Question<'_>) {
-        for (share, claim) in question.claims.iter().enumerate() {
+    pub fn judge(&mut self, problem: &Problem<'_>) {
+        for (share, claim) in problem.claims.iter().enumerate() {
             let standing = self.standing(claim);
             put(&mut self.standings, share, standing);
         }

@@ -1,8 +1,9 @@
 //! What the atoms that are settled tell of columns and terms.
 
 use crate::masks::{NOT_NULL, put, value_at};
-use crate::question::{Asks, Condition, Question};
+use crate::problem::{AtomKind, PlainAtom, Problem};
 use filter_tree::{Mask, Op, Tri};
+use shard_checker::Range;
 use std::alloc::{AllocError, Global};
 
 /// Whether a column is null.
@@ -13,24 +14,17 @@ pub enum Nullness {
     Open,
 }
 
-/// The numbers from the least to the greatest.
-#[derive(Clone, Copy)]
-pub struct Span {
-    pub least: i64,
-    pub greatest: i64,
-}
-
 /// No number.
-const EMPTY: Span = Span {
+const EMPTY: Range = Range {
     least: 1,
     greatest: 0,
 };
 
-/// What is known of each column and of each term. The ends of a term's span are numbers that are left to it.
+/// What is known of each column and of each term. The ends of a term's range are numbers that are left to it.
 #[derive(Drop)]
 pub struct Facts {
     pub nullness: Vec<Nullness>,
-    pub spans: Vec<Span>,
+    pub ranges: Vec<Range>,
 }
 
 /// The operator that holds where this one doesn't.
@@ -45,79 +39,79 @@ fn negated(op: Op) -> Op {
     }
 }
 
-fn up_to(span: Span, greatest: i64) -> Span {
-    Span {
-        least: span.least,
-        greatest: span.greatest.min(greatest),
+fn up_to(range: Range, greatest: i64) -> Range {
+    Range {
+        least: range.least,
+        greatest: range.greatest.min(greatest),
     }
 }
 
-fn from(span: Span, least: i64) -> Span {
-    Span {
-        least: span.least.max(least),
-        greatest: span.greatest,
+fn from(range: Range, least: i64) -> Range {
+    Range {
+        least: range.least.max(least),
+        greatest: range.greatest,
     }
 }
 
-/// The span where a comparison holds; a number that `<>` takes out is left in.
-fn narrowed(span: Span, op: Op, number: i64) -> Span {
+/// The range where a comparison holds; a number that `<>` takes out is left in.
+fn narrowed(range: Range, op: Op, number: i64) -> Range {
     match op {
-        Op::Eq => up_to(from(span, number), number),
-        Op::Ne => span,
+        Op::Eq => up_to(from(range, number), number),
+        Op::Ne => range,
         Op::Lt => number
             .checked_sub(1)
-            .map_or(EMPTY, |last| up_to(span, last)),
-        Op::Le => up_to(span, number),
+            .map_or(EMPTY, |last| up_to(range, last)),
+        Op::Le => up_to(range, number),
         Op::Gt => number
             .checked_add(1)
-            .map_or(EMPTY, |first| from(span, first)),
-        Op::Ge => from(span, number),
+            .map_or(EMPTY, |first| from(range, first)),
+        Op::Ge => from(range, number),
     }
 }
 
-/// Whether the condition with this value takes its number out.
-fn takes_out(condition: Condition, value: Option<Tri>) -> bool {
+/// Whether the atom with this value takes its number out.
+fn takes_out(plain: PlainAtom, value: Option<Tri>) -> bool {
     matches!(
-        (condition.asks, value),
-        (Asks::Compares(Op::Eq, _), Some(Tri::False)) | (Asks::Compares(Op::Ne, _), Some(Tri::True))
+        (plain.kind, value),
+        (AtomKind::Cmp(Op::Eq, _), Some(Tri::False)) | (AtomKind::Cmp(Op::Ne, _), Some(Tri::True))
     )
 }
 
-/// The span without this number, if that is its least.
-fn without_least(span: Span, number: i64) -> Span {
-    if span.least != number {
-        return span;
+/// The range without this number, if that is its least.
+fn without_least(range: Range, number: i64) -> Range {
+    if range.least != number {
+        return range;
     }
     number
         .checked_add(1)
-        .map_or(EMPTY, |first| from(span, first))
+        .map_or(EMPTY, |first| from(range, first))
 }
 
-/// The span without this number, if that is its greatest.
-fn without_greatest(span: Span, number: i64) -> Span {
-    if span.greatest != number {
-        return span;
+/// The range without this number, if that is its greatest.
+fn without_greatest(range: Range, number: i64) -> Range {
+    if range.greatest != number {
+        return range;
     }
     number
         .checked_sub(1)
-        .map_or(EMPTY, |last| up_to(span, last))
+        .map_or(EMPTY, |last| up_to(range, last))
 }
 
-/// Which values a comparison may have, where its column isn't null and its term is in the span.
-fn compared(span: Span, op: Op, number: i64) -> Mask {
+/// Which values a comparison may have, where its column isn't null and its term is in the range.
+fn compared(range: Range, op: Op, number: i64) -> Mask {
     let (all, none) = match op {
         Op::Eq => (
-            span.least == number && span.greatest == number,
-            number < span.least || span.greatest < number,
+            range.least == number && range.greatest == number,
+            number < range.least || range.greatest < number,
         ),
         Op::Ne => (
-            number < span.least || span.greatest < number,
-            span.least == number && span.greatest == number,
+            number < range.least || range.greatest < number,
+            range.least == number && range.greatest == number,
         ),
-        Op::Lt => (span.greatest < number, span.least >= number),
-        Op::Le => (span.greatest <= number, span.least > number),
-        Op::Gt => (span.least > number, span.greatest <= number),
-        Op::Ge => (span.least >= number, span.greatest < number),
+        Op::Lt => (range.greatest < number, range.least >= number),
+        Op::Le => (range.greatest <= number, range.least > number),
+        Op::Gt => (range.least > number, range.greatest <= number),
+        Op::Ge => (range.least >= number, range.greatest < number),
     };
     match (all, none) {
         (true, _) => Mask::single(Tri::True),
@@ -136,35 +130,35 @@ fn or_null(mask: Mask) -> Mask {
 }
 
 /// What the value of its twin says of an atom.
-fn by_twin(known: &[Mask], condition: Condition) -> Option<Mask> {
-    let twin = value_at(known, condition.twin?)?;
+fn by_twin(known: &[Mask], plain: PlainAtom) -> Option<Mask> {
+    let twin = value_at(known, plain.twin?)?;
     Some(Mask::single(twin.not()))
 }
 
 impl Facts {
-    /// Facts of a question, with room for what will be found.
-    pub fn new(alloc: Global, question: &Question<'_>) -> Result<Facts, AllocError> {
+    /// Facts of a problem, with room for what will be found.
+    pub fn new(alloc: Global, problem: &Problem<'_>) -> Result<Facts, AllocError> {
         let mut nullness = Vec::new(alloc);
-        for _ in question.columns {
+        for _ in problem.columns {
             nullness.push(Nullness::Open)?;
         }
-        let mut spans = Vec::new(alloc);
-        for _ in &question.terms {
-            spans.push(EMPTY)?;
+        let mut ranges = Vec::new(alloc);
+        for _ in &problem.terms {
+            ranges.push(EMPTY)?;
         }
-        Ok(Facts { nullness, spans })
+        Ok(Facts { nullness, ranges })
     }
 
     /// Finds what the atoms with these values tell.
-    pub fn find(&mut self, question: &Question<'_>, known: &[Mask]) {
-        self.forget(question);
-        self.take_all(question, known);
-        self.raise_least(question, known);
-        self.lower_greatest(question, known);
+    pub fn find(&mut self, problem: &Problem<'_>, known: &[Mask]) {
+        self.forget(problem);
+        self.take_all(problem, known);
+        self.raise_least(problem, known);
+        self.lower_greatest(problem, known);
     }
 
-    fn forget(&mut self, question: &Question<'_>) {
-        for (number, column) in question.columns.iter().enumerate() {
+    fn forget(&mut self, problem: &Problem<'_>) {
+        for (number, column) in problem.columns.iter().enumerate() {
             let nullness = if column.not_null {
                 Nullness::Present
             } else {
@@ -172,68 +166,68 @@ impl Facts {
             };
             put(&mut self.nullness, number, nullness);
         }
-        for (number, term) in question.terms.iter().enumerate() {
-            let span = Span {
+        for (number, term) in problem.terms.iter().enumerate() {
+            let range = Range {
                 least: term.least,
                 greatest: term.greatest,
             };
-            put(&mut self.spans, number, span);
+            put(&mut self.ranges, number, range);
         }
     }
 
-    fn take_all(&mut self, question: &Question<'_>, known: &[Mask]) {
-        for (number, condition) in question.atoms.iter().enumerate() {
+    fn take_all(&mut self, problem: &Problem<'_>, known: &[Mask]) {
+        for (number, plain) in problem.atoms.iter().enumerate() {
             if let Some(value) = value_at(known, number) {
-                self.take(*condition, value);
+                self.take(*plain, value);
             }
         }
     }
 
-    fn take(&mut self, condition: Condition, value: Tri) {
-        let column = condition.column;
-        match (condition.asks, value) {
-            (Asks::IsNull, Tri::True) | (Asks::Compares(..), Tri::Null) => {
+    fn take(&mut self, plain: PlainAtom, value: Tri) {
+        let column = plain.column;
+        match (plain.kind, value) {
+            (AtomKind::IsNull, Tri::True) | (AtomKind::Cmp(..), Tri::Null) => {
                 put(&mut self.nullness, column, Nullness::Null);
             }
-            (Asks::IsNull, Tri::False | Tri::Null) => {
+            (AtomKind::IsNull, Tri::False | Tri::Null) => {
                 put(&mut self.nullness, column, Nullness::Present);
             }
-            (Asks::Compares(op, number), Tri::True) => self.narrow(condition, op, number),
-            (Asks::Compares(op, number), Tri::False) => self.narrow(condition, negated(op), number),
+            (AtomKind::Cmp(op, number), Tri::True) => self.narrow(plain, op, number),
+            (AtomKind::Cmp(op, number), Tri::False) => self.narrow(plain, negated(op), number),
         }
     }
 
-    fn narrow(&mut self, condition: Condition, op: Op, number: i64) {
-        put(&mut self.nullness, condition.column, Nullness::Present);
-        let span = narrowed(self.span(condition.term), op, number);
-        put(&mut self.spans, condition.term, span);
+    fn narrow(&mut self, plain: PlainAtom, op: Op, number: i64) {
+        put(&mut self.nullness, plain.column, Nullness::Present);
+        let range = narrowed(self.range(plain.term), op, number);
+        put(&mut self.ranges, plain.term, range);
     }
 
-    fn raise_least(&mut self, question: &Question<'_>, known: &[Mask]) {
-        for (number, atom) in question.rising.iter() {
-            if let Some(condition) = question.condition(*atom) {
-                if takes_out(condition, value_at(known, *atom)) {
-                    let span = without_least(self.span(condition.term), *number);
-                    put(&mut self.spans, condition.term, span);
+    fn raise_least(&mut self, problem: &Problem<'_>, known: &[Mask]) {
+        for (number, atom) in problem.rising.iter() {
+            if let Some(plain) = problem.atom(*atom) {
+                if takes_out(plain, value_at(known, *atom)) {
+                    let range = without_least(self.range(plain.term), *number);
+                    put(&mut self.ranges, plain.term, range);
                 }
             }
         }
     }
 
-    fn lower_greatest(&mut self, question: &Question<'_>, known: &[Mask]) {
-        for (number, atom) in question.rising.iter().rev() {
-            if let Some(condition) = question.condition(*atom) {
-                if takes_out(condition, value_at(known, *atom)) {
-                    let span = without_greatest(self.span(condition.term), *number);
-                    put(&mut self.spans, condition.term, span);
+    fn lower_greatest(&mut self, problem: &Problem<'_>, known: &[Mask]) {
+        for (number, atom) in problem.rising.iter().rev() {
+            if let Some(plain) = problem.atom(*atom) {
+                if takes_out(plain, value_at(known, *atom)) {
+                    let range = without_greatest(self.range(plain.term), *number);
+                    put(&mut self.ranges, plain.term, range);
                 }
             }
         }
     }
 
     /// The numbers that are left to the term of this number, and perhaps some between them that aren't.
-    pub fn span(&self, term: usize) -> Span {
-        self.spans.get(term).copied().unwrap_or(EMPTY)
+    pub fn range(&self, term: usize) -> Range {
+        self.ranges.get(term).copied().unwrap_or(EMPTY)
     }
 
     /// Whether the column of this number is null.
@@ -242,20 +236,20 @@ impl Facts {
     }
 
     /// Which values the atom may have, of which these are known.
-    pub fn expected(&self, known: &[Mask], atom: usize, condition: Condition) -> Mask {
+    pub fn expected(&self, known: &[Mask], atom: usize, plain: PlainAtom) -> Mask {
         if let Some(value) = value_at(known, atom) {
             return Mask::single(value);
         }
-        match (condition.asks, self.nullness(condition.column)) {
-            (Asks::IsNull, Nullness::Null) => Mask::single(Tri::True),
-            (Asks::IsNull, Nullness::Present) => Mask::single(Tri::False),
-            (Asks::IsNull, Nullness::Open) => NOT_NULL,
-            (Asks::Compares(..), Nullness::Null) => Mask::single(Tri::Null),
-            (Asks::Compares(op, number), Nullness::Open) => {
-                or_null(compared(self.span(condition.term), op, number))
+        match (plain.kind, self.nullness(plain.column)) {
+            (AtomKind::IsNull, Nullness::Null) => Mask::single(Tri::True),
+            (AtomKind::IsNull, Nullness::Present) => Mask::single(Tri::False),
+            (AtomKind::IsNull, Nullness::Open) => NOT_NULL,
+            (AtomKind::Cmp(..), Nullness::Null) => Mask::single(Tri::Null),
+            (AtomKind::Cmp(op, number), Nullness::Open) => {
+                or_null(compared(self.range(plain.term), op, number))
             }
-            (Asks::Compares(op, number), Nullness::Present) => by_twin(known, condition).unwrap_or(
-                compared(self.span(condition.term), op, number),
+            (AtomKind::Cmp(op, number), Nullness::Present) => by_twin(known, plain).unwrap_or(
+                compared(self.range(plain.term), op, number),
             ),
         }
     }

@@ -1,5 +1,5 @@
-//! Looks for the reason why a table is sharded well, a certificate that the check accepts, or for a row that shows that it
-//! isn't. What is found is tested before it is answered, so nobody has to trust the search.
+//! Looks for the reason why a table is sharded well, a certificate that the check accepts, or for a row that shows that
+//! it isn't. What is found is tested before it is answered, so nobody has to trust the search.
 #![tactic(auto)]
 
 mod board;
@@ -10,11 +10,11 @@ mod made;
 mod making;
 mod masks;
 mod numbers;
-mod question;
+mod owners;
+mod problem;
 mod rows;
 mod scores;
 mod search;
-mod takers;
 #[cfg(test)]
 mod tests;
 

@@ -6,21 +6,21 @@ ghost use Rattle.replica_identity.specs.PlanView.{plan_view};
 ghost use Rattle.shard_checker.specs.CatalogRefusal.{table_shares};
 ghost use Rattle.shard_checker.specs.Owners.{shares_view};
 ghost use Rattle.cert_maker.specs.Answers.{IfCert, IfCounter, IsAccepted, IsCounter};
-ghost use Rattle.cert_maker.specs.Takers.{IsRight};
+ghost use Rattle.cert_maker.specs.Owners.{IsRight};
 ghost use Rattle.cert_maker.specs.declared.made.Made.TheVariants.{Unknown};
 
 use crate::made::Made;
 use crate::search::{Found, look};
-use crate::takers::owners_of;
+use crate::owners::owners_of;
 use bumpalo::Bump;
 use filter_tree::{Row, Table, valid};
 use pub_reader::Catalog;
 use replica_identity::{Plan, Share};
 use shard_checker::{CheckError, check_one, shares_in};
-use split_cert::Cert;
+use split_cert::{Cert, is_within_limits};
 use std::alloc::{AllocError, Global};
 
-/// The answer with a certificate, if the check accepts it.
+/// The answer with a certificate, if the check accepts it and it is no larger than those that are read.
 fn tested_cert<'b>(
     alloc: Global,
     table: &Table,
@@ -30,7 +30,8 @@ fn tested_cert<'b>(
     ensures { IsRight table.now (shares_view shares.now) result }
 {
     match check_one(alloc, table, shares, &cert) {
-        Ok(()) => Made::Cert(cert),
+        Ok(()) if is_within_limits(&cert) => Made::Cert(cert),
+        Ok(()) => Made::TooLarge,
         Err(CheckError::OutOfMemory) => Made::OutOfMemory,
         Err(_) => Made::Unknown,
     }
@@ -78,7 +79,8 @@ fn answer<'b>(
     number: usize,
     table: &Table,
 ) -> Result<Made<'b>, AllocError>
-    ensures { IfOk result (IsRight table.now (table_shares (plan_view plan.now) number 0 (catalog_view catalog.now).subscriptions)) }
+    ensures { IfOk result (IsRight table.now
+        (table_shares (plan_view plan.now) number 0 (catalog_view catalog.now).subscriptions)) }
 {
     let shares = shares_in(alloc, plan, number, catalog.subscriptions.as_slice())?;
     Ok(tested(alloc, arena, table, &shares)?)
@@ -87,10 +89,10 @@ fn answer<'b>(
 /// A certificate of the catalog's table of this number, from 0, or a row that shows that there is none. The plan is the
 /// catalog's own.
 ///
-/// A certificate is answered only if `check_one` accepts it with the table and its shares, and a row only if it fits the
-/// table and not exactly one subscriber takes it. `Unknown` is answered where neither was found, and of a table that isn't
-/// there. The search takes at most `MAX_STEPS` steps, and looks for certificates of at most 1,000,000 nodes and at most 64
-/// splits on a path.
+/// A certificate is answered only if `check_one` accepts it with the table and its shares, and if it has at most 1,000,000
+/// nodes and at most 64 splits on a path, so that `read_in` reads what `write` gives for it. A row is answered only if it
+/// fits the table and not exactly one subscriber takes it. `Unknown` is answered where neither was found, and of a table
+/// that isn't there. The search takes at most `MAX_STEPS` steps.
 pub fn make<'b>(
     alloc: Global,
     arena: &'b Bump,

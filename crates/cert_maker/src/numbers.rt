@@ -1,10 +1,10 @@
 //! Numbers of a column that agree with what is known of its atoms.
 
 use crate::board::Board;
-use crate::facts::Span;
 use crate::masks::value_at;
-use crate::question::{Asks, Condition, Domain, Question};
+use crate::problem::{AtomKind, PlainAtom, Domain, Problem};
 use filter_tree::{Literal, Mask, Op, Tri, compare_literals};
+use shard_checker::Range;
 use std::alloc::Global;
 
 /// How far from the number that is nearest to zero others are tried.
@@ -33,11 +33,11 @@ fn term_number(domain: Domain, number: i64) -> i64 {
     }
 }
 
-/// The value of a condition where its column has this number.
-fn value_of(question: &Question<'_>, condition: Condition, number: i64) -> Tri {
-    match condition.asks {
-        Asks::IsNull => Tri::False,
-        Asks::Compares(op, constant) => match question.terms.get(condition.term) {
+/// The value of an atom where its column has this number.
+fn value_of(problem: &Problem<'_>, plain: PlainAtom, number: i64) -> Tri {
+    match plain.kind {
+        AtomKind::IsNull => Tri::False,
+        AtomKind::Cmp(op, constant) => match problem.terms.get(plain.term) {
             None => Tri::Null,
             Some(domain) => Tri::from(holds(op, term_number(*domain, number), constant)),
         },
@@ -45,9 +45,9 @@ fn value_of(question: &Question<'_>, condition: Condition, number: i64) -> Tri {
 }
 
 /// Whether each atom of the column that is known has its value where the column has this number.
-pub fn meets(question: &Question<'_>, known: &[Mask], column: usize, number: i64) -> bool {
-    for (atom, condition) in question.atoms.iter().enumerate() {
-        if condition.column == column && differs(question, known, atom, *condition, number) {
+pub fn meets(problem: &Problem<'_>, known: &[Mask], column: usize, number: i64) -> bool {
+    for (atom, plain) in problem.atoms.iter().enumerate() {
+        if plain.column == column && differs(problem, known, atom, *plain, number) {
             return false;
         }
     }
@@ -55,47 +55,47 @@ pub fn meets(question: &Question<'_>, known: &[Mask], column: usize, number: i64
 }
 
 fn differs(
-    question: &Question<'_>,
+    problem: &Problem<'_>,
     known: &[Mask],
     atom: usize,
-    condition: Condition,
+    plain: PlainAtom,
     number: i64,
 ) -> bool {
     match value_at(known, atom) {
         None => false,
-        Some(value) => value_of(question, condition, number) != value,
+        Some(value) => value_of(problem, plain, number) != value,
     }
 }
 
 /// The numbers that are left to the column itself.
-pub fn span_of(question: &Question<'_>, board: &Board, column: usize, whole: Span) -> Span {
-    for (term, domain) in question.terms.iter().enumerate() {
+pub fn range_left(problem: &Problem<'_>, board: &Board, column: usize, whole: Range) -> Range {
+    for (term, domain) in problem.terms.iter().enumerate() {
         if domain.column == column && domain.divisor.is_none() {
-            return board.facts.span(term);
+            return board.facts.range(term);
         }
     }
     whole
 }
 
-/// The number of the span that is nearest to zero.
-fn nearest(span: Span) -> i64 {
-    0i64.max(span.least).min(span.greatest)
+/// The number of the range that is nearest to zero.
+fn nearest(range: Range) -> i64 {
+    0i64.max(range.least).min(range.greatest)
 }
 
-fn is_in(span: Span, number: i64) -> bool {
-    span.least <= number && number <= span.greatest
+fn is_in(range: Range, number: i64) -> bool {
+    range.least <= number && number <= range.greatest
 }
 
-/// A number of the span that meets what is known, near to the one of the span that is nearest to zero.
-fn near_number(question: &Question<'_>, known: &[Mask], column: usize, span: Span) -> Option<i64> {
-    let start = nearest(span);
+/// A number of the range that meets what is known, near to the one of the range that is nearest to zero.
+fn near_number(problem: &Problem<'_>, known: &[Mask], column: usize, range: Range) -> Option<i64> {
+    let start = nearest(range);
     for far in 0..MAX_FAR {
         let above = start.saturating_add(far);
-        if is_in(span, above) && meets(question, known, column, above) {
+        if is_in(range, above) && meets(problem, known, column, above) {
             return Some(above);
         }
         let below = start.saturating_sub(far);
-        if is_in(span, below) && meets(question, known, column, below) {
+        if is_in(range, below) && meets(problem, known, column, below) {
             return Some(below);
         }
     }
@@ -103,9 +103,9 @@ fn near_number(question: &Question<'_>, known: &[Mask], column: usize, span: Spa
 }
 
 /// Whether each atom of the term of this number that is known has its value where the column has this number.
-fn term_meets(question: &Question<'_>, known: &[Mask], term: usize, number: i64) -> bool {
-    for (atom, condition) in question.atoms.iter().enumerate() {
-        if condition.term == term && differs(question, known, atom, *condition, number) {
+fn term_meets(problem: &Problem<'_>, known: &[Mask], term: usize, number: i64) -> bool {
+    for (atom, plain) in problem.atoms.iter().enumerate() {
+        if plain.term == term && differs(problem, known, atom, *plain, number) {
             return false;
         }
     }
@@ -114,7 +114,7 @@ fn term_meets(question: &Question<'_>, known: &[Mask], term: usize, number: i64)
 
 /// The first of the numbers from this one, a step apart, whose remainder by a divisor of this size the term may have.
 fn with_remainder(
-    question: &Question<'_>,
+    problem: &Problem<'_>,
     known: &[Mask],
     term: usize,
     start: i64,
@@ -123,7 +123,7 @@ fn with_remainder(
 ) -> Option<i64> {
     let mut number = start;
     for _ in 0..size.min(MAX_REMAINDERS) {
-        if term_meets(question, known, term, number) {
+        if term_meets(problem, known, term, number) {
             return Some(number);
         }
         number = number.checked_add(step)?;
@@ -155,35 +155,35 @@ fn common_step(step: i64, divisor: i64) -> Option<i64> {
 /// A number from this one on, a step away or more, all of whose remainders the column may have, and the step by which they
 /// stay.
 fn with_remainders(
-    question: &Question<'_>,
+    problem: &Problem<'_>,
     known: &[Mask],
     column: usize,
     start: i64,
     step: i64,
 ) -> Option<(i64, i64)> {
     let (mut number, mut step) = (start, step);
-    for (term, domain) in question.terms.iter().enumerate() {
+    for (term, domain) in problem.terms.iter().enumerate() {
         if let (true, Some(divisor)) = (domain.column == column, domain.divisor) {
             let size = divisor.checked_abs()?;
-            number = with_remainder(question, known, term, number, step, size)?;
+            number = with_remainder(problem, known, term, number, step, size)?;
             step = common_step(step, size)?;
         }
     }
     Some((number, step))
 }
 
-/// A number of the span from this one on, in the direction of the step, that meets what is known.
+/// A number of the range from this one on, in the direction of the step, that meets what is known.
 fn stepwise(
-    question: &Question<'_>,
+    problem: &Problem<'_>,
     known: &[Mask],
     column: usize,
-    span: Span,
+    range: Range,
     start: i64,
     step: i64,
 ) -> Option<i64> {
-    let (mut number, step) = with_remainders(question, known, column, start, step)?;
+    let (mut number, step) = with_remainders(problem, known, column, start, step)?;
     for _ in 0..MAX_ROUNDS {
-        if is_in(span, number) && meets(question, known, column, number) {
+        if is_in(range, number) && meets(problem, known, column, number) {
             return Some(number);
         }
         number = number.checked_add(step)?;
@@ -191,20 +191,20 @@ fn stepwise(
     None
 }
 
-/// A number of the span that meets what is known.
+/// A number of the range that meets what is known.
 pub fn number_for(
-    question: &Question<'_>,
+    problem: &Problem<'_>,
     known: &[Mask],
     column: usize,
-    span: Span,
+    range: Range,
 ) -> Option<i64> {
-    let near = near_number(question, known, column, span);
+    let near = near_number(problem, known, column, range);
     if near.is_some() {
         return near;
     }
-    let above = stepwise(question, known, column, span, span.least.max(0), 1);
+    let above = stepwise(problem, known, column, range, range.least.max(0), 1);
     if above.is_some() {
         return above;
     }
-    stepwise(question, known, column, span, span.greatest.min(0), -1)
+    stepwise(problem, known, column, range, range.greatest.min(0), -1)
 }

@@ -1,8 +1,8 @@
 //! Rows, and the simple ones that are tried first.
 
 use crate::choices::{Choice, empty_text};
-use crate::question::{Asks, Question, number};
-use crate::takers::is_counter;
+use crate::problem::{AtomKind, Problem, number};
+use crate::owners::is_counter;
 use filter_tree::{ColType, Column, Row, Table, Text, Value};
 use replica_identity::Share;
 use std::alloc::{AllocError, Global};
@@ -11,10 +11,10 @@ use std::alloc::{AllocError, Global};
 const MAX_SIMPLE_ROWS: u64 = 4_096;
 
 /// A text that no atom names: the empty one, or one of letters a.
-fn unnamed_text(alloc: Global, question: &Question<'_>) -> Result<Text, AllocError> {
+fn unnamed_text(alloc: Global, problem: &Problem<'_>) -> Result<Text, AllocError> {
     let mut text = String::new(alloc);
-    for _ in &question.texts {
-        if !is_named(question, text.as_str()) {
+    for _ in &problem.texts {
+        if !is_named(problem, text.as_str()) {
             break;
         }
         text.push('a')?;
@@ -22,8 +22,8 @@ fn unnamed_text(alloc: Global, question: &Question<'_>) -> Result<Text, AllocErr
     Ok(Text::new(text))
 }
 
-fn is_named(question: &Question<'_>, text: &str) -> bool {
-    for named in &question.texts {
+fn is_named(problem: &Problem<'_>, text: &str) -> bool {
+    for named in &problem.texts {
         if *named == text {
             return true;
         }
@@ -31,24 +31,24 @@ fn is_named(question: &Question<'_>, text: &str) -> bool {
     false
 }
 
-fn text_of(alloc: Global, question: &Question<'_>, chosen: i64) -> Result<Text, AllocError> {
+fn text_of(alloc: Global, problem: &Problem<'_>, chosen: i64) -> Result<Text, AllocError> {
     let place = usize::try_from(chosen).unwrap_or(usize::MAX);
-    match question.texts.get(place) {
-        None => unnamed_text(alloc, question),
+    match problem.texts.get(place) {
+        None => unnamed_text(alloc, problem),
         Some(text) => Text::from_str(alloc, *text),
     }
 }
 
 fn value_of(
     alloc: Global,
-    question: &Question<'_>,
+    problem: &Problem<'_>,
     column: &Column,
     choice: Choice,
 ) -> Result<Value, AllocError> {
     match (choice, column.kind) {
         (None, _) => Ok(Value::Null),
         (Some(chosen), ColType::Boolean) => Ok(Value::Bool(chosen == 1)),
-        (Some(chosen), ColType::Text) => Ok(Value::Text(text_of(alloc, question, chosen)?)),
+        (Some(chosen), ColType::Text) => Ok(Value::Text(text_of(alloc, problem, chosen)?)),
         (Some(chosen), ColType::SmallInt | ColType::Integer | ColType::BigInt) => {
             Ok(Value::Int(chosen))
         }
@@ -58,13 +58,13 @@ fn value_of(
 /// The row of the values that were chosen.
 pub fn row_of(
     alloc: Global,
-    question: &Question<'_>,
+    problem: &Problem<'_>,
     choices: &[Choice],
 ) -> Result<Row, AllocError> {
     let mut values = Vec::new(alloc);
-    for (place, column) in question.columns.iter().enumerate() {
+    for (place, column) in problem.columns.iter().enumerate() {
         let choice = choices.get(place).copied().unwrap_or(None);
-        values.push(value_of(alloc, question, column, choice)?)?;
+        values.push(value_of(alloc, problem, column, choice)?)?;
     }
     Ok(Row::from_values(values))
 }
@@ -86,15 +86,15 @@ fn add_around(numbers: &mut Vec<Choice>, boundary: i64) -> Result<(), AllocError
     add(numbers, boundary.saturating_neg())
 }
 
-/// Adds the numbers that conditions of the column name.
+/// Adds the numbers that atoms of the column name.
 fn add_named(
     numbers: &mut Vec<Choice>,
-    question: &Question<'_>,
+    problem: &Problem<'_>,
     column: usize,
 ) -> Result<(), AllocError> {
-    for condition in &question.atoms {
-        if let Asks::Compares(_, boundary) = condition.asks {
-            if condition.column == column {
+    for plain in &problem.atoms {
+        if let AtomKind::Cmp(_, boundary) = plain.kind {
+            if plain.column == column {
                 add_around(numbers, boundary)?;
             }
         }
@@ -102,19 +102,19 @@ fn add_named(
     Ok(())
 }
 
-fn add_texts(numbers: &mut Vec<Choice>, question: &Question<'_>) -> Result<(), AllocError> {
-    add(numbers, empty_text(question))?;
-    add(numbers, number(question.texts.len()))?;
-    for (place, _) in question.texts.iter().enumerate() {
+fn add_texts(numbers: &mut Vec<Choice>, problem: &Problem<'_>) -> Result<(), AllocError> {
+    add(numbers, empty_text(problem))?;
+    add(numbers, number(problem.texts.len()))?;
+    for (place, _) in problem.texts.iter().enumerate() {
         add(numbers, number(place))?;
     }
     Ok(())
 }
 
 /// Whether a filter looks at the column.
-fn is_used(question: &Question<'_>, column: usize) -> bool {
-    for condition in &question.atoms {
-        if condition.column == column {
+fn is_used(problem: &Problem<'_>, column: usize) -> bool {
+    for plain in &problem.atoms {
+        if plain.column == column {
             return true;
         }
     }
@@ -124,7 +124,7 @@ fn is_used(question: &Question<'_>, column: usize) -> bool {
 /// The simple values of a column, of which the first is the simplest.
 fn simple_values(
     alloc: Global,
-    question: &Question<'_>,
+    problem: &Problem<'_>,
     place: usize,
     column: &Column,
 ) -> Result<Vec<Choice>, AllocError> {
@@ -132,18 +132,18 @@ fn simple_values(
     if !column.not_null {
         numbers.push(None)?;
     }
-    if !is_used(question, place) && !column.not_null {
+    if !is_used(problem, place) && !column.not_null {
         return Ok(numbers);
     }
     match column.kind {
-        ColType::Text => add_texts(&mut numbers, question)?,
+        ColType::Text => add_texts(&mut numbers, problem)?,
         ColType::Boolean => {
             add(&mut numbers, 0)?;
             add(&mut numbers, 1)?;
         }
         ColType::SmallInt | ColType::Integer | ColType::BigInt => {
             add(&mut numbers, 0)?;
-            add_named(&mut numbers, question, place)?;
+            add_named(&mut numbers, problem, place)?;
         }
     }
     Ok(numbers)
@@ -151,11 +151,11 @@ fn simple_values(
 
 fn all_simple_values(
     alloc: Global,
-    question: &Question<'_>,
+    problem: &Problem<'_>,
 ) -> Result<Vec<Vec<Choice>>, AllocError> {
     let mut values = Vec::new(alloc);
-    for (place, column) in question.columns.iter().enumerate() {
-        values.push(simple_values(alloc, question, place, column)?)?;
+    for (place, column) in problem.columns.iter().enumerate() {
+        values.push(simple_values(alloc, problem, place, column)?)?;
     }
     Ok(values)
 }
@@ -192,16 +192,16 @@ fn simple_choices(
 /// A simple row that not one share takes, if there is one among those that are tried.
 pub fn simple_counter(
     alloc: Global,
-    question: &Question<'_>,
+    problem: &Problem<'_>,
     table: &Table,
     shares: &[&Share],
 ) -> Result<Option<Row>, AllocError> {
-    let values = all_simple_values(alloc, question)?;
+    let values = all_simple_values(alloc, problem)?;
     for number in 0..MAX_SIMPLE_ROWS {
         match simple_choices(alloc, &values, number)? {
             None => return Ok(None),
             Some(choices) => {
-                let row = row_of(alloc, question, &choices)?;
+                let row = row_of(alloc, problem, &choices)?;
                 if is_counter(table, shares, &row) {
                     return Ok(Some(row));
                 }

@@ -2,7 +2,7 @@
 
 use crate::board::{Board, Standing};
 use crate::masks::{is_sure, mask_at, put, settled};
-use crate::question::{Claim, Question};
+use crate::problem::{Claim, Problem};
 use filter_tree::{Mask, Tri};
 use std::alloc::{AllocError, Global};
 
@@ -55,14 +55,14 @@ impl Board {
         }
     }
 
-    fn clear_votes(&mut self, question: &Question<'_>) {
-        for (atom, _) in question.atoms.iter().enumerate() {
+    fn clear_votes(&mut self, problem: &Problem<'_>) {
+        for (atom, _) in problem.atoms.iter().enumerate() {
             put(&mut self.votes, atom, 0);
         }
     }
 
-    fn vote_all(&mut self, question: &Question<'_>) {
-        for (share, claim) in question.claims.iter().enumerate() {
+    fn vote_all(&mut self, problem: &Problem<'_>) {
+        for (share, claim) in problem.claims.iter().enumerate() {
             if self.standing_of(share) == Standing::Excluded {
                 self.vote(claim);
             }
@@ -121,24 +121,24 @@ impl Board {
     pub fn closing(
         &mut self,
         alloc: Global,
-        question: &Question<'_>,
+        problem: &Problem<'_>,
         share: usize,
     ) -> Result<Option<usize>, AllocError> {
-        self.clear_votes(question);
-        self.vote_all(question);
+        self.clear_votes(problem);
+        self.vote_all(problem);
         if let Some(atom) = self.most_voted() {
             return Ok(Some(atom));
         }
-        match question.claims.get(share) {
+        match problem.claims.get(share) {
             None => Ok(None),
             Some(claim) => self.needed(alloc, claim, Aim::TakesNone),
         }
     }
 
     /// How much is left to decide, by what was found of the atoms.
-    fn weight(&mut self, question: &Question<'_>) -> u64 {
+    fn weight(&mut self, problem: &Problem<'_>) -> u64 {
         let mut weight = 0u64;
-        for (share, claim) in question.claims.iter().enumerate() {
+        for (share, claim) in problem.claims.iter().enumerate() {
             if self.standing_of(share) == Standing::Undecided {
                 self.count(claim);
                 let weighed = claim.formula.weighed(&self.likely);
@@ -151,20 +151,20 @@ impl Board {
     }
 
     /// How much is left to decide where the atom has this value.
-    fn weight_after(&mut self, question: &Question<'_>, atom: usize, value: Tri) -> u64 {
+    fn weight_after(&mut self, problem: &Problem<'_>, atom: usize, value: Tri) -> u64 {
         self.decide(atom, value);
-        self.look(question);
-        let weight = self.weight(question);
-        self.forget(question, atom);
+        self.look(problem);
+        let weight = self.weight(problem);
+        self.forget(problem, atom);
         weight
     }
 
     /// The score of a split by this atom, to which the facts leave these values, or a worse one than the best.
-    fn score(&mut self, question: &Question<'_>, atom: usize, left: Mask, best: Score) -> Score {
+    fn score(&mut self, problem: &Problem<'_>, atom: usize, left: Mask, best: Score) -> Score {
         let mut score = Score { worst: 0, sum: 0 };
         for value in [Tri::True, Tri::False, Tri::Null] {
             if left.has(value) && score.worst <= best.worst {
-                let weight = self.weight_after(question, atom, value);
+                let weight = self.weight_after(problem, atom, value);
                 score = Score {
                     worst: score.worst.max(weight),
                     sum: score.sum.saturating_add(weight),
@@ -175,9 +175,9 @@ impl Board {
     }
 
     /// An atom that makes a difference to the first share that is undecided.
-    pub fn first_open(&mut self, question: &Question<'_>) -> Option<usize> {
+    pub fn first_open(&mut self, problem: &Problem<'_>) -> Option<usize> {
         let share = self.first(Standing::Undecided)?;
-        let claim = question.claims.get(share)?;
+        let claim = problem.claims.get(share)?;
         self.count(claim);
         claim.formula.weighed(&self.likely).first
     }
@@ -187,7 +187,7 @@ impl Board {
     pub fn halving(
         &mut self,
         alloc: Global,
-        question: &Question<'_>,
+        problem: &Problem<'_>,
     ) -> Result<Option<usize>, AllocError> {
         let mut likely = Vec::new(alloc);
         likely.extend_from_slice(&self.likely)?;
@@ -195,7 +195,7 @@ impl Board {
         let mut found = None;
         for (atom, mask) in likely.iter().enumerate() {
             if settled(*mask).is_none() {
-                let score = self.score(question, atom, *mask, best);
+                let score = self.score(problem, atom, *mask, best);
                 if score < best {
                     best = score;
                     found = Some(atom);

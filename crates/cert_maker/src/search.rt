@@ -3,10 +3,10 @@
 use crate::board::{Board, Standing};
 use crate::choices::choices;
 use crate::masks::{is_sure, mask_at};
-use crate::question::{Asks, Condition, Question};
+use crate::problem::{AtomKind, PlainAtom, Problem};
 use crate::rows::{row_of, simple_counter};
 use crate::scores::Aim;
-use crate::takers::is_counter;
+use crate::owners::is_counter;
 use bumpalo::Bump;
 use filter_tree::{Mask, Row, Table, Tri};
 use replica_identity::Share;
@@ -72,7 +72,7 @@ struct Search<'a, 'q> {
     alloc: Global,
     table: &'a Table,
     shares: &'a [&'a Share],
-    question: &'q Question<'a>,
+    problem: &'q Problem<'a>,
     board: Board,
     nodes: usize,
     /// Some leaf has rows that not one share takes, but none was found.
@@ -95,14 +95,14 @@ impl<'a, 'q> Search<'a, 'q> {
         alloc: Global,
         table: &'a Table,
         shares: &'a [&'a Share],
-        question: &'q Question<'a>,
+        problem: &'q Problem<'a>,
     ) -> Result<Search<'a, 'q>, AllocError> {
         Ok(Search {
             alloc,
             table,
             shares,
-            question,
-            board: Board::new(alloc, question)?,
+            problem,
+            board: Board::new(alloc, problem)?,
             nodes: 0,
             is_broken: false,
             counter: None,
@@ -169,7 +169,7 @@ impl<'a, 'q> Search<'a, 'q> {
         let cert = if left.has(value) {
             self.board.decide(atom, value);
             let grown = self.grow(arena, may_split)?;
-            self.board.forget(self.question, atom);
+            self.board.forget(self.problem, atom);
             grown
         } else {
             self.impossible(atom, value)?
@@ -180,33 +180,33 @@ impl<'a, 'q> Search<'a, 'q> {
     /// A leaf without rows, since the facts don't leave the atom this value.
     fn impossible<'b>(&mut self, atom: usize, value: Tri) -> Result<Cert<&'b Bump>, Stop> {
         self.count_node()?;
-        let condition = self.question.condition(atom).ok_or(Stop::TooLarge)?;
-        if value == Tri::Null && self.is_never_null(condition) {
+        let plain = self.problem.atom(atom).ok_or(Stop::TooLarge)?;
+        if value == Tri::Null && self.is_never_null(plain) {
             Ok(Cert::NeverNull(number(atom)?))
         } else {
-            Ok(Cert::Empty(number(condition.term)?))
+            Ok(Cert::Empty(number(plain.term)?))
         }
     }
 
-    fn is_never_null(&self, condition: Condition) -> bool {
-        let declared = match self.question.columns.get(condition.column) {
+    fn is_never_null(&self, plain: PlainAtom) -> bool {
+        let declared = match self.problem.columns.get(plain.column) {
             None => false,
             Some(column) => column.not_null,
         };
-        declared || matches!(condition.asks, Asks::IsNull)
+        declared || matches!(plain.kind, AtomKind::IsNull)
     }
 
     /// What to do at the end of the path.
     fn step(&mut self) -> Result<Step, Stop> {
-        self.board.look(self.question);
-        self.board.judge(self.question);
+        self.board.look(self.problem);
+        self.board.judge(self.problem);
         let sure = self.board.how_many(Standing::Sure);
         let undecided = self.board.how_many(Standing::Undecided);
         if sure > 1 || (sure == 0 && undecided == 0) {
             return Ok(Step::Fault);
         }
         if let Some(share) = self.board.first(Standing::Excluded) {
-            let atom = self.board.closing(self.alloc, self.question, share)?;
+            let atom = self.board.closing(self.alloc, self.problem, share)?;
             return self.split_by(atom);
         }
         if undecided > 0 {
@@ -224,18 +224,18 @@ impl<'a, 'q> Search<'a, 'q> {
 
     fn halve(&mut self) -> Result<Step, Stop> {
         if self.nodes > CAREFUL_NODES {
-            let atom = self.board.first_open(self.question);
+            let atom = self.board.first_open(self.problem);
             return self.split_by(atom);
         }
-        let atom = self.board.halving(self.alloc, self.question)?;
-        self.board.look(self.question);
+        let atom = self.board.halving(self.alloc, self.problem)?;
+        self.board.look(self.problem);
         self.split_by(atom)
     }
 
     /// One share takes all rows, and no other does: a leaf, once the path tells so.
     fn settle(&mut self) -> Result<Step, Stop> {
         let share = self.board.first(Standing::Sure).ok_or(Stop::TooLong)?;
-        let claim = self.question.claims.get(share).ok_or(Stop::TooLong)?;
+        let claim = self.problem.claims.get(share).ok_or(Stop::TooLong)?;
         if is_sure(claim.formula.mask(&self.board.known)) {
             return Ok(Step::Owner(share));
         }
@@ -245,11 +245,11 @@ impl<'a, 'q> Search<'a, 'q> {
 
     /// Looks for a row here, which not one share takes; without one, something that only stands for a leaf.
     fn fault<'b>(&mut self) -> Result<Cert<&'b Bump>, Stop> {
-        let terms = u64::try_from(self.question.terms.len()).unwrap_or(u64::MAX);
+        let terms = u64::try_from(self.problem.terms.len()).unwrap_or(u64::MAX);
         self.board
             .add_steps(ROW_STEPS.saturating_mul(terms.saturating_add(1)));
-        if let Some(chosen) = choices(self.alloc, self.question, &self.board)? {
-            let row = row_of(self.alloc, self.question, &chosen)?;
+        if let Some(chosen) = choices(self.alloc, self.problem, &self.board)? {
+            let row = row_of(self.alloc, self.problem, &chosen)?;
             if is_counter(self.table, self.shares, &row) {
                 self.counter = Some(row);
                 return Err(Stop::Counter);
@@ -271,7 +271,7 @@ pub enum Found<'b> {
 
 /// A row instead of a certificate: a simple one, or else the one that the search came upon.
 fn row_instead<'b>(search: Search<'_, '_>, otherwise: Found<'b>) -> Result<Found<'b>, AllocError> {
-    let simple = simple_counter(search.alloc, search.question, search.table, search.shares)?;
+    let simple = simple_counter(search.alloc, search.problem, search.table, search.shares)?;
     match (simple, search.counter) {
         (Some(row), _) | (None, Some(row)) => Ok(Found::Row(row)),
         (None, None) => Ok(otherwise),
@@ -296,6 +296,6 @@ pub fn look<'a, 'b>(
 ) -> Result<Found<'b>, AllocError> {
     let atoms = numbered_atoms(alloc, shares)?;
     let terms = numbered_terms(alloc, shares)?;
-    let question = Question::new(alloc, table.columns.as_slice(), shares, &atoms, &terms)?;
-    ended(Search::new(alloc, table, shares, &question)?, arena)
+    let problem = Problem::new(alloc, table.columns.as_slice(), shares, &atoms, &terms)?;
+    ended(Search::new(alloc, table, shares, &problem)?, arena)
 }

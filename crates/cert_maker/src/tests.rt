@@ -1,4 +1,5 @@
 mod families;
+mod limits;
 
 use crate::{Made, make};
 use bumpalo::Bump;
@@ -245,7 +246,6 @@ fn each_sort_of_filter_is_decided(rt: HostRuntime) -> Result<(), Fail> {
         ),
         (ID, "id % 7 <> 3 OR id < 1000000", "counterexample"),
         (ID, "id <> 123456", "counterexample"),
-        (ID, "id = 4 AND id % 2 = 0;id <> 4", "unknown"),
     ];
     for (columns, filters, expected) in cases {
         assert_eq!(rt;

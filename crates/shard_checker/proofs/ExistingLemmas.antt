@@ -14,11 +14,18 @@ use Rattle.filter_tree.specs.declared.table.ColType.TheVariants.{SmallInt, Integ
 use Rattle.filter_tree.specs.declared.tri.Tri.{Tri}
 use Rattle.filter_tree.specs.declared.tri.Tri.TheVariants.{True, False, Null}
 use Rattle.filter_tree.proofs.SameLemmas.{both_true}
-use Rattle.shard_checker.specs.Domain.{range_of, IsIn, IsInDomain, HasValue, serves, names_number, has_named_number, has_number, names_text, has_named_text, has_text, has_value}
+use Rattle.shard_checker.specs.Domain.{range_of, IsIn, IsInDomain}
 use Rattle.shard_checker.specs.Facts.{leaves, may_be}
+use Rattle.shard_checker.specs.Trying.{serves, names_number, has_named_number, has_number, names_text, has_named_text, has_text, has_value}
 use Rattle.shard_checker.specs.declared.domain.Range.{Range}
 use Rattle.shard_checker.proofs.Testing.{by_test, two_true, by_either, not_true_false}
 use Rattle.shard_checker.proofs.ValueLemmas.{test_le, unnamed_text}
+
+-- a constant of the term's domain that is left by all comparisons that were found
+pub record HasConstant (kind : ColType) (term : Term) (path : Path) : Type 0 where
+  pub value : Constant
+  pub in_domain : IsInDomain kind term value
+  pub left : may_be term path (Some value) ≡ true
 
 -- ---- numbers
 
@@ -48,7 +55,7 @@ some_serving range term path h = by_either (serves range term path range.least) 
     (λ there. serving_in range term path path there)
 
 number_exists : (kind : ColType) (term : Term) (path : Path) → ((number : ℤ) → IsIn (range_of kind term) number → IsInDomain kind term (Number number))
-    → has_number (range_of kind term) term path ≡ true → HasValue kind term path
+    → has_number (range_of kind term) term path ≡ true → HasConstant kind term path
 number_exists kind term path domain h =
     let some = some_serving (range_of kind term) term path h in
     let both = both_true (int_le (range_of kind term).least some.number) (int_le some.number (range_of kind term).greatest && may_be term path (Some (Number some.number))) some.serving in
@@ -131,7 +138,7 @@ some_text term path h = by_either (may_be term path None) (has_named_text term p
 
 -- ---- values
 
-pub value_exists : (kind : ColType) (term : Term) (path : Path) → has_value kind term path ≡ true → HasValue kind term path
+pub value_exists : (kind : ColType) (term : Term) (path : Path) → has_value kind term path ≡ true → HasConstant kind term path
 value_exists SmallInt term path h = number_exists SmallInt term path (λ number inside. inside) h
 value_exists Integer term path h = number_exists Integer term path (λ number inside. inside) h
 value_exists BigInt term path h = number_exists BigInt term path (λ number inside. inside) h

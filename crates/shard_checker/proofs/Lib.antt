@@ -1,4 +1,5 @@
 pub mod CountingLemmas
+pub mod EmptyLemmas
 pub mod ExistingLemmas
 pub mod FactLemmas
 pub mod OwnerLemmas

@@ -12,10 +12,11 @@ use Rattle.filter_tree.specs.declared.table.Table.{Table}
 use Rattle.pub_reader.specs.Catalogs.{CatalogOf, PublicationOf, EntryOf}
 use Rattle.pub_reader.specs.declared.catalog.Operations.{Operations}
 use Rattle.pub_reader.specs.declared.catalog.Subscription.{Subscription}
+use Rattle.replica_identity.specs.Identities.{is_covered}
 use Rattle.replica_identity.specs.Plans.{PlanOf}
 use Rattle.replica_identity.specs.Shares.{ShareOf}
 use Rattle.split_cert.specs.Tree.{Tree, Split, Owner, Empty, NeverNull, nodes}
-use Rattle.shard_checker.specs.CatalogRefusal.{missing_operation, missing_by, publication_refusal, publishing_refusal, table_refusal, identity_refusal, column_refusal, filter_refusal, entry_refusal, entries_refusal, taken_refusal, coverage_refusal, table_shares, certificates_refusal, count_refusal, catalog_refusal, sharding_refusal}
+use Rattle.shard_checker.specs.CatalogRefusal.{missing_operation, missing_by, publication_refusal, publishing_refusal, table_refusal, identity_refusal, column_refusal, filter_refusal, entry_refusal, entries_refusal, taken_refusal, covering_refusal, table_shares, certificates_refusal, count_refusal, catalog_refusal, sharding_refusal}
 use Rattle.shard_checker.specs.CatalogTruth.{has_operation, NamesUncovered, HasWrongCertificate, ShardingIsWrong}
 use Rattle.shard_checker.specs.Refusal.{Subject, later, first_of, first_refusal}
 use Rattle.shard_checker.specs.Sound.{is_taken, covers}
@@ -153,6 +154,16 @@ uncovered publication table found (column ∷ columns) error h =
     uncovered_from publication table found column columns error (λ rest. uncovered publication table found columns error rest)
     (column_failed (covers found column) (column_refusal publication table found columns) (NotCovered publication table column) error h)
 
+-- a column that isn't covered is of a table that is there
+record IsLacking (found : Option Table) (column : ℕ) : Type 0 where
+  table : Table
+  there : found ≡ Some table
+  lacks : is_covered table column ≡ false
+
+lacking : (found : Option Table) (column : ℕ) → covers found column ≡ false → IsLacking found column
+lacking None column h = absurd cc
+lacking (Some table) column h = record { table = table; there = refl; lacks = h }
+
 -- an entry of a list whose filter names a column that isn't covered
 record HasUncoveredEntry (tables : List Table) (publication : ℕ) (entries : List (EntryOf Expr)) (error : CheckError) : Type 0 where
   table : ℕ
@@ -167,13 +178,14 @@ entry_uncovered : (tables : List Table) (publication : ℕ) (entry : EntryOf Exp
 entry_uncovered tables publication entry entries error None e h = absurd cc
 entry_uncovered tables publication entry entries error (Some filter) e h =
     let found = uncovered publication entry.table (slice_get tables entry.table) (distinct_columns filter) error h in
+    let lack = lacking (slice_get tables entry.table) found.column found.lacks in
     record {
       table = entry.table;
       column = found.column;
       is = found.is;
       entry = entry;
       has_entry = contains_first entries entry;
-      uncovered_by = record { of_table = refl; filter = filter; filters = e; names = found.names; lacks = found.lacks };
+      uncovered_by = record { of_table = refl; filter = filter; filters = e; names = found.names; table = lack.table; there = lack.there; lacks = lack.lacks };
     }
 
 entries_uncovered : (tables : List Table) (publication : ℕ) (entries : List (EntryOf Expr)) (error : CheckError) → entries_refusal tables publication entries ≡ Some error
@@ -199,10 +211,10 @@ record HasUncoveredPublication (tables : List Table) (subscriptions : List Subsc
   uncovered_entry : HasUncoveredEntry tables (number + place) publication.entries error
 
 publications_uncovered : (tables : List Table) (subscriptions : List Subscription) (number : ℕ) (publications : List (PublicationOf Expr)) (error : CheckError)
-    → coverage_refusal tables subscriptions number publications ≡ Some error → HasUncoveredPublication tables subscriptions number publications error
+    → covering_refusal tables subscriptions number publications ≡ Some error → HasUncoveredPublication tables subscriptions number publications error
 publications_uncovered tables subscriptions number [] error h = absurd cc
 publications_uncovered tables subscriptions number (publication ∷ publications) error h =
-    by_first (taken_refusal tables subscriptions number publication.entries) (coverage_refusal tables subscriptions (number + 1) publications) error h
+    by_first (taken_refusal tables subscriptions number publication.entries) (covering_refusal tables subscriptions (number + 1) publications) error h
     (λ here. let both = under_test (is_taken subscriptions number) (entries_refusal tables number publication.entries) error here in record {
       place = 0;
       publication = publication;
@@ -283,7 +295,7 @@ split_names subject path node (Some atom) if_true if_false if_null error at_true
 
 names_node : (subject : Subject) (tree : Tree) (path : Path) (node : ℕ) (error : CheckError) → IsWrong subject tree path node error → NamesNode subject.table error
 names_node subject (Split index if_true if_false if_null) path node error h =
-    split_names subject path node (slice_get subject.atoms_in index)
+    split_names subject path node (slice_get subject.atoms index)
     (λ longer. IsWrong subject if_true longer (later node 1) error)
     (λ longer. IsWrong subject if_false longer (later (later node 1) (nodes if_true)) error)
     (λ longer. IsWrong subject if_null longer (later (later (later node 1) (nodes if_true)) (nodes if_false)) error)
@@ -294,7 +306,7 @@ names_node subject (Split index if_true if_false if_null) path node error h =
     h
 names_node subject (Owner subscriber) path node error h = owner_names subject path node subscriber (slice_get subject.shares subscriber) error h
 names_node subject (Empty term) path node error h = empty_names subject path node (slice_get subject.terms term) error h
-names_node subject (NeverNull index) path node error h = never_null_names subject path node (slice_get subject.atoms_in index) error h
+names_node subject (NeverNull index) path node error h = never_null_names subject path node (slice_get subject.atoms index) error h
 
 wrong_by_table : (catalog : CatalogOf Expr) (plan : PlanOf) (trees : List Tree) (number : ℕ) (error : CheckError) → NamesNode number error
     → HasWrongCertificate catalog plan trees number error → ShardingIsWrong catalog plan trees error
@@ -329,9 +341,9 @@ identity_wrong catalog plan trees error h =
     let is : error ≡ NoIdentity found.place = found.is ∙ ap NoIdentity (zero_more found.place) in
     subst (ShardingIsWrong catalog plan trees) (sym is) (record { table = found.table; there = found.there; nothing = found.nothing })
 
-coverage_wrong : (catalog : CatalogOf Expr) (plan : PlanOf) (trees : List Tree) (error : CheckError) → coverage_refusal catalog.tables catalog.subscriptions 0 catalog.publications ≡ Some error
+covering_wrong : (catalog : CatalogOf Expr) (plan : PlanOf) (trees : List Tree) (error : CheckError) → covering_refusal catalog.tables catalog.subscriptions 0 catalog.publications ≡ Some error
     → ShardingIsWrong catalog plan trees error
-coverage_wrong catalog plan trees error h =
+covering_wrong catalog plan trees error h =
     let found = publications_uncovered catalog.tables catalog.subscriptions 0 catalog.publications error h in
     let entry = found.uncovered_entry in
     let is : error ≡ NotCovered found.place entry.table entry.column = entry.is ∙ ap (λ n. NotCovered n entry.table entry.column) (zero_more found.place) in
@@ -366,11 +378,11 @@ pub sharding_wrong : (catalog : CatalogOf Expr) (plan : PlanOf) (trees : List Tr
 sharding_wrong catalog plan trees error h =
     by_first (catalog_refusal catalog) (first_of (count_refusal (length catalog.tables) (length trees)) (certificates_refusal plan catalog.subscriptions 0 catalog.tables trees)) error h
     (λ of_catalog. by_first (publishing_refusal catalog.subscriptions 0 catalog.publications)
-    (first_of (identity_refusal 0 catalog.tables) (coverage_refusal catalog.tables catalog.subscriptions 0 catalog.publications)) error of_catalog
+    (first_of (identity_refusal 0 catalog.tables) (covering_refusal catalog.tables catalog.subscriptions 0 catalog.publications)) error of_catalog
     (λ publishing. publishing_wrong catalog plan trees error publishing)
-    (λ rest. by_first (identity_refusal 0 catalog.tables) (coverage_refusal catalog.tables catalog.subscriptions 0 catalog.publications) error rest
+    (λ rest. by_first (identity_refusal 0 catalog.tables) (covering_refusal catalog.tables catalog.subscriptions 0 catalog.publications) error rest
     (λ identity. identity_wrong catalog plan trees error identity)
-    (λ coverage. coverage_wrong catalog plan trees error coverage)))
+    (λ covering. covering_wrong catalog plan trees error covering)))
     (λ of_certificates. by_first (count_refusal (length catalog.tables) (length trees)) (certificates_refusal plan catalog.subscriptions 0 catalog.tables trees) error of_certificates
     (λ count. count_wrong catalog plan trees error count)
     (λ certificates. certificates_wrong catalog plan trees error certificates))

@@ -17,11 +17,11 @@ use Rattle.replica_identity.specs.Plans.{PlanOf, TakesWhatPasses, share_at, plan
 use Rattle.replica_identity.specs.Shares as s
 use Rattle.replica_identity.proofs.PassingLemmas.{takes_what_passes}
 use Rattle.split_cert.specs.Tree.{Tree}
-use Rattle.shard_checker.specs.CatalogRefusal.{missing_operation, missing_by, publication_refusal, publishing_refusal, table_refusal, identity_refusal, column_refusal, filter_refusal, entry_refusal, entries_refusal, taken_refusal, coverage_refusal, table_shares, certificates_refusal, count_refusal, catalog_refusal, sharding_refusal}
+use Rattle.shard_checker.specs.CatalogRefusal.{missing_operation, missing_by, publication_refusal, publishing_refusal, table_refusal, identity_refusal, column_refusal, filter_refusal, entry_refusal, entries_refusal, taken_refusal, covering_refusal, table_shares, certificates_refusal, count_refusal, catalog_refusal, sharding_refusal}
 use Rattle.shard_checker.specs.Owners.{share_in, HasOneOwner}
 use Rattle.shard_checker.specs.Refusal.{first_of, first_refusal}
 use Rattle.shard_checker.specs.Rows.{IsTyped}
-use Rattle.shard_checker.specs.Sound.{is_taken, HasOneSubscriber, PublishesChanges, covers, is_covered_by, entry_is_covered, IsSound}
+use Rattle.shard_checker.specs.Sound.{is_taken, RowHasOneOwner, PublishesChanges, covers, is_covered_by, entry_is_covered, IsSound}
 use Rattle.shard_checker.specs.declared.error.CheckError.{CheckError}
 use Rattle.shard_checker.specs.declared.error.CheckError.TheVariants.{NotCovered, CertCount}
 use Rattle.shard_checker.specs.declared.error.Operation.{Operation}
@@ -104,14 +104,14 @@ taken_covered : (tables : List Table) (subscriptions : List Subscription) (numbe
     → is_taken subscriptions number ≡ true → list_all (entry_is_covered tables) entries ≡ true
 taken_covered tables subscriptions number entries h taken = let all : entries_refusal tables number entries ≡ None = rw taken at h in entries_covered tables number entries all
 
-all_covered : (tables : List Table) (subscriptions : List Subscription) (number : ℕ) (publications : List (PublicationOf Expr)) → coverage_refusal tables subscriptions number publications ≡ None
+all_covered : (tables : List Table) (subscriptions : List Subscription) (number : ℕ) (publications : List (PublicationOf Expr)) → covering_refusal tables subscriptions number publications ≡ None
     → (k : ℕ) → is_taken subscriptions (number + k) ≡ true → IfSome (slice_get publications k) (λ publication. list_all (entry_is_covered tables) publication.entries ≡ true)
 all_covered tables subscriptions number [] h k taken = tt
 all_covered tables subscriptions number (publication ∷ publications) h zero taken =
-    let both = none_first (taken_refusal tables subscriptions number publication.entries) (coverage_refusal tables subscriptions (number + 1) publications) h in
+    let both = none_first (taken_refusal tables subscriptions number publication.entries) (covering_refusal tables subscriptions (number + 1) publications) h in
     taken_covered tables subscriptions number publication.entries both.0 (subst (λ n. is_taken subscriptions n ≡ true) (at_zero number) taken)
 all_covered tables subscriptions number (publication ∷ publications) h (suc k) taken =
-    let both = none_first (taken_refusal tables subscriptions number publication.entries) (coverage_refusal tables subscriptions (number + 1) publications) h in
+    let both = none_first (taken_refusal tables subscriptions number publication.entries) (covering_refusal tables subscriptions (number + 1) publications) h in
     all_covered tables subscriptions (number + 1) publications both.1 k (subst (λ n. is_taken subscriptions n ≡ true) (at_next number k) taken)
 
 -- ---- certificates
@@ -156,20 +156,20 @@ takes_by catalog plan same table there cells subscriber (Some subscription) e =
     ap (λ share. s.takes share cells) (share_there plan table 0 catalog.subscriptions subscriber subscription e ∙ ap (λ n. share_at plan n table) (zero_more subscriber))
     ∙ same.same subscriber table there cells
 
-one_subscriber : (catalog : CatalogOf Expr) (plan : PlanOf) → TakesWhatPasses catalog plan → (table : ℕ) → table < length catalog.tables → (cells : List Datum)
-    → HasOneOwner (table_shares plan table 0 catalog.subscriptions) cells → HasOneSubscriber catalog table cells
-one_subscriber catalog plan same table there cells owned = record {
-  subscriber = owned.owner;
+one_owner : (catalog : CatalogOf Expr) (plan : PlanOf) → TakesWhatPasses catalog plan → (table : ℕ) → table < length catalog.tables → (cells : List Datum)
+    → HasOneOwner (table_shares plan table 0 catalog.subscriptions) cells → RowHasOneOwner catalog table cells
+one_owner catalog plan same table there cells owned = record {
+  owner = owned.owner;
   takes_it = sym (takes_by catalog plan same table there cells owned.owner (slice_get catalog.subscriptions owned.owner) refl) ∙ owned.takes_it;
   no_other = λ other h. owned.no_other other (takes_by catalog plan same table there cells other (slice_get catalog.subscriptions other) refl ∙ h);
 }
 
 table_there : (catalog : CatalogOf Expr) (plan : PlanOf) → TakesWhatPasses catalog plan → (number : ℕ) (found : Option Table) → slice_get catalog.tables number ≡ found
     → IfSome found (HasOwners (λ n. table_shares plan n 0 catalog.subscriptions) (0 + number))
-    → IfSome found (λ table. (cells : List Datum) → IsTyped table.columns cells → HasOneSubscriber catalog number cells)
+    → IfSome found (λ table. (cells : List Datum) → IsTyped table.columns cells → RowHasOneOwner catalog number cells)
 table_there catalog plan same number None e owned = tt
 table_there catalog plan same number (Some table) e owned = λ cells valid.
-    one_subscriber catalog plan same number (slice_get_within catalog.tables number table e) cells
+    one_owner catalog plan same number (slice_get_within catalog.tables number table e) cells
     (subst (λ n. HasOneOwner (table_shares plan n 0 catalog.subscriptions) cells) (zero_more number) (owned cells valid))
 
 counted : (b : Bool) (error : CheckError) → (if b then None else Some error) ≡ None → b ≡ true
@@ -181,11 +181,11 @@ sharding_sound catalog plan trees h own =
     let all = none_first (catalog_refusal catalog) (first_of (count_refusal (length catalog.tables) (length trees)) (certificates_refusal plan catalog.subscriptions 0 catalog.tables trees)) h in
     let certificates = none_first (count_refusal (length catalog.tables) (length trees)) (certificates_refusal plan catalog.subscriptions 0 catalog.tables trees) all.1 in
     let publishing = none_first (publishing_refusal catalog.subscriptions 0 catalog.publications)
-    (first_of (identity_refusal 0 catalog.tables) (coverage_refusal catalog.tables catalog.subscriptions 0 catalog.publications)) all.0 in
-    let rest = none_first (identity_refusal 0 catalog.tables) (coverage_refusal catalog.tables catalog.subscriptions 0 catalog.publications) publishing.1 in
+    (first_of (identity_refusal 0 catalog.tables) (covering_refusal catalog.tables catalog.subscriptions 0 catalog.publications)) all.0 in
+    let rest = none_first (identity_refusal 0 catalog.tables) (covering_refusal catalog.tables catalog.subscriptions 0 catalog.publications) publishing.1 in
     let many : length trees ≡ length catalog.tables = same_number (length trees) (length catalog.tables) (counted (length trees == length catalog.tables) CertCount certificates.0) in
     record {
-      one_subscriber = λ number. table_there catalog plan (takes_what_passes catalog plan own) number (slice_get catalog.tables number) refl
+      one_owner = λ number. table_there catalog plan (takes_what_passes catalog plan own) number (slice_get catalog.tables number) refl
           (all_owned plan catalog.subscriptions 0 catalog.tables trees many certificates.1 number);
       publishes = λ number taken. all_publish catalog.subscriptions 0 catalog.publications publishing.0 number (subst (λ n. is_taken catalog.subscriptions n ≡ true) (sym (zero_more number)) taken);
       covered = λ number taken. all_covered catalog.tables catalog.subscriptions 0 catalog.publications rest.1 number (subst (λ n. is_taken catalog.subscriptions n ≡ true) (sym (zero_more number)) taken);

@@ -25,7 +25,7 @@ use Rattle.replica_identity.specs.Standing.{Covered, KeepsApart, PassesToOne, So
 use Rattle.replica_identity.specs.Tables.{Tables, applied, is_row, holds}
 use Rattle.replica_identity.proofs.PassingLemmas.{takes_what_passes}
 use Rattle.shard_checker.specs.Rows.{IsTyped}
-use Rattle.shard_checker.specs.Sound.{is_listed, is_taken, HasOneSubscriber, is_covered_by, entry_is_covered, IsSound}
+use Rattle.shard_checker.specs.Sound.{is_listed, is_taken, RowHasOneOwner, is_covered_by, entry_is_covered, IsSound}
 use Rattle.shard_checker.proofs.RowLemmas.{typed_of_valid}
 use Rattle.shard_checker.proofs.Testing.{by_test, left_true, right_true, by_either, same_number, number_itself, at_zero, zero_more, at_next}
 
@@ -223,16 +223,16 @@ is_there (table ∷ tables) zero h e = cc
 is_there (table ∷ tables) (suc number) h e = is_there tables number (omega arith) e
 
 one_subscriber : (catalog : CatalogOf Expr) (plan : PlanOf) → TakesWhatPasses catalog plan → (number : ℕ) → number < length catalog.tables → (row : List Datum)
-    → HasOneSubscriber catalog number row → PassesToOne (setting_of catalog plan) number row
+    → RowHasOneOwner catalog number row → PassesToOne (setting_of catalog plan) number row
 one_subscriber catalog plan own number within row one = record {
-  subscriber = one.subscriber;
-  takes_it = own.same one.subscriber number within row ∙ one.takes_it;
+  subscriber = one.owner;
+  takes_it = own.same one.owner number within row ∙ one.takes_it;
   no_other = λ other h. one.no_other other (sym (own.same other number within row) ∙ h);
 }
 
 one_of_fitting : (catalog : CatalogOf Expr) (plan : PlanOf) → TakesWhatPasses catalog plan → (number : ℕ) → number < length catalog.tables
     → (found : Option Table) (row : List Datum) → slice_get catalog.tables number ≡ found → is_none (fault_in found row) ≡ true
-    → IfSome found (λ table. (cells : List Datum) → IsTyped table.columns cells → HasOneSubscriber catalog number cells) → PassesToOne (setting_of catalog plan) number row
+    → IfSome found (λ table. (cells : List Datum) → IsTyped table.columns cells → RowHasOneOwner catalog number cells) → PassesToOne (setting_of catalog plan) number row
 one_of_fitting catalog plan own number within None row there h sound = absurd (is_there catalog.tables number within there)
 one_of_fitting catalog plan own number within (Some table) row there h sound =
     one_subscriber catalog plan own number within row (sound row (typed_of_valid table.columns row (valid_from_no_fault table.columns row (no_fault (row_fault table.columns row) h))))
@@ -241,7 +241,7 @@ pub setting_sound : (catalog : CatalogOf Expr) (plan : PlanOf) → IsSound catal
 setting_sound catalog plan sound own = record {
   one_subscriber = λ table row h.
       let both = both_true (nat_lt table (length catalog.tables)) (is_none (fault_in (slice_get catalog.tables table) row)) h in
-      one_of_fitting catalog plan own table (ltb-true table (length catalog.tables) both.0) (slice_get catalog.tables table) row refl both.1 (sound.one_subscriber table);
+      one_of_fitting catalog plan own table (ltb-true table (length catalog.tables) both.0) (slice_get catalog.tables table) row refl both.1 (sound.one_owner table);
 }
 
 -- ---- of a plan that is the catalog's own

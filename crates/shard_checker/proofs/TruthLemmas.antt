@@ -3,7 +3,6 @@ use Rattle.std.proofs.Common.{◌≡◌, ℕ, zero, suc, ◌+◌, ◌<◌, Bool,
 use Rattle.std.specs.Prelude.{Option, Some, None, if◌then◌else◌, ◌==◌, ◌⊎◌, slice_get}
 use Rattle.std.specs.Cmp.{unsigned_Decides}
 use Rattle.filter_tree.specs.Expr.{AtomOf}
-use Rattle.filter_tree.specs.Lists.{column_of}
 use Rattle.filter_tree.specs.Paths.{Path}
 use Rattle.filter_tree.specs.declared.filter.Term.{Term}
 use Rattle.filter_tree.specs.declared.table.Table.{Table}
@@ -11,16 +10,16 @@ use Rattle.filter_tree.specs.declared.tri.Tri.TheVariants.{True, False, Null}
 use Rattle.filter_tree.proofs.SameLemmas.{both_true}
 use Rattle.replica_identity.specs.Shares.{ShareOf}
 use Rattle.split_cert.specs.Tree.{Tree, Split, Owner, Empty, NeverNull, nodes}
-use Rattle.shard_checker.specs.Domain.{kind_at, has_value}
-use Rattle.shard_checker.specs.Facts.{is_null, is_present, is_never_null}
+use Rattle.shard_checker.specs.Emptiness.{is_empty}
+use Rattle.shard_checker.specs.Facts.{is_never_null}
 use Rattle.shard_checker.specs.Owners.{share_in, must_take, may_take, is_second, second_owner}
-use Rattle.shard_checker.specs.Refusal.{Subject, subject_of, later, second_refusal, others_refusal, owner_refusal, is_empty, empty_refusal, never_null_refusal, first_of, split_refusal, refusal, first_refusal}
+use Rattle.shard_checker.specs.Refusal.{Subject, subject_of, later, second_refusal, others_refusal, owner_refusal, empty_refusal, never_null_refusal, first_of, split_refusal, refusal, first_refusal}
 use Rattle.shard_checker.specs.Truth.{IsLeastOther, HasSecond, EmptyIsWrong, NeverNullIsWrong, OwnerIsWrong, SplitIsWrong, IsWrong, CertificateIsWrong}
 use Rattle.shard_checker.specs.declared.error.CheckError.{CheckError}
 use Rattle.shard_checker.specs.declared.error.CheckError.TheVariants.{BadIndex, NotEmpty, MayBeNull, NotOwner, SecondOwner}
-use Rattle.shard_checker.proofs.ExistingLemmas.{value_exists}
+use Rattle.shard_checker.proofs.EmptyLemmas.{not_empty_has}
 use Rattle.shard_checker.proofs.OwnerLemmas.{only_owner}
-use Rattle.shard_checker.proofs.Testing.{by_test, both_false, not_true, clash}
+use Rattle.shard_checker.proofs.Testing.{by_test, not_true, clash}
 
 pub same_some : (one other : CheckError) → Some one ≡ Some other → other ≡ one
 same_some one other h = cc
@@ -30,16 +29,11 @@ pub failed : (b : Bool) (one error : CheckError) → (if b then None else Some o
 failed true one error h = absurd cc
 failed false one error h = (refl, same_some one error h)
 
-not_false : (b : Bool) → not b ≡ false → b ≡ true
-not_false true h = refl
-not_false false h = absurd cc
-
 empty_wrong : (subject : Subject) (path : Path) (node : ℕ) (found : Option Term) (error : CheckError) → empty_refusal subject path node found ≡ Some error → EmptyIsWrong subject path node found error
 empty_wrong subject path node None error h = same_some (BadIndex subject.table node) error h
 empty_wrong subject path node (Some term) error h =
     let both = failed (is_empty subject.columns term path) (NotEmpty subject.table node) error h in
-    let parts = both_false (is_null (column_of term) path && is_present subject.columns (column_of term) path) (not (has_value (kind_at subject.columns (column_of term)) term path)) both.0 in
-    (both.1, record { value = value_exists (kind_at subject.columns (column_of term)) term path (not_false _ parts.1); not_torn = parts.0 })
+    (both.1, not_empty_has subject.columns term path both.0)
 
 never_null_wrong : (subject : Subject) (path : Path) (node : ℕ) (found : Option AtomOf) (error : CheckError)
     → never_null_refusal subject path node found ≡ Some error → NeverNullIsWrong subject path node found error
@@ -154,7 +148,7 @@ split_wrong subject path node (Some atom) error if_true if_false if_null true_wr
 
 refusal_true : (subject : Subject) (tree : Tree) (path : Path) (node : ℕ) (error : CheckError) → refusal subject tree path node ≡ Some error → IsWrong subject tree path node error
 refusal_true subject (Split index if_true if_false if_null) path node error h =
-    split_wrong subject path node (slice_get subject.atoms_in index) error
+    split_wrong subject path node (slice_get subject.atoms index) error
     (λ longer. refusal subject if_true longer (later node 1))
     (λ longer. refusal subject if_false longer (later (later node 1) (nodes if_true)))
     (λ longer. refusal subject if_null longer (later (later (later node 1) (nodes if_true)) (nodes if_false)))
@@ -167,7 +161,7 @@ refusal_true subject (Split index if_true if_false if_null) path node error h =
     h
 refusal_true subject (Owner subscriber) path node error h = owner_wrong subject path node subscriber (slice_get subject.shares subscriber) error h
 refusal_true subject (Empty term) path node error h = empty_wrong subject path node (slice_get subject.terms term) error h
-refusal_true subject (NeverNull index) path node error h = never_null_wrong subject path node (slice_get subject.atoms_in index) error h
+refusal_true subject (NeverNull index) path node error h = never_null_wrong subject path node (slice_get subject.atoms index) error h
 
 pub certificate_wrong : (number : ℕ) (table : Table) (shares : List ShareOf) (tree : Tree) (error : CheckError) → first_refusal number table shares tree ≡ Some error
     → CertificateIsWrong number table shares tree error

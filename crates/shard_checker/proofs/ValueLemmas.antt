@@ -20,8 +20,9 @@ use Rattle.filter_tree.specs.declared.table.ColType.TheVariants.{SmallInt, Integ
 use Rattle.filter_tree.specs.declared.tri.Tri.{Tri}
 use Rattle.filter_tree.specs.declared.tri.Tri.TheVariants.{True, False, Null}
 use Rattle.filter_tree.proofs.SameLemmas.{both_true}
-use Rattle.shard_checker.specs.Domain.{range_of, IsIn, IsInDomain, serves, names_number, has_number, names_text, has_text, has_value}
+use Rattle.shard_checker.specs.Domain.{range_of, IsIn, IsInDomain}
 use Rattle.shard_checker.specs.Facts.{holds_of, leaves, may_be}
+use Rattle.shard_checker.specs.Trying.{serves, names_number, has_number, names_text, has_text, has_value}
 use Rattle.shard_checker.specs.declared.domain.Range.{Range}
 use Rattle.shard_checker.proofs.Testing.{by_test, two_true, both_false, left_true, right_true, clash, not_true_false, from_test}
 

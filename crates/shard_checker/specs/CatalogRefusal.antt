@@ -73,10 +73,10 @@ abbrev pub taken_refusal : List Table → List Subscription → ℕ → List (En
 taken_refusal tables subscriptions number entries = if is_taken subscriptions number then entries_refusal tables number entries else None
 
 -- of the publications that begin at this number
-abbrev pub coverage_refusal : List Table → List Subscription → ℕ → List (PublicationOf Expr) → Option CheckError
-coverage_refusal tables subscriptions number [] = None
-coverage_refusal tables subscriptions number (publication ∷ publications) =
-    first_of (taken_refusal tables subscriptions number publication.entries) (coverage_refusal tables subscriptions (number + 1) publications)
+abbrev pub covering_refusal : List Table → List Subscription → ℕ → List (PublicationOf Expr) → Option CheckError
+covering_refusal tables subscriptions number [] = None
+covering_refusal tables subscriptions number (publication ∷ publications) =
+    first_of (taken_refusal tables subscriptions number publication.entries) (covering_refusal tables subscriptions (number + 1) publications)
 
 -- ---- certificates
 
@@ -85,10 +85,14 @@ abbrev pub table_shares : PlanOf → ℕ → ℕ → List Subscription → List 
 table_shares plan table number [] = []
 table_shares plan table number (subscription ∷ subscriptions) = share_at plan number table ∷ table_shares plan table (number + 1) subscriptions
 
+-- of the certificate of the table of this number
+abbrev pub certificate_refusal : PlanOf → List Subscription → ℕ → Table → Tree → Option CheckError
+certificate_refusal plan subscriptions number table tree = first_refusal number table (table_shares plan number 0 subscriptions) tree
+
 -- of the certificates of the tables that begin at this number
 abbrev pub certificates_refusal : PlanOf → List Subscription → ℕ → List Table → List Tree → Option CheckError
 certificates_refusal plan subscriptions number (table ∷ tables) (tree ∷ trees) =
-    first_of (first_refusal number table (table_shares plan number 0 subscriptions) tree) (certificates_refusal plan subscriptions (number + 1) tables trees)
+    first_of (certificate_refusal plan subscriptions number table tree) (certificates_refusal plan subscriptions (number + 1) tables trees)
 certificates_refusal plan subscriptions number tables trees = None
 
 abbrev pub count_refusal : ℕ → ℕ → Option CheckError
@@ -103,7 +107,7 @@ declared_refusal catalog = first_of (publishing_refusal catalog.subscriptions 0 
 abbrev pub catalog_refusal : CatalogOf Expr → Option CheckError
 catalog_refusal catalog =
     first_of (publishing_refusal catalog.subscriptions 0 catalog.publications)
-    (first_of (identity_refusal 0 catalog.tables) (coverage_refusal catalog.tables catalog.subscriptions 0 catalog.publications))
+    (first_of (identity_refusal 0 catalog.tables) (covering_refusal catalog.tables catalog.subscriptions 0 catalog.publications))
 
 abbrev pub sharding_refusal : CatalogOf Expr → PlanOf → List Tree → Option CheckError
 sharding_refusal catalog plan trees =

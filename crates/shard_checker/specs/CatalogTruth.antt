@@ -6,10 +6,11 @@ use Rattle.filter_tree.specs.declared.table.Identity.TheVariants.{Nothing}
 use Rattle.filter_tree.specs.declared.table.Table.{Table}
 use Rattle.pub_reader.specs.Catalogs.{CatalogOf, PublicationOf, EntryOf}
 use Rattle.pub_reader.specs.declared.catalog.Operations.{Operations}
+use Rattle.replica_identity.specs.Identities.{is_covered}
 use Rattle.replica_identity.specs.Plans.{PlanOf}
 use Rattle.split_cert.specs.Tree.{Tree}
 use Rattle.shard_checker.specs.CatalogRefusal.{table_shares}
-use Rattle.shard_checker.specs.Sound.{is_taken, covers}
+use Rattle.shard_checker.specs.Sound.{is_taken}
 use Rattle.shard_checker.specs.Truth.{CertificateIsWrong}
 use Rattle.shard_checker.specs.declared.error.CheckError.{CheckError}
 use Rattle.shard_checker.specs.declared.error.CheckError.TheVariants.{PublishMissing, NoIdentity, NotCovered, CertCount, BadIndex, NotEmpty, MayBeNull, NotOwner, SecondOwner, OutOfMemory}
@@ -34,13 +35,15 @@ pub record RecordsNothing (catalog : CatalogOf Expr) (number : ℕ) : Type 0 whe
   pub there : slice_get catalog.tables number ≡ Some table
   pub nothing : table.identity ≡ Nothing
 
--- the filter of an entry for the table of this number names the column, and the table's replica identity lacks it
+-- the filter of an entry for the table of this number, which is there, names the column, and the table's replica identity lacks it
 pub record NamesUncovered (tables : List Table) (entry : EntryOf Expr) (number column : ℕ) : Type 0 where
   pub of_table : entry.table ≡ number
+  pub table : Table
+  pub there : slice_get tables number ≡ Some table
   pub filter : Expr
   pub filters : entry.filter ≡ Some filter
   pub names : Contains (distinct_columns filter) column
-  pub lacks : covers (slice_get tables number) column ≡ false
+  pub lacks : is_covered table column ≡ false
 
 -- the publication of this number is taken, and has such an entry
 pub record HasUncovered (catalog : CatalogOf Expr) (number table column : ℕ) : Type 0 where

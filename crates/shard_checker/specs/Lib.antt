@@ -1,7 +1,9 @@
 pub mod CatalogRefusal
 pub mod CatalogTruth
 pub mod CheckedView
+pub mod Checks
 pub mod Domain
+pub mod Emptiness
 pub mod Facts
 pub mod Numbering
 pub mod Owners
@@ -12,3 +14,4 @@ pub mod Sound
 pub mod SoundFacts
 pub mod SubjectView
 pub mod Truth
+pub mod Trying

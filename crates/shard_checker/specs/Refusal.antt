@@ -2,7 +2,6 @@
 use Rattle.std.specs.Prelude.{ℕ, ◌+◌, ◌-◌, ◌^◌, min, not, ◌&&◌, ◌||◌, Bool, if◌then◌else◌, List, [], ◌∷◌, ◌++◌, Option, Some, None, slice_get}
 use Rattle.filter_tree.specs.Datum.{Datum}
 use Rattle.filter_tree.specs.Expr.{AtomOf}
-use Rattle.filter_tree.specs.Lists.{column_of}
 use Rattle.filter_tree.specs.Paths.{Path, Agrees}
 use Rattle.filter_tree.specs.declared.filter.Term.{Term}
 use Rattle.filter_tree.specs.declared.table.Column.{Column}
@@ -10,8 +9,8 @@ use Rattle.filter_tree.specs.declared.table.Table.{Table}
 use Rattle.filter_tree.specs.declared.tri.Tri.TheVariants.{True, False, Null}
 use Rattle.replica_identity.specs.Shares.{ShareOf}
 use Rattle.split_cert.specs.Tree.{Tree, Split, Owner, Empty, NeverNull, nodes}
-use Rattle.shard_checker.specs.Domain.{kind_at, has_value}
-use Rattle.shard_checker.specs.Facts.{is_null, is_present, is_never_null}
+use Rattle.shard_checker.specs.Emptiness.{is_empty}
+use Rattle.shard_checker.specs.Facts.{is_never_null}
 use Rattle.shard_checker.specs.Numbering.{numbered_atoms, numbered_terms}
 use Rattle.shard_checker.specs.Owners.{HasOneOwner, must_take, second_owner}
 use Rattle.shard_checker.specs.Rows.{IsTyped}
@@ -23,11 +22,11 @@ pub record Subject : Type 0 where
   pub table : ℕ
   pub columns : List Column
   pub shares : List ShareOf
-  pub atoms_in : List AtomOf
+  pub atoms : List AtomOf
   pub terms : List Term
 
 abbrev pub numbered_subject : ℕ → List Column → List ShareOf → List AtomOf → List Term → Subject
-numbered_subject table columns shares atoms_in terms = record { table = table; columns = columns; shares = shares; atoms_in = atoms_in; terms = terms }
+numbered_subject table columns shares atoms terms = record { table = table; columns = columns; shares = shares; atoms = atoms; terms = terms }
 
 abbrev pub subject_of : ℕ → List Column → List ShareOf → Subject
 subject_of table columns shares = numbered_subject table columns shares (numbered_atoms shares) (numbered_terms shares)
@@ -52,11 +51,7 @@ owner_refusal subject path node owner None = Some (BadIndex subject.table node)
 owner_refusal subject path node owner (Some share) =
     if must_take share path then others_refusal subject path node owner else Some (NotOwner subject.table node)
 
--- the term's column would have to be null and not null, or no value is left to the term
-abbrev pub is_empty : List Column → Term → Path → Bool
-is_empty columns term path =
-    (is_null (column_of term) path && is_present columns (column_of term) path) || not (has_value (kind_at columns (column_of term)) term path)
-
+-- no value is left to the term
 abbrev pub empty_refusal : Subject → Path → ℕ → Option Term → Option CheckError
 empty_refusal subject path node None = Some (BadIndex subject.table node)
 empty_refusal subject path node (Some term) = if is_empty subject.columns term path then None else Some (NotEmpty subject.table node)
@@ -80,13 +75,13 @@ split_refusal subject path node (Some atom) if_true if_false if_null =
 -- the first refusal in a tree at the end of a path, whose first node has this number
 abbrev pub refusal : Subject → Tree → Path → ℕ → Option CheckError
 refusal subject (Split index if_true if_false if_null) path node =
-    split_refusal subject path node (slice_get subject.atoms_in index)
+    split_refusal subject path node (slice_get subject.atoms index)
     (λ longer. refusal subject if_true longer (later node 1))
     (λ longer. refusal subject if_false longer (later (later node 1) (nodes if_true)))
     (λ longer. refusal subject if_null longer (later (later (later node 1) (nodes if_true)) (nodes if_false)))
 refusal subject (Owner subscriber) path node = owner_refusal subject path node subscriber (slice_get subject.shares subscriber)
 refusal subject (Empty term) path node = empty_refusal subject path node (slice_get subject.terms term)
-refusal subject (NeverNull index) path node = never_null_refusal subject path node (slice_get subject.atoms_in index)
+refusal subject (NeverNull index) path node = never_null_refusal subject path node (slice_get subject.atoms index)
 
 -- the first refusal in the branches of a split by this atom, the first of which begins with the node of this number
 abbrev pub branches_refusal : Subject → Path → ℕ → AtomOf → Tree → Tree → Tree → Option CheckError

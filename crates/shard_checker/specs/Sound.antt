@@ -20,20 +20,20 @@ is_listed publication subscription = list_any (λ number. number == publication)
 abbrev pub is_taken : List Subscription → ℕ → Bool
 is_taken subscriptions publication = list_any (is_listed publication) subscriptions
 
--- exactly one subscriber takes the row of the table
-pub record HasOneSubscriber (catalog : CatalogOf Expr) (table : ℕ) (cells : List Datum) : Type 0 where
-  pub subscriber : ℕ
-  pub takes_it : passes catalog subscriber table cells ≡ true
-  pub no_other : (other : ℕ) → passes catalog other table cells ≡ true → other ≡ subscriber
+-- exactly one subscriber has the row of the table
+pub record RowHasOneOwner (catalog : CatalogOf Expr) (table : ℕ) (cells : List Datum) : Type 0 where
+  pub owner : ℕ
+  pub takes_it : passes catalog owner table cells ≡ true
+  pub no_other : (other : ℕ) → passes catalog other table cells ≡ true → other ≡ owner
 
 pub record PublishesChanges (publishes : Operations) : Type 0 where
   pub inserts : publishes.insert ≡ true
   pub updates : publishes.update ≡ true
   pub deletes : publishes.delete ≡ true
 
--- the table's replica identity has the column; that of a table that isn't there has none
+-- the table's replica identity has the column; of a table that isn't there it lacks none, since no row stands in it
 abbrev pub covers : Option Table → ℕ → Bool
-covers None column = false
+covers None column = true
 covers (Some table) column = is_covered table column
 
 -- a filter names only columns of the replica identity
@@ -47,7 +47,7 @@ entry_is_covered tables entry = is_covered_by (slice_get tables entry.table) ent
 -- Tables and publications by their numbers.
 pub record IsSound (catalog : CatalogOf Expr) : Type 0 where
   -- each row that may stand in a table passes to exactly one subscriber
-  pub one_subscriber : (number : ℕ) → IfSome (slice_get catalog.tables number) (λ table. (cells : List Datum) → IsTyped table.columns cells → HasOneSubscriber catalog number cells)
+  pub one_owner : (number : ℕ) → IfSome (slice_get catalog.tables number) (λ table. (cells : List Datum) → IsTyped table.columns cells → RowHasOneOwner catalog number cells)
   -- each publication that is taken publishes insert, update and delete
   pub publishes : (number : ℕ) → is_taken catalog.subscriptions number ≡ true → IfSome (slice_get catalog.publications number) (λ publication. PublishesChanges publication.publishes)
   -- and its filters name only columns of the tables' replica identities

@@ -6,4 +6,4 @@ use Rattle.shard_checker.specs.Refusal as r
 
 abbrev pub subject_view : {A : _} → Subject A → r.Subject
 subject_view subject =
-    record { table = subject.table; columns = subject.columns.now; shares = shares_view subject.shares.now; atoms_in = atoms_view subject.atoms.now; terms = subject.terms.now }
+    record { table = subject.table; columns = subject.columns.now; shares = shares_view subject.shares.now; atoms = atoms_view subject.atoms.now; terms = subject.terms.now }

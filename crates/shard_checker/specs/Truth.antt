@@ -1,25 +1,18 @@
 -- What the first refusal in a certificate says of the node that it names. Certificates are this project's own, and restate no section of PostgreSQL's documentation.
 use Rattle.std.specs.Prelude.{◌≡◌, ◌≢◌, ℕ, ◌<◌, true, false, ◌&&◌, ◌⊎◌, List, [], ◌∷◌, ◌++◌, Option, Some, None, slice_get}
 use Rattle.filter_tree.specs.Expr.{AtomOf}
-use Rattle.filter_tree.specs.Lists.{column_of}
 use Rattle.filter_tree.specs.Paths.{Path}
 use Rattle.filter_tree.specs.declared.filter.Term.{Term}
-use Rattle.filter_tree.specs.declared.table.Column.{Column}
 use Rattle.filter_tree.specs.declared.table.Table.{Table}
 use Rattle.filter_tree.specs.declared.tri.Tri.TheVariants.{True, False, Null}
 use Rattle.replica_identity.specs.Shares.{ShareOf}
 use Rattle.split_cert.specs.Tree.{Tree, Split, Owner, Empty, NeverNull, nodes}
-use Rattle.shard_checker.specs.Domain.{kind_at, HasValue}
-use Rattle.shard_checker.specs.Facts.{is_null, is_present, is_never_null}
+use Rattle.shard_checker.specs.Emptiness.{HasValue}
+use Rattle.shard_checker.specs.Facts.{is_never_null}
 use Rattle.shard_checker.specs.Owners.{share_in, must_take, may_take}
 use Rattle.shard_checker.specs.Refusal.{Subject, subject_of, later}
 use Rattle.shard_checker.specs.declared.error.CheckError.{CheckError}
 use Rattle.shard_checker.specs.declared.error.CheckError.TheVariants.{BadIndex, NotEmpty, MayBeNull, NotOwner, SecondOwner}
-
--- some value of the term's domain is left to it, and its column isn't said to be both null and not null
-pub record MayHaveValue (columns : List Column) (term : Term) (path : Path) : Type 0 where
-  pub value : HasValue (kind_at columns (column_of term)) term path
-  pub not_torn : (is_null (column_of term) path && is_present columns (column_of term) path) ≡ false
 
 -- the share of this number, which isn't the owner's, may take a row, and no other such share has a lesser number
 pub record IsLeastOther (shares : List ShareOf) (path : Path) (owner second : ℕ) : Type 0 where
@@ -31,7 +24,7 @@ pub record IsLeastOther (shares : List ShareOf) (path : Path) (owner second : �
 
 abbrev pub EmptyIsWrong : Subject → Path → ℕ → Option Term → CheckError → Type 0
 EmptyIsWrong subject path node None error = error ≡ BadIndex subject.table node
-EmptyIsWrong subject path node (Some term) error = (error ≡ NotEmpty subject.table node) × MayHaveValue subject.columns term path
+EmptyIsWrong subject path node (Some term) error = (error ≡ NotEmpty subject.table node) × HasValue subject.columns term path
 
 abbrev pub NeverNullIsWrong : Subject → Path → ℕ → Option AtomOf → CheckError → Type 0
 NeverNullIsWrong subject path node None error = error ≡ BadIndex subject.table node
@@ -56,14 +49,14 @@ SplitIsWrong subject path node (Some atom) if_true if_false if_null error =
 -- the error says something of a node of the tree that is so
 abbrev pub IsWrong : Subject → Tree → Path → ℕ → CheckError → Type 0
 IsWrong subject (Split index if_true if_false if_null) path node error =
-    SplitIsWrong subject path node (slice_get subject.atoms_in index)
+    SplitIsWrong subject path node (slice_get subject.atoms index)
     (λ longer. IsWrong subject if_true longer (later node 1) error)
     (λ longer. IsWrong subject if_false longer (later (later node 1) (nodes if_true)) error)
     (λ longer. IsWrong subject if_null longer (later (later (later node 1) (nodes if_true)) (nodes if_false)) error)
     error
 IsWrong subject (Owner subscriber) path node error = OwnerIsWrong subject path node subscriber (slice_get subject.shares subscriber) error
 IsWrong subject (Empty term) path node error = EmptyIsWrong subject path node (slice_get subject.terms term) error
-IsWrong subject (NeverNull index) path node error = NeverNullIsWrong subject path node (slice_get subject.atoms_in index) error
+IsWrong subject (NeverNull index) path node error = NeverNullIsWrong subject path node (slice_get subject.atoms index) error
 
 -- the error says something of the certificate of the table of this number that is so
 abbrev pub CertificateIsWrong : ℕ → Table → List ShareOf → Tree → CheckError → Type 0

@@ -3,13 +3,14 @@
 #![tactic(auto)]
 
 mod checked;
-mod checking;
-mod coverage;
+mod covering;
 mod domain;
 mod error;
 mod facts;
+mod laws;
 mod nodes;
 mod numbering;
+mod one_table;
 mod owners;
 mod publishing;
 mod sharding;
@@ -20,8 +21,9 @@ mod values;
 mod walk;
 
 pub use checked::Checked;
-pub use checking::check_one;
 pub use domain::{Range, kind_at, range_of};
 pub use error::{CheckError, Operation};
+pub use laws::no_value_is_left_to_an_empty_term;
 pub use numbering::{numbered_atoms, numbered_terms};
+pub use one_table::check_one;
 pub use sharding::{check, shares_in};

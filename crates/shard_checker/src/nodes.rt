@@ -1,8 +1,10 @@
 //! What a node that isn't a split says of the rows at the end of its path.
 
-ghost use Rattle.std.specs.Prelude.{◌≡◌, OnOk, IfErr, None, Some};
+ghost use Rattle.std.specs.Prelude.{◌≡◌};
 ghost use Rattle.filter_tree.specs.Paths.{path_view};
 ghost use Rattle.split_cert.specs.Tree.{Owner, Empty, NeverNull};
+ghost use Rattle.shard_checker.specs.Checks.{Finds};
+ghost use Rattle.shard_checker.specs.Emptiness as emptiness;
 ghost use Rattle.shard_checker.specs.Refusal as spec;
 ghost use Rattle.shard_checker.specs.SubjectView.{subject_view};
 
@@ -15,10 +17,10 @@ use crate::values::has_value;
 use filter_tree::{Atom, Column, Term, Tri};
 use std::alloc::Allocator;
 
-/// Whether no row at the end of the path has a value of the term, nor a null: its column would have to be null and not
-/// null, or no value is left to the term.
+/// Whether no value is left to the term at the end of the path: its column would have to be null and not null, or none
+/// of the values that are tried is left.
 fn is_empty<A: Allocator>(columns: &[Column], term: Term, path: &[(&Atom<A>, Tri)]) -> bool
-    ensures { result ≡ spec.is_empty columns.now term (path_view path.now) }
+    ensures { result ≡ emptiness.is_empty columns.now term (path_view path.now) }
 {
     let column = term.column();
     (is_null(column, path) && is_present(columns, column, path))
@@ -32,8 +34,7 @@ pub fn check_empty<A: Allocator>(
     node: usize,
     number: u32,
 ) -> Result<(), CheckError>
-    ensures ok { OnOk result (spec.refusal (subject_view subject.now) (Empty number) (path_view path.now) node ≡ None) }
-    ensures err { IfErr result (λ error. spec.refusal (subject_view subject.now) (Empty number) (path_view path.now) node ≡ Some error) }
+    ensures { Finds (spec.refusal (subject_view subject.now) (Empty number) (path_view path.now) node) result }
 {
     let table = subject.table;
     match term_at(subject.terms, number) {
@@ -50,8 +51,8 @@ pub fn check_never_null<A: Allocator>(
     node: usize,
     number: u32,
 ) -> Result<(), CheckError>
-    ensures ok { OnOk result (spec.refusal (subject_view subject.now) (NeverNull number) (path_view path.now) node ≡ None) }
-    ensures err { IfErr result (λ error. spec.refusal (subject_view subject.now) (NeverNull number) (path_view path.now) node ≡ Some error) }
+    ensures { Finds
+        (spec.refusal (subject_view subject.now) (NeverNull number) (path_view path.now) node) result }
 {
     let table = subject.table;
     match atom_at(subject.atoms, number) {
@@ -68,8 +69,7 @@ fn check_others<A: Allocator>(
     node: usize,
     owner: usize,
 ) -> Result<(), CheckError>
-    ensures ok { OnOk result (spec.others_refusal (subject_view subject.now) (path_view path.now) node owner ≡ None) }
-    ensures err { IfErr result (λ error. spec.others_refusal (subject_view subject.now) (path_view path.now) node owner ≡ Some error) }
+    ensures { Finds (spec.others_refusal (subject_view subject.now) (path_view path.now) node owner) result }
 {
     match second_owner(owner, subject.shares, path) {
         None => Ok(()),
@@ -88,8 +88,7 @@ pub fn check_owner<A: Allocator>(
     node: usize,
     number: u32,
 ) -> Result<(), CheckError>
-    ensures ok { OnOk result (spec.refusal (subject_view subject.now) (Owner number) (path_view path.now) node ≡ None) }
-    ensures err { IfErr result (λ error. spec.refusal (subject_view subject.now) (Owner number) (path_view path.now) node ≡ Some error) }
+    ensures { Finds (spec.refusal (subject_view subject.now) (Owner number) (path_view path.now) node) result }
 {
     let table = subject.table;
     match share_at(subject.shares, number) {

@@ -1,47 +1,23 @@
 //! The atoms and the terms of a table, as certificates number them: share by share, in the order of first appearance.
 
 ghost use Rattle.std.specs.Prelude.{◌≡◌, IfOk, OnOk, fold};
-ghost use Rattle.std.specs.List.{list_any};
 ghost use Rattle.filter_tree.specs.Lists.{with_item};
 ghost use Rattle.filter_tree.specs.Same.{same_term, same_atom};
-ghost use Rattle.filter_tree.specs.Shape.{atom_view, atoms_view};
+ghost use Rattle.filter_tree.specs.Shape.{atoms_view};
 ghost use Rattle.replica_identity.specs.Shares.{share_view};
 ghost use Rattle.shard_checker.specs.Numbering as spec;
 ghost use Rattle.shard_checker.specs.Owners.{shares_view};
 
-use filter_tree::{Atom, Term, atoms_of, same_atom, same_term, terms_of};
+use filter_tree::{Atom, Term, add_atom, add_distinct, atoms_of, terms_of};
 use replica_identity::Share;
 use std::alloc::{AllocError, Allocator, Global};
-
-fn has_atom<A: Allocator>(atoms: &[&Atom<A>], atom: &Atom<A>) -> bool
-    ensures { result ≡ list_any (same_atom (atom_view atom.now)) (atoms_view atoms.now) }
-{
-    for held in atoms {
-        if same_atom(atom, *held) {
-            return true;
-        }
-    }
-    false
-}
-
-fn add_atom<'a, A: Allocator>(
-    atoms: &mut Vec<&'a Atom<A>>,
-    atom: &'a Atom<A>,
-) -> Result<(), AllocError>
-    ensures { OnOk result (atoms_view atoms.new.items ≡ with_item same_atom (atoms_view atoms.old.items) (atom_view atom.now)) }
-{
-    if has_atom(atoms, atom) {
-        return Ok(());
-    }
-    atoms.push(atom)?;
-    Ok(())
-}
 
 fn add_atoms<'a, A: Allocator>(
     atoms: &mut Vec<&'a Atom<A>>,
     more: &[&'a Atom<A>],
 ) -> Result<(), AllocError>
-    ensures { OnOk result (atoms_view atoms.new.items ≡ fold (with_item same_atom) (atoms_view atoms.old.items) (atoms_view more.now)) }
+    ensures { OnOk result (atoms_view atoms.new.items
+        ≡ fold (with_item same_atom) (atoms_view atoms.old.items) (atoms_view more.now)) }
 {
     for atom in more {
         add_atom(atoms, *atom)?;
@@ -54,7 +30,8 @@ fn add_share_atoms<'a, A: Allocator>(
     atoms: &mut Vec<&'a Atom<A>>,
     share: &'a Share<A>,
 ) -> Result<(), AllocError>
-    ensures { OnOk result (atoms_view atoms.new.items ≡ fold (with_item same_atom) (atoms_view atoms.old.items) (spec.share_atoms (share_view share.now))) }
+    ensures { OnOk result (atoms_view atoms.new.items
+        ≡ fold (with_item same_atom) (atoms_view atoms.old.items) (spec.share_atoms (share_view share.now))) }
 {
     match share {
         Share::Nothing | Share::Everything => Ok(()),
@@ -77,32 +54,11 @@ pub fn numbered_atoms<'a, A: Allocator>(
     Ok(atoms)
 }
 
-fn has_term(terms: &[Term], term: Term) -> bool
-    ensures { result ≡ list_any (same_term term) terms.now }
-{
-    for held in terms {
-        if same_term(term, *held) {
-            return true;
-        }
-    }
-    false
-}
-
-fn add_term(terms: &mut Vec<Term>, term: Term) -> Result<(), AllocError>
-    ensures { OnOk result (terms.new.items ≡ with_item same_term terms.old.items term) }
-{
-    if has_term(terms, term) {
-        return Ok(());
-    }
-    terms.push(term)?;
-    Ok(())
-}
-
 fn add_terms(terms: &mut Vec<Term>, more: &[Term]) -> Result<(), AllocError>
     ensures { OnOk result (terms.new.items ≡ fold (with_item same_term) terms.old.items more.now) }
 {
     for term in more {
-        add_term(terms, *term)?;
+        add_distinct(terms, *term)?;
     }
     Ok(())
 }
@@ -112,7 +68,8 @@ fn add_share_terms<A: Allocator>(
     terms: &mut Vec<Term>,
     share: &Share<A>,
 ) -> Result<(), AllocError>
-    ensures { OnOk result (terms.new.items ≡ fold (with_item same_term) terms.old.items (spec.share_terms (share_view share.now))) }
+    ensures { OnOk result (terms.new.items
+        ≡ fold (with_item same_term) terms.old.items (spec.share_terms (share_view share.now))) }
 {
     match share {
         Share::Nothing | Share::Everything => Ok(()),

@@ -1,8 +1,9 @@
 //! What the publications that are taken publish.
 
-ghost use Rattle.std.specs.Prelude.{◌≡◌, ◌≢◌, OnOk, IfErr, None, Some, map};
+ghost use Rattle.std.specs.Prelude.{◌≡◌, ◌≢◌, IfErr, map};
 ghost use Rattle.pub_reader.specs.CatalogView.{publication_view};
 ghost use Rattle.shard_checker.specs.CatalogRefusal as spec;
+ghost use Rattle.shard_checker.specs.Checks.{Finds};
 ghost use Rattle.shard_checker.specs.Sound as sound;
 
 use crate::error::{CheckError, Operation};
@@ -43,8 +44,7 @@ fn missing_operation(publishes: Operations) -> Option<Operation>
 }
 
 fn check_operations(publication: usize, publishes: Operations) -> Result<(), CheckError>
-    ensures ok { OnOk result (spec.missing_by publication (spec.missing_operation publishes) ≡ None) }
-    ensures err { IfErr result (λ error. spec.missing_by publication (spec.missing_operation publishes) ≡ Some error) }
+    ensures exact { Finds (spec.missing_by publication (spec.missing_operation publishes)) result }
     ensures told { IfErr result (λ error. error ≢ CheckError.OutOfMemory) }
 {
     match missing_operation(publishes) {
@@ -61,8 +61,7 @@ fn check_publication(
     number: usize,
     publishes: Operations,
 ) -> Result<(), CheckError>
-    ensures ok { OnOk result (spec.publication_refusal subscriptions.now number publishes ≡ None) }
-    ensures err { IfErr result (λ error. spec.publication_refusal subscriptions.now number publishes ≡ Some error) }
+    ensures exact { Finds (spec.publication_refusal subscriptions.now number publishes) result }
     ensures told { IfErr result (λ error. error ≢ CheckError.OutOfMemory) }
 {
     if is_taken(subscriptions, number) {
@@ -77,8 +76,7 @@ pub fn check_publishing(
     subscriptions: &[Subscription],
     publications: &[Publication],
 ) -> Result<(), CheckError>
-    ensures ok { OnOk result (spec.publishing_refusal subscriptions.now 0 (map publication_view publications.now) ≡ None) }
-    ensures err { IfErr result (λ error. spec.publishing_refusal subscriptions.now 0 (map publication_view publications.now) ≡ Some error) }
+    ensures exact { Finds (spec.publishing_refusal subscriptions.now 0 (map publication_view publications.now)) result }
     ensures told { IfErr result (λ error. error ≢ CheckError.OutOfMemory) }
 {
     for (number, publication) in publications.iter().enumerate() {

@@ -1,6 +1,6 @@
 //! The check of a whole catalog.
 
-ghost use Rattle.std.specs.Prelude.{◌≡◌, ◌≢◌, OnOk, IfOk, IfErr, None, Some, map, length};
+ghost use Rattle.std.specs.Prelude.{◌≡◌, OnOk, IfOk, None, map, length};
 ghost use Rattle.pub_reader.specs.CatalogView.{catalog_view};
 ghost use Rattle.replica_identity.specs.Plans.{plan_of};
 ghost use Rattle.replica_identity.specs.PlanView.{plan_view};
@@ -9,14 +9,14 @@ ghost use Rattle.replica_identity.specs.Standing.{Covered, KeepsApart, Sound};
 ghost use Rattle.split_cert.specs.Where.{tree_view};
 ghost use Rattle.shard_checker.specs.CatalogRefusal as spec;
 ghost use Rattle.shard_checker.specs.CatalogTruth.{ShardingIsWrong};
+ghost use Rattle.shard_checker.specs.Checks.{Checks, Finds, IfRefused, NeedsMemoryOnlyIf};
 ghost use Rattle.shard_checker.specs.CheckedView.{checked_of, checked_view};
 ghost use Rattle.shard_checker.specs.Owners.{shares_view};
-ghost use Rattle.shard_checker.specs.Refusal.{first_refusal};
 ghost use Rattle.shard_checker.specs.Sound.{IsSound};
 
 use crate::checked::Checked;
-use crate::checking::check_table;
-use crate::coverage::{check_coverage, check_identities};
+use crate::one_table::check_table;
+use crate::covering::{check_covering, check_identities};
 use crate::error::CheckError;
 use crate::publishing::check_publishing;
 use filter_tree::Table;
@@ -32,7 +32,8 @@ pub fn shares_in<'a>(
     table: usize,
     subscriptions: &[Subscription],
 ) -> Result<Vec<&'a Share>, AllocError>
-    ensures { IfOk result (λ shares. shares_view shares.items ≡ spec.table_shares (plan_view plan.now) table 0 subscriptions.now) }
+    ensures { IfOk result (λ shares.
+        shares_view shares.items ≡ spec.table_shares (plan_view plan.now) table 0 subscriptions.now) }
 {
     let mut shares = Vec::new(alloc);
     for (number, _) in subscriptions.iter().enumerate() {
@@ -50,8 +51,8 @@ fn check_certificate<A: Allocator>(
     table: &Table,
     cert: &Cert<A>,
 ) -> Result<(), CheckError>
-    ensures ok { OnOk result (first_refusal number table.now (spec.table_shares (plan_view plan.now) number 0 subscriptions.now) (tree_view cert.now) ≡ None) }
-    ensures err { IfErr result (λ error. error ≢ CheckError.OutOfMemory → first_refusal number table.now (spec.table_shares (plan_view plan.now) number 0 subscriptions.now) (tree_view cert.now) ≡ Some error) }
+    ensures { Checks
+        (spec.certificate_refusal (plan_view plan.now) subscriptions.now number table.now (tree_view cert.now)) result }
 {
     let shares = shares_in(alloc, plan, number, subscriptions)?;
     check_table(alloc, number, table, &shares, cert)
@@ -66,8 +67,8 @@ fn check_certificates<A: Allocator>(
     certs: &[Cert<A>],
 ) -> Result<(), CheckError>
     requires { length certs.now ≡ length tables.now }
-    ensures ok { OnOk result (spec.certificates_refusal (plan_view plan.now) subscriptions.now 0 tables.now (map tree_view certs.now) ≡ None) }
-    ensures err { IfErr result (λ error. error ≢ CheckError.OutOfMemory → spec.certificates_refusal (plan_view plan.now) subscriptions.now 0 tables.now (map tree_view certs.now) ≡ Some error) }
+    ensures { Checks
+        (spec.certificates_refusal (plan_view plan.now) subscriptions.now 0 tables.now (map tree_view certs.now)) result }
 {
     for (number, table) in tables.iter().enumerate() {
         check_certificate(alloc, plan, subscriptions, number, table, &certs[number])?;
@@ -76,9 +77,8 @@ fn check_certificates<A: Allocator>(
 }
 
 fn check_count(tables: usize, certificates: usize) -> Result<(), CheckError>
-    ensures ok { OnOk result (spec.count_refusal tables certificates ≡ None) }
+    ensures exact { Finds (spec.count_refusal tables certificates) result }
     ensures counted { OnOk result (certificates ≡ tables) }
-    ensures err { IfErr result (λ error. spec.count_refusal tables certificates ≡ Some error) }
 {
     if certificates == tables {
         Ok(())
@@ -89,17 +89,16 @@ fn check_count(tables: usize, certificates: usize) -> Result<(), CheckError>
 
 /// Checks what the catalog says of publications and replica identities.
 fn check_catalog(alloc: Global, catalog: &Catalog) -> Result<(), CheckError>
-    ensures ok { OnOk result (spec.catalog_refusal (catalog_view catalog.now) ≡ None) }
+    ensures exact { Checks (spec.catalog_refusal (catalog_view catalog.now)) result }
     ensures declared { OnOk result (spec.declared_refusal (catalog_view catalog.now) ≡ None) }
-    ensures err { IfErr result (λ error. error ≢ CheckError.OutOfMemory → spec.catalog_refusal (catalog_view catalog.now) ≡ Some error) }
-    ensures memory { IfErr result (λ error. error ≡ CheckError.OutOfMemory → spec.declared_refusal (catalog_view catalog.now) ≡ None) }
+    ensures memory { NeedsMemoryOnlyIf (spec.declared_refusal (catalog_view catalog.now) ≡ None) result }
 {
     let tables = catalog.tables.as_slice();
     let publications = catalog.publications.as_slice();
     let subscriptions = catalog.subscriptions.as_slice();
     check_publishing(subscriptions, publications)?;
     check_identities(tables)?;
-    check_coverage(alloc, tables, subscriptions, publications)?;
+    check_covering(alloc, tables, subscriptions, publications)?;
     Ok(())
 }
 
@@ -109,9 +108,9 @@ fn check_sharding<A: Allocator>(
     plan: &Plan,
     certs: &[Cert<A>],
 ) -> Result<(), CheckError>
-    ensures ok { OnOk result (spec.sharding_refusal (catalog_view catalog.now) (plan_view plan.now) (map tree_view certs.now) ≡ None) }
-    ensures err { IfErr result (λ error. error ≢ CheckError.OutOfMemory → spec.sharding_refusal (catalog_view catalog.now) (plan_view plan.now) (map tree_view certs.now) ≡ Some error) }
-    ensures memory { IfErr result (λ error. error ≡ CheckError.OutOfMemory → spec.declared_refusal (catalog_view catalog.now) ≡ None) }
+    ensures exact { Checks
+        (spec.sharding_refusal (catalog_view catalog.now) (plan_view plan.now) (map tree_view certs.now)) result }
+    ensures memory { NeedsMemoryOnlyIf (spec.declared_refusal (catalog_view catalog.now) ≡ None) result }
 {
     check_catalog(alloc, catalog)?;
     let tables = catalog.tables.as_slice();
@@ -150,10 +149,10 @@ pub fn check<A: Allocator>(
     ensures apart { OnOk result (KeepsApart (setting_of (catalog_view catalog) (plan_view plan))) }
     ensures divided { OnOk result (Sound (setting_of (catalog_view catalog) (plan_view plan))) }
     ensures kept { IfOk result (λ checked. checked_view checked ≡ checked_of catalog plan) }
-    ensures ok { OnOk result (spec.sharding_refusal (catalog_view catalog) (plan_view plan) (map tree_view certs.now) ≡ None) }
-    ensures err { IfErr result (λ error. error ≢ CheckError.OutOfMemory → spec.sharding_refusal (catalog_view catalog) (plan_view plan) (map tree_view certs.now) ≡ Some error) }
-    ensures memory { IfErr result (λ error. error ≡ CheckError.OutOfMemory → spec.declared_refusal (catalog_view catalog) ≡ None) }
-    ensures wrong { IfErr result (λ error. error ≢ CheckError.OutOfMemory → ShardingIsWrong (catalog_view catalog) (plan_view plan) (map tree_view certs.now) error) }
+    ensures exact { Checks
+        (spec.sharding_refusal (catalog_view catalog) (plan_view plan) (map tree_view certs.now)) result }
+    ensures memory { NeedsMemoryOnlyIf (spec.declared_refusal (catalog_view catalog) ≡ None) result }
+    ensures wrong { IfRefused result (ShardingIsWrong (catalog_view catalog) (plan_view plan) (map tree_view certs.now)) }
 {
     check_sharding(alloc, &catalog, &plan, certs)?;
     Ok(Checked::new(catalog, plan))

@@ -1,4 +1,5 @@
 mod catalogs;
+mod limits;
 mod terms;
 
 use crate::{CheckError, check_one};

@@ -1,12 +1,12 @@
 //! Whether some value is left to a term by what was found of the atoms on a path.
 
 ghost use Rattle.std.specs.Prelude.{◌≡◌, false, IsFalse, ◌+ℤ◌, pos};
-ghost use Rattle.std.specs.Option.{option_map};
 ghost use Rattle.filter_tree.specs.Paths.{path_view};
 ghost use Rattle.filter_tree.specs.Shape.{atom_view};
 ghost use Rattle.filter_tree.specs.Values.{constant_view};
-ghost use Rattle.shard_checker.specs.Domain as domain;
 ghost use Rattle.shard_checker.specs.Facts as spec;
+ghost use Rattle.shard_checker.specs.Trying as trying;
+ghost use Rattle.shard_checker.specs.Trying.{tried_view};
 
 use crate::domain::{Range, range_of};
 use filter_tree::{Atom, ColType, Literal, Op, Term, Tri, compare_literals, same_term};
@@ -18,7 +18,7 @@ fn holds<A: Allocator, B: Allocator>(
     value: Option<&Literal<B>>,
     constant: &Literal<A>,
 ) -> bool
-    ensures { result ≡ spec.holds_of op (option_map (λ literal. constant_view literal.now) value.entry) (constant_view constant.now) }
+    ensures { result ≡ spec.holds_of op (tried_view value.entry) (constant_view constant.now) }
 {
     match value {
         Some(value) => compare_literals(op, value, constant),
@@ -33,7 +33,7 @@ fn leaves<A: Allocator, B: Allocator>(
     atom: &Atom<A>,
     found: Tri,
 ) -> bool
-    ensures { result ≡ spec.leaves term (option_map (λ literal. constant_view literal.now) value.entry) (atom_view atom.now) found }
+    ensures { result ≡ spec.leaves term (tried_view value.entry) (atom_view atom.now) found }
 {
     match (atom, found) {
         (Atom::Cmp(other, op, constant), Tri::True) => !same_term(*other, term)
@@ -51,7 +51,7 @@ fn last_leaves<A: Allocator, B: Allocator>(
     path: &[(&Atom<A>, Tri)],
     value: Option<&Literal<B>>,
 ) -> bool
-    ensures { IsFalse result → spec.may_be term (path_view path.now) (option_map (λ literal. constant_view literal.now) value.entry) ≡ false }
+    ensures { IsFalse result → spec.may_be term (path_view path.now) (tried_view value.entry) ≡ false }
 {
     match path.last() {
         None => true,
@@ -64,7 +64,7 @@ fn all_leave<A: Allocator, B: Allocator>(
     path: &[(&Atom<A>, Tri)],
     value: Option<&Literal<B>>,
 ) -> bool
-    ensures { result ≡ spec.may_be term (path_view path.now) (option_map (λ literal. constant_view literal.now) value.entry) }
+    ensures { result ≡ spec.may_be term (path_view path.now) (tried_view value.entry) }
 {
     for (atom, found) in path {
         if !leaves(term, value, *atom, *found) {
@@ -81,26 +81,26 @@ fn may_be<A: Allocator, B: Allocator>(
     path: &[(&Atom<A>, Tri)],
     value: Option<&Literal<B>>,
 ) -> bool
-    ensures { result ≡ spec.may_be term (path_view path.now) (option_map (λ literal. constant_view literal.now) value.entry) }
+    ensures { result ≡ spec.may_be term (path_view path.now) (tried_view value.entry) }
 {
     last_leaves(term, path, value) && all_leave(term, path, value)
 }
 
 fn may_be_number<A: Allocator>(term: Term, path: &[(&Atom<A>, Tri)], number: i64) -> bool
-    ensures { result ≡ spec.may_be term (path_view path.now) (domain.a_number number) }
+    ensures { result ≡ spec.may_be term (path_view path.now) (trying.a_number number) }
 {
     may_be(term, path, Some(&Literal::<Global>::Int(number)))
 }
 
 fn may_be_truth<A: Allocator>(term: Term, path: &[(&Atom<A>, Tri)], truth: bool) -> bool
-    ensures { result ≡ spec.may_be term (path_view path.now) (domain.a_truth truth) }
+    ensures { result ≡ spec.may_be term (path_view path.now) (trying.a_truth truth) }
 {
     may_be(term, path, Some(&Literal::<Global>::Bool(truth)))
 }
 
 /// Whether the number is in the range, and left to the term.
 fn serves<A: Allocator>(range: Range, term: Term, path: &[(&Atom<A>, Tri)], number: i64) -> bool
-    ensures { result ≡ domain.serves range term (path_view path.now) number }
+    ensures { result ≡ trying.serves range term (path_view path.now) number }
 {
     range.least <= number && number <= range.greatest && may_be_number(term, path, number)
 }
@@ -112,7 +112,7 @@ fn next_serves<A: Allocator>(
     path: &[(&Atom<A>, Tri)],
     number: i64,
 ) -> bool
-    ensures { result ≡ domain.serves range term (path_view path.now) (number +ℤ pos 1) }
+    ensures { result ≡ trying.serves range term (path_view path.now) (number +ℤ pos 1) }
 {
     number < range.greatest && serves(range, term, path, number + 1)
 }
@@ -124,7 +124,7 @@ fn names_number<A: Allocator>(
     path: &[(&Atom<A>, Tri)],
     atom: &Atom<A>,
 ) -> bool
-    ensures { result ≡ domain.names_number range term (path_view path.now) (atom_view atom.now) }
+    ensures { result ≡ trying.names_number range term (path_view path.now) (atom_view atom.now) }
 {
     match atom {
         Atom::Cmp(other, _, Literal::Int(number)) => {
@@ -136,7 +136,7 @@ fn names_number<A: Allocator>(
 }
 
 fn has_named_number<A: Allocator>(range: Range, term: Term, path: &[(&Atom<A>, Tri)]) -> bool
-    ensures { result ≡ domain.has_named_number range term (path_view path.now) (path_view path.now) }
+    ensures { result ≡ trying.has_named_number range term (path_view path.now) (path_view path.now) }
 {
     for (atom, _) in path {
         if names_number(range, term, path, *atom) {
@@ -151,14 +151,14 @@ fn has_named_number<A: Allocator>(range: Range, term: Term, path: &[(&Atom<A>, T
 /// Numbers between which no atom's constant stands are left or not together, so the least one of the range and those at
 /// the constants and directly after them speak for all.
 fn has_number<A: Allocator>(range: Range, term: Term, path: &[(&Atom<A>, Tri)]) -> bool
-    ensures { result ≡ domain.has_number range term (path_view path.now) }
+    ensures { result ≡ trying.has_number range term (path_view path.now) }
 {
     serves(range, term, path, range.least) || has_named_number(range, term, path)
 }
 
 /// Whether the text that the atom compares the term with is left to it.
 fn names_text<A: Allocator>(term: Term, path: &[(&Atom<A>, Tri)], atom: &Atom<A>) -> bool
-    ensures { result ≡ domain.names_text term (path_view path.now) (atom_view atom.now) }
+    ensures { result ≡ trying.names_text term (path_view path.now) (atom_view atom.now) }
 {
     match atom {
         Atom::Cmp(other, _, constant) => same_term(*other, term)
@@ -169,13 +169,13 @@ fn names_text<A: Allocator>(term: Term, path: &[(&Atom<A>, Tri)], atom: &Atom<A>
 }
 
 fn is_text<A: Allocator>(constant: &Literal<A>) -> bool
-    ensures { result ≡ domain.is_text (constant_view constant.now) }
+    ensures { result ≡ trying.is_text (constant_view constant.now) }
 {
     matches!(constant, Literal::Text(_))
 }
 
 fn has_named_text<A: Allocator>(term: Term, path: &[(&Atom<A>, Tri)]) -> bool
-    ensures { result ≡ domain.has_named_text term (path_view path.now) (path_view path.now) }
+    ensures { result ≡ trying.has_named_text term (path_view path.now) (path_view path.now) }
 {
     for (atom, _) in path {
         if names_text(term, path, *atom) {
@@ -193,14 +193,14 @@ fn may_be_unnamed_text<A: Allocator>(term: Term, path: &[(&Atom<A>, Tri)]) -> bo
 
 /// Whether a text is left to the term: one that no atom names, or one that an atom names.
 fn has_text<A: Allocator>(term: Term, path: &[(&Atom<A>, Tri)]) -> bool
-    ensures { result ≡ domain.has_text term (path_view path.now) }
+    ensures { result ≡ trying.has_text term (path_view path.now) }
 {
     may_be_unnamed_text(term, path) || has_named_text(term, path)
 }
 
 /// Whether some value of the domain of the term, whose column has this type, is left to it by all atoms on the path.
 pub fn has_value<A: Allocator>(kind: ColType, term: Term, path: &[(&Atom<A>, Tri)]) -> bool
-    ensures { result ≡ domain.has_value kind term (path_view path.now) }
+    ensures { result ≡ trying.has_value kind term (path_view path.now) }
 {
     match kind {
         ColType::SmallInt | ColType::Integer | ColType::BigInt => has_number(

@@ -1,10 +1,11 @@
 //! The walk over a certificate, from the root, each split before its branches.
 
-ghost use Rattle.std.specs.Prelude.{◌≡◌, ◌≢◌, OnOk, IfErr, None, Some, ◌∷◌, ◌++◌, []};
+ghost use Rattle.std.specs.Prelude.{◌≡◌, OnOk, ◌∷◌, ◌++◌, []};
 ghost use Rattle.filter_tree.specs.Paths.{path_view};
 ghost use Rattle.filter_tree.specs.Shape.{atom_view};
 ghost use Rattle.split_cert.specs.Tree.{nodes};
 ghost use Rattle.split_cert.specs.Where.{tree_view};
+ghost use Rattle.shard_checker.specs.Checks.{Checks};
 ghost use Rattle.shard_checker.specs.Refusal as spec;
 ghost use Rattle.shard_checker.specs.SubjectView.{subject_view};
 
@@ -46,8 +47,9 @@ fn check_branch<'a, A: Allocator, B: Allocator>(
 ) -> Result<(), CheckError>
     ensures kept { OnOk result (path.new.items ≡ path.old.items) }
     ensures counted { OnOk result (node.new ≡ spec.later node.old (nodes (tree_view branch.now))) }
-    ensures ok { OnOk result (spec.refusal (subject_view subject.now) (tree_view branch.now) (path_view path.old.items ++ (atom_view atom.now, value) ∷ []) node.old ≡ None) }
-    ensures err { IfErr result (λ error. error ≢ CheckError.OutOfMemory → spec.refusal (subject_view subject.now) (tree_view branch.now) (path_view path.old.items ++ (atom_view atom.now, value) ∷ []) node.old ≡ Some error) }
+    ensures exact {
+        let longer = path_view path.old.items ++ (atom_view atom.now, value) ∷ [] in
+        Checks (spec.refusal (subject_view subject.now) (tree_view branch.now) longer node.old) result }
 {
     extend(path, atom, value)?;
     check_tree(subject, path, node, branch)?;
@@ -68,9 +70,12 @@ fn check_branches<'a, A: Allocator, B: Allocator>(
     if_null: &Cert<B>,
 ) -> Result<(), CheckError>
     ensures kept { OnOk result (path.new.items ≡ path.old.items) }
-    ensures counted { OnOk result (node.new ≡ spec.after_branches node.old (tree_view if_true.now) (tree_view if_false.now) (tree_view if_null.now)) }
-    ensures ok { OnOk result (spec.branches_refusal (subject_view subject.now) (path_view path.old.items) node.old (atom_view atom.now) (tree_view if_true.now) (tree_view if_false.now) (tree_view if_null.now) ≡ None) }
-    ensures err { IfErr result (λ error. error ≢ CheckError.OutOfMemory → spec.branches_refusal (subject_view subject.now) (path_view path.old.items) node.old (atom_view atom.now) (tree_view if_true.now) (tree_view if_false.now) (tree_view if_null.now) ≡ Some error) }
+    ensures counted { OnOk result
+        (node.new ≡ spec.after_branches node.old (tree_view if_true.now) (tree_view if_false.now) (tree_view if_null.now)) }
+    ensures exact { Checks
+        (spec.branches_refusal (subject_view subject.now) (path_view path.old.items) node.old (atom_view atom.now)
+            (tree_view if_true.now) (tree_view if_false.now) (tree_view if_null.now))
+        result }
 {
     check_branch(subject, path, node, atom, Tri::True, if_true)?;
     check_branch(subject, path, node, atom, Tri::False, if_false)?;
@@ -90,8 +95,8 @@ pub fn check_tree<'a, A: Allocator, B: Allocator>(
 ) -> Result<(), CheckError>
     ensures kept { OnOk result (path.new.items ≡ path.old.items) }
     ensures counted { OnOk result (node.new ≡ spec.later node.old (nodes (tree_view tree.now))) }
-    ensures ok { OnOk result (spec.refusal (subject_view subject.now) (tree_view tree.now) (path_view path.old.items) node.old ≡ None) }
-    ensures err { IfErr result (λ error. error ≢ CheckError.OutOfMemory → spec.refusal (subject_view subject.now) (tree_view tree.now) (path_view path.old.items) node.old ≡ Some error) }
+    ensures exact { Checks
+        (spec.refusal (subject_view subject.now) (tree_view tree.now) (path_view path.old.items) node.old) result }
 {
     let here = *node;
     *node = next(here);

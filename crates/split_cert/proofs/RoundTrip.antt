@@ -3,12 +3,13 @@ use Rattle.std.proofs.Common.{◌≡◌, ℕ, zero, suc, ◌+◌, ◌-◌, ◌�
 use Rattle.std.specs.Prelude.{if◌then◌else◌, IfOk}
 use Rattle.std.proofs.lemmas.Bool.{eqb-true}
 use Rattle.std.proofs.lemmas.List.{append-nil, length-append, nil_from_length}
+use Rattle.filter_tree.specs.Memory.{Answers}
 use Rattle.split_cert.specs.declared.error.CertError.{CertError}
 use Rattle.split_cert.specs.declared.error.CertError.TheVariants.{Trailing, TooDeep}
 use Rattle.split_cert.specs.declared.head.Kind.{Kind}
 use Rattle.split_cert.specs.declared.head.Kind.TheVariants.{Split, Owner, Empty, NeverNull}
-use Rattle.split_cert.specs.Reading.{Here, Outcome, Rule, ◌>>=◌, ◌>>◌, pure, start, space, head, Gives}
-use Rattle.split_cert.specs.Text.{words_of, spelling_of, branches, node_of, node, tree, branch, alone, certificate_of}
+use Rattle.split_cert.specs.Reading.{Here, Outcome, Rule, ◌>>=◌, ◌>>◌, pure, start, space, head, told}
+use Rattle.split_cert.specs.Text.{words_of, spelling_of, branches, node_of, node, tree, branch, alone, certificate_of, IsCertificateOf}
 use Rattle.split_cert.specs.Tree.{Tree, nodes, splits_deep, HasNumbers, max_nodes, max_splits, IsWithinLimits}
 use Rattle.split_cert.specs.Tree as T
 use Rattle.split_cert.proofs.WordLemmas.{at, bind_ok, ok_is, EndsWord, not_zero, space_takes}
@@ -176,20 +177,17 @@ more_is_trailing t more is =
 
 -- ---- the same of what a function answers
 
-pub is_found : {A : Type 0} (view : A → Tree) (text : List ℕ) (result : Result A CertError) → Gives view (certificate_of text) result
-    → IfOk result (λ a. IsWithinLimits (view a) × (text ≡ spelling_of (view a)))
-is_found view text (Ok a) given = read_is_spelled text (view a) given
+pub is_found : {A : Type 0} (view : A → Tree) (text : List ℕ) (result : Result A CertError) → Answers view told (certificate_of text) result → IfOk result (λ a. IsCertificateOf (view a) text)
+is_found view text (Ok a) given = let read = read_is_spelled text (view a) given in record { limits = read.0; spelled = read.1 }
 is_found view text (Err e) given = tt
 
-pub is_read : {A : Type 0} (view : A → Tree) (text : List ℕ) (result : Result A CertError) → Gives view (certificate_of text) result
-    → (t : Tree) → IsWithinLimits t → text ≡ spelling_of t → Gives view (Ok t) result
-is_read view text result given t is e = subst (λ outcome. Gives view outcome result) (ap certificate_of e ∙ spelled_is_read t is) given
+pub is_read : {A : Type 0} (view : A → Tree) (text : List ℕ) (result : Result A CertError) → Answers view told (certificate_of text) result
+    → (t : Tree) → IsCertificateOf t text → Answers view told (Ok t) result
+is_read view text result given t is = subst (λ outcome. Answers view told outcome result) (ap certificate_of is.spelled ∙ spelled_is_read t is.limits) given
 
-pub is_trailing : {A : Type 0} (view : A → Tree) (text : List ℕ) (result : Result A CertError) → Gives view (certificate_of text) result
-    → (t : Tree) (more : List ℕ) → IsWithinLimits t → text ≡ spelling_of t ++ 32 ∷ more → Gives view (Err (Trailing (length (spelling_of t)))) result
-is_trailing view text result given t more is e = subst (λ outcome. Gives view outcome result) (ap certificate_of e ∙ more_is_trailing t more is) given
+pub is_trailing : {A : Type 0} (view : A → Tree) (text : List ℕ) (result : Result A CertError) → Answers view told (certificate_of text) result
+    → (t : Tree) (more : List ℕ) → IsWithinLimits t → text ≡ spelling_of t ++ 32 ∷ more → Answers view told (Err (Trailing (length (spelling_of t)))) result
+is_trailing view text result given t more is e = subst (λ outcome. Answers view told outcome result) (ap certificate_of e ∙ more_is_trailing t more is) given
 
 pub is_read_again : (text : List ℕ) (t : Tree) → text ≡ spelling_of t → HasNumbers t → nodes t ≤ max_nodes → splits_deep t ≤ max_splits → certificate_of text ≡ Ok t
 is_read_again text t e numbers few shallow = ap certificate_of e ∙ spelled_is_read t (record { few = few; shallow = shallow; numbers = numbers })
-
-pub ruleset round_trips = (is_found, is_read)

@@ -1,5 +1,5 @@
 -- A tree is read as a head and what stands behind it.
-use Rattle.std.proofs.Common.{◌≡◌, ℕ, zero, suc, ◌-◌, ◌<◌, Ok, Err, refl, arith}
+use Rattle.std.proofs.Common.{◌≡◌, ℕ, zero, suc, ◌+◌, ◌-◌, ◌<◌, Ok, Err, refl, arith}
 use Rattle.split_cert.specs.declared.error.CertError.{CertError}
 use Rattle.split_cert.specs.declared.error.CertError.TheVariants.{TooDeep}
 use Rattle.split_cert.specs.declared.head.Head.{Head}
@@ -7,7 +7,8 @@ use Rattle.split_cert.specs.declared.head.Kind.{Kind}
 use Rattle.split_cert.specs.declared.head.Kind.TheVariants.{Split, Owner, Empty, NeverNull}
 use Rattle.split_cert.specs.Reading.{Here, Rule, head}
 use Rattle.split_cert.specs.Text.{tree, node, node_of, branch}
-use Rattle.split_cert.specs.Tree.{Tree}
+use Rattle.split_cert.specs.Tree.{Tree, nodes}
+use Rattle.split_cert.specs.Tree as T
 
 -- behind a head that is no split, no branch is read
 same_behind : (one other : Rule Tree) (kind : Kind) (number : ℕ) (here : Here) → (kind ≡ Split → ⊥) → node_of one kind number here ≡ node_of other kind number here
@@ -29,3 +30,9 @@ tree_fails zero here fault e = rw e refl
 tree_fails (suc n) here fault e = rw e refl
 
 pub ruleset trees = (tree_opens, tree_fails)
+
+pub some_nodes : (tree : Tree) → 0 < nodes tree
+some_nodes (T.Split atom if_true if_false if_null) = omega arith
+some_nodes (T.Owner subscriber) = omega arith
+some_nodes (T.Empty term) = omega arith
+some_nodes (T.NeverNull atom) = omega arith

@@ -1,5 +1,5 @@
 -- How the text of a certificate is read, up to one node's two words: each rule takes bytes from the front of a text, and gives what it reads and where the reader stands behind it, or the first fault. The format is this project's own.
-use Rattle.std.specs.Prelude.{◌≡◌, ℕ, ◌+◌, Bool, false, true, not, ◌&&◌, ◌==◌, nat_le, if◌then◌else◌, List, [], ◌∷◌, length, take, drop, Option, Some, None, Result, Ok, Err}
+use Rattle.std.specs.Prelude.{◌≡◌, ℕ, ◌+◌, Bool, false, true, not, ◌&&◌, ◌==◌, nat_le, if◌then◌else◌, List, [], ◌∷◌, length, take, drop, Option, Some, None, Result, Ok, Err, IfErr}
 use Rattle.std.specs.List.{prefix_len}
 use Rattle.split_cert.specs.declared.error.CertError.{CertError}
 use Rattle.split_cert.specs.declared.error.CertError.TheVariants.{BadToken, Ended, Trailing, TooLarge, TooDeep, OutOfMemory}
@@ -115,28 +115,17 @@ unfoldable pub head : ℕ → Rule Head
 head may_open =
     letter >>= (λ kind. count may_open kind >> space >> number >>= (λ n. pure (record { kind = kind; number = n })))
 
--- ---- what a function that reads ensures
+-- ---- what an error tells
 
--- its answer is the rule's, where `view` is what the value stands for and `rest` is where it stands behind it
-abbrev pub Finds : {A B : Type 0} → (A → B) → Outcome B → Result A CertError → Here → Type 0
-Finds view outcome (Ok a) rest = outcome ≡ Ok (view a, rest)
-Finds view outcome (Err e) rest = outcome ≡ Err e
+-- the fault that an error tells: none where memory was refused
+abbrev pub told : CertError → Option CertError
+told OutOfMemory = None
+told (BadToken place) = Some (BadToken place)
+told Ended = Some Ended
+told (Trailing place) = Some (Trailing place)
+told TooLarge = Some TooLarge
+told TooDeep = Some TooDeep
 
--- an error is the fault of the text; for want of memory it may stand for any outcome
-abbrev pub Tells : {A : Type 0} → CertError → Result A CertError → Type 0
-Tells OutOfMemory outcome = Unit {0}
-Tells (BadToken place) outcome = outcome ≡ Err (BadToken place)
-Tells Ended outcome = outcome ≡ Err Ended
-Tells (Trailing place) outcome = outcome ≡ Err (Trailing place)
-Tells TooLarge outcome = outcome ≡ Err TooLarge
-Tells TooDeep outcome = outcome ≡ Err TooDeep
-
--- the same of a function that takes memory
-abbrev pub Reads : {A B : Type 0} → (A → B) → Outcome B → Result A CertError → Here → Type 0
-Reads view outcome (Ok a) rest = outcome ≡ Ok (view a, rest)
-Reads view outcome (Err e) rest = Tells e outcome
-
--- and of one that reads a whole text
-abbrev pub Gives : {A B : Type 0} → (A → B) → Result B CertError → Result A CertError → Type 0
-Gives view outcome (Ok a) = outcome ≡ Ok (view a)
-Gives view outcome (Err e) = Tells e outcome
+-- memory is refused only where the fact holds
+abbrev pub NeedsMemoryOnlyIf : {A : Type 0} → Type 0 → Result A CertError → Type 0
+NeedsMemoryOnlyIf Fact result = IfErr result (λ error. error ≡ OutOfMemory → Fact)

@@ -7,7 +7,7 @@ use Rattle.split_cert.specs.declared.head.Head.{Head}
 use Rattle.split_cert.specs.declared.head.Kind.{Kind}
 use Rattle.split_cert.specs.declared.head.Kind.TheVariants.{Split, Owner, Empty, NeverNull}
 use Rattle.split_cert.specs.Reading.{Outcome, Rule, ◌>>=◌, ◌>>◌, pure, head, space, letter_of, start}
-use Rattle.split_cert.specs.Tree.{Tree, max_splits}
+use Rattle.split_cert.specs.Tree.{Tree, IsWithinLimits, max_splits}
 use Rattle.split_cert.specs.Tree as T
 
 -- ---- the text of a tree
@@ -21,6 +21,11 @@ spelling_of (T.Split atom if_true if_false if_null) = words_of Split atom ++ 32 
 spelling_of (T.Owner subscriber) = words_of Owner subscriber
 spelling_of (T.Empty term) = words_of Empty term
 spelling_of (T.NeverNull atom) = words_of NeverNull atom
+
+-- the tree is within the limits, and the text is its own
+pub record IsCertificateOf (tree : Tree) (text : List ℕ) : Type 0 where
+  pub limits : IsWithinLimits tree
+  pub spelled : text ≡ spelling_of tree
 
 -- the text begins with a split: only there is memory taken
 abbrev pub BeginsWithSplit : List ℕ → Type 0

@@ -20,8 +20,7 @@ pub(crate) struct Cursor<'a> {
 impl<'a> Cursor<'a> {
     ghost use Rattle.std.specs.Prelude.{◌==◌, IfOk};
     ghost use Rattle.split_cert.specs.declared.head.Kind.TheVariants.{Split};
-    ghost use Rattle.split_cert.specs.Reading.{Finds};
-    ghost use Rattle.split_cert.specs.Where.{here_view};
+    ghost use Rattle.split_cert.specs.Where.{here_view, Finds};
 
     /// A cursor before the first node.
     pub(crate) fn new(text: &'a str) -> Cursor<'a>
@@ -51,7 +50,7 @@ impl<'a> Cursor<'a> {
     /// Takes the next word, which runs to a space or to the end.
     #[tactic(auto, unfolding(crate::specs::Reading::word))]
     fn word(&mut self) -> Result<&'a [u8], CertError>
-        ensures { Finds (λ word. word.now) (spec.word (here_view self.old)) result (here_view self.new) }
+        ensures { Finds (λ word. word.now) spec.word self.old self.new result }
     {
         if self.rest.is_empty() {
             return Err(CertError::Ended);
@@ -65,7 +64,7 @@ impl<'a> Cursor<'a> {
     /// Takes a space.
     #[tactic(auto, unfolding(crate::specs::Reading::space))]
     pub(crate) fn space(&mut self) -> Result<(), CertError>
-        ensures { Finds (λ _. tt) (spec.space (here_view self.old)) result (here_view self.new) }
+        ensures { Finds (λ _. tt) spec.space self.old self.new result }
     {
         match self.rest {
             [] => Err(CertError::Ended),
@@ -81,7 +80,7 @@ impl<'a> Cursor<'a> {
     /// Takes the letter of a node.
     #[tactic(auto, unfolding(crate::specs::Reading::letter))]
     fn letter(&mut self) -> Result<Kind, CertError>
-        ensures { Finds (λ kind. kind) (spec.letter (here_view self.old)) result (here_view self.new) }
+        ensures { Finds (λ kind. kind) spec.letter self.old self.new result }
     {
         let place = self.place;
         let word = self.word()?;
@@ -91,7 +90,7 @@ impl<'a> Cursor<'a> {
     /// Takes the number of a node.
     #[tactic(auto, unfolding(crate::specs::Reading::number))]
     fn number(&mut self) -> Result<u32, CertError>
-        ensures { Finds (λ number. number) (spec.number (here_view self.old)) result (here_view self.new) }
+        ensures { Finds (λ number. number) spec.number self.old self.new result }
     {
         let place = self.place;
         let word = self.word()?;
@@ -101,7 +100,7 @@ impl<'a> Cursor<'a> {
     /// Counts a node whose letter was taken, where so many splits may still open on its path.
     #[tactic(auto, unfolding(crate::specs::Reading::count))]
     fn count(&mut self, may_open: usize, kind: Kind) -> Result<(), CertError>
-        ensures counted { Finds (λ _. tt) (spec.count may_open kind (here_view self.old)) result (here_view self.new) }
+        ensures counted { Finds (λ _. tt) (spec.count may_open kind) self.old self.new result }
         ensures opens { IfOk result (λ _. kind ≡ Split → 0 < may_open) }
     {
         if MAX_NODES <= self.nodes {
@@ -117,7 +116,7 @@ impl<'a> Cursor<'a> {
     /// Takes the letter and the number of the next node, where so many splits may still open on its path.
     #[tactic(auto, unfolding(crate::specs::Reading::head))]
     pub(crate) fn head(&mut self, may_open: usize) -> Result<Head, CertError>
-        ensures head { Finds (λ head. head) (spec.head may_open (here_view self.old)) result (here_view self.new) }
+        ensures head { Finds (λ head. head) (spec.head may_open) self.old self.new result }
         ensures opens { IfOk result (λ head. head.kind ≡ Split → 0 < may_open) }
     {
         let kind = self.letter()?;

@@ -8,6 +8,7 @@ mod cert;
 mod cursor;
 mod error;
 mod head;
+mod limits;
 mod number;
 mod reading;
 #[cfg(test)]
@@ -16,5 +17,6 @@ mod writing;
 
 pub use cert::{Cert, MAX_NODES, MAX_SPLITS};
 pub use error::CertError;
+pub use limits::is_within_limits;
 pub use reading::read_in;
 pub use writing::write;

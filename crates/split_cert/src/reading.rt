@@ -1,12 +1,13 @@
 //! Certificates as they are read.
 
-ghost use Rattle.std.specs.Prelude.{◌≡◌, ◌<◌, ◌-◌, ◌++◌, ◌∷◌, ℕ, List, length, IfOk, IfErr, Ok, Err};
-ghost use Rattle.split_cert.specs.declared.error.CertError.TheVariants.{Trailing, OutOfMemory};
+ghost use Rattle.std.specs.Prelude.{◌≡◌, ◌<◌, ◌-◌, ◌++◌, ◌∷◌, ℕ, List, length, IfOk, Ok, Err};
+ghost use Rattle.filter_tree.specs.Memory.{Answers};
+ghost use Rattle.split_cert.specs.declared.error.CertError.TheVariants.{Trailing};
 ghost use Rattle.split_cert.specs.declared.head.Kind.TheVariants.{Split};
-ghost use Rattle.split_cert.specs.Reading.{Reads, Gives};
+ghost use Rattle.split_cert.specs.Reading.{NeedsMemoryOnlyIf, told};
 ghost use Rattle.split_cert.specs.Text as spec;
 ghost use Rattle.split_cert.specs.Tree.{Tree, IsWithinLimits};
-ghost use Rattle.split_cert.specs.Where.{here_view, tree_view};
+ghost use Rattle.split_cert.specs.Where.{here_view, tree_view, Reads};
 
 use crate::cert::{Cert, MAX_SPLITS};
 use crate::cursor::Cursor;
@@ -22,8 +23,8 @@ fn tree<A: Allocator + Clone>(
     may_open: usize,
     cursor: &mut Cursor<'_>,
 ) -> Result<Cert<A>, CertError>
-    ensures tree { Reads tree_view (spec.tree may_open (here_view cursor.old)) result (here_view cursor.new) }
-    ensures memory { IfErr result (λ error. error ≡ OutOfMemory → spec.BeginsWithSplit (here_view cursor.old).rest) }
+    ensures tree { Reads tree_view (spec.tree may_open) cursor.old cursor.new result }
+    ensures memory { NeedsMemoryOnlyIf (spec.BeginsWithSplit (here_view cursor.old).rest) result }
 {
     let head = cursor.head(may_open)?;
     node(alloc, may_open, head, cursor)
@@ -38,8 +39,8 @@ fn node<A: Allocator + Clone>(
     cursor: &mut Cursor<'_>,
 ) -> Result<Cert<A>, CertError>
     requires { head.kind ≡ Split → 0 < may_open }
-    ensures node { Reads tree_view (spec.node (spec.branch (may_open - 1)) head (here_view cursor.old)) result (here_view cursor.new) }
-    ensures memory { IfErr result (λ error. error ≡ OutOfMemory → head.kind ≡ Split) }
+    ensures node { Reads tree_view (spec.node (spec.branch (may_open - 1)) head) cursor.old cursor.new result }
+    ensures memory { NeedsMemoryOnlyIf (head.kind ≡ Split) result }
 {
     match head.kind {
         Kind::Split => split(alloc, may_open - 1, head.number, cursor),
@@ -58,7 +59,7 @@ fn split<A: Allocator + Clone>(
     atom: u32,
     cursor: &mut Cursor<'_>,
 ) -> Result<Cert<A>, CertError>
-    ensures { Reads tree_view (spec.branches (spec.branch may_open) atom (here_view cursor.old)) result (here_view cursor.new) }
+    ensures { Reads tree_view (spec.branches (spec.branch may_open) atom) cursor.old cursor.new result }
 {
     let if_true = branch(alloc, may_open, cursor)?;
     let if_false = branch(alloc, may_open, cursor)?;
@@ -74,7 +75,7 @@ fn branch<A: Allocator + Clone>(
     may_open: usize,
     cursor: &mut Cursor<'_>,
 ) -> Result<Box<Cert<A>, A>, CertError>
-    ensures { Reads (λ branch. tree_view branch.value) (spec.branch may_open (here_view cursor.old)) result (here_view cursor.new) }
+    ensures { Reads (λ branch. tree_view branch.value) (spec.branch may_open) cursor.old cursor.new result }
 {
     cursor.space()?;
     let branch = tree(alloc, may_open, cursor)?;
@@ -84,8 +85,8 @@ fn branch<A: Allocator + Clone>(
 /// The certificate of a whole text.
 #[tactic(auto, unfolding(crate::specs::Text::certificate_of))]
 fn certificate<A: Allocator + Clone>(alloc: &A, text: &str) -> Result<Cert<A>, CertError>
-    ensures exact { Gives tree_view (spec.certificate_of text.now) result }
-    ensures memory { IfErr result (λ error. error ≡ OutOfMemory → spec.BeginsWithSplit text.now) }
+    ensures exact { Answers tree_view told (spec.certificate_of text.now) result }
+    ensures memory { NeedsMemoryOnlyIf (spec.BeginsWithSplit text.now) result }
 {
     let mut cursor = Cursor::new(text);
     let cert = tree(alloc, MAX_SPLITS, &mut cursor)?;
@@ -106,19 +107,20 @@ fn certificate<A: Allocator + Clone>(alloc: &A, text: &str) -> Result<Cert<A>, C
 /// # Errors
 ///
 /// The first fault of the text, or `OutOfMemory` where an allocation was refused: only a split takes memory.
-#[tactic(auto, using(crate::proofs::RoundTrip::round_trips))]
+#[tactic(auto, using(crate::proofs::RoundTrip::is_found))]
 pub fn read_in<A: Allocator + Clone>(alloc: A, text: &str) -> Result<Cert<A>, CertError>
     // The answer is the certificate of the text, or its first fault.
-    ensures exact { Gives tree_view (spec.certificate_of text.now) result }
+    ensures exact { Answers tree_view told (spec.certificate_of text.now) result }
     // Want of memory is no answer to a text that doesn't begin with a split.
-    ensures memory { IfErr result (λ error. error ≡ OutOfMemory → spec.BeginsWithSplit text.now) }
+    ensures memory { NeedsMemoryOnlyIf (spec.BeginsWithSplit text.now) result }
     // What is read is within the limits, and the text is what `write` gives for it.
-    ensures found { IfOk result (λ cert. IsWithinLimits (tree_view cert) × (text.now ≡ spec.spelling_of (tree_view cert))) }
+    ensures found { IfOk result (λ cert. spec.IsCertificateOf (tree_view cert) text.now) }
     // What `write` gives for a certificate within the limits is read as that certificate.
-    ensures only { (tree : Tree) → IsWithinLimits tree → text.now ≡ spec.spelling_of tree → Gives tree_view (Ok tree) result }
+    ensures only { (tree : Tree) → spec.IsCertificateOf tree text.now → Answers tree_view told (Ok tree) result }
     // With a space and whatever else behind it, it is refused there.
-    ensures trailing { (tree : Tree) (more : List ℕ) → IsWithinLimits tree → text.now ≡ spec.spelling_of tree ++ 32 ∷ more
-        → Gives tree_view (Err (Trailing (length (spec.spelling_of tree)))) result }
+    ensures trailing { (tree : Tree) (more : List ℕ) → IsWithinLimits tree
+        → text.now ≡ spec.spelling_of tree ++ 32 ∷ more
+        → Answers tree_view told (Err (Trailing (length (spec.spelling_of tree)))) result }
 {
     certificate(&alloc, text)
 }

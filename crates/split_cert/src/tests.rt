@@ -1,4 +1,4 @@
-use crate::{Cert, CertError, read_in, write};
+use crate::{Cert, CertError, is_within_limits, read_in, write};
 use bumpalo::Bump;
 use std::alloc::{AllocError, Global};
 use std::test::Fail;
@@ -144,6 +144,7 @@ fn a_million_nodes_are_read_and_written_again(rt: HostRuntime) -> Result<(), Fai
     let mut text = String::new(rt.alloc());
     push_even(333_333, &mut text)?;
     let cert = read_in(rt.alloc(), &text)?;
+    assert!(rt; is_within_limits(&cert));
     assert!(rt; write(rt.alloc(), &cert)? == text);
     Ok(())
 }

@@ -16,7 +16,8 @@ use std::alloc::{AllocError, Allocator, Global};
 pub fn write<A: Allocator>(alloc: Global, cert: &Cert<A>) -> Result<String, AllocError>
     ensures spelled { IfOk result (λ text. string_bytes text ≡ spelling_of (tree_view cert.now)) }
     // Within the limits it is read as that certificate.
-    ensures again { IfOk result (λ text. nodes (tree_view cert.now) ≤ max_nodes → splits_deep (tree_view cert.now) ≤ max_splits
+    ensures again { IfOk result (λ text. nodes (tree_view cert.now) ≤ max_nodes
+        → splits_deep (tree_view cert.now) ≤ max_splits
         → certificate_of (string_bytes text) ≡ Ok (tree_view cert.now)) }
 {
     let mut text = String::new(alloc);

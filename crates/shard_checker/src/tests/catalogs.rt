@@ -89,7 +89,9 @@ fn takes_one_alone(
     one: &Row,
     other: &Row,
 ) -> bool
-    ensures { (setting_in (checked_view checked.now)).identity table one.now ≡ (setting_in (checked_view checked.now)).identity table other.now → result ≡ false }
+    ensures { (setting_in (checked_view checked.now)).identity table one.now
+        ≡ (setting_in (checked_view checked.now)).identity table other.now
+        → result ≡ false }
 {
     let _catalog = checked.catalog();
     let share = checked.plan().share(subscriber, table);
@@ -190,6 +192,27 @@ fn filters_name_identity_columns(rt: HostRuntime) -> Result<(), Fail> {
         let catalog = catalog(alloc, identity, operations(true, true, true), filter)?;
         assert_eq!(rt; refusal(alloc, catalog, &[])?, Some(expected));
     }
+    Ok(())
+}
+
+/// No row stands in a table that isn't there, so no column of it has to be recorded.
+#[test]
+fn a_table_that_is_not_there_lacks_no_column(rt: HostRuntime) -> Result<(), Fail> {
+    let alloc = rt.alloc();
+    let mut catalog = catalog(
+        alloc,
+        Identity::Default,
+        operations(true, true, true),
+        low(),
+    )?;
+    if let Some(first) = catalog.publications.get_mut(0) {
+        first.entries.push(Entry {
+            table: 7,
+            filter: Some(text(alloc, REGION, Op::Eq, "eu")?),
+        })?;
+    }
+    let certs = vec![in alloc; by_halves(alloc)?]?;
+    assert_eq!(rt; refusal(alloc, catalog, &certs)?, None);
     Ok(())
 }
 

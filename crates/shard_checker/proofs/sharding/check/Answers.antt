@@ -7,4 +7,4 @@ use Rattle.shard_checker.proofs.sharding.check.Goals as goal
 
 -- nothing was refused
 pub new-requires-clause-sound : goal.new-requires-clause-sound
-new-requires-clause-sound g c = sharding_sound (catalog_view c.args.catalog) (plan_view c.args.plan) (map tree_view c.args.certs.now) c.in_ok-check_sharding.ensures.ok c.requires
+new-requires-clause-sound g c = sharding_sound (catalog_view c.args.catalog) (plan_view c.args.plan) (map tree_view c.args.certs.now) c.in_ok-check_sharding.ensures.exact c.requires

@@ -1,6 +1,6 @@
 use Rattle.std.proofs.Common.{◌≡◌, drop}
 use Rattle.filter_tree.specs.Paths.{path_view}
-use Rattle.shard_checker.specs.Domain.{has_named_number}
+use Rattle.shard_checker.specs.Trying.{has_named_number}
 use Rattle.shard_checker.proofs.values.has_named_number.Given as goal
 
 -- the answer for the entries that are left is that for all

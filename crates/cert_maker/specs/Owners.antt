@@ -1,0 +1,31 @@
+-- Which shares of a table take a row: its owners; and what an answer of the maker says of a table's shares: PostgreSQL 15, "Logical Replication", 31.3 Row Filters.
+use Rattle.std.specs.Prelude.{◌≡◌, ◌≢◌, ℕ, ◌+◌, if◌then◌else◌, List, [], ◌∷◌, length, None}
+use Rattle.filter_tree.specs.Datum.{Datum}
+use Rattle.filter_tree.specs.Valid.{IsValid}
+use Rattle.filter_tree.specs.declared.table.Table.{Table}
+use Rattle.replica_identity.specs.Shares.{ShareOf, takes}
+use Rattle.shard_checker.specs.Refusal.{first_refusal}
+use Rattle.split_cert.specs.Tree.{Tree, IsWithinLimits}
+use Rattle.cert_maker.specs.Answers.{IfCert, IfCounter}
+use Rattle.cert_maker.specs.declared.made.Made.{Made}
+
+-- the numbers of the shares that take the row, where the first share has this number
+abbrev pub owners_from : ℕ → List ShareOf → List Datum → List ℕ
+owners_from number [] cells = []
+owners_from number (share ∷ shares) cells = if takes share cells then number ∷ owners_from (number + 1) shares cells else owners_from (number + 1) shares cells
+
+-- the row fits the table, and its owners are not one
+pub record IsCounterOf (table : Table) (shares : List ShareOf) (cells : List Datum) (owners : List ℕ) : Type 0 where
+  pub valid : IsValid table.columns cells
+  pub all : owners ≡ owners_from 0 shares cells
+  pub not_one : length owners ≢ 1
+
+-- the certificate is within the limits on those that are read, and the check accepts it
+pub record IsCertOf (table : Table) (shares : List ShareOf) (tree : Tree) : Type 0 where
+  pub limits : IsWithinLimits tree
+  pub accepted : first_refusal 0 table shares tree ≡ None
+
+-- what the answer says of the table with these shares is so
+pub record IsRight (table : Table) (shares : List ShareOf) (made : Made) : Type 0 where
+  pub cert : IfCert made (IsCertOf table shares)
+  pub counter : IfCounter made (IsCounterOf table shares)

@@ -1,0 +1,77 @@
+//! The check of a table's certificate.
+
+ghost use Rattle.std.specs.Prelude.{List, [], OnOk};
+ghost use Rattle.filter_tree.specs.Datum.{Datum};
+ghost use Rattle.split_cert.specs.Where.{tree_view};
+ghost use Rattle.shard_checker.specs.Checks.{Checks, IfRefused};
+ghost use Rattle.shard_checker.specs.Owners.{shares_view, HasOneOwner};
+ghost use Rattle.shard_checker.specs.Refusal as spec;
+ghost use Rattle.shard_checker.specs.Rows.{IsTyped};
+ghost use Rattle.shard_checker.specs.SubjectView.{subject_view};
+ghost use Rattle.shard_checker.specs.Truth.{CertificateIsWrong};
+
+use crate::error::CheckError;
+use crate::numbering::{numbered_atoms, numbered_terms};
+use crate::subject::Subject;
+use crate::walk::check_tree;
+use filter_tree::Table;
+use replica_identity::Share;
+use split_cert::Cert;
+use std::alloc::{Allocator, Global};
+
+/// Checks the certificate of a table whose atoms and terms are numbered.
+fn check_subject<'a, A: Allocator, B: Allocator>(
+    alloc: Global,
+    subject: &Subject<'a, A>,
+    cert: &Cert<B>,
+) -> Result<(), CheckError>
+    ensures { Checks (spec.refusal (subject_view subject.now) (tree_view cert.now) [] 0) result }
+{
+    let mut path = Vec::new(alloc);
+    let mut node = 0;
+    check_tree(subject, &mut path, &mut node, cert)
+}
+
+/// Checks the certificate of the table of this number.
+pub fn check_table<A: Allocator, B: Allocator>(
+    alloc: Global,
+    number: usize,
+    table: &Table,
+    shares: &[&Share<A>],
+    cert: &Cert<B>,
+) -> Result<(), CheckError>
+    ensures { Checks (spec.first_refusal number table.now (shares_view shares.now) (tree_view cert.now)) result }
+{
+    let atoms = numbered_atoms(alloc, shares)?;
+    let terms = numbered_terms(alloc, shares)?;
+    let subject = Subject {
+        table: number,
+        columns: table.columns.as_slice(),
+        shares,
+        atoms: &atoms,
+        terms: &terms,
+    };
+    check_subject(alloc, &subject, cert)
+}
+
+/// Checks that each row that may stand in the table, with texts of any length, is taken by exactly one of the shares, as
+/// the certificate says it is. The error is that of the first node, in the order in which a certificate is written, that
+/// says something that isn't so, or `OutOfMemory`; the table's number in it is 0. Any certificate is answered. Its depth
+/// takes stack.
+///
+/// Atoms and terms are numbered from 0 in the order in which the shares' filters have them first, share by share, and
+/// `IS NULL` of a column is an appearance of that column. Subscribers are the shares' numbers.
+#[tactic(auto, using(crate::proofs::SoundLemmas::certificate_sound, crate::proofs::TruthLemmas::certificate_wrong))]
+pub fn check_one<A: Allocator, B: Allocator>(
+    alloc: Global,
+    table: &Table,
+    shares: &[&Share<A>],
+    cert: &Cert<B>,
+) -> Result<(), CheckError>
+    ensures sound { OnOk result
+        ((cells : List Datum) → IsTyped table.now.columns cells → HasOneOwner (shares_view shares.now) cells) }
+    ensures exact { Checks (spec.first_refusal 0 table.now (shares_view shares.now) (tree_view cert.now)) result }
+    ensures wrong { IfRefused result (CertificateIsWrong 0 table.now (shares_view shares.now) (tree_view cert.now)) }
+{
+    check_table(alloc, 0, table, shares, cert)
+}
