@@ -5,7 +5,7 @@ use Rattle.filter_tree.specs.Datum.{Datum}
 use Rattle.filter_tree.specs.Valid.{row_fault}
 use Rattle.filter_tree.specs.declared.table.Column.{Column}
 use Rattle.filter_tree.specs.declared.validity.RowFault.{RowFault}
-use Rattle.publisher_main.specs.Carriers.{CarrierOf}
+use Rattle.publisher_main.specs.Eval.Carriers.{CarrierOf}
 use Rattle.sql_reader.specs.Reading.{Fault, Tells, TellsOf, fault}
 use Rattle.sql_reader.specs.Rows.{row_of}
 use Rattle.sql_reader.specs.Wrong.{Wrong, wrong_of}
@@ -13,12 +13,12 @@ use Rattle.sql_reader.specs.Wrong as w
 use Rattle.sql_reader.specs.declared.error.ErrorKind.{ErrorKind}
 use Rattle.sql_reader.specs.declared.error.ErrorKind.TheVariants as e
 use Rattle.sql_reader.specs.declared.error.ReadError.{ReadError}
-use Rattle.publisher_main.specs.BadRows.{IsReading, bad_line, is_out_of_memory}
-use Rattle.publisher_main.specs.Evaluation.{IsLine, IsLineOf, line_by, told}
+use Rattle.publisher_main.specs.Eval.BadRows.{IsReading, bad_line, is_out_of_memory}
+use Rattle.publisher_main.specs.Eval.Evaluation.{IsLine, IsLineOf, line_by, told}
 use Rattle.publisher_main.specs.Memory.{is_memory}
-use Rattle.publisher_main.specs.declared.arguments.Question.{Question}
-use Rattle.publisher_main.specs.declared.bad_row.BadRow.{BadRow}
-use Rattle.publisher_main.specs.declared.bad_row.BadRow.TheVariants.{Unreadable, Invalid}
+use Rattle.publisher_main.specs.declared.arguments.RowOutput.{RowOutput}
+use Rattle.publisher_main.specs.declared.eval.bad_row.BadRow.{BadRow}
+use Rattle.publisher_main.specs.declared.eval.bad_row.BadRow.TheVariants.{Unreadable, Invalid}
 
 record SaysWrong (kind : ErrorKind) : Type 0 where
   wrong : Wrong
@@ -42,21 +42,21 @@ says_wrong e.NoKey h = record { wrong = w.NoKey; is = refl }
 says_wrong e.TableTwice h = record { wrong = w.TableTwice; is = refl }
 says_wrong e.OutOfMemory h = absurd cc
 
-module _ (question : Question) (number : ℕ) (carriers : List CarrierOf) (columns : List Column) where
+module _ (wanted : RowOutput) (number : ℕ) (carriers : List CarrierOf) (columns : List Column) where
   unreadable_line : (error : ReadError) (wrong : Wrong) (outcome : Result (List Datum) Fault) (line : List ℕ) → wrong_of error.kind ≡ Some wrong → Tells error outcome
-      → line ≡ bad_line (Unreadable error) → IsLineOf question number carriers columns outcome line
+      → line ≡ bad_line (Unreadable error) → IsLineOf wanted number carriers columns outcome line
   unreadable_line error wrong outcome line is tells same =
       let found : outcome ≡ Err (fault error.place wrong) = subst (λ (w : Option Wrong). TellsOf error.place w outcome) is tells in
-      subst (λ (o : Result (List Datum) Fault). IsLineOf question number carriers columns o line) (sym found) (record { error = error; tells = (refl, is); is = same })
+      subst (λ (o : Result (List Datum) Fault). IsLineOf wanted number carriers columns o line) (sym found) (record { error = error; tells = (refl, is); is = same })
 
   invalid_line : (cells : List Datum) (wrong : RowFault) (outcome : Result (List Datum) Fault) (line : List ℕ) → outcome ≡ Ok cells → row_fault columns cells ≡ Some wrong
-      → line ≡ bad_line (Invalid wrong) → IsLineOf question number carriers columns outcome line
+      → line ≡ bad_line (Invalid wrong) → IsLineOf wanted number carriers columns outcome line
   invalid_line cells wrong outcome line read bad same =
-      subst (λ (o : Result (List Datum) Fault). IsLineOf question number carriers columns o line) (sym read)
-      (same ∙ sym (ap (λ (f : Option RowFault). line_by f (told question number cells carriers)) bad))
+      subst (λ (o : Result (List Datum) Fault). IsLineOf wanted number carriers columns o line) (sym read)
+      (same ∙ sym (ap (λ (f : Option RowFault). line_by f (told wanted number cells carriers)) bad))
 
   -- a row that has no answer has the line of its fault
-  pub bad_told : (text line : List ℕ) (bad : BadRow) → IsReading columns text (Err bad) → is_out_of_memory bad ≡ false → line ≡ bad_line bad → IsLine question number carriers columns text line
+  pub bad_told : (text line : List ℕ) (bad : BadRow) → IsReading columns text (Err bad) → is_out_of_memory bad ≡ false → line ≡ bad_line bad → IsLine wanted number carriers columns text line
   bad_told text line (Unreadable error) reading known same =
       let says = says_wrong error.kind known in
       unreadable_line error says.wrong (row_of text) line says.is reading same

@@ -4,9 +4,10 @@ use Rattle.std.proofs.lemmas.List.{map-append, length-map}
 use Rattle.split_cert.specs.Text.{certificate_of}
 use Rattle.split_cert.specs.Tree.{Tree}
 use Rattle.split_cert.specs.declared.error.CertError.{CertError}
-use Rattle.publisher_main.specs.Certificates.{AreCertificates, IsFirstBad, IsOfLine, IsOfLines}
+use Rattle.publisher_main.specs.Check.Certificates.{AreCertificates, IsFirstBad, IsOfLine, IsOfLines}
 use Rattle.publisher_main.specs.declared.failure.Failure.{Failure}
 use Rattle.publisher_main.specs.declared.failure.Failure.TheVariants as f
+use Rattle.publisher_main.specs.declared.failure.InputFault.TheVariants as i
 
 -- what is read of a line
 abbrev Outcome : Type 0
@@ -53,12 +54,12 @@ first_bad lines left line later trees number error left_is counted fault now = r
 -- reading stops at the next line
 pub stops : (lines left : List (List ℕ)) (line : List ℕ) (later : List (List ℕ)) (trees : List Tree) (number : ℕ) (failure : Failure)
     → left ≡ line ∷ later → number ≡ length trees + 1 → IsOfLine number line failure → IsSoFar lines left trees → IsOfLines lines failure
-stops lines left line later trees number (f.CommandLine error) left_is counted h now = absurd h
-stops lines left line later trees number f.WordNotUtf8 left_is counted h now = absurd h
-stops lines left line later trees number f.Input left_is counted h now = absurd h
-stops lines left line later trees number (f.Catalog error) left_is counted h now = absurd h
-stops lines left line later trees number (f.Table name) left_is counted h now = absurd h
-stops lines left line later trees number (f.Certificate place error) left_is counted h now =
+stops lines left line later trees number (f.CommandLine why) left_is counted h now = absurd h
+stops lines left line later trees number (f.Input i.Unread) left_is counted h now = absurd h
+stops lines left line later trees number (f.Input i.Parts) left_is counted h now = absurd h
+stops lines left line later trees number (f.Input (i.Catalog error)) left_is counted h now = absurd h
+stops lines left line later trees number (f.Input (i.Table name)) left_is counted h now = absurd h
+stops lines left line later trees number (f.Input (i.Certificate place error)) left_is counted h now =
     first_bad lines left line later trees place error left_is (h.0 ∙ counted) h.1 now
 stops lines left line later trees number f.Output left_is counted h now = absurd h
 stops lines left line later trees number f.OutOfMemory left_is counted h now = tt

@@ -3,8 +3,11 @@ pub mod BadLines
 pub mod CertificateLines
 pub mod Evaluating
 pub mod Exits
+pub mod Faults
 pub mod FindingLines
 pub mod Limits
 pub mod LineCuts
+pub mod RowLines
 pub mod Saying
+pub mod Verdicts
 pub mod Writing

@@ -3,9 +3,9 @@ use Rattle.std.proofs.Common.{◌≡◌, ℕ, ◌+◌, ◌<◌, List, [], ◌∷
 use Rattle.std.specs.List.{join_with_byte}
 use Rattle.std.proofs.lemmas.List.{take_more, map-append}
 use Rattle.filter_tree.specs.Datum.{Datum}
-use Rattle.publisher_main.specs.declared.carriers.Carrier.{Carrier}
-use Rattle.publisher_main.specs.Answers.{answer_of, said_by, line_of, with_said, word_of}
-use Rattle.publisher_main.specs.Carriers.{CarrierOf, carrier_view}
+use Rattle.publisher_main.specs.declared.eval.carriers.Carrier.{Carrier}
+use Rattle.publisher_main.specs.Eval.Answers.{answer_of, said_by, line_of, with_said, word_of}
+use Rattle.publisher_main.specs.Eval.Carriers.{CarrierOf, carrier_view}
 
 -- the pieces of a line, and one more
 join-next : (first : List ℕ) (pieces : List (List ℕ)) (said : List ℕ) → join_with_byte 32 (first ∷ (pieces ++ said ∷ [])) ≡ join_with_byte 32 (first ∷ pieces) ++ 32 ∷ said

@@ -1,73 +1,109 @@
--- Rows are written one after the other.
-use Rattle.std.proofs.Common.{◌≡◌, ℕ, Bool, true, false, if◌then◌else◌, ◌&&◌, List, [], ◌∷◌, ◌++◌, Option, Some, None, refl, sym, ap, subst, ◌∙◌, append_assoc, append-nil}
-use Rattle.std.specs.List.{list_all}
-use Rattle.std.proofs.lemmas.List.Folds.{list_all-append}
-use Rattle.std.specs.Io.KnownBytes.{Appends}
-use Rattle.filter_tree.specs.declared.table.Column.{Column}
-use Rattle.publisher_main.specs.BadRows.{is_answered}
-use Rattle.publisher_main.specs.Carriers.{CarrierOf}
-use Rattle.publisher_main.specs.Evaluation.{status_of, IsLine, NoRow, OneMore, Writes}
-use Rattle.publisher_main.specs.declared.arguments.Question.{Question}
+-- Texts are written one after the other, and the first bytes of a text where the writer fails.
+use Rattle.std.proofs.Common.{◌≡◌, ℕ, inl, inr, List, [], ◌∷◌, ◌++◌, Option, refl, sym, ap, subst, ◌∙◌, append_assoc, append-nil, ◌-◌, length, take, drop, take-append-drop}
+use Rattle.std.proofs.lemmas.List.{take_rest}
+use Rattle.std.proofs.lemmas.List.Concat.{flat_map-append}
+use Rattle.std.specs.Prelude.{Result, Ok, Err}
+use Rattle.std.specs.Io.KnownBytes.{Appends, Keeps}
+use Rattle.std.proofs.KnownBytes.{Appends-kept, Appends-nil, Appends-trans}
+use Rattle.publisher_main.specs.Output.{WritesFirst, StopsText, Writes, Ends, ended, text_of}
+use Rattle.publisher_main.specs.declared.failure.Failure.{Failure}
+use Rattle.publisher_main.specs.declared.failure.Failure.TheVariants as f
+use Rattle.publisher_main.specs.declared.failure.InputFault.{InputFault}
 use Rattle.publisher_main.specs.declared.failure.Status.{Status}
-use Rattle.publisher_main.specs.declared.failure.Status.TheVariants.{Done, Refused}
 
-pub appends_more : (old new newer : Option (List ℕ)) (bytes more : List ℕ) → Appends old new bytes → Appends new newer more → Appends old newer (bytes ++ more)
-appends_more None new newer bytes more first second = tt
-appends_more (Some xs) None newer bytes more first second = absurd first
-appends_more (Some xs) (Some ys) None bytes more first second = absurd second
-appends_more (Some xs) (Some ys) (Some zs) bytes more first second = second ∙ ap (λ s. s ++ more) first ∙ append_assoc xs bytes more
+-- ---- texts
 
-pub appends_nothing : (known : Option (List ℕ)) → Appends known known []
-appends_nothing None = tt
-appends_nothing (Some xs) = sym (append-nil xs)
+pub text_of-one : (line : List ℕ) → text_of (line ∷ []) ≡ ended line
+text_of-one line = append-nil (ended line)
 
--- one more row, which has an answer or none
-one_more : (all here : Bool) → (if here then (if all then Done else Refused) else Refused) ≡ (if all && (here && true) then Done else Refused)
-one_more true true = refl
-one_more true false = refl
-one_more false true = refl
-one_more false false = refl
+pub text_of-more : (lines : List (List ℕ)) (line : List ℕ) → text_of (lines ++ line ∷ []) ≡ text_of lines ++ ended line
+text_of-more lines line = flat_map-append ended lines (line ∷ []) ∙ ap (λ t. text_of lines ++ t) (text_of-one line)
 
-module _ (question : Question) (number : ℕ) (carriers : List CarrierOf) (columns : List Column) where
-  -- some of the rows are written, the others are left
-  pub record IsSoFar (rows left : List (List ℕ)) (status : Status) (old new : Option (List ℕ)) : Type 0 where
-    pub seen : List (List ℕ)
-    pub rows_are : rows ≡ seen ++ left
-    pub status_is : status ≡ status_of columns seen
-    pub writes : Writes question number carriers columns seen old new
+-- ---- a writer's bytes
 
-  pub so_far_at_start : (rows left : List (List ℕ)) (known : Option (List ℕ)) → left ≡ rows → IsSoFar rows left Done known known
-  so_far_at_start rows left known e = record {
-    seen = [];
-    rows_are = sym e;
-    status_is = refl;
-    writes = record { bytes = []; output = NoRow; appends = appends_nothing known };
+pub unwritten : (old new : Option (List ℕ)) → new ≡ old → Appends old new []
+unwritten old new e = subst (λ (n : Option (List ℕ)). Appends old n []) (sym e) (Appends-nil old)
+
+-- ---- the first bytes of a text
+
+pub first_whole : (text : List ℕ) (old new : Option (List ℕ)) → Appends old new text → WritesFirst text old new
+first_whole text old new appends = record { written = text; rest = []; is = sym (append-nil text); appends = appends }
+
+pub first_kept : (text : List ℕ) (old new newer : Option (List ℕ)) → WritesFirst text old new → Keeps new newer → WritesFirst text old newer
+first_kept text old new newer now keeps = record { written = now.written; rest = now.rest; is = now.is; appends = Appends-kept old new newer now.written now.appends keeps }
+
+pub first_nothing : (text : List ℕ) (old new : Option (List ℕ)) → new ≡ old → WritesFirst text old new
+first_nothing text old new e = record { written = []; rest = text; is = refl; appends = unwritten old new e }
+
+-- of a longer text
+pub first_of_longer : (text more : List ℕ) (old new : Option (List ℕ)) → WritesFirst text old new → WritesFirst (text ++ more) old new
+first_of_longer text more old new now = record {
+  written = now.written;
+  rest = now.rest ++ more;
+  is = ap (λ t. t ++ more) now.is ∙ append_assoc now.written now.rest more;
+  appends = now.appends;
+}
+
+-- after a text that is written whole
+pub first_after : (text more : List ℕ) (old new newer : Option (List ℕ)) → Appends old new text → WritesFirst more new newer → WritesFirst (text ++ more) old newer
+first_after text more old new newer appends now = record {
+  written = text ++ now.written;
+  rest = now.rest;
+  is = ap (λ t. text ++ t) now.is ∙ sym (append_assoc text now.written now.rest);
+  appends = Appends-trans old new newer text now.written appends now.appends;
+}
+
+pub stops_first : (text : List ℕ) (old new : Option (List ℕ)) (failure : Failure) → StopsText text old new failure → WritesFirst text old new
+stops_first text old new (f.CommandLine why) stops = absurd stops
+stops_first text old new (f.Input fault) stops = absurd stops
+stops_first text old new f.Output stops = stops
+stops_first text old new f.OutOfMemory stops = first_nothing text old new stops
+
+-- ---- a text in turns
+
+-- some bytes of a text are written, and the rest is to go
+pub record IsToGo (text rest : List ℕ) (old new : Option (List ℕ)) : Type 0 where
+  pub written : List ℕ
+  pub is : text ≡ written ++ rest
+  pub appends : Appends old new written
+
+pub to_go_at_start : (text rest : List ℕ) (known : Option (List ℕ)) → text ≡ rest → IsToGo text rest known known
+to_go_at_start text rest known e = record { written = []; is = e; appends = Appends-nil known }
+
+pub to_go_next : (text rest : List ℕ) (count : ℕ) (old new newer : Option (List ℕ)) → IsToGo text rest old new → Appends new newer (take count rest) → IsToGo text (take (length rest - count) (drop count rest)) old newer
+to_go_next text rest count old new newer now more = record {
+  written = now.written ++ take count rest;
+  is = now.is ∙ ap (λ l. now.written ++ l) (sym (take-append-drop count rest)) ∙ sym (append_assoc now.written (take count rest) (drop count rest))
+      ∙ ap (λ l. (now.written ++ take count rest) ++ l) (sym (take_rest rest count));
+  appends = Appends-trans old new newer now.written (take count rest) now.appends more;
+}
+
+pub to_go_kept : (text rest : List ℕ) (old new newer : Option (List ℕ)) → IsToGo text rest old new → Keeps new newer → IsToGo text rest old newer
+to_go_kept text rest old new newer now keeps = record { written = now.written; is = now.is; appends = Appends-kept old new newer now.written now.appends keeps }
+
+pub all_gone : (text rest : List ℕ) (old new : Option (List ℕ)) → IsToGo text rest old new → rest ≡ [] → Appends old new text
+all_gone text rest old new now e =
+    subst (λ (t : List ℕ). Appends old new t) (sym (now.is ∙ ap (λ l. now.written ++ l) e ∙ append-nil now.written)) now.appends
+
+pub some_gone : (text rest : List ℕ) (old new : Option (List ℕ)) → IsToGo text rest old new → WritesFirst text old new
+some_gone text rest old new now = record { written = now.written; rest = rest; is = now.is; appends = now.appends }
+
+-- ---- answers
+
+module _ (W V : List (List ℕ) → Status → Type 0) (B C : List (List ℕ) → Type 0) (IsThere : InputFault → Type 0) where
+  -- an answer is written that is also one of another kind
+  pub ends_as : ((lines : List (List ℕ)) (status : Status) → W lines status → V lines status) → ((lines : List (List ℕ)) → B lines → C lines)
+      → (old new : Option (List ℕ)) (result : Result Status Failure) → Writes W B old new result → Ends V C IsThere old new result
+  ends_as whole begun old new (Ok status) now = record { lines = now.lines; whole = whole now.lines status now.whole; appends = now.appends }
+  ends_as whole begun old new (Err f.OutOfMemory) now = record { lines = now.lines; begun = begun now.lines now.begun; appends = now.appends }
+  ends_as whole begun old new (Err f.Output) now = record {
+    lines = now.lines;
+    part = elim now.part [ inl b ↦ inl (begun now.lines b) | inr w ↦ inr (w.0, whole now.lines w.0 w.1) ];
+    first = now.first;
   }
+  ends_as whole begun old new (Err (f.CommandLine why)) now = absurd now
+  ends_as whole begun old new (Err (f.Input fault)) now = absurd now
 
-  status_of-next : (seen : List (List ℕ)) (row : List ℕ) (answered : Bool) → answered ≡ is_answered columns row
-      → (if answered then status_of columns seen else Refused) ≡ status_of columns (seen ++ row ∷ [])
-  status_of-next seen row answered e = rw (e, list_all-append (is_answered columns) seen (row ∷ [])) (one_more (list_all (is_answered columns) seen) (is_answered columns row))
-
-  pub so_far_next : (rows left : List (List ℕ)) (row : List ℕ) (later : List (List ℕ)) (status after : Status) (old new newer : Option (List ℕ)) (line : List ℕ) (answered : Bool)
-      → left ≡ row ∷ later → IsSoFar rows left status old new → IsLine question number carriers columns row line → answered ≡ is_answered columns row
-      → after ≡ (if answered then status else Refused) → Appends new newer (line ++ 10 ∷ []) → IsSoFar rows later after old newer
-  so_far_next rows left row later status after old new newer line answered left_is now is_line e after_is grows = record {
-    seen = now.seen ++ row ∷ [];
-    rows_are = now.rows_are ∙ ap (λ rest. now.seen ++ rest) left_is ∙ sym (append_assoc now.seen (row ∷ []) later);
-    status_is = after_is ∙ ap (λ (s : Status). if answered then s else Refused) now.status_is ∙ status_of-next now.seen row answered e;
-    writes = record {
-      bytes = now.writes.bytes ++ (line ++ 10 ∷ []);
-      output = OneMore now.seen now.writes.bytes row line now.writes.output is_line;
-      appends = appends_more old new newer now.writes.bytes (line ++ 10 ∷ []) now.writes.appends grows;
-    };
-  }
-
-  -- where no row is left
-  seen_all : (rows left : List (List ℕ)) (status : Status) (old new : Option (List ℕ)) → left ≡ [] → (now : IsSoFar rows left status old new) → now.seen ≡ rows
-  seen_all rows left status old new e now = sym (append-nil now.seen) ∙ ap (λ rest. now.seen ++ rest) (sym e) ∙ sym now.rows_are
-
-  pub status_of_all : (rows left : List (List ℕ)) (status : Status) (old new : Option (List ℕ)) → left ≡ [] → IsSoFar rows left status old new → status ≡ status_of columns rows
-  status_of_all rows left status old new e now = now.status_is ∙ ap (status_of columns) (seen_all rows left status old new e now)
-
-  pub all_written : (rows left : List (List ℕ)) (status : Status) (old new : Option (List ℕ)) → left ≡ [] → IsSoFar rows left status old new → Writes question number carriers columns rows old new
-  all_written rows left status old new e now = subst (λ (seen : List (List ℕ)). Writes question number carriers columns seen old new) (seen_all rows left status old new e now) now.writes
+  -- memory runs out before the first line
+  pub ends_unwritten : C [] → (old new : Option (List ℕ)) → new ≡ old → Ends V C IsThere old new (Err f.OutOfMemory)
+  ends_unwritten begun old new e = record { lines = []; begun = begun; appends = unwritten old new e }

@@ -1,34 +1,81 @@
--- What the program answers to the words of its command line and its input.
-use Rattle.std.specs.Prelude.{ℕ, List, Option, IfSome}
-use Rattle.publisher_main.specs.Checking.{IsChecked}
+-- What the words of a command line ask of the input, and which lines answer it.
+use Rattle.std.specs.Prelude.{◌≡◌, ℕ, ◌⊎◌, List, [], Option, IfSome, Result}
+use Rattle.publisher_main.specs.Check.Checking as checking
 use Rattle.publisher_main.specs.CommandLine.{IsRequest}
-use Rattle.publisher_main.specs.Evaluation.{IsAnswered}
-use Rattle.publisher_main.specs.Making.{IsMade}
-use Rattle.publisher_main.specs.Stops.{IsRejected}
+use Rattle.publisher_main.specs.Eval.Evaluation as evaluation
+use Rattle.publisher_main.specs.Make.Making as making
+use Rattle.publisher_main.specs.Output.{Ends}
 use Rattle.publisher_main.specs.declared.arguments.Request.{Request}
 use Rattle.publisher_main.specs.declared.arguments.Request.TheVariants.{Eval, Check, Make}
+use Rattle.publisher_main.specs.declared.failure.Failure.{Failure}
+use Rattle.publisher_main.specs.declared.failure.Failure.TheVariants as f
+use Rattle.publisher_main.specs.declared.failure.InputFault.{InputFault}
+use Rattle.publisher_main.specs.declared.failure.InputFault.TheVariants as i
 use Rattle.publisher_main.specs.declared.failure.Status.{Status}
-use Rattle.publisher_main.specs.declared.failure.Status.TheVariants.{Done, Refused, Input}
 
--- what is asked is answered of this input
-abbrev pub IsAnswerTo : Request → List ℕ → Option (List ℕ) → Option (List ℕ) → Status → Type 0
-IsAnswerTo (Eval table question) input old new status = IsAnswered question input table.now old new status
-IsAnswerTo Check input old new status = IsChecked input old new status
-IsAnswerTo Make input old new status = IsMade input old new status
+-- ---- of a request and its input
 
--- the words ask something, and it is answered of this input
-pub record AnswersWords (words : List (List ℕ)) (input : List ℕ) (old new : Option (List ℕ)) (status : Status) : Type 0 where
-  pub request : Request
+-- the lines are the answer, and the status says whether it is a refusal
+abbrev pub IsAnswer : Request → List ℕ → List (List ℕ) → Status → Type 0
+IsAnswer (Eval table wanted) input lines status = evaluation.IsEvaluation wanted input table.now [] lines status
+IsAnswer Check input lines status = checking.IsCheck input lines status
+IsAnswer Make input lines status = making.IsMaking input 0 lines status
+
+-- the lines are the first of an answer, of which some are missing; before the first line nothing is known of the input
+abbrev pub IsBegun : Request → List ℕ → List (List ℕ) → Type 0
+IsBegun (Eval table wanted) input lines = (lines ≡ []) ⊎ evaluation.IsBegunEvaluation wanted input table.now lines
+IsBegun Check input lines = lines ≡ []
+IsBegun Make input lines = (lines ≡ []) ⊎ making.IsBegunMaking input lines
+
+-- the input has this fault
+abbrev pub IsFault : Request → List ℕ → InputFault → Type 0
+IsFault (Eval table wanted) input fault = evaluation.IsFault input table.now fault
+IsFault Check input fault = checking.IsFault input fault
+IsFault Make input fault = making.IsFault input fault
+
+-- the request is answered of this input, as far as memory and the writer go, or the input has a fault and nothing is written
+abbrev pub EndsRequest : Request → List ℕ → Option (List ℕ) → Option (List ℕ) → Result Status Failure → Type 0
+EndsRequest request input old new result = Ends (IsAnswer request input) (IsBegun request input) (IsFault request input) old new result
+
+-- ---- of the words and what the reader gives
+
+-- the input, where the reader's bytes are known
+abbrev pub IsInput : Option (List ℕ) → List ℕ → Type 0
+IsInput known input = IfSome known (λ bytes. input ≡ bytes)
+
+-- what is asked, and of which input
+pub record IsAsked (words : List (List ℕ)) (known : Option (List ℕ)) (request : Request) (input : List ℕ) : Type 0 where
   pub asks : IsRequest words request
-  pub answers : IsAnswerTo request input old new status
+  pub given : IsInput known input
 
--- the same of an input that is known
-abbrev pub AnswersSome : List (List ℕ) → Option (List ℕ) → Option (List ℕ) → Option (List ℕ) → Status → Type 0
-AnswersSome words known old new status = IfSome known (λ input. AnswersWords words input old new status)
+pub record AnswersWords (words : List (List ℕ)) (known : Option (List ℕ)) (lines : List (List ℕ)) (status : Status) : Type 0 where
+  pub request : Request
+  pub input : List ℕ
+  pub asked : IsAsked words known request input
+  pub answer : IsAnswer request input lines status
 
--- what a status says of the words, the input and the output
-abbrev pub IsOutcome : List (List ℕ) → Option (List ℕ) → Option (List ℕ) → Option (List ℕ) → Status → Type 0
-IsOutcome words known old new Done = AnswersSome words known old new Done
-IsOutcome words known old new Refused = AnswersSome words known old new Refused
-IsOutcome words known old new Input = IsRejected words known old new
-IsOutcome words known old new _ = Unit {0}
+pub record BeginsWords (words : List (List ℕ)) (known : Option (List ℕ)) (lines : List (List ℕ)) : Type 0 where
+  pub request : Request
+  pub input : List ℕ
+  pub asked : IsAsked words known request input
+  pub begun : IsBegun request input lines
+
+pub record HasFault (words : List (List ℕ)) (known : Option (List ℕ)) (fault : InputFault) : Type 0 where
+  pub request : Request
+  pub input : List ℕ
+  pub asked : IsAsked words known request input
+  pub is : IsFault request input fault
+
+-- The input has this fault. A reader may fail at any time, so that an input that is not read has nothing said of it.
+abbrev pub IsReason : List (List ℕ) → Option (List ℕ) → InputFault → Type 0
+IsReason words known i.Unread = Unit {0}
+IsReason words known i.Parts = HasFault words known i.Parts
+IsReason words known (i.Catalog error) = HasFault words known (i.Catalog error)
+IsReason words known (i.Table name) = HasFault words known (i.Table name)
+IsReason words known (i.Certificate line error) = HasFault words known (i.Certificate line error)
+
+-- reading the input stops because it is not read, or for want of memory
+abbrev pub IsOfReading : Failure → Type 0
+IsOfReading (f.Input i.Unread) = Unit {0}
+IsOfReading f.OutOfMemory = Unit {0}
+IsOfReading _ = ⊥

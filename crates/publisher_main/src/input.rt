@@ -1,48 +1,45 @@
-//! The text that the program reads.
+//! What the program reads.
 
-ghost use Rattle.std.specs.Prelude.{◌≡◌, ◌≤◌, length, IfErr, IfOk, IfSome};
-ghost use Rattle.std.specs.String.{string_bytes};
-ghost use Rattle.publisher_main.specs.Statuses.{IsOfReading};
+ghost use Rattle.std.specs.Prelude.{◌≤◌};
 
-use crate::failure::Failure;
-use std::alloc::Global;
 use std::io;
 use std::io::{ErrorKind, Read};
 
-/// The most bytes that are read as an input.
+/// The most bytes that an input may have.
 pub const MAX_INPUT: usize = 16_777_216;
 
-/// A reader that is read at most `reads_left` times. Its errors are `Interrupted`, after which it may be read again,
-/// and `Other`.
+/// An input: a reader that is read at most 16,777,217 times, once for each byte of the longest text and once for its end.
+/// Its errors are `Interrupted`, after which it may be read again, and `Other`.
 #[derive(Drop)]
-pub struct Bounded<R> {
+pub struct Input<R> {
     reader: R,
     reads_left: usize,
+    ghost bounded: { reads_left ≤ 16777217 },
 }
 
-impl<R: Read> Bounded<R> {
+impl<R: Read> Input<R> {
     ghost use Rattle.std.specs.Prelude.{◌≡◌};
-    ghost use Rattle.publisher_main.specs.BoundedView.{reader_of, reads_of};
+    ghost use Rattle.publisher_main.specs.InputView.{reader_of, reads_of};
 
-    /// A reader that is read at most `reads` times.
-    pub fn new(reader: R, reads: usize) -> Bounded<R>
+    /// The input that the reader gives.
+    pub fn new(reader: R) -> Input<R>
         ensures reader { reader_of result ≡ reader }
-        ensures reads { reads_of result ≡ reads }
+        ensures reads { reads_of result ≡ 16777217 }
     {
-        Bounded {
+        Input {
             reader,
-            reads_left: reads,
+            reads_left: MAX_INPUT + 1,
         }
     }
 }
 
-impl<R: Read> Read for Bounded<R> {
-    ghost use Rattle.publisher_main.specs.BoundedView.{reader_of, reads_of};
+impl<R: Read> Read for Input<R> {
+    ghost use Rattle.publisher_main.specs.InputView.{reader_of, reads_of};
     ghost use Rattle.std.specs.Prelude.{◌≡◌, ◌-◌, IsErr};
     ghost use Rattle.std.specs.Io.{ReadsAtMost};
     ghost use Rattle.std.specs.Io.KnownBytes.{ReadConsumes};
 
-    ghost remaining = { λ bounded. R.remaining (reader_of bounded) };
+    ghost remaining = { λ input. R.remaining (reader_of input) };
 
     fn read(&mut self, buffer: &mut [u8]) -> io::Result<usize>
         ensures bound { ReadsAtMost result buffer.new }
@@ -60,33 +57,5 @@ impl<R: Read> Read for Bounded<R> {
             Err(error) if error.kind() == ErrorKind::Interrupted => Err(error),
             Err(_) => Err(io::Error::from(ErrorKind::Other)),
         }
-    }
-}
-
-/// Reads a text to its end, in at most 16,777,217 reads.
-///
-/// # Errors
-///
-/// `Input` where a read fails, or the text is not UTF-8 or has more than 16,777,216 bytes; `OutOfMemory`.
-pub fn read_input<'a, R: Read + Drop>(alloc: Global, reader: R) -> Result<String, Failure<'a>>
-    ensures bytes { IfOk result (λ text. IfSome (R.remaining reader) (λ bytes. string_bytes text ≡ bytes)) }
-    ensures short { IfOk result (λ text. length (string_bytes text) ≤ MAX_INPUT) }
-    ensures stopped { IfErr result IsOfReading }
-{
-    let bounded = Bounded::new(reader, MAX_INPUT + 1);
-    let mut bytes = Vec::new(alloc);
-    let read = bounded.take(MAX_INPUT as u64 + 1).read_to_end(&mut bytes);
-    if let Err(error) = read {
-        return Err(match error.kind() {
-            ErrorKind::OutOfMemory => Failure::OutOfMemory,
-            _ => Failure::Input,
-        });
-    }
-    if bytes.len() > MAX_INPUT {
-        return Err(Failure::Input);
-    }
-    match String::from_utf8(bytes) {
-        Ok(text) => Ok(text),
-        Err(_) => Err(Failure::Input),
     }
 }

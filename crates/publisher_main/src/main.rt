@@ -2,36 +2,22 @@
 //! and answers questions about it.
 #![tactic(auto)]
 
-mod answers;
 mod arguments;
-mod bad_row;
-mod carriers;
-mod certificates;
-#[cfg(test)]
-mod check_tests;
-mod checking;
-mod evaluation;
+mod check;
+mod eval;
 mod failure;
-mod findings;
-mod hexadecimal;
 mod input;
-mod inserts;
-#[cfg(test)]
-mod io_tests;
-#[cfg(test)]
-mod language_tests;
-#[cfg(test)]
-mod make_tests;
-mod making;
+mod make;
+mod names;
 mod output;
 mod parts;
 mod program;
-mod refusals;
-mod tables;
+mod reading;
 #[cfg(test)]
 mod tests;
 
 use crate::failure::Failure;
+use crate::input::Input;
 use program::{report, run};
 use std::io::{BufWriter, ErrorKind, Write};
 use std::process::ExitCode;
@@ -39,10 +25,14 @@ use std::{env, io};
 
 /// The words of the command line, the program's name first.
 fn words(rt: &HostRuntime) -> Result<Vec<String>, Failure<'static>> {
-    let arguments = env::args(rt).map_err(|error| match error.kind() {
-        ErrorKind::OutOfMemory => Failure::OutOfMemory,
-        _ => Failure::WordNotUtf8,
-    })?;
+    let arguments = match env::args(rt) {
+        Ok(arguments) => arguments,
+        Err(error) if error.kind() == ErrorKind::OutOfMemory => return Err(Failure::OutOfMemory),
+        Err(_) => {
+            let why = "a word of the command line is not UTF-8";
+            return Err(Failure::CommandLine(String::from_str(rt.alloc(), why)?));
+        }
+    };
     let mut words = Vec::new(rt.alloc());
     for word in arguments {
         words.push(word)?;
@@ -54,12 +44,13 @@ fn words(rt: &HostRuntime) -> Result<Vec<String>, Failure<'static>> {
 fn run_on_host(rt: &HostRuntime) -> Result<u8, Failure<'static>> {
     let words = words(rt)?;
     let mut writer = BufWriter::new(rt.alloc(), io::writer(rt)).map_err(|_| Failure::OutOfMemory)?;
-    Ok(run(rt.alloc(), words.as_slice(), rt.stdin(), &mut writer))
+    let input = Input::new(rt.stdin());
+    Ok(run(rt.alloc(), words.as_slice(), input, &mut writer))
 }
 
 fn main(rt: HostRuntime) -> ExitCode {
     match run_on_host(&rt) {
         Ok(status) => ExitCode::from(status),
-        Err(failure) => ExitCode::from(report(&failure, &mut io::writer(&rt)) as u8),
+        Err(failure) => ExitCode::from(report(rt.alloc(), failure, &mut io::writer(&rt)) as u8),
     }
 }

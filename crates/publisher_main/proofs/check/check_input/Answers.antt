@@ -1,0 +1,45 @@
+use Rattle.std.proofs.Common.{rules, ◌≡◌, ◌∙◌, List, Some, None, OnOk, IfErr, ap, map, sym, subst}
+use Rattle.std.specs.Io.KnownBytes.{Appends}
+use Rattle.filter_tree.specs.Expr.{Expr}
+use Rattle.pub_reader.specs.CatalogView.{catalog_view}
+use Rattle.pub_reader.specs.Catalogs.{CatalogOf}
+use Rattle.replica_identity.specs.Plans.{plan_of}
+use Rattle.shard_checker.specs.CatalogTruth.{ShardingIsWrong}
+use Rattle.split_cert.specs.Tree.{Tree}
+use Rattle.split_cert.specs.Where.{tree_view}
+use Rattle.publisher_main.proofs.Verdicts.{accepted, refused}
+use Rattle.publisher_main.specs.Check.Checking.{first_refusal}
+use Rattle.publisher_main.specs.Check.Refusals.{refused_line}
+use Rattle.publisher_main.specs.Output.{StopsText, ended}
+use Rattle.publisher_main.specs.Parts.{Cut, two_parts}
+use Rattle.publisher_main.proofs.check.check_input.Goals as goal
+
+pub returns-in-None : goal.returns-in-None
+returns-in-None g c =
+    let cut : Cut = record { part = c.in_ok-text.text.now; rest = c.in_ok-text.lines.now } in
+    let parts : two_parts c.args.input.now ≡ Some cut = search rules in
+    let catalog = catalog_view c.in_ok-catalog.catalog in
+    let trees = map tree_view c.in_ok-certs.certs.items in
+    let same : trees ≡ map tree_view c.as_slice.result.now = ap (map tree_view) (sym c.as_slice.ensures.value) in
+    let unrefused : first_refusal catalog trees ≡ None = ap (first_refusal catalog) same ∙ c.in_ok-refusal_of.ensures.first ∙ c.in-None.is in
+    accepted c.args.input.now cut catalog trees parts c.in_ok-catalog.ensures.catalog c.in_ok-certs.ensures.ok (g.W.Write.contents c.args.writer.now) (g.W.Write.contents c.write_accepted.new.writer) c.write_accepted.result
+    (c.in_ok-refusal_of.ensures.sound c.in-None.is) unrefused c.write_accepted.ensures.status c.write_accepted.ensures.written c.write_accepted.ensures.stopped
+
+pub returns : goal.returns
+returns g c =
+    let old = g.W.Write.contents c.args.writer.now in
+    let new = g.W.Write.contents c.write_refused.new.writer in
+    let result = c.write_refused.result in
+    let refusal = c.in-Some.refusal in
+    let cut : Cut = record { part = c.in_ok-text.text.now; rest = c.in_ok-text.lines.now } in
+    let parts : two_parts c.args.input.now ≡ Some cut = search rules in
+    let catalog = catalog_view c.in_ok-catalog.catalog in
+    let again : catalog_view c.in_ok-catalog-in-Some.catalog ≡ catalog = cc (c.in_ok-catalog.ensures.catalog, c.in_ok-catalog-in-Some.ensures.catalog) in
+    let trees = map tree_view c.in_ok-certs.certs.items in
+    let same : trees ≡ map tree_view c.as_slice.result.now = ap (map tree_view) (sym c.as_slice.ensures.value) in
+    let first : first_refusal catalog trees ≡ Some refusal = ap (first_refusal catalog) same ∙ c.in_ok-refusal_of.ensures.first ∙ c.in-Some.is in
+    let told = rw c.in-Some.is at c.in_ok-refusal_of.ensures.wrong in
+    let wrong : ShardingIsWrong catalog (plan_of catalog) trees refusal = subst (λ (ts : List Tree). ShardingIsWrong catalog (plan_of catalog) ts refusal) (sym same) told in
+    refused c.args.input.now cut catalog trees parts c.in_ok-catalog.ensures.catalog c.in_ok-certs.ensures.ok refusal old new result first wrong c.write_refused.ensures.status
+    (subst (λ (named : CatalogOf Expr). OnOk result (Appends old new (ended (refused_line named refusal)))) again c.write_refused.ensures.written)
+    (subst (λ (named : CatalogOf Expr). IfErr result (StopsText (ended (refused_line named refusal)) old new)) again c.write_refused.ensures.stopped)

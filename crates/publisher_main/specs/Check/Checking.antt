@@ -1,0 +1,72 @@
+-- What `check` answers: the first part of its input is a catalog, and the second has the certificates of its tables, one a line in the order of the tables.
+use Rattle.std.specs.Prelude.{◌≡◌, ℕ, List, [], ◌∷◌, Option, Some, None, Ok, codes}
+use Rattle.filter_tree.specs.Expr.{Expr}
+use Rattle.pub_reader.specs.Catalogs.{CatalogOf}
+use Rattle.pub_reader.specs.Statements.{catalog_by}
+use Rattle.sql_reader.specs.Written.{as_filter}
+use Rattle.replica_identity.specs.Plans.{plan_of}
+use Rattle.shard_checker.specs.CatalogRefusal.{sharding_refusal}
+use Rattle.shard_checker.specs.CatalogTruth.{ShardingIsWrong}
+use Rattle.shard_checker.specs.Sound.{IsSound}
+use Rattle.shard_checker.specs.declared.error.CheckError.{CheckError}
+use Rattle.split_cert.specs.Tree.{Tree}
+use Rattle.split_cert.specs.declared.error.CertError.{CertError}
+use Rattle.publisher_main.specs.Check.Certificates.{AreCertificates, IsFirstBad}
+use Rattle.publisher_main.specs.Eval.Evaluation.{IsBadCatalog}
+use Rattle.publisher_main.specs.Parts.{Cut, two_parts, lines_of}
+use Rattle.publisher_main.specs.Check.Refusals.{refused_line}
+use Rattle.publisher_main.specs.declared.failure.InputFault.{InputFault}
+use Rattle.publisher_main.specs.declared.failure.InputFault.TheVariants as i
+use Rattle.publisher_main.specs.declared.failure.Status.{Status}
+use Rattle.publisher_main.specs.declared.failure.Status.TheVariants.{Done, Refused}
+
+-- the first reason to refuse the sharding of a catalog with these certificates, by the catalog's own plan
+abbrev pub first_refusal : CatalogOf Expr → List Tree → Option CheckError
+first_refusal catalog trees = sharding_refusal catalog (plan_of catalog) trees
+
+-- ---- what is answered
+
+-- there is no reason to refuse the sharding, it is sound, and the line is `accepted`
+pub record IsAccepted (catalog : CatalogOf Expr) (trees : List Tree) (lines : List (List ℕ)) : Type 0 where
+  pub sound : IsSound catalog
+  pub unrefused : first_refusal catalog trees ≡ None
+  pub are : lines ≡ codes "accepted" ∷ []
+
+-- there is a first reason, what it says of what it names is so, and the line is its line over the catalog
+pub record IsRefused (catalog : CatalogOf Expr) (trees : List Tree) (lines : List (List ℕ)) : Type 0 where
+  pub error : CheckError
+  pub refusal : first_refusal catalog trees ≡ Some error
+  pub wrong : ShardingIsWrong catalog (plan_of catalog) trees error
+  pub are : lines ≡ refused_line catalog error ∷ []
+
+abbrev pub IsVerdict : CatalogOf Expr → List Tree → List (List ℕ) → Status → Type 0
+IsVerdict catalog trees lines Done = IsAccepted catalog trees lines
+IsVerdict catalog trees lines Refused = IsRefused catalog trees lines
+IsVerdict catalog trees lines _ = ⊥
+
+-- the input has two parts, the first is a catalog, each line of the second is a certificate, and the sharding is accepted or refused
+pub record IsCheck (input : List ℕ) (lines : List (List ℕ)) (status : Status) : Type 0 where
+  pub cut : Cut
+  pub catalog : CatalogOf Expr
+  pub trees : List Tree
+  pub parts : two_parts input ≡ Some cut
+  pub reads : catalog_by as_filter cut.part ≡ Ok catalog
+  pub certificates : AreCertificates (lines_of cut.rest) trees
+  pub verdict : IsVerdict catalog trees lines status
+
+-- ---- why there is no answer
+
+-- the input has two parts, the first is a catalog, and the first line of the second that is no certificate has this number and this fault
+pub record IsBadCertificate (input : List ℕ) (number : ℕ) (error : CertError) : Type 0 where
+  pub cut : Cut
+  pub catalog : CatalogOf Expr
+  pub parts : two_parts input ≡ Some cut
+  pub reads : catalog_by as_filter cut.part ≡ Ok catalog
+  pub first : IsFirstBad (lines_of cut.rest) number error
+
+abbrev pub IsFault : List ℕ → InputFault → Type 0
+IsFault input i.Unread = ⊥
+IsFault input i.Parts = two_parts input ≡ None
+IsFault input (i.Catalog error) = IsBadCatalog input error
+IsFault input (i.Table name) = ⊥
+IsFault input (i.Certificate number error) = IsBadCertificate input number error

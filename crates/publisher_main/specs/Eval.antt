@@ -1,0 +1,7 @@
+pub mod Answers
+pub mod BadRows
+pub mod Carriers
+pub mod Evaluation
+pub mod Hexadecimal
+pub mod Inserts
+pub mod Tables

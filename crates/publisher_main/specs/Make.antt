@@ -1,0 +1,2 @@
+pub mod FindingView
+pub mod Making

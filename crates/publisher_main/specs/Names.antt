@@ -1,0 +1,50 @@
+-- The names of publications, tables, columns and subscribers, as their catalog names them (PostgreSQL 15, "Schemas", 5.9, and "Logical Replication", 31.1 Publication and 31.2 Subscription), and the words of a line.
+use Rattle.std.specs.Prelude.{ℕ, List, [], ◌∷◌, ◌++◌, Option, Some, None, slice_get}
+use Rattle.std.specs.List.{flat_map}
+use Rattle.filter_tree.specs.Expr.{Expr}
+use Rattle.filter_tree.specs.declared.table.Column.{Column}
+use Rattle.filter_tree.specs.declared.table.Table.{Table}
+use Rattle.pub_reader.specs.Catalogs.{PublicationOf}
+use Rattle.pub_reader.specs.declared.catalog.Subscription.{Subscription}
+
+-- ---- names by numbers; what the catalog lacks has the empty name
+
+abbrev pub publication_named : Option (PublicationOf Expr) → List ℕ
+publication_named None = []
+publication_named (Some publication) = publication.name
+
+abbrev pub publication_name : List (PublicationOf Expr) → ℕ → List ℕ
+publication_name publications number = publication_named (slice_get publications number)
+
+abbrev pub subscriber_named : Option Subscription → List ℕ
+subscriber_named None = []
+subscriber_named (Some subscription) = subscription.name
+
+-- a subscriber's name is its subscription's
+abbrev pub subscriber_name : List Subscription → ℕ → List ℕ
+subscriber_name subscriptions number = subscriber_named (slice_get subscriptions number)
+
+-- `schema.name`
+abbrev pub table_named : Option Table → List ℕ
+table_named None = []
+table_named (Some table) = table.schema ++ 46 ∷ table.name
+
+abbrev pub table_name : List Table → ℕ → List ℕ
+table_name tables number = table_named (slice_get tables number)
+
+abbrev pub column_named : Option Column → List ℕ
+column_named None = []
+column_named (Some column) = column.name
+
+abbrev pub column_in : Option Table → ℕ → List ℕ
+column_in None number = []
+column_in (Some table) number = column_named (slice_get table.columns number)
+
+abbrev pub column_name : List Table → ℕ → ℕ → List ℕ
+column_name tables table number = column_in (slice_get tables table) number
+
+-- ---- words of a line
+
+-- each word with a space before it
+abbrev pub spaced : List (List ℕ) → List ℕ
+spaced words = flat_map (λ word. 32 ∷ word) words

@@ -1,0 +1,97 @@
+//! `check`: whether a sharding is sound, by the certificates of its tables.
+
+ghost use Rattle.std.specs.Prelude.{◌≡◌, IfErr, IfOk, IfSome, OnOk, None, codes, map};
+ghost use Rattle.std.specs.Io.KnownBytes.{Appends};
+ghost use Rattle.pub_reader.specs.CatalogView.{catalog_view};
+ghost use Rattle.replica_identity.specs.Plans.{plan_of};
+ghost use Rattle.shard_checker.specs.CatalogTruth.{ShardingIsWrong};
+ghost use Rattle.shard_checker.specs.Sound.{IsSound};
+ghost use Rattle.split_cert.specs.Where.{tree_view};
+ghost use Rattle.publisher_main.specs.Check.Checking as spec;
+ghost use Rattle.publisher_main.specs.Check.Refusals.{refused_line};
+ghost use Rattle.publisher_main.specs.Output.{StopsText, ended};
+ghost use Rattle.publisher_main.specs.Requests.{EndsRequest};
+ghost use Rattle.publisher_main.specs.declared.arguments.Request.TheVariants.{Check};
+ghost use Rattle.publisher_main.specs.declared.failure.Status.TheVariants.{Done, Refused};
+
+pub mod certificates;
+pub mod refusals;
+#[cfg(test)]
+pub mod tests;
+
+use crate::check::certificates::read_certificates;
+use crate::check::refusals::push_refusal;
+use crate::failure::{Failure, InputFault, Status};
+use crate::output::write_line;
+use crate::parts::two_parts;
+use pub_reader::{Catalog, read_catalog};
+use replica_identity::plan;
+use shard_checker::{CheckError, check};
+use split_cert::Cert;
+use std::alloc::{AllocError, Global};
+use std::io::Write;
+
+/// The first reason to refuse the sharding of a catalog, if there is one.
+fn refusal_of(
+    alloc: Global,
+    catalog: Catalog,
+    certs: &[Cert],
+) -> Result<Option<CheckError>, AllocError>
+    ensures sound { IfOk result (λ refusal. refusal ≡ None → IsSound (catalog_view catalog)) }
+    ensures first { IfOk result (λ refusal. spec.first_refusal (catalog_view catalog) (map tree_view certs.now) ≡ refusal) }
+    ensures wrong { IfOk result (λ refusal. IfSome refusal (ShardingIsWrong (catalog_view catalog) (plan_of (catalog_view catalog)) (map tree_view certs.now))) }
+{
+    let plan = plan(alloc, &catalog)?;
+    match check(alloc, catalog, plan, certs) {
+        Ok(_) => Ok(None),
+        Err(CheckError::OutOfMemory) => Err(AllocError),
+        Err(refusal) => Ok(Some(refusal)),
+    }
+}
+
+fn write_accepted<'a, W: Write>(alloc: Global, writer: &mut W) -> Result<Status, Failure<'a>>
+    ensures status { IfOk result (λ status. status ≡ Done) }
+    ensures written { OnOk result (Appends (W.contents writer.old) (W.contents writer.new) (ended (codes "accepted"))) }
+    ensures stopped { IfErr result (StopsText (ended (codes "accepted")) (W.contents writer.old) (W.contents writer.new)) }
+{
+    let mut line = String::from_str(alloc, "accepted")?;
+    write_line(&mut line, writer)?;
+    Ok(Status::Done)
+}
+
+fn write_refused<'a, W: Write>(
+    alloc: Global,
+    catalog: &Catalog,
+    refusal: CheckError,
+    writer: &mut W,
+) -> Result<Status, Failure<'a>>
+    ensures status { IfOk result (λ status. status ≡ Refused) }
+    ensures written { OnOk result (Appends (W.contents writer.old) (W.contents writer.new) (ended (refused_line (catalog_view catalog.now) refusal))) }
+    ensures stopped { IfErr result (StopsText (ended (refused_line (catalog_view catalog.now) refusal)) (W.contents writer.old) (W.contents writer.new)) }
+{
+    let mut line = String::new(alloc);
+    push_refusal(&mut line, catalog, refusal)?;
+    write_line(&mut line, writer)?;
+    Ok(Status::Refused)
+}
+
+/// Answers an input: a catalog, a line `%%`, and the certificates of its tables, one a line in the order of the tables.
+/// The check takes the catalog, so that for the names in a refusal its text is read once more.
+pub fn check_input<'a, W: Write>(
+    alloc: Global,
+    input: &str,
+    writer: &mut W,
+) -> Result<Status, Failure<'a>>
+    ensures { EndsRequest Check input.now (W.contents writer.old) (W.contents writer.new) result }
+{
+    let (text, lines) = two_parts(input).ok_or(InputFault::Parts)?;
+    let catalog = read_catalog(alloc, text)?;
+    let certs = read_certificates(alloc, lines)?;
+    match refusal_of(alloc, catalog, certs.as_slice())? {
+        None => write_accepted(alloc, writer),
+        Some(refusal) => {
+            let catalog = read_catalog(alloc, text)?;
+            write_refused(alloc, &catalog, refusal, writer)
+        }
+    }
+}
