@@ -19,10 +19,12 @@ use Rattle.pub_reader.specs.declared.catalog.Subscription.{Subscription}
 use Rattle.replica_identity.specs.Identities.{columns_by, identity_columns}
 use Rattle.replica_identity.specs.Passes.{listed_by, lets, entry_carries, carries}
 use Rattle.replica_identity.specs.Plans.{PlanOf, TakesWhatPasses, share_at, plan_of}
-use Rattle.replica_identity.specs.Setting.{Nowhere, values_at, blanked_from, recorded_as, fault_in, key_in, recorded_in, identity_by, identity_in, blanked_by, blanked_in, setting_of}
+use Rattle.table_changes.specs.Setting.{Nowhere}
+use Rattle.table_changes.specs.Columns.{values_at, blanked_from}
+use Rattle.replica_identity.specs.Setting.{recorded_as, fault_in, key_in, recorded_in, identity_by, identity_in, blanked_by, blanked_in, setting_of}
 use Rattle.replica_identity.specs.Shares.{takes, is_true}
-use Rattle.replica_identity.specs.Standing.{Covered, KeepsApart, PassesToOne, Sound}
-use Rattle.replica_identity.specs.Tables.{Tables, applied, is_row, holds}
+use Rattle.table_changes.specs.Standing.{Covered, KeepsApart, PassesToOne, Sound}
+use Rattle.table_changes.specs.Tables.{Tables, applied, is_row, holds}
 use Rattle.replica_identity.proofs.PassingLemmas.{takes_what_passes}
 use Rattle.shard_checker.specs.Rows.{IsTyped}
 use Rattle.shard_checker.specs.Sound.{is_listed, is_taken, RowHasOneOwner, is_covered_by, entry_is_covered, IsSound}

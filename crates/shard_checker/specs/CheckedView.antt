@@ -5,7 +5,8 @@ use Rattle.pub_reader.specs.Catalogs.{CatalogOf}
 use Rattle.pub_reader.specs.declared.catalog.Catalog.{Catalog}
 use Rattle.replica_identity.specs.Plans.{PlanOf}
 use Rattle.replica_identity.specs.PlanView.{plan_view}
-use Rattle.replica_identity.specs.Setting.{Setting, setting_of}
+use Rattle.replica_identity.specs.Setting.{setting_of}
+use Rattle.table_changes.specs.Setting.{Setting}
 use Rattle.replica_identity.specs.declared.shares.Plan.{Plan}
 use Rattle.shard_checker.specs.declared.checked.Checked.{Checked}
 

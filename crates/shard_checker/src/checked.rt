@@ -28,7 +28,7 @@ impl Checked {
     ghost use Rattle.pub_reader.specs.CatalogView.{catalog_view};
     ghost use Rattle.replica_identity.specs.Plans.{TakesWhatPasses, plan_of};
     ghost use Rattle.replica_identity.specs.PlanView.{plan_view};
-    ghost use Rattle.replica_identity.specs.Standing.{Covered, KeepsApart, Sound};
+    ghost use Rattle.table_changes.specs.Standing.{Covered, KeepsApart, Sound};
     ghost use Rattle.shard_checker.specs.CheckedView.{checked_of, checked_view, setting_in};
     ghost use Rattle.shard_checker.specs.Sound.{IsSound};
 

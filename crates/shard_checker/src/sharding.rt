@@ -5,7 +5,7 @@ ghost use Rattle.pub_reader.specs.CatalogView.{catalog_view};
 ghost use Rattle.replica_identity.specs.Plans.{plan_of};
 ghost use Rattle.replica_identity.specs.PlanView.{plan_view};
 ghost use Rattle.replica_identity.specs.Setting.{setting_of};
-ghost use Rattle.replica_identity.specs.Standing.{Covered, KeepsApart, Sound};
+ghost use Rattle.table_changes.specs.Standing.{Covered, KeepsApart, Sound};
 ghost use Rattle.split_cert.specs.Where.{tree_view};
 ghost use Rattle.shard_checker.specs.CatalogRefusal as spec;
 ghost use Rattle.shard_checker.specs.CatalogTruth.{ShardingIsWrong};

@@ -1,5 +1,5 @@
 ghost use Rattle.std.specs.Prelude.{◌≡◌, true, false, IsTrue};
-ghost use Rattle.replica_identity.specs.Setting.{fits};
+ghost use Rattle.table_changes.specs.Setting.{fits};
 ghost use Rattle.shard_checker.specs.CheckedView.{checked_view, setting_in};
 
 use super::{ID, REGION, by_halves, number, owner, table, text};
