@@ -4,7 +4,7 @@ ghost use Rattle.std.specs.Prelude.{◌≡◌, ◌<◌, OnOk};
 ghost use Rattle.sql_reader.specs.Ahead.{to_read};
 ghost use Rattle.sql_reader.specs.Items.{size};
 ghost use Rattle.sql_reader.specs.Reading.{Reads, Answers};
-ghost use Rattle.sql_reader.specs.PartsView.{parts_of};
+ghost use Rattle.sql_reader.specs.PartsView.{parts_view};
 ghost use Rattle.pub_reader.specs.DraftView.{draft_view};
 ghost use Rattle.pub_reader.specs.Tables as spec;
 
@@ -20,7 +20,7 @@ use std::alloc::Global;
 /// Refuses a table without a primary key.
 #[tactic(auto, unfolding(crate::specs::Tables::keyed))]
 fn keyed(name: &PlacedName, parts: &TableParts) -> Result<usize, ReadError>
-    ensures { Answers (λ n. n) (spec.keyed name.now (parts_of parts.now)) result }
+    ensures { Answers (λ n. n) (spec.keyed name.now (parts_view parts.now)) result }
 {
     if parts.key.is_empty() {
         return Err(ReadError {
@@ -45,7 +45,7 @@ fn table_tail(r: &Reader<'_>) -> Result<usize, ReadError>
 
 /// The table of a name and elements.
 fn table_of(name: NewName, parts: TableParts) -> Table
-    ensures { result ≡ spec.table_of name (parts_of parts) }
+    ensures { result ≡ spec.table_of name (parts_view parts) }
 {
     let NewName { schema, name } = name;
     let TableParts { columns, key } = parts;
@@ -61,7 +61,7 @@ fn table_of(name: NewName, parts: TableParts) -> Table
 /// Takes what stands behind the name of a new table.
 #[tactic(auto, unfolding(crate::specs::Tables::table_body))]
 fn table_body(r: &mut Reader<'_>, alloc: Global, name: &PlacedName) -> Result<TableParts, ReadError>
-    ensures reads { Reads parts_of (spec.table_body name.now (to_read r.old)) result (to_read r.new) }
+    ensures reads { Reads parts_view (spec.table_body name.now (to_read r.old)) result (to_read r.new) }
     ensures fewer { OnOk result (size (to_read r.new) < size (to_read r.old)) }
 {
     r.expect(Item::Open, "`(`")?;

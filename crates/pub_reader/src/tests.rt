@@ -1,4 +1,5 @@
 mod catalog_cases;
+mod largest;
 mod parameter_cases;
 mod publication_cases;
 mod resolution;

@@ -78,7 +78,7 @@ negative_again k place next rest small ends =
       token_ahead (t.Number (suc k)) (place + 1) (decimal (suc k)) (next ∷ rest) (number_token (place + 1) (suc k) next rest small ends),
     ) (record { reads = refl; fewer = omega arith })
 
-no_cast : (place next : ℕ) (rest : List ℕ) → EndsValue next → cast_or_none (ahead place (next ∷ rest)) ≡ Ok (0, ahead place (next ∷ rest))
+no_cast : (place next : ℕ) (rest : List ℕ) → EndsValue next → cast_or_none (ahead place (next ∷ rest)) ≡ Ok (tt, ahead place (next ∷ rest))
 unfolding cast_or_none next_is look is_ahead
 no_cast place next rest ends = elim ends [ inl e ↦ rw (e, comma_ahead place rest) refl | inr e ↦ rw (e, close_ahead place rest) refl ]
 

@@ -14,7 +14,7 @@ use Rattle.sql_reader.specs.declared.name.PlacedName.{PlacedName}
 use Rattle.sql_reader.specs.declared.column.FoundColumn.{FoundColumn}
 use Rattle.sql_reader.specs.declared.truth_test.Asked.{Asked}
 use Rattle.sql_reader.specs.declared.truth_test.Asked.TheVariants as a
-use Rattle.sql_reader.specs.declared.truth_test.Question.{Question}
+use Rattle.sql_reader.specs.declared.truth_test.TruthTest.{TruthTest}
 use Rattle.sql_reader.specs.declared.error.Omitted.TheVariants as l
 use Rattle.sql_reader.specs.declared.error.Later.TheVariants as y
 use Rattle.sql_reader.specs.Wrong as w
@@ -46,12 +46,12 @@ unfoldable pub known_column : List Column → PlacedName → Verdict FoundColumn
 known_column columns called = known called (find_column called.text columns)
 
 -- a name that a parenthesis or a point follows is no column
-abbrev pub no_call_by : Option Item → PlacedName → Verdict ℕ
+abbrev pub no_call_by : Option Item → PlacedName → Verdict (Unit {0})
 no_call_by (Some i.Open) called = Err (fault called.place (w.LeftOut l.Function))
 no_call_by (Some i.Dot) called = Err (fault called.place (w.LeftOut l.Qualified))
-no_call_by _ called = Ok 0
+no_call_by _ called = Ok tt
 
-unfoldable pub no_call : PlacedName → Rule ℕ
+unfoldable pub no_call : PlacedName → Rule (Unit {0})
 no_call called = look >> (λ ts. check (no_call_by (item_ahead ts) called) ts)
 
 unfoldable pub column : List Column → Rule FoundColumn
@@ -159,30 +159,30 @@ asked_by _ = refuse
 unfoldable pub asked_for : Rule Asked
 asked_for ts = asked_by (item_ahead ts) ts
 
-unfoldable pub is_question : Rule (Option Question)
-is_question = do
+unfoldable pub is_test : Rule (Option TruthTest)
+is_test = do
   place ← expect (i.Keyword k.Is)
   is_negated ← not_or_none
   what ← asked_for
   pure (Some (record { place = place; is_negated = is_negated; asked = what }))
 
 -- ISNULL and NOTNULL
-unfoldable pub null_question : Bool → Rule (Option Question)
-null_question is_negated = λ ts. (advance >> pure (Some (record { place = place_ahead ts; is_negated = is_negated; asked = a.Null }))) ts
+unfoldable pub null_test : Bool → Rule (Option TruthTest)
+null_test is_negated = λ ts. (advance >> pure (Some (record { place = place_ahead ts; is_negated = is_negated; asked = a.Null }))) ts
 
-abbrev pub question_by : Option Item → Rule (Option Question)
-question_by (Some (i.Keyword k.Is)) = is_question
-question_by (Some (i.Keyword k.IsNull)) = null_question false
-question_by (Some (i.Keyword k.NotNull)) = null_question true
-question_by _ = pure None
+abbrev pub test_by : Option Item → Rule (Option TruthTest)
+test_by (Some (i.Keyword k.Is)) = is_test
+test_by (Some (i.Keyword k.IsNull)) = null_test false
+test_by (Some (i.Keyword k.NotNull)) = null_test true
+test_by _ = pure None
 
 -- a test, if one is ahead
-unfoldable pub question_or_none : Rule (Option Question)
-question_or_none ts = question_by (item_ahead ts) ts
+unfoldable pub test_or_none : Rule (Option TruthTest)
+test_or_none ts = test_by (item_ahead ts) ts
 
 unfoldable pub tested : {S : Type 0} → Forms S → PartOf S → Rule (PartOf S)
 tested forms asked_part = do
-  asking ← question_or_none
+  asking ← test_or_none
   check (tested_part forms asking asked_part)
 
 -- ---- expressions

@@ -17,7 +17,7 @@ use Rattle.sql_reader.specs.declared.item.Item.TheVariants as i
 use Rattle.sql_reader.specs.declared.column.FoundColumn.{FoundColumn}
 use Rattle.sql_reader.specs.declared.truth_test.Asked.{Asked}
 use Rattle.sql_reader.specs.declared.truth_test.Asked.TheVariants as a
-use Rattle.sql_reader.specs.declared.truth_test.Question.{Question}
+use Rattle.sql_reader.specs.declared.truth_test.TruthTest.{TruthTest}
 use Rattle.sql_reader.specs.declared.error.Omitted.TheVariants as l
 use Rattle.sql_reader.specs.Reading.{Verdict, fault}
 use Rattle.sql_reader.specs.Wrong as w
@@ -167,7 +167,7 @@ negated_if forms true s = forms.negated s
 negated_if forms false s = s
 
 -- a part that is tested, or one that is not
-unfoldable pub tested : {S : Type 0} → Forms S → Option Question → PartOf S → Verdict (PartOf S)
+unfoldable pub tested : {S : Type 0} → Forms S → Option TruthTest → PartOf S → Verdict (PartOf S)
 tested forms None asked_part = Ok asked_part
-tested forms (Some question) asked_part =
-    verdict_map (λ s. part asked_part.place (OfFormula (negated_if forms question.is_negated s))) (answered forms question.place question.asked asked_part.operand)
+tested forms (Some truth_test) asked_part =
+    verdict_map (λ s. part asked_part.place (OfFormula (negated_if forms truth_test.is_negated s))) (answered forms truth_test.place truth_test.asked asked_part.operand)

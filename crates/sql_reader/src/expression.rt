@@ -5,7 +5,7 @@ ghost use Rattle.filter_tree.specs.Shape.{expr_view};
 ghost use Rattle.sql_reader.specs.Ahead.{to_read};
 ghost use Rattle.sql_reader.specs.Expressions as spec;
 ghost use Rattle.sql_reader.specs.Items.{size};
-ghost use Rattle.sql_reader.specs.OperandView.{part_of};
+ghost use Rattle.sql_reader.specs.OperandView.{part_view};
 ghost use Rattle.sql_reader.specs.Reading.{Reads};
 ghost use Rattle.sql_reader.specs.Written.{as_filter};
 
@@ -28,7 +28,7 @@ const MAX_NESTING: u32 = 64;
 
 /// Takes the parenthesis behind a part, which begins at the one before it.
 fn closed(r: &mut Reader<'_>, place: usize, inner: Part) -> Result<Part, ReadError>
-    ensures reads { Reads part_of (spec.closed place (part_of inner) (to_read r.old)) result (to_read r.new) }
+    ensures reads { Reads part_view (spec.closed place (part_view inner) (to_read r.old)) result (to_read r.new) }
     ensures fewer { OnOk result (size (to_read r.new) < size (to_read r.old)) }
 {
     r.expect(Item::Close, "AND, OR or `)`")?;
@@ -47,7 +47,7 @@ fn in_parentheses(
     columns: &[Column],
     depth: u32,
 ) -> Result<Part, ReadError>
-    ensures reads { Reads part_of (spec.nested as_filter columns.now depth false (to_read r.old)) result (to_read r.new) }
+    ensures reads { Reads part_view (spec.nested as_filter columns.now depth false (to_read r.old)) result (to_read r.new) }
     ensures fewer { OnOk result (size (to_read r.new) < size (to_read r.old)) }
 {
     if depth == 0 {
@@ -67,7 +67,7 @@ fn primary(
     columns: &[Column],
     depth: u32,
 ) -> Result<Part, ReadError>
-    ensures reads { Reads part_of (spec.primary as_filter columns.now (spec.nested as_filter columns.now depth) (to_read r.old)) result (to_read r.new) }
+    ensures reads { Reads part_view (spec.primary as_filter columns.now (spec.nested as_filter columns.now depth) (to_read r.old)) result (to_read r.new) }
     ensures fewer { OnOk result (size (to_read r.new) < size (to_read r.old)) }
 {
     if r.is(Item::Open) {
@@ -87,7 +87,7 @@ fn divisor(
     first: usize,
     column: Option<FoundColumn>,
 ) -> Result<Part, ReadError>
-    ensures reads { Reads part_of (spec.divisor as_filter columns.now (spec.nested as_filter columns.now depth) first column (to_read r.old)) result (to_read r.new) }
+    ensures reads { Reads part_view (spec.divisor as_filter columns.now (spec.nested as_filter columns.now depth) first column (to_read r.old)) result (to_read r.new) }
     ensures fewer { OnOk result (size (to_read r.new) < size (to_read r.old)) }
 {
     let place = r.expect(Item::Operator(Operator::Percent), "`%`")?;
@@ -105,7 +105,7 @@ fn divisor_or_none(
     depth: u32,
     left: Part,
 ) -> Result<Part, ReadError>
-    ensures reads { Reads part_of (spec.divisor_or_none as_filter columns.now (spec.nested as_filter columns.now depth) (part_of left) (to_read r.old)) result (to_read r.new) }
+    ensures reads { Reads part_view (spec.divisor_or_none as_filter columns.now (spec.nested as_filter columns.now depth) (part_view left) (to_read r.old)) result (to_read r.new) }
     ensures fewer { OnOk result (size (to_read r.new) ≤ size (to_read r.old)) }
 {
     if r.next_is(Item::Operator(Operator::Percent))? {
@@ -124,7 +124,7 @@ fn term(
     columns: &[Column],
     depth: u32,
 ) -> Result<Part, ReadError>
-    ensures reads { Reads part_of (spec.term as_filter columns.now (spec.nested as_filter columns.now depth) (to_read r.old)) result (to_read r.new) }
+    ensures reads { Reads part_view (spec.term as_filter columns.now (spec.nested as_filter columns.now depth) (to_read r.old)) result (to_read r.new) }
     ensures fewer { OnOk result (size (to_read r.new) < size (to_read r.old)) }
 {
     let left = primary(r, alloc, columns, depth)?;
@@ -133,7 +133,7 @@ fn term(
 
 /// Looks behind a side of a comparison.
 fn side_ended(r: &mut Reader<'_>, part: Part) -> Result<Part, ReadError>
-    ensures reads { Reads part_of (spec.side_ended (part_of part) (to_read r.old)) result (to_read r.new) }
+    ensures reads { Reads part_view (spec.side_ended (part_view part) (to_read r.old)) result (to_read r.new) }
     ensures fewer { OnOk result (size (to_read r.new) ≤ size (to_read r.old)) }
 {
     no_operator(r)?;
@@ -149,7 +149,7 @@ fn side(
     columns: &[Column],
     depth: u32,
 ) -> Result<Part, ReadError>
-    ensures reads { Reads part_of (spec.side as_filter columns.now (spec.nested as_filter columns.now depth) (to_read r.old)) result (to_read r.new) }
+    ensures reads { Reads part_view (spec.side as_filter columns.now (spec.nested as_filter columns.now depth) (to_read r.old)) result (to_read r.new) }
     ensures fewer { OnOk result (size (to_read r.new) < size (to_read r.old)) }
 {
     let part = term(r, alloc, columns, depth)?;
@@ -167,7 +167,7 @@ fn right_side(
     left: Part,
     op: Op,
 ) -> Result<Part, ReadError>
-    ensures reads { Reads part_of (spec.right_side as_filter columns.now (spec.nested as_filter columns.now depth) (part_of left) op (to_read r.old)) result (to_read r.new) }
+    ensures reads { Reads part_view (spec.right_side as_filter columns.now (spec.nested as_filter columns.now depth) (part_view left) op (to_read r.old)) result (to_read r.new) }
     ensures fewer { OnOk result (size (to_read r.new) ≤ size (to_read r.old)) }
 {
     let place = r.place();
@@ -188,7 +188,7 @@ fn right_side_or_none(
     depth: u32,
     left: Part,
 ) -> Result<Part, ReadError>
-    ensures reads { Reads part_of (spec.right_side_or_none as_filter columns.now (spec.nested as_filter columns.now depth) (part_of left) (to_read r.old)) result (to_read r.new) }
+    ensures reads { Reads part_view (spec.right_side_or_none as_filter columns.now (spec.nested as_filter columns.now depth) (part_view left) (to_read r.old)) result (to_read r.new) }
     ensures fewer { OnOk result (size (to_read r.new) ≤ size (to_read r.old)) }
 {
     match comparison_by(r.item()) {
@@ -206,7 +206,7 @@ fn comparison(
     columns: &[Column],
     depth: u32,
 ) -> Result<Part, ReadError>
-    ensures reads { Reads part_of (spec.comparison as_filter columns.now (spec.nested as_filter columns.now depth) (to_read r.old)) result (to_read r.new) }
+    ensures reads { Reads part_view (spec.comparison as_filter columns.now (spec.nested as_filter columns.now depth) (to_read r.old)) result (to_read r.new) }
     ensures fewer { OnOk result (size (to_read r.new) < size (to_read r.old)) }
 {
     let left = side(r, alloc, columns, depth)?;
@@ -222,7 +222,7 @@ fn test(
     columns: &[Column],
     depth: u32,
 ) -> Result<Part, ReadError>
-    ensures reads { Reads part_of (spec.test as_filter columns.now (spec.nested as_filter columns.now depth) (to_read r.old)) result (to_read r.new) }
+    ensures reads { Reads part_view (spec.test as_filter columns.now (spec.nested as_filter columns.now depth) (to_read r.old)) result (to_read r.new) }
     ensures fewer { OnOk result (size (to_read r.new) < size (to_read r.old)) }
 {
     let part = comparison(r, alloc, columns, depth)?;
@@ -238,7 +238,7 @@ fn behind_not(
     columns: &[Column],
     depth: u32,
 ) -> Result<Part, ReadError>
-    ensures reads { Reads part_of (spec.nested as_filter columns.now depth true (to_read r.old)) result (to_read r.new) }
+    ensures reads { Reads part_view (spec.nested as_filter columns.now depth true (to_read r.old)) result (to_read r.new) }
     ensures fewer { OnOk result (size (to_read r.new) < size (to_read r.old)) }
 {
     if depth == 0 {
@@ -258,7 +258,7 @@ fn negation(
     columns: &[Column],
     depth: u32,
 ) -> Result<Part, ReadError>
-    ensures reads { Reads part_of (spec.negation as_filter columns.now (spec.nested as_filter columns.now depth) (to_read r.old)) result (to_read r.new) }
+    ensures reads { Reads part_view (spec.negation as_filter columns.now (spec.nested as_filter columns.now depth) (to_read r.old)) result (to_read r.new) }
     ensures fewer { OnOk result (size (to_read r.new) < size (to_read r.old)) }
 {
     if r.is(Item::Keyword(Keyword::Not)) {
@@ -277,7 +277,7 @@ fn one_more_negation(
     depth: u32,
     left: Part,
 ) -> Result<Part, ReadError>
-    ensures reads { Reads part_of (spec.one_more_negation as_filter columns.now (spec.nested as_filter columns.now depth) (part_of left) (to_read r.old)) result (to_read r.new) }
+    ensures reads { Reads part_view (spec.one_more_negation as_filter columns.now (spec.nested as_filter columns.now depth) (part_view left) (to_read r.old)) result (to_read r.new) }
     ensures fewer { OnOk result (size (to_read r.new) < size (to_read r.old)) }
 {
     let place = left.place;
@@ -295,7 +295,7 @@ fn conjunction(
     columns: &[Column],
     depth: u32,
 ) -> Result<Part, ReadError>
-    ensures reads { Reads part_of (spec.conjunction as_filter columns.now (spec.nested as_filter columns.now depth) (to_read r.old)) result (to_read r.new) }
+    ensures reads { Reads part_view (spec.conjunction as_filter columns.now (spec.nested as_filter columns.now depth) (to_read r.old)) result (to_read r.new) }
     ensures fewer { OnOk result (size (to_read r.new) < size (to_read r.old)) }
 {
     let mut left = negation(r, alloc, columns, depth)?;
@@ -316,7 +316,7 @@ fn one_more_conjunction(
     depth: u32,
     left: Part,
 ) -> Result<Part, ReadError>
-    ensures reads { Reads part_of (spec.one_more_conjunction as_filter columns.now (spec.nested as_filter columns.now depth) (part_of left) (to_read r.old)) result (to_read r.new) }
+    ensures reads { Reads part_view (spec.one_more_conjunction as_filter columns.now (spec.nested as_filter columns.now depth) (part_view left) (to_read r.old)) result (to_read r.new) }
     ensures fewer { OnOk result (size (to_read r.new) < size (to_read r.old)) }
 {
     let place = left.place;
@@ -334,7 +334,7 @@ fn disjunction(
     columns: &[Column],
     depth: u32,
 ) -> Result<Part, ReadError>
-    ensures reads { Reads part_of (spec.disjunction as_filter columns.now (spec.nested as_filter columns.now depth) (to_read r.old)) result (to_read r.new) }
+    ensures reads { Reads part_view (spec.disjunction as_filter columns.now (spec.nested as_filter columns.now depth) (to_read r.old)) result (to_read r.new) }
     ensures fewer { OnOk result (size (to_read r.new) < size (to_read r.old)) }
 {
     let mut left = conjunction(r, alloc, columns, depth)?;

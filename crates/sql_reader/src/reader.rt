@@ -229,13 +229,13 @@ impl<'a> Reader<'a> {
         }
     }
 
-    /// Refuses all but the end of the text, and tells its place.
+    /// Refuses all but the end of the text.
     #[tactic(auto, unfolding(crate::specs::Rows::end, crate::specs::Ahead::to_read))]
-    pub(crate) fn end(&self, what: &'static str) -> Result<usize, ReadError>
-        ensures { Reads (λ place. place) (end (to_read self.now)) result (to_read self.now) }
+    pub(crate) fn end(&self, what: &'static str) -> Result<(), ReadError>
+        ensures { Reads (λ u. u) (end (to_read self.now)) result (to_read self.now) }
     {
         match self.ahead {
-            Ahead::End => Ok(self.place),
+            Ahead::End => Ok(()),
             Ahead::Fault(_) | Ahead::Item(_) => Err(self.refusal(what)),
         }
     }
