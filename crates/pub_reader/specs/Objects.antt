@@ -13,13 +13,13 @@ use Rattle.sql_reader.specs.Wrong as w
 use Rattle.sql_reader.specs.Expressions.{Forms, expression}
 use Rattle.sql_reader.specs.Limits.{exceeded}
 use Rattle.sql_reader.specs.Names.{name}
-use Rattle.sql_reader.specs.Reading.{Rule, Verdict, fault, ◌>>=◌, ◌>>◌, pure, check, refuse, refuse_as, advance, look, expect, is_ahead, item_ahead}
+use Rattle.sql_reader.specs.Reading.{Rule, Verdict, fault, ◌>>=◌, ◌>>◌, pure, check, refuse, refuse_as, advance, look, eat, expect, item_ahead}
 use Rattle.sql_reader.specs.Turns.{link, repeat}
 use Rattle.pub_reader.specs.declared.coverage.ObjectKind.{ObjectKind}
 use Rattle.pub_reader.specs.declared.coverage.ObjectKind.TheVariants as o
 use Rattle.pub_reader.specs.Catalogs.{EntryOf, columns_at}
 use Rattle.pub_reader.specs.Drafts.{CoverageOf, DraftOf, nothing_covered, public_schema, find_schema, with_name, filters_in, filters_on}
-use Rattle.pub_reader.specs.TableNames.{only_or_none, table_named}
+use Rattle.pub_reader.specs.TableNames.{table_named}
 
 -- ---- what one more object adds
 
@@ -50,17 +50,13 @@ table_mentioned coverage place entry =
 
 -- ---- WHERE
 
-abbrev pub limited_by : ℕ → Option Limit → Verdict ℕ
-limited_by place None = Ok 0
+abbrev pub limited_by : ℕ → Option Limit → Verdict (Unit {0})
+limited_by place None = Ok tt
 limited_by place (Some limit) = Err (fault place (w.TooMany limit))
 
 -- the filters on a table are limited; a fault is at the word WHERE of the one that passes a limit
-unfoldable pub limited : ℕ → List Expr → Verdict ℕ
+unfoldable pub limited : ℕ → List Expr → Verdict (Unit {0})
 limited place filters = limited_by place (exceeded filters)
-
--- a star behind a table takes in the tables that inherit from it, of which there are none
-unfoldable pub star_or_none : Rule ℕ
-star_or_none ts = if is_ahead (i.Operator Star) ts then expect (i.Operator Star) ts else pure 0 ts
 
 -- the objects read so far: the kind of the last one, and what they cover
 pub record ObjectsOf (S : Type 0) : Type 0 where
@@ -130,14 +126,15 @@ module _ {S : Type 0} (forms : Forms S) where
   unfoldable pub taken_table : DraftOf S → CoverageOf S → PlacedName → Rule (ObjectsOf S)
   taken_table draft coverage called = do
     number ← table_named draft called
-    star_or_none
+    -- a star takes in the tables that inherit from a table, of which there are none
+    eat (i.Operator Star)
     filter ← filter_clause draft coverage number
     covered ← check (table_mentioned coverage called.place (record { table = number; filter = filter }))
     pure (objects_so_far o.Table covered)
 
   unfoldable pub table_object : DraftOf S → CoverageOf S → Rule (ObjectsOf S)
   table_object draft coverage = do
-    only_or_none
+    eat (i.Keyword k.Only)
     called ← name
     taken_table draft coverage called
 

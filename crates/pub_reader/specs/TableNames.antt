@@ -17,10 +17,6 @@ use Rattle.pub_reader.specs.Schemas.{fresh, known, known_schema}
 
 -- ---- a table that was made before
 
--- ONLY leaves out the tables that inherit from a table, of which there are none
-unfoldable pub only_or_none : Rule ℕ
-only_or_none ts = if is_ahead (i.Keyword k.Only) ts then expect (i.Keyword k.Only) ts else pure 0 ts
-
 unfoldable pub known_table : List Table → List ℕ → PlacedName → Verdict ℕ
 known_table tables schema called = known called (find_table schema called.text tables)
 
@@ -45,7 +41,7 @@ table_number draft = name >>= table_named draft
 -- ---- a new table
 
 -- a new table has a name that is new in its schema, and there are at most 64
-unfoldable pub new_table : List Table → NewName → Verdict ℕ
+unfoldable pub new_table : List Table → NewName → Verdict (Unit {0})
 new_table tables called = fresh called.name (find_table called.schema called.name.text tables) (nat_le 64 (length tables)) Tables
 
 unfoldable pub new_in_schema : List (List ℕ) → PlacedName → Rule NewName
@@ -62,11 +58,11 @@ unfoldable pub new_named : List (List ℕ) → Bool → PlacedName → Rule NewN
 new_named schemas is_if called = look >> (λ ts. new_by is_if (item_ahead ts) schemas called ts)
 
 -- PARTITION behind the name of a new table begins a clause that is left out
-abbrev pub head_by : Option Item → Rule ℕ
+abbrev pub head_by : Option Item → Rule (Unit {0})
 head_by (Some (i.Keyword k.Partition)) = left_out
-head_by _ = pure 0
+head_by _ = pure tt
 
-unfoldable pub table_head : Rule ℕ
+unfoldable pub table_head : Rule (Unit {0})
 table_head ts = head_by (item_ahead ts) ts
 
 unfoldable pub new_name : {S : Type 0} → DraftOf S → Rule NewName

@@ -83,12 +83,12 @@ fn publication_list(
 
 /// Refuses WITH behind the publications.
 #[tactic(auto, unfolding(crate::specs::Subscriptions::subscription_tail))]
-fn subscription_tail(r: &Reader<'_>) -> Result<usize, ReadError>
-    ensures { Reads (λ n. n) (spec.subscription_tail (to_read r.now)) result (to_read r.now) }
+fn subscription_tail(r: &Reader<'_>) -> Result<(), ReadError>
+    ensures { Reads (λ u. u) (spec.subscription_tail (to_read r.now)) result (to_read r.now) }
 {
     match r.item() {
         Some(Item::Keyword(Keyword::With)) => Err(r.refused(ErrorKind::LeftOut(Omitted::Clause))),
-        _ => Ok(0),
+        _ => Ok(()),
     }
 }
 

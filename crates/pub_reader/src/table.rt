@@ -19,8 +19,8 @@ use std::alloc::Global;
 
 /// Refuses a table without a primary key.
 #[tactic(auto, unfolding(crate::specs::Tables::keyed))]
-fn keyed(name: &PlacedName, parts: &TableParts) -> Result<usize, ReadError>
-    ensures { Answers (λ n. n) (spec.keyed name.now (parts_view parts.now)) result }
+fn keyed(name: &PlacedName, parts: &TableParts) -> Result<(), ReadError>
+    ensures { Answers (λ u. u) (spec.keyed name.now (parts_view parts.now)) result }
 {
     if parts.key.is_empty() {
         return Err(ReadError {
@@ -28,18 +28,18 @@ fn keyed(name: &PlacedName, parts: &TableParts) -> Result<usize, ReadError>
             kind: ErrorKind::NoKey,
         });
     }
-    Ok(0)
+    Ok(())
 }
 
 /// Refuses a clause that is left out behind the elements of a table.
 #[tactic(auto, unfolding(crate::specs::Tables::table_tail))]
-fn table_tail(r: &Reader<'_>) -> Result<usize, ReadError>
-    ensures { Reads (λ n. n) (spec.table_tail (to_read r.now)) result (to_read r.now) }
+fn table_tail(r: &Reader<'_>) -> Result<(), ReadError>
+    ensures { Reads (λ u. u) (spec.table_tail (to_read r.now)) result (to_read r.now) }
 {
     match r.item() {
         Some(Item::Keyword(Keyword::Inherits)) => Err(left_out_clause(r)),
         Some(Item::Keyword(Keyword::Partition)) => Err(left_out_clause(r)),
-        _ => Ok(0),
+        _ => Ok(()),
     }
 }
 

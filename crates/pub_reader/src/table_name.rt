@@ -21,18 +21,6 @@ pub struct NewName {
     pub name: PlacedName,
 }
 
-/// Takes ONLY, if it is ahead.
-#[tactic(auto, unfolding(crate::specs::TableNames::only_or_none))]
-pub fn only_or_none(r: &mut Reader<'_>) -> Result<usize, ReadError>
-    ensures reads { Reads (λ n. n) (spec.only_or_none (to_read r.old)) result (to_read r.new) }
-    ensures fewer { OnOk result (size (to_read r.new) ≤ size (to_read r.old)) }
-{
-    if r.is(Item::Keyword(Keyword::Only)) {
-        return Ok(r.expect(Item::Keyword(Keyword::Only), "ONLY")?);
-    }
-    Ok(0)
-}
-
 /// Takes a dot and a name, behind the name of a schema that was made before.
 #[tactic(auto, unfolding(crate::specs::TableNames::name_in_schema))]
 fn name_in_schema(
@@ -141,12 +129,12 @@ fn new_named(
 
 /// Refuses a clause that is left out behind the name of a table.
 #[tactic(auto, unfolding(crate::specs::TableNames::table_head))]
-fn table_head(r: &Reader<'_>) -> Result<usize, ReadError>
-    ensures { Reads (λ n. n) (spec.table_head (to_read r.now)) result (to_read r.now) }
+fn table_head(r: &Reader<'_>) -> Result<(), ReadError>
+    ensures { Reads (λ u. u) (spec.table_head (to_read r.now)) result (to_read r.now) }
 {
     match r.item() {
         Some(Item::Keyword(Keyword::Partition)) => Err(left_out_clause(r)),
-        _ => Ok(0),
+        _ => Ok(()),
     }
 }
 

@@ -23,7 +23,7 @@ use Rattle.sql_reader.specs.Names.{name, string_meant}
 use Rattle.sql_reader.specs.Numbers.{placed_number}
 use Rattle.sql_reader.specs.Operands.{PartOf, OfTerm, OfLiteral, part, wanted, negated, joined, dividend, remainder, comparison_by, compared_part, tested as tested_part}
 pub use Rattle.sql_reader.specs.Operands.{Forms}
-use Rattle.sql_reader.specs.Reading.{Rule, Verdict, fault, ◌>>=◌, ◌>>◌, pure, check, here, refuse, refuse_as, advance, look, expect, next_is, is_ahead, item_ahead, place_ahead, written_ahead, rest_of}
+use Rattle.sql_reader.specs.Reading.{Rule, Verdict, fault, ◌>>=◌, ◌>>◌, pure, check, here, refuse, refuse_as, advance, look, eat, expect, next_is, is_ahead, item_ahead, place_ahead, written_ahead}
 use Rattle.sql_reader.specs.Turns.{link, repeat}
 
 -- ---- columns
@@ -145,9 +145,6 @@ no_operator = look >> (λ ts. no_operator_by (item_ahead ts) ts)
 
 -- ---- IS tests
 
-unfoldable pub not_or_none : Rule Bool
-not_or_none ts = if is_ahead (i.Keyword k.Not) ts then Ok (true, rest_of ts) else Ok (false, ts)
-
 abbrev pub asked_by : Option Item → Rule Asked
 asked_by (Some (i.Keyword k.Null)) = advance >> pure a.Null
 asked_by (Some (i.Keyword k.True)) = advance >> pure (a.Truth t.True)
@@ -162,7 +159,7 @@ asked_for ts = asked_by (item_ahead ts) ts
 unfoldable pub is_test : Rule (Option TruthTest)
 is_test = do
   place ← expect (i.Keyword k.Is)
-  is_negated ← not_or_none
+  is_negated ← eat (i.Keyword k.Not)
   what ← asked_for
   pure (Some (record { place = place; is_negated = is_negated; asked = what }))
 

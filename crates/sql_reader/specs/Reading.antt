@@ -123,6 +123,10 @@ more_ahead ts = more_looked ts
 abbrev pub advance : Rule (Unit {0})
 advance = λ ts. Ok (tt, rest_of ts)
 
+-- takes this one if it is ahead, and tells whether it was
+unfoldable pub eat : Item → Rule Bool
+eat item = λ ts. if is_ahead item ts then Ok (true, rest_of ts) else Ok (false, ts)
+
 -- takes this one, and tells its place
 unfoldable pub expect : Item → Rule ℕ
 expect item = λ ts. if is_ahead item ts then Ok (place_ahead ts, rest_of ts) else Err (refusal ts)

@@ -30,8 +30,8 @@ pub struct TableParts {
 
 /// Refuses a column whose name is taken, or that is one too many.
 #[tactic(auto, unfolding(crate::specs::Columns::new_column))]
-fn new_column(parts: &TableParts, name: &PlacedName) -> Result<usize, ReadError>
-    ensures { Answers (λ n. n) (spec.new_column (parts_view parts.now) name.now) result }
+fn new_column(parts: &TableParts, name: &PlacedName) -> Result<(), ReadError>
+    ensures { Answers (λ u. u) (spec.new_column (parts_view parts.now) name.now) result }
 {
     let found = find_column(parts.columns.as_slice(), name.text.as_str());
     if found.is_some() {
@@ -46,7 +46,7 @@ fn new_column(parts: &TableParts, name: &PlacedName) -> Result<usize, ReadError>
             kind: ErrorKind::TooMany(Limit::Columns),
         });
     }
-    Ok(0)
+    Ok(())
 }
 
 /// Adds a column.
@@ -102,12 +102,8 @@ fn require(columns: &mut Vec<Column>, number: usize)
 
 /// Refuses a column that stands in the key already.
 #[tactic(auto, unfolding(crate::specs::Columns::once_in_key))]
-fn once_in_key(
-    parts: &TableParts,
-    name: &PlacedName,
-    column: FoundColumn,
-) -> Result<usize, ReadError>
-    ensures { Answers (λ n. n) (spec.once_in_key (parts_view parts.now) name.now column) result }
+fn once_in_key(parts: &TableParts, name: &PlacedName, column: FoundColumn) -> Result<(), ReadError>
+    ensures { Answers (λ u. u) (spec.once_in_key (parts_view parts.now) name.now column) result }
 {
     if parts.key.contains(&column.number) {
         return Err(ReadError {
@@ -115,7 +111,7 @@ fn once_in_key(
             kind: ErrorKind::NameTwice,
         });
     }
-    Ok(0)
+    Ok(())
 }
 
 /// Adds a column to the key.

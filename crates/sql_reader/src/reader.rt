@@ -31,7 +31,7 @@ pub struct Reader<'a> {
 }
 
 impl<'a> Reader<'a> {
-    ghost use Rattle.std.specs.Prelude.{◌≡◌, ◌<◌, IfErr, OnErr, OnOk};
+    ghost use Rattle.std.specs.Prelude.{◌≡◌, ◌<◌, ◌≤◌, IfErr, Ok, OnErr, OnOk};
     ghost use Rattle.sql_tokens.specs.Left.{text_of, left};
     ghost use Rattle.sql_reader.specs.Items.{items, items_of, size};
     ghost use Rattle.sql_reader.specs.Ahead.{to_read};
@@ -193,6 +193,19 @@ impl<'a> Reader<'a> {
     {
         self.look()?;
         Ok(self.is(item))
+    }
+
+    /// Takes this token, if it is ahead, and tells whether it was.
+    #[tactic(auto, using(crate::proofs::Ahead::rest_is_no_more), unfolding(crate::specs::Reading::eat))]
+    pub fn eat(&mut self, item: Item) -> bool
+        ensures takes { spec.eat item (to_read self.old) ≡ Ok (result, to_read self.new) }
+        ensures fewer { size (to_read self.new) ≤ size (to_read self.old) }
+    {
+        let is_ahead = self.is(item);
+        if is_ahead {
+            self.advance();
+        }
+        is_ahead
     }
 
     /// Takes this token and tells its place, in bytes from the start of the text.

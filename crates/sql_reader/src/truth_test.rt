@@ -35,19 +35,6 @@ pub struct TruthTest {
     pub asked: Asked,
 }
 
-/// Takes NOT, if it is ahead.
-#[tactic(auto, using(crate::proofs::Ahead::rest_is_no_more), unfolding(crate::specs::Expressions::not_or_none))]
-fn not_or_none(r: &mut Reader<'_>) -> Result<bool, ReadError>
-    ensures reads { Reads (λ b. b) (grammar.not_or_none (to_read r.old)) result (to_read r.new) }
-    ensures fewer { OnOk result (size (to_read r.new) ≤ size (to_read r.old)) }
-{
-    let is_negated = r.is(Item::Keyword(Keyword::Not));
-    if is_negated {
-        r.advance();
-    }
-    Ok(is_negated)
-}
-
 /// Takes what stands behind IS.
 #[tactic(auto, using(crate::proofs::Ahead::rest_is_no_more), unfolding(crate::specs::Expressions::asked_for))]
 fn asked_for(r: &mut Reader<'_>) -> Result<Asked, ReadError>
@@ -75,7 +62,7 @@ fn is_test(r: &mut Reader<'_>) -> Result<Option<TruthTest>, ReadError>
     ensures fewer { OnOk result (size (to_read r.new) < size (to_read r.old)) }
 {
     let place = r.expect(Item::Keyword(Keyword::Is), "IS")?;
-    let is_negated = not_or_none(r)?;
+    let is_negated = r.eat(Item::Keyword(Keyword::Not));
     let asked = asked_for(r)?;
     Ok(Some(TruthTest {
         place,

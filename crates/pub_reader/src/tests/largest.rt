@@ -25,11 +25,11 @@ fn table(alloc: Global, number: usize) -> Result<String, AllocError> {
     format!(in alloc; "CREATE TABLE {schema}.{called} ({columns}, PRIMARY KEY ({key}));\n")
 }
 
-/// A filter for each publication and table. Those of the first four tables have a text of 65,535 bytes, and those of the
-/// last table together have 64 atoms and 1,000 nodes.
+/// A filter for each publication and table. The one of the last publication on the first table has a text of 65,535 bytes,
+/// and those on the last table together have 64 atoms and 1,000 nodes.
 fn filter(alloc: Global, publication: usize, table: usize) -> Result<String, AllocError> {
-    if table < 4 {
-        return format!(in alloc; "region = '{}{}'", 100 + publication, "a".repeat(alloc, 65_532)?);
+    if publication == 63 && table == 0 {
+        return format!(in alloc; "region = '{}'", "a".repeat(alloc, 65_535)?);
     }
     if publication == 2 && table == 63 {
         let same = " OR id = 100".repeat(alloc, 468)?;
@@ -40,14 +40,20 @@ fn filter(alloc: Global, publication: usize, table: usize) -> Result<String, All
 
 /// A publication that names each table with a filter.
 fn publication(alloc: Global, number: usize) -> Result<String, AllocError> {
-    let mut text = format!(in alloc; "CREATE PUBLICATION {} FOR TABLE ", name(alloc, "p", number)?)?;
+    let mut text = format!(in alloc;
+        "CREATE PUBLICATION {} FOR TABLE ",
+        name(alloc, "p", number)?
+    )?;
     for table in 0..64 {
         if table > 0 {
             text.push_str(", ")?;
         }
         let schema = name(alloc, "s", table)?;
         let called = name(alloc, "t", table)?;
-        let piece = format!(in alloc; "{schema}.{called} WHERE ({})", filter(alloc, number, table)?)?;
+        let piece = format!(in alloc;
+            "{schema}.{called} WHERE ({})",
+            filter(alloc, number, table)?
+        )?;
         text.push_str(piece.as_str())?;
     }
     text.push_str(";\n")?;
@@ -65,9 +71,9 @@ fn names(alloc: Global, letter: &str) -> Result<String, AllocError> {
 }
 
 /// 64 schemas, publications of every table and of every schema, a table in each schema, 62 publications that name each
-/// table with a filter, and 32 subscriptions to all publications.
+/// table with a filter, and 32 subscriptions to all publications. A comment before them makes up 16 MB.
 fn largest_catalog(alloc: Global) -> Result<String, AllocError> {
-    let mut text = String::new(alloc);
+    let mut text = format!(in alloc; "--{}\n", " ".repeat(alloc, 15_000_000)?)?;
     for number in 0..64 {
         let piece = format!(in alloc; "CREATE SCHEMA {};\n", name(alloc, "s", number)?)?;
         text.push_str(piece.as_str())?;
