@@ -18,7 +18,7 @@ use Rattle.pub_reader.specs.declared.coverage.ObjectKind.{ObjectKind}
 use Rattle.pub_reader.specs.declared.coverage.ObjectKind.TheVariants as o
 use Rattle.pub_reader.specs.Catalogs.{columns_at}
 use Rattle.pub_reader.specs.Drafts.{CoverageOf, DraftPublicationOf, DraftOf, nothing_covered, filters_in, filters_on, coverage_map, draft_publication_map, draft_map}
-use Rattle.pub_reader.specs.Objects.{ObjectsOf, limited, table_mentioned, ended, where_clause, filter_by, filter_clause, taken_table, table_object, taken_by, tables_by, behind_tables, tables_object, object_of, object_by, object, first_by, first_object, objects}
+use Rattle.pub_reader.specs.Objects.{ObjectsOf, limited, table_mentioned, ended, where_clause, filter_by, filter_clause, taken_table, table_object, taken_by, tables_by, after_tables, tables_object, object_of, object_by, object, first_by, first_object, objects}
 use Rattle.pub_reader.specs.Publications.{publication_name, all_tables, published, scope_by, scope, for_by, for_clause, listed_objects, create_publication}
 use Rattle.pub_reader.specs.Publishing.{parameters_clause}
 use Rattle.pub_reader.specs.TableNames.{table_named}
@@ -90,7 +90,7 @@ module _ {S T : Type 0} (from : Forms S) (to : Forms T) (h : S → T) (carries :
   tables_by-carried _ kind draft coverage called ts = taken_by-carried kind draft coverage called ts
 
   tables_object-carried : (draft : DraftOf S) (read : ObjectsOf S) (ts : Items) → tables_object to (draft_map h draft) (objects_map h read) ts ≡ mapped (objects_map h) (tables_object from draft read ts)
-  unfolding tables_object behind_tables
+  unfolding tables_object after_tables
   tables_object-carried draft read ts =
       then-same (objects_map h) (name ts) _ _ (λ called ts2. then-same (objects_map h) (look ts2) _ _ (λ u ts3. tables_by-carried (item_ahead ts3) read.kind draft read.coverage called ts3))
 

@@ -85,7 +85,7 @@ schema_object_by _ draft coverage = named_schema draft coverage
 unfoldable pub schema_object : {S : Type 0} → DraftOf S → CoverageOf S → Rule (ObjectsOf S)
 schema_object draft coverage ts = schema_object_by (item_ahead ts) draft coverage ts
 
--- behind TABLES
+-- after TABLES
 unfoldable pub in_schema : {S : Type 0} → DraftOf S → CoverageOf S → Rule (ObjectsOf S)
 in_schema draft coverage = do
   expect (i.Keyword k.In)
@@ -99,7 +99,7 @@ taken_schema draft coverage called = check (schema_mentioned draft coverage call
 module _ {S : Type 0} (forms : Forms S) where
   -- ---- a table
 
-  -- the parenthesis behind a filter
+  -- the parenthesis after a filter
   unfoldable pub ended : DraftOf S → CoverageOf S → ℕ → ℕ → S → Rule (Option S)
   ended draft coverage number place filter = do
     expect i.Close
@@ -113,7 +113,7 @@ module _ {S : Type 0} (forms : Forms S) where
     filter ← expression forms (columns_at draft.tables number)
     ended draft coverage number place filter
 
-  -- behind a table: a filter, or nothing; a list of columns is refused
+  -- after a table: a filter, or nothing; a list of columns is refused
   abbrev pub filter_by : Option Item → DraftOf S → CoverageOf S → ℕ → Rule (Option S)
   filter_by (Some (i.Keyword k.Where)) draft coverage number = where_clause draft coverage number
   filter_by (Some i.Open) draft coverage number = refuse_as w.ColumnList
@@ -150,11 +150,11 @@ module _ {S : Type 0} (forms : Forms S) where
   tables_by (Some (i.Keyword k.In)) kind draft coverage called = in_schema draft coverage
   tables_by _ kind draft coverage called = taken_by kind draft coverage called
 
-  unfoldable pub behind_tables : DraftOf S → ObjectsOf S → PlacedName → Rule (ObjectsOf S)
-  behind_tables draft objects called = look >> (λ ts. tables_by (item_ahead ts) objects.kind draft objects.coverage called ts)
+  unfoldable pub after_tables : DraftOf S → ObjectsOf S → PlacedName → Rule (ObjectsOf S)
+  after_tables draft objects called = look >> (λ ts. tables_by (item_ahead ts) objects.kind draft objects.coverage called ts)
 
   unfoldable pub tables_object : DraftOf S → ObjectsOf S → Rule (ObjectsOf S)
-  tables_object draft objects = name >>= behind_tables draft objects
+  tables_object draft objects = name >>= after_tables draft objects
 
   -- an object of this kind
   abbrev pub object_of : ObjectKind → DraftOf S → CoverageOf S → Rule (ObjectsOf S)

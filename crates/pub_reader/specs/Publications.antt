@@ -45,7 +45,7 @@ module _ {S : Type 0} (forms : Forms S) where
   unfoldable pub listed_objects : DraftOf S → Rule (CoverageOf S)
   listed_objects draft = objects forms draft >>= (λ read. pure read.coverage)
 
-  -- behind FOR
+  -- after FOR
   abbrev pub scope_by : Option Item → DraftOf S → Rule (CoverageOf S)
   scope_by (Some (i.Keyword k.All)) draft = all_tables
   scope_by _ draft = listed_objects draft

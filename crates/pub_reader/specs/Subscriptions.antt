@@ -51,7 +51,7 @@ subscription_tail_by _ = pure tt
 unfoldable pub subscription_tail : Rule (Unit {0})
 subscription_tail ts = subscription_tail_by (item_ahead ts) ts
 
--- behind the name
+-- after the name
 unfoldable pub subscription_body : {S : Type 0} → DraftOf S → Rule (List ℕ)
 subscription_body draft = do
   expect (i.Keyword k.Connection)

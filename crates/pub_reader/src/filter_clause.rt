@@ -49,7 +49,7 @@ fn within_limits(
     Ok(limited(alloc, place, &filters)?)
 }
 
-/// Takes the parenthesis behind a filter.
+/// Takes the parenthesis after a filter.
 #[tactic(auto, unfolding(crate::specs::Objects::ended))]
 fn ended(
     r: &mut Reader<'_>,
@@ -87,7 +87,7 @@ fn where_clause(
     Ok(ended(r, alloc, draft, coverage, number, place, filter)?)
 }
 
-/// Takes the filter behind a table, if there is one.
+/// Takes the filter after a table, if there is one.
 #[tactic(auto, unfolding(crate::specs::Objects::filter_clause))]
 pub fn filter_clause(
     r: &mut Reader<'_>,

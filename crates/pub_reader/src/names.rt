@@ -45,7 +45,7 @@ impl Names {
         self.names.get_index_of(name)
     }
 
-    /// Adds a name behind the others, if it is new.
+    /// Adds a name after the others, if it is new.
     pub fn add(&mut self, name: String) -> Result<(), AllocError>
         ensures ok { OnOk result (self.new ≡ with_name self.old (string_bytes name)) }
         ensures err { OnErr result (self.new ≡ self.old) }

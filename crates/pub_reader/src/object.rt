@@ -168,8 +168,8 @@ fn taken_object(
 }
 
 /// Takes the rest of an object, once the word TABLES at its front is taken: it begins TABLES IN SCHEMA, or is a name.
-#[tactic(auto, unfolding(crate::specs::Objects::behind_tables))]
-fn behind_tables(
+#[tactic(auto, unfolding(crate::specs::Objects::after_tables))]
+fn after_tables(
     r: &mut Reader<'_>,
     alloc: Global,
     draft: &Draft,
@@ -177,7 +177,7 @@ fn behind_tables(
     coverage: &mut Coverage,
     name: PlacedName,
 ) -> Result<ObjectKind, ReadError>
-    ensures reads { Reads (λ kind. objects_view kind coverage.new) (spec.behind_tables as_filter (draft_view draft.now) (objects_view kind coverage.old) name (to_read r.old)) result (to_read r.new) }
+    ensures reads { Reads (λ kind. objects_view kind coverage.new) (spec.after_tables as_filter (draft_view draft.now) (objects_view kind coverage.old) name (to_read r.old)) result (to_read r.new) }
     ensures fewer { OnOk result (size (to_read r.new) ≤ size (to_read r.old)) }
 {
     r.look()?;
@@ -200,7 +200,7 @@ fn tables_object(
     ensures fewer { OnOk result (size (to_read r.new) < size (to_read r.old)) }
 {
     let name = read_name(r, alloc, "TABLES")?;
-    Ok(behind_tables(r, alloc, draft, kind, coverage, name)?)
+    Ok(after_tables(r, alloc, draft, kind, coverage, name)?)
 }
 
 /// Takes an object of this kind.

@@ -31,7 +31,7 @@ fn keyed(name: &PlacedName, parts: &TableParts) -> Result<(), ReadError>
     Ok(())
 }
 
-/// Refuses a clause that is left out behind the elements of a table.
+/// Refuses a clause that is left out after the elements of a table.
 #[tactic(auto, unfolding(crate::specs::Tables::table_tail))]
 fn table_tail(r: &Reader<'_>) -> Result<(), ReadError>
     ensures { Reads (λ u. u) (spec.table_tail (to_read r.now)) result (to_read r.now) }
@@ -58,7 +58,7 @@ fn table_of(name: NewName, parts: TableParts) -> Table
     }
 }
 
-/// Takes what stands behind the name of a new table.
+/// Takes what follows the name of a new table.
 #[tactic(auto, unfolding(crate::specs::Tables::table_body))]
 fn table_body(r: &mut Reader<'_>, alloc: Global, name: &PlacedName) -> Result<TableParts, ReadError>
     ensures reads { Reads parts_view (spec.table_body name.now (to_read r.old)) result (to_read r.new) }
@@ -72,7 +72,7 @@ fn table_body(r: &mut Reader<'_>, alloc: Global, name: &PlacedName) -> Result<Ta
     Ok(parts)
 }
 
-/// Takes what stands behind CREATE TABLE, and makes the table.
+/// Takes what follows CREATE TABLE, and makes the table.
 #[tactic(auto, unfolding(crate::specs::Tables::create_table))]
 pub fn create_table(r: &mut Reader<'_>, alloc: Global, draft: &mut Draft) -> Result<(), ReadError>
     ensures reads { Reads (λ _. draft_view draft.new) (spec.create_table (draft_view draft.old) (to_read r.old)) result (to_read r.new) }

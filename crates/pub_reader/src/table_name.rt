@@ -21,7 +21,7 @@ pub struct NewName {
     pub name: PlacedName,
 }
 
-/// Takes a dot and a name, behind the name of a schema that was made before.
+/// Takes a dot and a name, after the name of a schema that was made before.
 #[tactic(auto, unfolding(crate::specs::TableNames::name_in_schema))]
 fn name_in_schema(
     r: &mut Reader<'_>,
@@ -37,7 +37,7 @@ fn name_in_schema(
     read_name(r, alloc, "the name of a table")
 }
 
-/// Takes a dot and the name of a table that was made before, behind the name of its schema, and tells its number.
+/// Takes a dot and the name of a table that was made before, after the name of its schema, and tells its number.
 #[tactic(auto, unfolding(crate::specs::TableNames::table_in_schema))]
 fn table_in_schema(
     r: &mut Reader<'_>,
@@ -83,7 +83,7 @@ pub fn table_number(r: &mut Reader<'_>, alloc: Global, draft: &Draft) -> Result<
     Ok(table_named(r, alloc, draft, &name)?)
 }
 
-/// Takes a dot and the name of a new table, behind the name of its schema.
+/// Takes a dot and the name of a new table, after the name of its schema.
 #[tactic(auto, unfolding(crate::specs::TableNames::new_in_schema))]
 fn new_in_schema(
     r: &mut Reader<'_>,
@@ -127,7 +127,7 @@ fn new_named(
     }
 }
 
-/// Refuses a clause that is left out behind the name of a table.
+/// Refuses a clause that is left out after the name of a table.
 #[tactic(auto, unfolding(crate::specs::TableNames::table_head))]
 fn table_head(r: &Reader<'_>) -> Result<(), ReadError>
     ensures { Reads (λ u. u) (spec.table_head (to_read r.now)) result (to_read r.now) }

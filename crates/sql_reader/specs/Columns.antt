@@ -81,7 +81,7 @@ constraint_looked ts = Ok (is_constraint (item_ahead ts))
 unfoldable pub constraint_ahead : Items → Verdict Bool
 constraint_ahead ts = constraint_looked ts
 
--- a word and this keyword behind it, with which the column is given these constraints
+-- a word and this keyword after it, with which the column is given these constraints
 unfoldable pub given_by : Keyword → Constraints → Rule Constraints
 given_by second given = advance >> expect (i.Keyword second) >> pure given
 

@@ -78,7 +78,7 @@ number_part = do
   digits ← placed_number
   pure (part place (OfLiteral digits.place (Number digits.number)))
 
--- the type behind `::`, which stands at this place, is the word text: another is left out
+-- the type after `::`, which is at this place, is the word text: another is left out
 abbrev pub text_type_by : ℕ → Option Item → Rule (Unit {0})
 text_type_by place (Some (i.Keyword k.Text)) = advance
 text_type_by place (Some item) = if is_name item then check (Err (fault place (w.LeftOut l.Cast))) else refuse
@@ -90,7 +90,7 @@ text_type place ts = text_type_by place (item_ahead ts) ts
 unfoldable pub text_cast : Rule (Unit {0})
 text_cast = expect i.DoubleColon >>= text_type
 
--- behind a string, `:: text` changes nothing
+-- after a string, `:: text` changes nothing
 unfoldable pub cast_or_none : Rule (Unit {0})
 cast_or_none = do
   has_cast ← next_is i.DoubleColon
@@ -116,7 +116,7 @@ simple_by columns _ = column_part columns
 unfoldable pub simple : {S : Type 0} → List Column → Rule (PartOf S)
 simple columns ts = simple_by columns (item_ahead ts) ts
 
--- ---- operators behind an operand that are not read: all bind tighter than comparisons
+-- ---- operators after an operand that are not read: all bind tighter than comparisons
 
 abbrev pub no_word_by : Option Item → Rule (Unit {0})
 no_word_by (Some (i.Keyword k.Like)) = refuse_as (w.LeftOut l.Operator)
@@ -129,7 +129,7 @@ no_word_by _ = pure tt
 unfoldable pub no_word_operator : Rule (Unit {0})
 no_word_operator ts = no_word_by (item_ahead ts) ts
 
--- NOT behind an operand begins one of these words' operators
+-- NOT after an operand begins one of these words' operators
 unfoldable pub no_negated_operator : Rule (Unit {0})
 no_negated_operator = advance >> no_word_operator >> refuse
 
@@ -184,23 +184,23 @@ tested forms asked_part = do
 
 -- ---- expressions
 
--- a look at what stands behind a side of a comparison
+-- a look at what follows a side of a comparison
 abbrev pub side_ended : {S : Type 0} → PartOf S → Rule (PartOf S)
 side_ended read = no_operator >> pure read
 
--- the parenthesis behind a part; with its parentheses the part begins at this place
+-- the parenthesis after a part; with its parentheses the part begins at this place
 abbrev pub closed : {S : Type 0} → ℕ → PartOf S → Rule (PartOf S)
 closed place inner = expect i.Close >> pure (part place inner.operand)
 
 module _ {S : Type 0} (forms : Forms S) (columns : List Column) where
-  -- What stands in parentheses, and behind NOT. Each adds one to the nesting, which is refused at the parenthesis or the NOT that passes the limit.
+  -- What is in parentheses, and after NOT. Each adds one to the nesting, which is refused at the parenthesis or the NOT that passes the limit.
   abbrev Below : Type 0
   Below = Bool → Rule (PartOf S)
 
   unfoldable pub primary : Below → Rule (PartOf S)
   primary below ts = if is_ahead i.Open ts then below false ts else simple columns ts
 
-  -- `%` and the divisor, behind what begins at this place
+  -- `%` and the divisor, after what begins at this place
   unfoldable pub divisor : Below → ℕ → Option FoundColumn → Rule (PartOf S)
   divisor below first column = do
     place ← expect (i.Operator o.Percent)
@@ -219,7 +219,7 @@ module _ {S : Type 0} (forms : Forms S) (columns : List Column) where
   unfoldable pub side : Below → Rule (PartOf S)
   side below = term below >>= side_ended
 
-  -- a comparison is checked before what stands behind it, but for a cast
+  -- a comparison is checked before what follows it, but for a cast
   unfoldable pub right_side : Below → PartOf S → Op → Rule (PartOf S)
   right_side below left operator = do
     place ← here
@@ -245,13 +245,13 @@ module _ {S : Type 0} (forms : Forms S) (columns : List Column) where
   unfoldable pub negation : Below → Rule (PartOf S)
   negation below ts = if is_ahead (i.Keyword k.Not) ts then below true ts else test below ts
 
-  unfoldable pub behind_not : Below → Rule (PartOf S)
-  behind_not below = do
+  unfoldable pub after_not : Below → Rule (PartOf S)
+  after_not below = do
     place ← expect (i.Keyword k.Not)
     right ← negation below
     check (negated forms place right)
 
-  -- AND wants filters: the one before it once it is seen, and the one behind it once that has ended
+  -- AND wants filters: the one before it once it is seen, and the one after it once that has ended
   unfoldable pub one_more_negation : Below → PartOf S → Rule (PartOf S)
   one_more_negation below left = do
     filter ← check (wanted forms left)
@@ -279,7 +279,7 @@ module _ {S : Type 0} (forms : Forms S) (columns : List Column) where
   -- NOT and what it negates, or an expression in parentheses, where so many more may nest
   unfoldable pub nested : ℕ → Below
   nested zero is_not = refuse_as w.TooDeep
-  nested (suc n) true = behind_not (nested n)
+  nested (suc n) true = after_not (nested n)
   nested (suc n) false = in_parentheses (nested n)
 
   -- a filter

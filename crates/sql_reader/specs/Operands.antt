@@ -41,7 +41,7 @@ pub record Forms (S : Type 0) : Type 0 where
   -- the filter tree of what they make, whose size is limited
   pub tree : S → Expr
 
--- a part of an expression: a column or a remainder of one with the column's type, a literal with the place of its token, which is that of the digits behind a minus, or a boolean expression that is neither a column nor a literal
+-- a part of an expression: a column or a remainder of one with the column's type, a literal with the place of its token, which is that of the digits after a minus, or a boolean expression that is neither a column nor a literal
 pub data OperandOf (S : Type 0) : Type 0 where
   OfTerm : Term → ColType → OperandOf S
   OfLiteral : ℕ → Constant → OperandOf S
@@ -153,7 +153,7 @@ abbrev pub asking : {S : Type 0} → Forms S → ℕ → Test → Option S → V
 asking forms place test (Some s) = Ok (forms.asked test s)
 asking forms place test None = Err (fault place w.TypeClash)
 
--- the test of an operand, whose word stands at this place: a number or a string is not tested, and IS NULL of a boolean expression is IS UNKNOWN
+-- the test of an operand, whose word is at this place: a number or a string is not tested, and IS NULL of a boolean expression is IS UNKNOWN
 abbrev pub answered : {S : Type 0} → Forms S → ℕ → Asked → OperandOf S → Verdict S
 answered forms place asked (OfLiteral at (Number number)) = Err (fault place (w.LeftOut l.Constant))
 answered forms place asked (OfLiteral at (Bytes text)) = Err (fault place (w.LeftOut l.Constant))

@@ -68,7 +68,7 @@ written_ahead (Stop place) = []
 written_ahead (Broken place kind) = []
 written_ahead (Then token rest) = token.written
 
--- the tokens behind it
+-- the tokens after it
 abbrev pub rest_of : Items → Items
 rest_of (Stop place) = Stop place
 rest_of (Broken place kind) = Broken place kind
@@ -97,7 +97,7 @@ is_like_ahead item (Some found) = is_like found item
 unfoldable pub is_ahead : Item → Items → Bool
 is_ahead item ts = is_like_ahead item (item_ahead ts)
 
--- a look at it, which a faulty one does not stand
+-- a look at it, which a faulty one does not pass
 abbrev pub looked : Rule (Unit {0})
 looked (Stop place) = Ok (tt, Stop place)
 looked (Broken place kind) = Err (fault place (wrong_token kind))

@@ -100,7 +100,7 @@ fn require(columns: &mut Vec<Column>, number: usize)
     }
 }
 
-/// Refuses a column that stands in the key already.
+/// Refuses a column that is in the key already.
 #[tactic(auto, unfolding(crate::specs::Columns::once_in_key))]
 fn once_in_key(parts: &TableParts, name: &PlacedName, column: FoundColumn) -> Result<(), ReadError>
     ensures { Answers (λ u. u) (spec.once_in_key (parts_view parts.now) name.now column) result }

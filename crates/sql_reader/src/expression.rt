@@ -26,7 +26,7 @@ use std::alloc::Global;
 /// How deep parentheses and NOT may nest.
 const MAX_NESTING: u32 = 64;
 
-/// Takes the parenthesis behind a part, which begins at the one before it.
+/// Takes the parenthesis after a part, which begins at the one before it.
 fn closed(r: &mut Reader<'_>, place: usize, inner: Part) -> Result<Part, ReadError>
     ensures reads { Reads part_view (spec.closed place (part_view inner) (to_read r.old)) result (to_read r.new) }
     ensures fewer { OnOk result (size (to_read r.new) < size (to_read r.old)) }
@@ -76,7 +76,7 @@ fn primary(
     simple(r, alloc, columns)
 }
 
-/// Takes `%` and the divisor of a column, behind what begins at `first`.
+/// Takes `%` and the divisor of a column, after what begins at `first`.
 #[cycle(expression)]
 #[tactic(auto, unfolding(crate::specs::Expressions::divisor))]
 fn divisor(
@@ -95,7 +95,7 @@ fn divisor(
     Ok(remainder(place, first, column, right.operand)?)
 }
 
-/// Takes `%` and a divisor behind an operand, if they follow.
+/// Takes `%` and a divisor after an operand, if they follow.
 #[cycle(expression)]
 #[tactic(auto, unfolding(crate::specs::Expressions::divisor_or_none))]
 fn divisor_or_none(
@@ -131,7 +131,7 @@ fn term(
     Ok(divisor_or_none(r, alloc, columns, depth, left)?)
 }
 
-/// Looks behind a side of a comparison.
+/// Looks at what follows a side of a comparison.
 fn side_ended(r: &mut Reader<'_>, part: Part) -> Result<Part, ReadError>
     ensures reads { Reads part_view (spec.side_ended (part_view part) (to_read r.old)) result (to_read r.new) }
     ensures fewer { OnOk result (size (to_read r.new) ≤ size (to_read r.old)) }
@@ -156,7 +156,7 @@ fn side(
     Ok(side_ended(r, part)?)
 }
 
-/// Takes a comparison operator and the side behind it.
+/// Takes a comparison operator and the side after it.
 #[cycle(expression)]
 #[tactic(auto, using(crate::proofs::Ahead::rest_is_no_more), unfolding(crate::specs::Expressions::right_side))]
 fn right_side(
@@ -178,7 +178,7 @@ fn right_side(
     Ok(side_ended(r, whole)?)
 }
 
-/// Takes a comparison operator and the side behind it, if they follow.
+/// Takes a comparison operator and the side after it, if they follow.
 #[cycle(expression)]
 #[tactic(auto, unfolding(crate::specs::Expressions::right_side_or_none))]
 fn right_side_or_none(
@@ -213,7 +213,7 @@ fn comparison(
     Ok(right_side_or_none(r, alloc, columns, depth, left)?)
 }
 
-/// Takes a comparison with a test behind it or none.
+/// Takes a comparison with a test after it or none.
 #[cycle(expression)]
 #[tactic(auto, unfolding(crate::specs::Expressions::test))]
 fn test(
@@ -231,8 +231,8 @@ fn test(
 
 /// Takes NOT and what it negates.
 #[cycle(expression)]
-#[tactic(auto, using(crate::proofs::Nesting::nests), unfolding(crate::specs::Expressions::behind_not))]
-fn behind_not(
+#[tactic(auto, using(crate::proofs::Nesting::nests), unfolding(crate::specs::Expressions::after_not))]
+fn after_not(
     r: &mut Reader<'_>,
     alloc: Global,
     columns: &[Column],
@@ -262,7 +262,7 @@ fn negation(
     ensures fewer { OnOk result (size (to_read r.new) < size (to_read r.old)) }
 {
     if r.is(Item::Keyword(Keyword::Not)) {
-        return Ok(behind_not(r, alloc, columns, depth)?);
+        return Ok(after_not(r, alloc, columns, depth)?);
     }
     test(r, alloc, columns, depth)
 }

@@ -18,7 +18,7 @@ use std::alloc::Global;
 pub enum Operand {
     /// A column or a remainder of one, and the type of the column.
     Term(Term, ColType),
-    /// A literal, and the place of its token: of the digits, where a minus stands before them.
+    /// A literal, and the place of its token: of the digits, where a minus comes before them.
     Literal(usize, Literal),
     /// A boolean expression that is neither a column nor a literal.
     Formula(Filter),
@@ -112,7 +112,7 @@ pub fn dividend(operand: Operand) -> Option<FoundColumn>
     }
 }
 
-/// The remainder of a column by a divisor, by the place of `%`, which stands behind what begins at `first`.
+/// The remainder of a column by a divisor, by the place of `%`, which follows what begins at `first`.
 #[tactic(auto, unfolding(crate::specs::Operands::remainder))]
 pub fn remainder(
     place: usize,

@@ -9,7 +9,7 @@ use crate::item::Item;
 use crate::token::{token_kind, whole, within_quotes};
 use sql_tokens::{FaultKind, Tokens};
 
-/// What stands ahead of a reader.
+/// What is ahead of a reader.
 #[derive(Clone, Copy)]
 pub enum Ahead {
     End,
@@ -18,7 +18,7 @@ pub enum Ahead {
 }
 
 /// A reader of the tokens of a text, which looks at one token before it takes it.
-/// Where it stands after a name, a filter or the elements of a table were refused, no contract says.
+/// Where it is after a name, a filter or the elements of a table were refused, no contract says.
 #[derive(Drop)]
 pub struct Reader<'a> {
     text: &'a str,

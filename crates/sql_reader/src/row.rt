@@ -40,7 +40,7 @@ fn cast_or_none(r: &mut Reader<'_>) -> Result<(), ReadError>
     Ok(())
 }
 
-/// Takes a string, with `:: text` behind it or nothing.
+/// Takes a string, with `:: text` after it or nothing.
 #[tactic(auto, using(crate::proofs::Ahead::rest_of_some_is_fewer), unfolding(crate::specs::Rows::string_value))]
 fn string_value(r: &mut Reader<'_>, alloc: Global) -> Result<Value, ReadError>
     requires { IsSome (item_ahead (to_read r.old)) }

@@ -77,7 +77,7 @@ fn number_part(r: &mut Reader<'_>) -> Result<Part, ReadError>
     })
 }
 
-/// Takes the type behind `::`, which stands at `place`.
+/// Takes the type after `::`, which is at `place`.
 #[tactic(auto, using(crate::proofs::Ahead::rest_is_no_more), unfolding(crate::specs::Expressions::text_type))]
 fn text_type(r: &mut Reader<'_>, place: usize) -> Result<(), ReadError>
     ensures reads { Reads (λ u. u) (spec.text_type place (to_read r.old)) result (to_read r.new) }
@@ -96,7 +96,7 @@ fn text_type(r: &mut Reader<'_>, place: usize) -> Result<(), ReadError>
     }
 }
 
-/// Takes `::` and the type behind it.
+/// Takes `::` and the type after it.
 #[tactic(auto, unfolding(crate::specs::Expressions::text_cast))]
 fn text_cast(r: &mut Reader<'_>) -> Result<(), ReadError>
     ensures reads { Reads (λ u. u) (spec.text_cast (to_read r.old)) result (to_read r.new) }
@@ -106,7 +106,7 @@ fn text_cast(r: &mut Reader<'_>) -> Result<(), ReadError>
     text_type(r, place)
 }
 
-/// Takes the cast behind a string, if there is one.
+/// Takes the cast after a string, if there is one.
 #[tactic(auto, unfolding(crate::specs::Expressions::cast_or_none))]
 fn cast_or_none(r: &mut Reader<'_>) -> Result<(), ReadError>
     ensures reads { Reads (λ u. u) (spec.cast_or_none (to_read r.old)) result (to_read r.new) }
@@ -118,7 +118,7 @@ fn cast_or_none(r: &mut Reader<'_>) -> Result<(), ReadError>
     Ok(())
 }
 
-/// Takes a string, with `:: text` behind it or nothing.
+/// Takes a string, with `:: text` after it or nothing.
 #[tactic(auto, using(crate::proofs::Ahead::rest_of_some_is_fewer), unfolding(crate::specs::Expressions::string_part))]
 fn string_part(r: &mut Reader<'_>, alloc: Global) -> Result<Part, ReadError>
     requires { IsSome (item_ahead (to_read r.old)) }

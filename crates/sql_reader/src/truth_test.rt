@@ -35,7 +35,7 @@ pub struct TruthTest {
     pub asked: Asked,
 }
 
-/// Takes what stands behind IS.
+/// Takes what follows IS.
 #[tactic(auto, using(crate::proofs::Ahead::rest_is_no_more), unfolding(crate::specs::Expressions::asked_for))]
 fn asked_for(r: &mut Reader<'_>) -> Result<Asked, ReadError>
     ensures reads { Reads (λ asked. asked) (grammar.asked_for (to_read r.old)) result (to_read r.new) }
@@ -190,7 +190,7 @@ fn tested_by(alloc: Global, test: TruthTest, part: Part) -> Result<Part, ReadErr
     })
 }
 
-/// Takes the test behind a part, if there is one.
+/// Takes the test after a part, if there is one.
 #[tactic(auto, unfolding(crate::specs::Expressions::tested, crate::specs::Operands::tested))]
 pub fn tested(r: &mut Reader<'_>, alloc: Global, part: Part) -> Result<Part, ReadError>
     ensures reads { Reads part_view (grammar.tested as_filter (part_view part) (to_read r.old)) result (to_read r.new) }

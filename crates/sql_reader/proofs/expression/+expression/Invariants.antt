@@ -51,8 +51,8 @@ decreases-divisor l = 16 * l.depth + 3
 abbrev pub decreases-primary : goal.decreases-primary
 decreases-primary l = 16 * l.depth + 2
 
-abbrev pub decreases-behind_not : goal.decreases-behind_not
-decreases-behind_not l = 16 * l.depth + 1
+abbrev pub decreases-after_not : goal.decreases-after_not
+decreases-after_not l = 16 * l.depth + 1
 
 abbrev pub decreases-in_parentheses : goal.decreases-in_parentheses
 decreases-in_parentheses l = 16 * l.depth + 1
