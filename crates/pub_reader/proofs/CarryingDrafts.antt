@@ -12,7 +12,7 @@ use Rattle.sql_reader.specs.declared.item.Item.TheVariants as i
 use Rattle.sql_reader.specs.declared.name.PlacedName.{PlacedName}
 use Rattle.sql_reader.specs.Items.{Items}
 use Rattle.sql_reader.specs.Names.{name}
-use Rattle.sql_reader.specs.Reading.{Verdict, with_rest, expect, item_ahead}
+use Rattle.sql_reader.specs.Reading.{Verdict, with_rest, eat, expect, item_ahead}
 use Rattle.sql_reader.specs.Turns.{link}
 use Rattle.sql_reader.proofs.Carrying.{mapped, then-same, then-carried, repeat-carried, link-carried}
 use Rattle.pub_reader.specs.Catalogs.{EntryOf, entry_map}
@@ -22,7 +22,7 @@ use Rattle.pub_reader.specs.Objects.{ObjectsOf, is_of, is_filtered, schema_by, s
 use Rattle.pub_reader.specs.Publications.{new_publication, publication_name}
 use Rattle.pub_reader.specs.Schemas.{create_schema, new_schema}
 use Rattle.pub_reader.specs.Subscriptions.{new_subscription, subscription_name, once, subscribed, one_publication, publication_list, subscription_body, subscription_tail, create_subscription}
-use Rattle.pub_reader.specs.TableNames.{only_or_none, table_in_schema, table_named, table_number, new_name}
+use Rattle.pub_reader.specs.TableNames.{table_in_schema, table_named, table_number, new_name}
 use Rattle.pub_reader.specs.Tables.{table_body, create_table}
 use Rattle.pub_reader.proofs.Positions.{position-map}
 
@@ -71,7 +71,7 @@ unfolding alter_table table_number table_named table_in_schema
 alter_table-carried h draft ts =
     then-same (draft_map h) (expect (i.Keyword k.Alter) ts) _ _ (λ a ts2.
     then-same (draft_map h) (expect (i.Keyword k.Table) ts2) _ _ (λ b ts3.
-    then-same (draft_map h) (only_or_none ts3) _ _ (λ c ts4.
+    then-same (draft_map h) (eat (i.Keyword k.Only) ts3) _ _ (λ c ts4.
     then-same (draft_map h) (table_number draft ts4) _ _ (λ number ts5.
     then-same (draft_map h) (replica_identity ts5) _ _ (λ recorded ts6. refl)))))
 

@@ -3,6 +3,7 @@ use Rattle.std.proofs.Common.{◌≡◌, ℕ, List, [], ◌∷◌, ◌++◌, ref
 use Rattle.std.proofs.lemmas.List.{map-append}
 use Rattle.std.specs.Prelude.{Option, Some, Ok}
 use Rattle.std.specs.Option.{option_map}
+use Rattle.sql_tokens.specs.declared.kinds.Operator.TheVariants.{Star}
 use Rattle.sql_reader.specs.declared.word.Keyword.TheVariants as k
 use Rattle.sql_reader.specs.declared.item.Item.{Item}
 use Rattle.sql_reader.specs.declared.item.Item.TheVariants as i
@@ -10,17 +11,17 @@ use Rattle.sql_reader.specs.declared.name.PlacedName.{PlacedName}
 use Rattle.sql_reader.specs.Expressions.{Forms, expression}
 use Rattle.sql_reader.specs.Items.{Items}
 use Rattle.sql_reader.specs.Names.{name}
-use Rattle.sql_reader.specs.Reading.{with_rest, look, expect, item_ahead, rest_of}
+use Rattle.sql_reader.specs.Reading.{with_rest, look, eat, expect, item_ahead, rest_of}
 use Rattle.sql_reader.specs.Turns.{link}
 use Rattle.sql_reader.proofs.Carrying.{mapped, Carries, then-same, then-carried, repeat-carried, link-carried, expression-carried}
 use Rattle.pub_reader.specs.declared.coverage.ObjectKind.{ObjectKind}
 use Rattle.pub_reader.specs.declared.coverage.ObjectKind.TheVariants as o
 use Rattle.pub_reader.specs.Catalogs.{columns_at}
 use Rattle.pub_reader.specs.Drafts.{CoverageOf, DraftPublicationOf, DraftOf, nothing_covered, filters_in, filters_on, coverage_map, draft_publication_map, draft_map}
-use Rattle.pub_reader.specs.Objects.{ObjectsOf, limited, table_mentioned, star_or_none, ended, where_clause, filter_by, filter_clause, taken_table, table_object, taken_by, tables_by, behind_tables, tables_object, object_of, object_by, object, first_by, first_object, objects}
+use Rattle.pub_reader.specs.Objects.{ObjectsOf, limited, table_mentioned, ended, where_clause, filter_by, filter_clause, taken_table, table_object, taken_by, tables_by, after_tables, tables_object, object_of, object_by, object, first_by, first_object, objects}
 use Rattle.pub_reader.specs.Publications.{publication_name, all_tables, published, scope_by, scope, for_by, for_clause, listed_objects, create_publication}
 use Rattle.pub_reader.specs.Publishing.{parameters_clause}
-use Rattle.pub_reader.specs.TableNames.{only_or_none, table_named}
+use Rattle.pub_reader.specs.TableNames.{table_named}
 use Rattle.pub_reader.proofs.CarryingDrafts.{publication_name-same, table_named-same, filters_in-carried, filters_on-carried, checked-mapped, table_mentioned-carried, objects_map, taken_schema-carried, schema_object-carried, in_schema-carried}
 
 module _ {S T : Type 0} (from : Forms S) (to : Forms T) (h : S → T) (carries : Carries from to h) where
@@ -64,7 +65,7 @@ module _ {S T : Type 0} (from : Forms S) (to : Forms T) (h : S → T) (carries :
   taken_table-carried draft coverage called ts =
       rw (table_named-same h draft called ts)
       (then-same (objects_map h) (table_named draft called ts) _ _ (λ number ts2.
-      then-same (objects_map h) (star_or_none ts2) _ _ (λ star ts3.
+      then-same (objects_map h) (eat (i.Operator Star) ts2) _ _ (λ star ts3.
       then-carried (option_map h) (objects_map h) (filter_clause from draft coverage number ts3) (filter_clause to (draft_map h draft) (coverage_map h coverage) number ts3) _ _
       (filter_clause-carried draft coverage number ts3) (λ filter ts4.
       then-carried (coverage_map h) (objects_map h) (with_rest (table_mentioned coverage called.place (record { table = number; filter = filter })) ts4)
@@ -74,7 +75,7 @@ module _ {S T : Type 0} (from : Forms S) (to : Forms T) (h : S → T) (carries :
   table_object-carried : (draft : DraftOf S) (coverage : CoverageOf S) (ts : Items) → table_object to (draft_map h draft) (coverage_map h coverage) ts ≡ mapped (objects_map h) (table_object from draft coverage ts)
   unfolding table_object
   table_object-carried draft coverage ts =
-      then-same (objects_map h) (only_or_none ts) _ _ (λ n ts2. then-same (objects_map h) (name ts2) _ _ (λ called ts3. taken_table-carried draft coverage called ts3))
+      then-same (objects_map h) (eat (i.Keyword k.Only) ts) _ _ (λ n ts2. then-same (objects_map h) (name ts2) _ _ (λ called ts3. taken_table-carried draft coverage called ts3))
 
   -- ---- objects
 
@@ -89,7 +90,7 @@ module _ {S T : Type 0} (from : Forms S) (to : Forms T) (h : S → T) (carries :
   tables_by-carried _ kind draft coverage called ts = taken_by-carried kind draft coverage called ts
 
   tables_object-carried : (draft : DraftOf S) (read : ObjectsOf S) (ts : Items) → tables_object to (draft_map h draft) (objects_map h read) ts ≡ mapped (objects_map h) (tables_object from draft read ts)
-  unfolding tables_object behind_tables
+  unfolding tables_object after_tables
   tables_object-carried draft read ts =
       then-same (objects_map h) (name ts) _ _ (λ called ts2. then-same (objects_map h) (look ts2) _ _ (λ u ts3. tables_by-carried (item_ahead ts3) read.kind draft read.coverage called ts3))
 

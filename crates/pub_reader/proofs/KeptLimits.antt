@@ -15,7 +15,7 @@ use Rattle.sql_reader.specs.Columns.{elements}
 use Rattle.sql_reader.specs.Expressions.{Forms}
 use Rattle.sql_reader.specs.Items.{Items, items_of}
 use Rattle.sql_reader.specs.Names.{name}
-use Rattle.sql_reader.specs.Reading.{Answers, Outcome, with_rest, expect, is_ahead, item_ahead, more_ahead, rest_of}
+use Rattle.sql_reader.specs.Reading.{Answers, Outcome, with_rest, eat, expect, is_ahead, item_ahead, more_ahead, rest_of}
 use Rattle.sql_reader.specs.Turns.{each}
 use Rattle.sql_reader.specs.Written.{as_filter}
 use Rattle.sql_reader.proofs.Keeping.{Gives, then-gives, any-gives, repeat-gives, each-gives}
@@ -32,7 +32,7 @@ use Rattle.pub_reader.specs.Publishing.{parameters_clause}
 use Rattle.pub_reader.specs.Schemas.{create_schema, new_schema}
 use Rattle.pub_reader.specs.Statements.{created_by, created, create, statement_by, statement, ended_statement, statements, finished, catalog_by}
 use Rattle.pub_reader.specs.Subscriptions.{new_subscription, subscription_name, subscription_body, create_subscription}
-use Rattle.pub_reader.specs.TableNames.{only_or_none, table_number, new_table, new_named, table_head, new_name}
+use Rattle.pub_reader.specs.TableNames.{table_number, new_table, new_named, table_head, new_name}
 use Rattle.pub_reader.specs.Tables.{keyed, table_tail, table_body, create_table}
 
 -- the limits, as a catalog keeps them while it is read
@@ -66,7 +66,7 @@ identified-narrow tables number identity h = (omega (arith, length-identified ta
 pushed-narrow : (tables : List Table) (table : Table) → length tables < 64 → AreNarrow tables → IsNarrowTable table → AreNarrow (tables ++ table ∷ [])
 pushed-narrow tables table room h narrow = (pushed 64 tables table room, All-push IsNarrowTable tables table h.1 narrow)
 
-new_table-gives : (tables : List Table) (called : NewName) (ts : Items) → Gives (λ (n : ℕ). length tables < 64) (with_rest (new_table tables called) ts)
+new_table-gives : (tables : List Table) (called : NewName) (ts : Items) → Gives (λ (u : Unit {0}). length tables < 64) (with_rest (new_table tables called) ts)
 unfolding new_table
 new_table-gives tables called ts =
     room-gives (is_some (find_table called.schema called.name.text tables)) (nat_le 64 (length tables)) (length tables) 64 _ _ ts (below 64 (length tables))
@@ -77,7 +77,7 @@ new_name-gives {S} draft ts =
     let room : NewName → Type 0 = λ called. length draft.tables < 64 in
     any-gives room (name ts) _ (λ first ts2.
     any-gives room (new_named draft.schemas (is_ahead (i.Keyword k.If) ts) first ts2) _ (λ called ts3.
-    then-gives (λ (n : ℕ). length draft.tables < 64) room (with_rest (new_table draft.tables called) ts3) _ (new_table-gives draft.tables called ts3) (λ n ts4 h.
+    then-gives (λ (u : Unit {0}). length draft.tables < 64) room (with_rest (new_table draft.tables called) ts3) _ (new_table-gives draft.tables called ts3) (λ n ts4 h.
     any-gives room (table_head ts4) _ (λ m ts5. h))))
 
 table_body-gives : (called : PlacedName) (ts : Items) → Gives IsNarrow (table_body called ts)
@@ -101,7 +101,7 @@ unfolding alter_table
 alter_table-gives draft ts h =
     any-gives Limited (expect (i.Keyword k.Alter) ts) _ (λ a ts2.
     any-gives Limited (expect (i.Keyword k.Table) ts2) _ (λ b ts3.
-    any-gives Limited (only_or_none ts3) _ (λ c ts4.
+    any-gives Limited (eat (i.Keyword k.Only) ts3) _ (λ c ts4.
     any-gives Limited (table_number draft ts4) _ (λ number ts5.
     any-gives Limited (replica_identity ts5) _ (λ recorded ts6. (identified-narrow draft.tables number recorded h.0, h.1))))))
 
@@ -112,7 +112,7 @@ unfolding create_schema
 create_schema-gives draft ts h =
     any-gives Limited (name ts) _ (λ called ts2. any-gives Limited (with_rest (new_schema draft.schemas called) ts2) _ (λ n ts3. h))
 
-new_publication-gives : {S : Type 0} (draft : DraftOf S) (called : PlacedName) (ts : Items) → Gives (λ (n : ℕ). length draft.publications < 64) (with_rest (new_publication draft called) ts)
+new_publication-gives : {S : Type 0} (draft : DraftOf S) (called : PlacedName) (ts : Items) → Gives (λ (u : Unit {0}). length draft.publications < 64) (with_rest (new_publication draft called) ts)
 unfolding new_publication
 new_publication-gives draft called ts =
     room-gives (is_some (find_publication called.text draft.publications)) (nat_le 64 (length draft.publications)) (length draft.publications) 64 _ _ ts (below 64 (length draft.publications))
@@ -122,7 +122,7 @@ unfolding publication_name
 publication_name-gives {S} draft ts =
     let room : PlacedName → Type 0 = λ called. length draft.publications < 64 in
     any-gives room (name ts) _ (λ called ts2.
-    then-gives (λ (n : ℕ). length draft.publications < 64) room (with_rest (new_publication draft called) ts2) _ (new_publication-gives draft called ts2) (λ n ts3 h. h))
+    then-gives (λ (u : Unit {0}). length draft.publications < 64) room (with_rest (new_publication draft called) ts2) _ (new_publication-gives draft called ts2) (λ n ts3 h. h))
 
 create_publication-gives : {S : Type 0} (forms : Forms S) (draft : DraftOf S) (ts : Items) → Limited draft → Gives Limited (create_publication forms draft ts)
 unfolding create_publication
@@ -131,7 +131,7 @@ create_publication-gives forms draft ts h =
     any-gives Limited (for_clause forms draft ts2) _ (λ coverage ts3.
     any-gives Limited (parameters_clause ts3) _ (λ given ts4. (h.0, (pushed 64 draft.publications _ room, h.1.1)))))
 
-new_subscription-gives : {S : Type 0} (draft : DraftOf S) (called : PlacedName) (ts : Items) → Gives (λ (n : ℕ). length draft.subscriptions < 32) (with_rest (new_subscription draft called) ts)
+new_subscription-gives : {S : Type 0} (draft : DraftOf S) (called : PlacedName) (ts : Items) → Gives (λ (u : Unit {0}). length draft.subscriptions < 32) (with_rest (new_subscription draft called) ts)
 unfolding new_subscription
 new_subscription-gives draft called ts =
     room-gives (is_some (find_subscription called.text draft.subscriptions)) (nat_le 32 (length draft.subscriptions)) (length draft.subscriptions) 32 _ _ ts (below 32 (length draft.subscriptions))
@@ -141,7 +141,7 @@ unfolding subscription_name
 subscription_name-gives {S} draft ts =
     let room : PlacedName → Type 0 = λ called. length draft.subscriptions < 32 in
     any-gives room (name ts) _ (λ called ts2.
-    then-gives (λ (n : ℕ). length draft.subscriptions < 32) room (with_rest (new_subscription draft called) ts2) _ (new_subscription-gives draft called ts2) (λ n ts3 h. h))
+    then-gives (λ (u : Unit {0}). length draft.subscriptions < 32) room (with_rest (new_subscription draft called) ts2) _ (new_subscription-gives draft called ts2) (λ n ts3 h. h))
 
 create_subscription-gives : {S : Type 0} (draft : DraftOf S) (ts : Items) → Limited draft → Gives Limited (create_subscription draft ts)
 unfolding create_subscription

@@ -40,9 +40,9 @@ parts-cut text front back n is first second some =
     let inside : prefix_len is_part_byte text < length text = omega (arith, length-drop n text, ap length second) in
     let one_more : n + 1 ≡ suc (prefix_len is_part_byte text) = omega arith in
     let all : take (length back - 1) (drop 1 back) ≡ drop 1 back = take_all (length back - 1) (drop 1 back) (omega (arith, length-drop 1 back)) in
-    let behind : drop 1 back ≡ drop (suc (prefix_len is_part_byte text)) text = ap (drop 1) second ∙ drop-drop 1 n text ∙ ap (λ k. drop k text) one_more in
+    let following : drop 1 back ≡ drop (suc (prefix_len is_part_byte text)) text = ap (drop 1) second ∙ drop-drop 1 n text ∙ ap (λ k. drop k text) one_more in
     let same_front : front ≡ take (prefix_len is_part_byte text) text = first ∙ ap (λ k. take k text) is in
-    cut text inside ∙ rw (all, behind, same_front) refl
+    cut text inside ∙ rw (all, following, same_front) refl
 
 pub parts-whole : (text front back : List ℕ) (n : ℕ) → n ≡ prefix_len is_part_byte text → front ≡ take n text → back ≡ drop n text → length back < 1 → parts text ≡ front ∷ []
 parts-whole text front back n is first second none =

@@ -1,4 +1,4 @@
--- That a catalog's filters mean what stands in its text.
+-- That a catalog's filters mean what is written in its text.
 use Rattle.std.specs.Prelude.{◌≡◌, List, Ok}
 use Rattle.filter_tree.specs.Datum.{Datum}
 use Rattle.filter_tree.specs.Expr.{Expr, meaning}

@@ -13,13 +13,13 @@ use Rattle.sql_reader.specs.Wrong as w
 use Rattle.sql_reader.specs.Expressions.{Forms, expression}
 use Rattle.sql_reader.specs.Limits.{exceeded}
 use Rattle.sql_reader.specs.Names.{name}
-use Rattle.sql_reader.specs.Reading.{Rule, Verdict, fault, ◌>>=◌, ◌>>◌, pure, check, refuse, refuse_as, advance, look, expect, is_ahead, item_ahead}
+use Rattle.sql_reader.specs.Reading.{Rule, Verdict, fault, ◌>>=◌, ◌>>◌, pure, check, refuse, refuse_as, advance, look, eat, expect, item_ahead}
 use Rattle.sql_reader.specs.Turns.{link, repeat}
 use Rattle.pub_reader.specs.declared.coverage.ObjectKind.{ObjectKind}
 use Rattle.pub_reader.specs.declared.coverage.ObjectKind.TheVariants as o
 use Rattle.pub_reader.specs.Catalogs.{EntryOf, columns_at}
 use Rattle.pub_reader.specs.Drafts.{CoverageOf, DraftOf, nothing_covered, public_schema, find_schema, with_name, filters_in, filters_on}
-use Rattle.pub_reader.specs.TableNames.{only_or_none, table_named}
+use Rattle.pub_reader.specs.TableNames.{table_named}
 
 -- ---- what one more object adds
 
@@ -50,17 +50,13 @@ table_mentioned coverage place entry =
 
 -- ---- WHERE
 
-abbrev pub limited_by : ℕ → Option Limit → Verdict ℕ
-limited_by place None = Ok 0
+abbrev pub limited_by : ℕ → Option Limit → Verdict (Unit {0})
+limited_by place None = Ok tt
 limited_by place (Some limit) = Err (fault place (w.TooMany limit))
 
 -- the filters on a table are limited; a fault is at the word WHERE of the one that passes a limit
-unfoldable pub limited : ℕ → List Expr → Verdict ℕ
+unfoldable pub limited : ℕ → List Expr → Verdict (Unit {0})
 limited place filters = limited_by place (exceeded filters)
-
--- a star behind a table takes in the tables that inherit from it, of which there are none
-unfoldable pub star_or_none : Rule ℕ
-star_or_none ts = if is_ahead (i.Operator Star) ts then expect (i.Operator Star) ts else pure 0 ts
 
 -- the objects read so far: the kind of the last one, and what they cover
 pub record ObjectsOf (S : Type 0) : Type 0 where
@@ -89,7 +85,7 @@ schema_object_by _ draft coverage = named_schema draft coverage
 unfoldable pub schema_object : {S : Type 0} → DraftOf S → CoverageOf S → Rule (ObjectsOf S)
 schema_object draft coverage ts = schema_object_by (item_ahead ts) draft coverage ts
 
--- behind TABLES
+-- after TABLES
 unfoldable pub in_schema : {S : Type 0} → DraftOf S → CoverageOf S → Rule (ObjectsOf S)
 in_schema draft coverage = do
   expect (i.Keyword k.In)
@@ -103,7 +99,7 @@ taken_schema draft coverage called = check (schema_mentioned draft coverage call
 module _ {S : Type 0} (forms : Forms S) where
   -- ---- a table
 
-  -- the parenthesis behind a filter
+  -- the parenthesis after a filter
   unfoldable pub ended : DraftOf S → CoverageOf S → ℕ → ℕ → S → Rule (Option S)
   ended draft coverage number place filter = do
     expect i.Close
@@ -117,7 +113,7 @@ module _ {S : Type 0} (forms : Forms S) where
     filter ← expression forms (columns_at draft.tables number)
     ended draft coverage number place filter
 
-  -- behind a table: a filter, or nothing; a list of columns is refused
+  -- after a table: a filter, or nothing; a list of columns is refused
   abbrev pub filter_by : Option Item → DraftOf S → CoverageOf S → ℕ → Rule (Option S)
   filter_by (Some (i.Keyword k.Where)) draft coverage number = where_clause draft coverage number
   filter_by (Some i.Open) draft coverage number = refuse_as w.ColumnList
@@ -130,14 +126,15 @@ module _ {S : Type 0} (forms : Forms S) where
   unfoldable pub taken_table : DraftOf S → CoverageOf S → PlacedName → Rule (ObjectsOf S)
   taken_table draft coverage called = do
     number ← table_named draft called
-    star_or_none
+    -- a star takes in the tables that inherit from a table, of which there are none
+    eat (i.Operator Star)
     filter ← filter_clause draft coverage number
     covered ← check (table_mentioned coverage called.place (record { table = number; filter = filter }))
     pure (objects_so_far o.Table covered)
 
   unfoldable pub table_object : DraftOf S → CoverageOf S → Rule (ObjectsOf S)
   table_object draft coverage = do
-    only_or_none
+    eat (i.Keyword k.Only)
     called ← name
     taken_table draft coverage called
 
@@ -153,11 +150,11 @@ module _ {S : Type 0} (forms : Forms S) where
   tables_by (Some (i.Keyword k.In)) kind draft coverage called = in_schema draft coverage
   tables_by _ kind draft coverage called = taken_by kind draft coverage called
 
-  unfoldable pub behind_tables : DraftOf S → ObjectsOf S → PlacedName → Rule (ObjectsOf S)
-  behind_tables draft objects called = look >> (λ ts. tables_by (item_ahead ts) objects.kind draft objects.coverage called ts)
+  unfoldable pub after_tables : DraftOf S → ObjectsOf S → PlacedName → Rule (ObjectsOf S)
+  after_tables draft objects called = look >> (λ ts. tables_by (item_ahead ts) objects.kind draft objects.coverage called ts)
 
   unfoldable pub tables_object : DraftOf S → ObjectsOf S → Rule (ObjectsOf S)
-  tables_object draft objects = name >>= behind_tables draft objects
+  tables_object draft objects = name >>= after_tables draft objects
 
   -- an object of this kind
   abbrev pub object_of : ObjectKind → DraftOf S → CoverageOf S → Rule (ObjectsOf S)

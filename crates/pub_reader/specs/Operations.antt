@@ -31,14 +31,14 @@ parts (byte ∷ text) = if byte == 44 then [] ∷ parts text else before_first b
 abbrev pub is_part_byte : ℕ → Bool
 is_part_byte byte = not (byte == 44)
 
--- those of what stands behind a comma, if there is one
-abbrev pub parts_behind : Option (Bor (List ℕ)) → List (List ℕ)
-parts_behind None = []
-parts_behind (Some text) = parts text.now
+-- those of what follows a comma, if there is one
+abbrev pub parts_after : Option (Bor (List ℕ)) → List (List ℕ)
+parts_after None = []
+parts_after (Some text) = parts text.now
 
-abbrev pub behind_length : Option (Bor (List ℕ)) → ℕ
-behind_length None = 0
-behind_length (Some text) = suc (length text.now)
+abbrev pub rest_length : Option (Bor (List ℕ)) → ℕ
+rest_length None = 0
+rest_length (Some text) = suc (length text.now)
 
 -- one more operation, in upper or lower case
 unfoldable pub with_operation : Operations → List ℕ → Option Operations

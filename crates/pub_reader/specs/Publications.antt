@@ -1,5 +1,5 @@
 -- CREATE PUBLICATION: PostgreSQL 15, SQL Commands, CREATE PUBLICATION.
-use Rattle.std.specs.Prelude.{ℕ, true, nat_le, [], ◌∷◌, ◌++◌, length, Option, Some, None}
+use Rattle.std.specs.Prelude.{true, nat_le, [], ◌∷◌, ◌++◌, length, Option, Some, None}
 use Rattle.sql_reader.specs.declared.word.Keyword.TheVariants as k
 use Rattle.sql_reader.specs.declared.item.Item.{Item}
 use Rattle.sql_reader.specs.declared.item.Item.TheVariants as i
@@ -17,7 +17,7 @@ use Rattle.pub_reader.specs.Publishing.{parameters_clause}
 use Rattle.pub_reader.specs.Schemas.{fresh}
 
 -- a new publication has a new name, and there are at most 64
-unfoldable pub new_publication : {S : Type 0} → DraftOf S → PlacedName → Verdict ℕ
+unfoldable pub new_publication : {S : Type 0} → DraftOf S → PlacedName → Verdict (Unit {0})
 new_publication draft called = fresh called (find_publication called.text draft.publications) (nat_le 64 (length draft.publications)) Publications
 
 unfoldable pub publication_name : {S : Type 0} → DraftOf S → Rule PlacedName
@@ -45,7 +45,7 @@ module _ {S : Type 0} (forms : Forms S) where
   unfoldable pub listed_objects : DraftOf S → Rule (CoverageOf S)
   listed_objects draft = objects forms draft >>= (λ read. pure read.coverage)
 
-  -- behind FOR
+  -- after FOR
   abbrev pub scope_by : Option Item → DraftOf S → Rule (CoverageOf S)
   scope_by (Some (i.Keyword k.All)) draft = all_tables
   scope_by _ draft = listed_objects draft

@@ -45,26 +45,26 @@ abbrev pub is_boolean : List ℕ → Bool
 is_boolean word =
     str_eq_ignore_ascii_case word (codes "true") || (str_eq_ignore_ascii_case word (codes "false") || (str_eq_ignore_ascii_case word (codes "on") || str_eq_ignore_ascii_case word (codes "off")))
 
-abbrev pub boolean_taken : Bool → Rule ℕ
-boolean_taken true = λ ts. Ok (0, rest_of ts)
+abbrev pub boolean_taken : Bool → Rule (Unit {0})
+boolean_taken true = advance
 boolean_taken false = refuse_as w.TypeClash
 
-abbrev pub boolean_by : Option Item → List ℕ → Rule ℕ
+abbrev pub boolean_by : Option Item → List ℕ → Rule (Unit {0})
 boolean_by (Some (i.Number number)) written = boolean_taken (number == 0 || number == 1)
 boolean_by (Some i.Text) written = boolean_taken (is_boolean written)
 boolean_by (Some i.Word) written = boolean_taken (is_boolean written)
 boolean_by (Some (i.Keyword keyword)) written = boolean_taken (is_boolean written)
 boolean_by _ written = refuse
 
-unfoldable pub boolean_value : Rule ℕ
+unfoldable pub boolean_value : Rule (Unit {0})
 boolean_value ts = boolean_by (item_ahead ts) (written_ahead ts) ts
 
-unfoldable pub given_boolean : Rule ℕ
+unfoldable pub given_boolean : Rule (Unit {0})
 given_boolean = expect (i.Operator Equal) >> boolean_value
 
 -- without a value it is true; it has no effect, since no table has partitions
-unfoldable pub boolean_or_none : Rule ℕ
-boolean_or_none = look >> (λ ts. if is_ahead (i.Operator Equal) ts then given_boolean ts else pure 0 ts)
+unfoldable pub boolean_or_none : Rule (Unit {0})
+boolean_or_none = look >> (λ ts. if is_ahead (i.Operator Equal) ts then given_boolean ts else pure tt ts)
 
 unfoldable pub partition_root : Given → Rule Given
 partition_root given = do

@@ -14,18 +14,18 @@ known called (Some number) = Ok number
 known called None = Err (fault called.place w.UnknownName)
 
 -- a new name is not taken, and there is room for one more
-abbrev pub fresh : PlacedName → Option ℕ → Bool → Limit → Verdict ℕ
+abbrev pub fresh : PlacedName → Option ℕ → Bool → Limit → Verdict (Unit {0})
 fresh called found is_full limit =
     if is_some found then Err (fault called.place w.NameTwice)
-    else (if is_full then Err (fault called.place (w.TooMany limit)) else Ok 0)
+    else (if is_full then Err (fault called.place (w.TooMany limit)) else Ok tt)
 
 -- a schema that was made before
 unfoldable pub known_schema : List (List ℕ) → PlacedName → Verdict ℕ
 known_schema schemas called = known called (find_schema called.text schemas)
 
 -- a new schema has a new name
-unfoldable pub new_schema : List (List ℕ) → PlacedName → Verdict ℕ
-new_schema schemas called = if is_some (find_schema called.text schemas) then Err (fault called.place w.NameTwice) else Ok 0
+unfoldable pub new_schema : List (List ℕ) → PlacedName → Verdict (Unit {0})
+new_schema schemas called = if is_some (find_schema called.text schemas) then Err (fault called.place w.NameTwice) else Ok tt
 
 unfoldable pub create_schema : {S : Type 0} → DraftOf S → Rule (DraftOf S)
 create_schema draft = do

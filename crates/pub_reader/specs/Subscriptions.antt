@@ -15,7 +15,7 @@ use Rattle.pub_reader.specs.Drafts.{DraftOf, find_publication, find_subscription
 use Rattle.pub_reader.specs.Schemas.{fresh}
 
 -- a new subscription has a new name, and there are at most 32
-unfoldable pub new_subscription : {S : Type 0} → DraftOf S → PlacedName → Verdict ℕ
+unfoldable pub new_subscription : {S : Type 0} → DraftOf S → PlacedName → Verdict (Unit {0})
 new_subscription draft called = fresh called (find_subscription called.text draft.subscriptions) (nat_le 32 (length draft.subscriptions)) Subscriptions
 
 unfoldable pub subscription_name : {S : Type 0} → DraftOf S → Rule PlacedName
@@ -44,14 +44,14 @@ publication_list draft = one_publication draft [] >>= repeat (link i.Comma (one_
 
 -- ---- the statement
 
-abbrev pub subscription_tail_by : Option Item → Rule ℕ
+abbrev pub subscription_tail_by : Option Item → Rule (Unit {0})
 subscription_tail_by (Some (i.Keyword k.With)) = refuse_as (w.LeftOut Clause)
-subscription_tail_by _ = pure 0
+subscription_tail_by _ = pure tt
 
-unfoldable pub subscription_tail : Rule ℕ
+unfoldable pub subscription_tail : Rule (Unit {0})
 subscription_tail ts = subscription_tail_by (item_ahead ts) ts
 
--- behind the name
+-- after the name
 unfoldable pub subscription_body : {S : Type 0} → DraftOf S → Rule (List ℕ)
 subscription_body draft = do
   expect (i.Keyword k.Connection)

@@ -17,14 +17,10 @@ use Rattle.pub_reader.specs.Schemas.{fresh, known, known_schema}
 
 -- ---- a table that was made before
 
--- ONLY leaves out the tables that inherit from a table, of which there are none
-unfoldable pub only_or_none : Rule ℕ
-only_or_none ts = if is_ahead (i.Keyword k.Only) ts then expect (i.Keyword k.Only) ts else pure 0 ts
-
 unfoldable pub known_table : List Table → List ℕ → PlacedName → Verdict ℕ
 known_table tables schema called = known called (find_table schema called.text tables)
 
--- a dot and a name, behind the name of a schema
+-- a dot and a name, after the name of a schema
 unfoldable pub name_in_schema : List (List ℕ) → PlacedName → Rule PlacedName
 name_in_schema schemas schema = do
   check (known_schema schemas schema)
@@ -35,7 +31,7 @@ name_in_schema schemas schema = do
 unfoldable pub table_in_schema : {S : Type 0} → DraftOf S → PlacedName → Rule ℕ
 table_in_schema draft schema = name_in_schema draft.schemas schema >>= (λ called. check (known_table draft.tables schema.text called))
 
--- Behind a first name, which is that of a schema if a dot follows: the token behind it is looked at before it is looked up.
+-- After a first name, which is that of a schema if a dot follows: the token after it is looked at before it is looked up.
 unfoldable pub table_named : {S : Type 0} → DraftOf S → PlacedName → Rule ℕ
 table_named draft called = look >> (λ ts. if is_ahead i.Dot ts then table_in_schema draft called ts else check (known_table draft.tables public_schema called) ts)
 
@@ -45,7 +41,7 @@ table_number draft = name >>= table_named draft
 -- ---- a new table
 
 -- a new table has a name that is new in its schema, and there are at most 64
-unfoldable pub new_table : List Table → NewName → Verdict ℕ
+unfoldable pub new_table : List Table → NewName → Verdict (Unit {0})
 new_table tables called = fresh called.name (find_table called.schema called.name.text tables) (nat_le 64 (length tables)) Tables
 
 unfoldable pub new_in_schema : List (List ℕ) → PlacedName → Rule NewName
@@ -57,16 +53,16 @@ new_by true (Some (i.Keyword k.Not)) schemas called = check (Err (fault called.p
 new_by is_if (Some i.Dot) schemas called = new_in_schema schemas called
 new_by is_if _ schemas called = pure (record { schema = public_schema; name = called })
 
--- behind a first name, which is IF or not
+-- after a first name, which is IF or not
 unfoldable pub new_named : List (List ℕ) → Bool → PlacedName → Rule NewName
 new_named schemas is_if called = look >> (λ ts. new_by is_if (item_ahead ts) schemas called ts)
 
--- PARTITION behind the name of a new table begins a clause that is left out
-abbrev pub head_by : Option Item → Rule ℕ
+-- PARTITION after the name of a new table begins a clause that is left out
+abbrev pub head_by : Option Item → Rule (Unit {0})
 head_by (Some (i.Keyword k.Partition)) = left_out
-head_by _ = pure 0
+head_by _ = pure tt
 
-unfoldable pub table_head : Rule ℕ
+unfoldable pub table_head : Rule (Unit {0})
 table_head ts = head_by (item_ahead ts) ts
 
 unfoldable pub new_name : {S : Type 0} → DraftOf S → Rule NewName

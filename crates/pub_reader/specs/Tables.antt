@@ -1,5 +1,5 @@
 -- CREATE TABLE: PostgreSQL 15, SQL Commands, CREATE TABLE.
-use Rattle.std.specs.Prelude.{ℕ, if◌then◌else◌, [], ◌∷◌, ◌++◌, Option, Some, Ok, Err}
+use Rattle.std.specs.Prelude.{if◌then◌else◌, [], ◌∷◌, ◌++◌, Option, Some, Ok, Err}
 use Rattle.filter_tree.specs.declared.table.Identity.TheVariants.{Default}
 use Rattle.filter_tree.specs.declared.table.Table.{Table}
 use Rattle.sql_reader.specs.declared.word.Keyword.TheVariants as k
@@ -14,19 +14,19 @@ use Rattle.pub_reader.specs.Drafts.{DraftOf}
 use Rattle.pub_reader.specs.TableNames.{new_name}
 
 -- every table has a primary key
-unfoldable pub keyed : PlacedName → Parts → Verdict ℕ
-keyed called parts = if has_key parts then Ok 0 else Err (fault called.place w.NoKey)
+unfoldable pub keyed : PlacedName → Parts → Verdict (Unit {0})
+keyed called parts = if has_key parts then Ok tt else Err (fault called.place w.NoKey)
 
 abbrev pub table_of : NewName → Parts → Table
 table_of called parts = record { schema = called.schema; name = called.name.text; columns = parts.columns; key = parts.key; identity = Default }
 
--- the words behind the elements at which a clause begins that is left out
-abbrev pub tail_by : Option Item → Rule ℕ
+-- the words after the elements at which a clause begins that is left out
+abbrev pub tail_by : Option Item → Rule (Unit {0})
 tail_by (Some (i.Keyword k.Inherits)) = left_out
 tail_by (Some (i.Keyword k.Partition)) = left_out
-tail_by _ = pure 0
+tail_by _ = pure tt
 
-unfoldable pub table_tail : Rule ℕ
+unfoldable pub table_tail : Rule (Unit {0})
 table_tail ts = tail_by (item_ahead ts) ts
 
 unfoldable pub table_body : PlacedName → Rule Parts

@@ -5,7 +5,7 @@ ghost use Rattle.std.specs.Prelude.{◌≡◌, map};
 use crate::catalog::{Catalog, Operations, Publication, Subscription};
 use crate::coverage::Coverage;
 use crate::filters::add_filters;
-use crate::names::{Names, known_number, new_number};
+use crate::names::{Names, check_new, known_number};
 use crate::resolution::resolved;
 use crate::table_name::NewName;
 use filter_tree::{Column, Filter, Identity, Table, Text};
@@ -74,8 +74,8 @@ impl Draft {
 
     /// Refuses a schema whose name is taken.
     #[tactic(auto, unfolding(crate::specs::Schemas::new_schema))]
-    pub fn new_schema(&self, name: &PlacedName) -> Result<usize, ReadError>
-        ensures { Answers (λ n. n) (new_schema (draft_view self.now).schemas name.now) result }
+    pub fn new_schema(&self, name: &PlacedName) -> Result<(), ReadError>
+        ensures { Answers (λ u. u) (new_schema (draft_view self.now).schemas name.now) result }
     {
         let found = self.schemas.find(name.text.as_str());
         if found.is_some() {
@@ -84,7 +84,7 @@ impl Draft {
                 kind: ErrorKind::NameTwice,
             });
         }
-        Ok(0)
+        Ok(())
     }
 
     /// The number of a schema that was made before.
@@ -127,11 +127,11 @@ impl Draft {
 
     /// Refuses a table whose name is taken in its schema, or that is one too many.
     #[tactic(auto, unfolding(crate::specs::TableNames::new_table))]
-    pub fn new_table(&self, name: &NewName) -> Result<usize, ReadError>
-        ensures { Answers (λ n. n) (new_table (draft_view self.now).tables name.now) result }
+    pub fn new_table(&self, name: &NewName) -> Result<(), ReadError>
+        ensures { Answers (λ u. u) (new_table (draft_view self.now).tables name.now) result }
     {
         let found = self.find_table(name.schema.as_str(), name.name.text.as_str());
-        new_number(
+        check_new(
             &name.name,
             found,
             self.tables.len() >= MAX_TABLES,
@@ -141,12 +141,12 @@ impl Draft {
 
     /// Refuses a publication whose name is taken, or that is one too many.
     #[tactic(auto, unfolding(crate::specs::Publications::new_publication))]
-    pub fn new_publication(&self, name: &PlacedName) -> Result<usize, ReadError>
-        ensures answer { Answers (λ n. n) (new_publication (draft_view self.now) name.now) result }
+    pub fn new_publication(&self, name: &PlacedName) -> Result<(), ReadError>
+        ensures answer { Answers (λ u. u) (new_publication (draft_view self.now) name.now) result }
         ensures free { OnOk result (spec.find_publication name.now.text (draft_view self.now).publications ≡ None) }
     {
         let found = self.find_publication(name.text.as_str());
-        new_number(
+        check_new(
             name,
             found,
             self.publications.len() >= MAX_PUBLICATIONS,
@@ -156,12 +156,12 @@ impl Draft {
 
     /// Refuses a subscription whose name is taken, or that is one too many.
     #[tactic(auto, unfolding(crate::specs::Subscriptions::new_subscription))]
-    pub fn new_subscription(&self, name: &PlacedName) -> Result<usize, ReadError>
-        ensures answer { Answers (λ n. n) (new_subscription (draft_view self.now) name.now) result }
+    pub fn new_subscription(&self, name: &PlacedName) -> Result<(), ReadError>
+        ensures answer { Answers (λ u. u) (new_subscription (draft_view self.now) name.now) result }
         ensures free { OnOk result (spec.find_subscription name.now.text (draft_view self.now).subscriptions ≡ None) }
     {
         let found = self.find_subscription(name.text.as_str());
-        new_number(
+        check_new(
             name,
             found,
             self.subscriptions.len() >= MAX_SUBSCRIPTIONS,

@@ -20,11 +20,11 @@ use std::alloc::Global;
 
 /// Refuses a filter with which the filters on its table pass a limit.
 #[tactic(auto, unfolding(crate::specs::Objects::limited))]
-fn limited(alloc: Global, place: usize, filters: &[&Filter]) -> Result<usize, ReadError>
-    ensures { Answers (λ n. n) (spec.limited place (map (λ f. expr_view f.now) filters.now)) result }
+fn limited(alloc: Global, place: usize, filters: &[&Filter]) -> Result<(), ReadError>
+    ensures { Answers (λ u. u) (spec.limited place (map (λ f. expr_view f.now) filters.now)) result }
 {
     match exceeded_limit(alloc, filters)? {
-        None => Ok(0),
+        None => Ok(()),
         Some(limit) => Err(ReadError {
             place,
             kind: ErrorKind::TooMany(limit),
@@ -40,8 +40,8 @@ fn within_limits(
     number: usize,
     place: usize,
     filter: &Filter,
-) -> Result<usize, ReadError>
-    ensures { Answers (λ n. n) (spec.limited place ((filters_on (λ f. f) number (draft_view draft.now).publications ++ filters_in (λ f. f) number (coverage_view coverage.now).entries) ++ expr_view filter.now ∷ [])) result }
+) -> Result<(), ReadError>
+    ensures { Answers (λ u. u) (spec.limited place ((filters_on (λ f. f) number (draft_view draft.now).publications ++ filters_in (λ f. f) number (coverage_view coverage.now).entries) ++ expr_view filter.now ∷ [])) result }
 {
     let mut filters = draft.filters(alloc, number)?;
     add_filters(&mut filters, coverage.entries.as_slice(), number)?;
@@ -49,7 +49,7 @@ fn within_limits(
     Ok(limited(alloc, place, &filters)?)
 }
 
-/// Takes the parenthesis behind a filter.
+/// Takes the parenthesis after a filter.
 #[tactic(auto, unfolding(crate::specs::Objects::ended))]
 fn ended(
     r: &mut Reader<'_>,
@@ -87,7 +87,7 @@ fn where_clause(
     Ok(ended(r, alloc, draft, coverage, number, place, filter)?)
 }
 
-/// Takes the filter behind a table, if there is one.
+/// Takes the filter after a table, if there is one.
 #[tactic(auto, unfolding(crate::specs::Objects::filter_clause))]
 pub fn filter_clause(
     r: &mut Reader<'_>,

@@ -8,22 +8,22 @@ ghost use Rattle.pub_reader.specs.DraftView.{draft_view};
 ghost use Rattle.pub_reader.specs.Identities as spec;
 
 use crate::draft::Draft;
-use crate::table_name::{only_or_none, table_number};
+use crate::table_name::table_number;
 use filter_tree::Identity;
 use sql_reader::{ErrorKind, Item, Keyword, Later, Omitted, ReadError, Reader};
 use std::alloc::Global;
 
 /// Takes the word REPLICA.
-#[tactic(auto, unfolding(crate::specs::Identities::action))]
-fn action(r: &mut Reader<'_>) -> Result<usize, ReadError>
-    ensures reads { Reads (λ n. n) (spec.action (to_read r.old)) result (to_read r.new) }
+#[tactic(auto, using(sql_reader::proofs::Ahead::rest_of_some_is_fewer), unfolding(crate::specs::Identities::action))]
+fn action(r: &mut Reader<'_>) -> Result<(), ReadError>
+    ensures reads { Reads (λ u. u) (spec.action (to_read r.old)) result (to_read r.new) }
     ensures fewer { OnOk result (size (to_read r.new) < size (to_read r.old)) }
 {
     match r.item() {
-        Some(Item::Keyword(Keyword::Replica)) => r.expect(
-            Item::Keyword(Keyword::Replica),
-            "REPLICA",
-        ),
+        Some(Item::Keyword(Keyword::Replica)) => {
+            r.advance();
+            Ok(())
+        }
         Some(Item::Keyword(_)) => Err(r.refused(ErrorKind::LeftOut(Omitted::Clause))),
         Some(Item::Word) => Err(r.refused(ErrorKind::LeftOut(Omitted::Clause))),
         _ => Err(r.refusal("REPLICA IDENTITY")),
@@ -73,7 +73,7 @@ pub fn alter_table(r: &mut Reader<'_>, alloc: Global, draft: &mut Draft) -> Resu
 {
     r.expect(Item::Keyword(Keyword::Alter), "ALTER")?;
     r.expect(Item::Keyword(Keyword::Table), "TABLE")?;
-    only_or_none(r)?;
+    r.eat(Item::Keyword(Keyword::Only));
     let number = table_number(r, alloc, draft)?;
     let recorded = replica_identity(r)?;
     draft.identify(number, recorded);

@@ -45,7 +45,7 @@ impl Names {
         self.names.get_index_of(name)
     }
 
-    /// Adds a name behind the others, if it is new.
+    /// Adds a name after the others, if it is new.
     pub fn add(&mut self, name: String) -> Result<(), AllocError>
         ensures ok { OnOk result (self.new ≡ with_name self.old (string_bytes name)) }
         ensures err { OnErr result (self.new ≡ self.old) }
@@ -70,13 +70,13 @@ pub fn known_number(name: &PlacedName, found: Option<usize>) -> Result<usize, Re
 }
 
 /// Refuses a name that is taken, or that is one too many.
-pub fn new_number(
+pub fn check_new(
     name: &PlacedName,
     found: Option<usize>,
     is_full: bool,
     limit: Limit,
-) -> Result<usize, ReadError>
-    ensures answer { Answers (λ n. n) (fresh name.now found is_full limit) result }
+) -> Result<(), ReadError>
+    ensures answer { Answers (λ u. u) (fresh name.now found is_full limit) result }
     ensures free { OnOk result (found ≡ None) }
 {
     if found.is_some() {
@@ -91,5 +91,5 @@ pub fn new_number(
             kind: ErrorKind::TooMany(limit),
         });
     }
-    Ok(0)
+    Ok(())
 }

@@ -13,7 +13,7 @@ use crate::catalog::Entry;
 use crate::coverage::{Coverage, ObjectKind};
 use crate::draft::{Draft, PUBLIC};
 use crate::filter_clause::filter_clause;
-use crate::table_name::{only_or_none, table_named};
+use crate::table_name::table_named;
 use filter_tree::Text;
 use sql_reader::{ErrorKind, Item, Keyword, PlacedName, ReadError, Reader, read_name};
 use sql_tokens::Operator;
@@ -108,18 +108,6 @@ fn taken_schema(
     Ok(ObjectKind::Schema)
 }
 
-/// Takes a star, if it is ahead.
-#[tactic(auto, unfolding(crate::specs::Objects::star_or_none))]
-fn star_or_none(r: &mut Reader<'_>) -> Result<usize, ReadError>
-    ensures reads { Reads (λ n. n) (spec.star_or_none (to_read r.old)) result (to_read r.new) }
-    ensures fewer { OnOk result (size (to_read r.new) ≤ size (to_read r.old)) }
-{
-    if r.is(Item::Operator(Operator::Star)) {
-        return Ok(r.expect(Item::Operator(Operator::Star), "`*`")?);
-    }
-    Ok(0)
-}
-
 /// Takes the rest of a table and its filter, once the first part of the table's name is taken.
 #[tactic(auto, unfolding(crate::specs::Objects::taken_table))]
 fn taken_table(
@@ -133,7 +121,7 @@ fn taken_table(
     ensures fewer { OnOk result (size (to_read r.new) ≤ size (to_read r.old)) }
 {
     let number = table_named(r, alloc, draft, name)?;
-    star_or_none(r)?;
+    r.eat(Item::Operator(Operator::Star));
     let filter = filter_clause(r, alloc, draft, coverage, number)?;
     coverage.add_table(
         name.place,
@@ -156,7 +144,7 @@ fn table_object(
     ensures reads { Reads (λ kind. objects_view kind coverage.new) (spec.table_object as_filter (draft_view draft.now) (coverage_view coverage.old) (to_read r.old)) result (to_read r.new) }
     ensures fewer { OnOk result (size (to_read r.new) < size (to_read r.old)) }
 {
-    only_or_none(r)?;
+    r.eat(Item::Keyword(Keyword::Only));
     let name = read_name(r, alloc, "the name of a table")?;
     Ok(taken_table(r, alloc, draft, coverage, &name)?)
 }
@@ -180,8 +168,8 @@ fn taken_object(
 }
 
 /// Takes the rest of an object, once the word TABLES at its front is taken: it begins TABLES IN SCHEMA, or is a name.
-#[tactic(auto, unfolding(crate::specs::Objects::behind_tables))]
-fn behind_tables(
+#[tactic(auto, unfolding(crate::specs::Objects::after_tables))]
+fn after_tables(
     r: &mut Reader<'_>,
     alloc: Global,
     draft: &Draft,
@@ -189,7 +177,7 @@ fn behind_tables(
     coverage: &mut Coverage,
     name: PlacedName,
 ) -> Result<ObjectKind, ReadError>
-    ensures reads { Reads (λ kind. objects_view kind coverage.new) (spec.behind_tables as_filter (draft_view draft.now) (objects_view kind coverage.old) name (to_read r.old)) result (to_read r.new) }
+    ensures reads { Reads (λ kind. objects_view kind coverage.new) (spec.after_tables as_filter (draft_view draft.now) (objects_view kind coverage.old) name (to_read r.old)) result (to_read r.new) }
     ensures fewer { OnOk result (size (to_read r.new) ≤ size (to_read r.old)) }
 {
     r.look()?;
@@ -212,7 +200,7 @@ fn tables_object(
     ensures fewer { OnOk result (size (to_read r.new) < size (to_read r.old)) }
 {
     let name = read_name(r, alloc, "TABLES")?;
-    Ok(behind_tables(r, alloc, draft, kind, coverage, name)?)
+    Ok(after_tables(r, alloc, draft, kind, coverage, name)?)
 }
 
 /// Takes an object of this kind.

@@ -88,21 +88,21 @@ fn is_boolean(word: &str) -> bool
 
 /// Takes the value ahead, if it is a truth value.
 #[tactic(auto, using(sql_reader::proofs::Ahead::rest_is_no_more))]
-fn boolean_taken(r: &mut Reader<'_>, is_boolean: bool) -> Result<usize, ReadError>
-    ensures reads { Reads (λ n. n) (spec.boolean_taken is_boolean (to_read r.old)) result (to_read r.new) }
+fn boolean_taken(r: &mut Reader<'_>, is_boolean: bool) -> Result<(), ReadError>
+    ensures reads { Reads (λ u. u) (spec.boolean_taken is_boolean (to_read r.old)) result (to_read r.new) }
     ensures fewer { OnOk result (size (to_read r.new) ≤ size (to_read r.old)) }
 {
     if !is_boolean {
         return Err(r.refused(ErrorKind::TypeClash));
     }
     r.advance();
-    Ok(0)
+    Ok(())
 }
 
 /// Takes the value of `publish_via_partition_root`.
 #[tactic(auto, unfolding(crate::specs::Publishing::boolean_value))]
-fn boolean_value(r: &mut Reader<'_>) -> Result<usize, ReadError>
-    ensures reads { Reads (λ n. n) (spec.boolean_value (to_read r.old)) result (to_read r.new) }
+fn boolean_value(r: &mut Reader<'_>) -> Result<(), ReadError>
+    ensures reads { Reads (λ u. u) (spec.boolean_value (to_read r.old)) result (to_read r.new) }
     ensures fewer { OnOk result (size (to_read r.new) ≤ size (to_read r.old)) }
 {
     match r.item() {
@@ -116,8 +116,8 @@ fn boolean_value(r: &mut Reader<'_>) -> Result<usize, ReadError>
 
 /// Takes `=` and the value of `publish_via_partition_root`.
 #[tactic(auto, unfolding(crate::specs::Publishing::given_boolean))]
-fn given_boolean(r: &mut Reader<'_>) -> Result<usize, ReadError>
-    ensures reads { Reads (λ n. n) (spec.given_boolean (to_read r.old)) result (to_read r.new) }
+fn given_boolean(r: &mut Reader<'_>) -> Result<(), ReadError>
+    ensures reads { Reads (λ u. u) (spec.given_boolean (to_read r.old)) result (to_read r.new) }
     ensures fewer { OnOk result (size (to_read r.new) ≤ size (to_read r.old)) }
 {
     r.expect(Item::Operator(Operator::Equal), "`=`")?;
@@ -126,15 +126,15 @@ fn given_boolean(r: &mut Reader<'_>) -> Result<usize, ReadError>
 
 /// Takes the value of `publish_via_partition_root`, if there is one.
 #[tactic(auto, unfolding(crate::specs::Publishing::boolean_or_none))]
-fn boolean_or_none(r: &mut Reader<'_>) -> Result<usize, ReadError>
-    ensures reads { Reads (λ n. n) (spec.boolean_or_none (to_read r.old)) result (to_read r.new) }
+fn boolean_or_none(r: &mut Reader<'_>) -> Result<(), ReadError>
+    ensures reads { Reads (λ u. u) (spec.boolean_or_none (to_read r.old)) result (to_read r.new) }
     ensures fewer { OnOk result (size (to_read r.new) ≤ size (to_read r.old)) }
 {
     r.look()?;
     if r.is(Item::Operator(Operator::Equal)) {
         return Ok(given_boolean(r)?);
     }
-    Ok(0)
+    Ok(())
 }
 
 /// Takes `publish_via_partition_root`.

@@ -65,7 +65,7 @@ fn listed_objects(r: &mut Reader<'_>, alloc: Global, draft: &Draft) -> Result<Co
     Ok(coverage)
 }
 
-/// Takes what the publication is for, behind FOR.
+/// Takes what the publication is for, after FOR.
 #[tactic(auto, unfolding(crate::specs::Publications::scope))]
 fn scope(r: &mut Reader<'_>, alloc: Global, draft: &Draft) -> Result<Coverage, ReadError>
     ensures reads { Reads (λ coverage. coverage_view coverage) (spec.scope as_filter (draft_view draft.now) (to_read r.old)) result (to_read r.new) }
@@ -111,7 +111,7 @@ fn add_publication(
     draft.add_publication(alloc, publication)
 }
 
-/// Takes what stands behind CREATE PUBLICATION, and makes the publication.
+/// Takes what follows CREATE PUBLICATION, and makes the publication.
 #[tactic(auto, unfolding(crate::specs::Publications::create_publication))]
 pub fn create_publication(
     r: &mut Reader<'_>,

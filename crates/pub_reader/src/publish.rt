@@ -40,7 +40,7 @@ fn with_operation(listed: Operations, word: &[u8]) -> Option<Operations>
     Some(listed)
 }
 
-/// How many bytes stand before the first comma.
+/// How many bytes come before the first comma.
 fn part_len(text: &[u8]) -> usize
     ensures value { result ≡ prefix_len spec.is_part_byte text.now }
     ensures within { result ≤ length text.now }
@@ -52,13 +52,13 @@ fn part_len(text: &[u8]) -> usize
     length
 }
 
-/// The part of a text before its first comma, and what stands behind that comma, if there is one.
+/// The part of a text before its first comma, and what follows that comma, if there is one.
 fn first_part(text: &[u8]) -> (&[u8], Option<&[u8]>)
-    ensures parts { spec.parts text.now ≡ result.0.now ∷ spec.parts_behind result.1 }
-    ensures shorter { spec.behind_length result.1 ≤ length text.now }
+    ensures parts { spec.parts text.now ≡ result.0.now ∷ spec.parts_after result.1 }
+    ensures shorter { spec.rest_length result.1 ≤ length text.now }
 {
-    let (part, behind) = text.split_at(part_len(text));
-    match behind {
+    let (part, following) = text.split_at(part_len(text));
+    match following {
         [] => (part, None),
         [_, after @ ..] => (part, Some(after)),
     }
@@ -75,9 +75,9 @@ pub fn operations(text: &[u8]) -> Option<Operations>
     let mut listed = NO_OPERATION;
     let mut rest = Some(text);
     while let Some(left) = rest {
-        let (word, behind) = first_part(left);
+        let (word, following) = first_part(left);
         listed = with_operation(listed, trimmed(word))?;
-        rest = behind;
+        rest = following;
     }
     Some(listed)
 }

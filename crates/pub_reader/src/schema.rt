@@ -11,7 +11,7 @@ use crate::draft::Draft;
 use sql_reader::{ReadError, Reader, read_name};
 use std::alloc::Global;
 
-/// Takes what stands behind CREATE SCHEMA, and makes the schema.
+/// Takes what follows CREATE SCHEMA, and makes the schema.
 #[tactic(auto, unfolding(crate::specs::Schemas::create_schema))]
 pub fn create_schema(r: &mut Reader<'_>, alloc: Global, draft: &mut Draft) -> Result<(), ReadError>
     ensures reads { Reads (λ _. draft_view draft.new) (spec.create_schema (draft_view draft.old) (to_read r.old)) result (to_read r.new) }

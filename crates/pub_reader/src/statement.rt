@@ -21,7 +21,7 @@ use crate::table::create_table;
 use sql_reader::{ErrorKind, Item, Keyword, Later, ReadError, Reader};
 use std::alloc::Global;
 
-/// Takes what is made, behind CREATE.
+/// Takes what is made, after CREATE.
 #[tactic(auto, using(sql_reader::proofs::Ahead::rest_is_no_more), unfolding(crate::specs::Statements::created))]
 fn created(r: &mut Reader<'_>, alloc: Global, draft: &mut Draft) -> Result<(), ReadError>
     ensures reads { Reads (λ _. draft_view draft.new) (spec.created as_filter (draft_view draft.old) (to_read r.old)) result (to_read r.new) }

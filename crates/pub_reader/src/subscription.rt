@@ -81,18 +81,18 @@ fn publication_list(
     Ok(numbers)
 }
 
-/// Refuses WITH behind the publications.
+/// Refuses WITH after the publications.
 #[tactic(auto, unfolding(crate::specs::Subscriptions::subscription_tail))]
-fn subscription_tail(r: &Reader<'_>) -> Result<usize, ReadError>
-    ensures { Reads (λ n. n) (spec.subscription_tail (to_read r.now)) result (to_read r.now) }
+fn subscription_tail(r: &Reader<'_>) -> Result<(), ReadError>
+    ensures { Reads (λ u. u) (spec.subscription_tail (to_read r.now)) result (to_read r.now) }
 {
     match r.item() {
         Some(Item::Keyword(Keyword::With)) => Err(r.refused(ErrorKind::LeftOut(Omitted::Clause))),
-        _ => Ok(0),
+        _ => Ok(()),
     }
 }
 
-/// Takes what stands behind the name of a subscription, and tells the numbers of its publications.
+/// Takes what follows the name of a subscription, and tells the numbers of its publications.
 #[tactic(auto, unfolding(crate::specs::Subscriptions::subscription_body))]
 fn subscription_body(
     r: &mut Reader<'_>,
@@ -110,7 +110,7 @@ fn subscription_body(
     Ok(numbers)
 }
 
-/// Takes what stands behind CREATE SUBSCRIPTION, and makes the subscription.
+/// Takes what follows CREATE SUBSCRIPTION, and makes the subscription.
 #[tactic(auto, unfolding(crate::specs::Subscriptions::create_subscription))]
 pub fn create_subscription(
     r: &mut Reader<'_>,

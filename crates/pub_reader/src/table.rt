@@ -4,7 +4,7 @@ ghost use Rattle.std.specs.Prelude.{◌≡◌, ◌<◌, OnOk};
 ghost use Rattle.sql_reader.specs.Ahead.{to_read};
 ghost use Rattle.sql_reader.specs.Items.{size};
 ghost use Rattle.sql_reader.specs.Reading.{Reads, Answers};
-ghost use Rattle.sql_reader.specs.PartsView.{parts_of};
+ghost use Rattle.sql_reader.specs.PartsView.{parts_view};
 ghost use Rattle.pub_reader.specs.DraftView.{draft_view};
 ghost use Rattle.pub_reader.specs.Tables as spec;
 
@@ -19,8 +19,8 @@ use std::alloc::Global;
 
 /// Refuses a table without a primary key.
 #[tactic(auto, unfolding(crate::specs::Tables::keyed))]
-fn keyed(name: &PlacedName, parts: &TableParts) -> Result<usize, ReadError>
-    ensures { Answers (λ n. n) (spec.keyed name.now (parts_of parts.now)) result }
+fn keyed(name: &PlacedName, parts: &TableParts) -> Result<(), ReadError>
+    ensures { Answers (λ u. u) (spec.keyed name.now (parts_view parts.now)) result }
 {
     if parts.key.is_empty() {
         return Err(ReadError {
@@ -28,24 +28,24 @@ fn keyed(name: &PlacedName, parts: &TableParts) -> Result<usize, ReadError>
             kind: ErrorKind::NoKey,
         });
     }
-    Ok(0)
+    Ok(())
 }
 
-/// Refuses a clause that is left out behind the elements of a table.
+/// Refuses a clause that is left out after the elements of a table.
 #[tactic(auto, unfolding(crate::specs::Tables::table_tail))]
-fn table_tail(r: &Reader<'_>) -> Result<usize, ReadError>
-    ensures { Reads (λ n. n) (spec.table_tail (to_read r.now)) result (to_read r.now) }
+fn table_tail(r: &Reader<'_>) -> Result<(), ReadError>
+    ensures { Reads (λ u. u) (spec.table_tail (to_read r.now)) result (to_read r.now) }
 {
     match r.item() {
         Some(Item::Keyword(Keyword::Inherits)) => Err(left_out_clause(r)),
         Some(Item::Keyword(Keyword::Partition)) => Err(left_out_clause(r)),
-        _ => Ok(0),
+        _ => Ok(()),
     }
 }
 
 /// The table of a name and elements.
 fn table_of(name: NewName, parts: TableParts) -> Table
-    ensures { result ≡ spec.table_of name (parts_of parts) }
+    ensures { result ≡ spec.table_of name (parts_view parts) }
 {
     let NewName { schema, name } = name;
     let TableParts { columns, key } = parts;
@@ -58,10 +58,10 @@ fn table_of(name: NewName, parts: TableParts) -> Table
     }
 }
 
-/// Takes what stands behind the name of a new table.
+/// Takes what follows the name of a new table.
 #[tactic(auto, unfolding(crate::specs::Tables::table_body))]
 fn table_body(r: &mut Reader<'_>, alloc: Global, name: &PlacedName) -> Result<TableParts, ReadError>
-    ensures reads { Reads parts_of (spec.table_body name.now (to_read r.old)) result (to_read r.new) }
+    ensures reads { Reads parts_view (spec.table_body name.now (to_read r.old)) result (to_read r.new) }
     ensures fewer { OnOk result (size (to_read r.new) < size (to_read r.old)) }
 {
     r.expect(Item::Open, "`(`")?;
@@ -72,7 +72,7 @@ fn table_body(r: &mut Reader<'_>, alloc: Global, name: &PlacedName) -> Result<Ta
     Ok(parts)
 }
 
-/// Takes what stands behind CREATE TABLE, and makes the table.
+/// Takes what follows CREATE TABLE, and makes the table.
 #[tactic(auto, unfolding(crate::specs::Tables::create_table))]
 pub fn create_table(r: &mut Reader<'_>, alloc: Global, draft: &mut Draft) -> Result<(), ReadError>
     ensures reads { Reads (λ _. draft_view draft.new) (spec.create_table (draft_view draft.old) (to_read r.old)) result (to_read r.new) }

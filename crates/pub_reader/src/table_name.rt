@@ -21,19 +21,7 @@ pub struct NewName {
     pub name: PlacedName,
 }
 
-/// Takes ONLY, if it is ahead.
-#[tactic(auto, unfolding(crate::specs::TableNames::only_or_none))]
-pub fn only_or_none(r: &mut Reader<'_>) -> Result<usize, ReadError>
-    ensures reads { Reads (λ n. n) (spec.only_or_none (to_read r.old)) result (to_read r.new) }
-    ensures fewer { OnOk result (size (to_read r.new) ≤ size (to_read r.old)) }
-{
-    if r.is(Item::Keyword(Keyword::Only)) {
-        return Ok(r.expect(Item::Keyword(Keyword::Only), "ONLY")?);
-    }
-    Ok(0)
-}
-
-/// Takes a dot and a name, behind the name of a schema that was made before.
+/// Takes a dot and a name, after the name of a schema that was made before.
 #[tactic(auto, unfolding(crate::specs::TableNames::name_in_schema))]
 fn name_in_schema(
     r: &mut Reader<'_>,
@@ -49,7 +37,7 @@ fn name_in_schema(
     read_name(r, alloc, "the name of a table")
 }
 
-/// Takes a dot and the name of a table that was made before, behind the name of its schema, and tells its number.
+/// Takes a dot and the name of a table that was made before, after the name of its schema, and tells its number.
 #[tactic(auto, unfolding(crate::specs::TableNames::table_in_schema))]
 fn table_in_schema(
     r: &mut Reader<'_>,
@@ -95,7 +83,7 @@ pub fn table_number(r: &mut Reader<'_>, alloc: Global, draft: &Draft) -> Result<
     Ok(table_named(r, alloc, draft, &name)?)
 }
 
-/// Takes a dot and the name of a new table, behind the name of its schema.
+/// Takes a dot and the name of a new table, after the name of its schema.
 #[tactic(auto, unfolding(crate::specs::TableNames::new_in_schema))]
 fn new_in_schema(
     r: &mut Reader<'_>,
@@ -139,14 +127,14 @@ fn new_named(
     }
 }
 
-/// Refuses a clause that is left out behind the name of a table.
+/// Refuses a clause that is left out after the name of a table.
 #[tactic(auto, unfolding(crate::specs::TableNames::table_head))]
-fn table_head(r: &Reader<'_>) -> Result<usize, ReadError>
-    ensures { Reads (λ n. n) (spec.table_head (to_read r.now)) result (to_read r.now) }
+fn table_head(r: &Reader<'_>) -> Result<(), ReadError>
+    ensures { Reads (λ u. u) (spec.table_head (to_read r.now)) result (to_read r.now) }
 {
     match r.item() {
         Some(Item::Keyword(Keyword::Partition)) => Err(left_out_clause(r)),
-        _ => Ok(0),
+        _ => Ok(()),
     }
 }
 

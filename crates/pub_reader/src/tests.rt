@@ -1,12 +1,13 @@
 mod catalog_cases;
+mod largest;
 mod parameter_cases;
 mod publication_cases;
 mod resolution;
 mod statement_cases;
 
-use self::catalog_cases::{BEHIND_A_TABLE, Case, FILTERS, WHOLE};
+use self::catalog_cases::{AFTER_A_TABLE, Case, FILTERS, WHOLE};
 use self::parameter_cases::PARAMETERS;
-use self::publication_cases::{BEHIND_PUBLICATIONS, BEHIND_TABLES};
+use self::publication_cases::{AFTER_PUBLICATIONS, AFTER_TABLES};
 use self::statement_cases::STATEMENTS;
 use crate::{Catalog, ReadError, read_catalog, read_row};
 use filter_tree::{Identity, Tri, eval};
@@ -55,7 +56,7 @@ fn check_catalogs(
 fn reads_catalogs_or_their_first_fault(rt: HostRuntime) -> Result<(), Fail> {
     let filter = format!(in rt.alloc(); "{TABLE}{FILTER}")?;
     check_catalogs(&rt, rt.alloc(), "", WHOLE)?;
-    check_catalogs(&rt, rt.alloc(), TABLE, BEHIND_A_TABLE)?;
+    check_catalogs(&rt, rt.alloc(), TABLE, AFTER_A_TABLE)?;
     check_catalogs(&rt, rt.alloc(), filter.as_str(), FILTERS)?;
     Ok(())
 }
@@ -66,9 +67,9 @@ fn reads_statements_or_their_first_fault(rt: HostRuntime) -> Result<(), Fail> {
         "{TABLES}CREATE PUBLICATION p;CREATE PUBLICATION q FOR TABLE t;"
     )?;
     check_catalogs(&rt, rt.alloc(), "", STATEMENTS)?;
-    check_catalogs(&rt, rt.alloc(), TABLES, BEHIND_TABLES)?;
+    check_catalogs(&rt, rt.alloc(), TABLES, AFTER_TABLES)?;
     check_catalogs(&rt, rt.alloc(), TABLES, PARAMETERS)?;
-    check_catalogs(&rt, rt.alloc(), publications.as_str(), BEHIND_PUBLICATIONS)?;
+    check_catalogs(&rt, rt.alloc(), publications.as_str(), AFTER_PUBLICATIONS)?;
     Ok(())
 }
 

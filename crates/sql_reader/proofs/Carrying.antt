@@ -18,8 +18,8 @@ use Rattle.sql_reader.specs.declared.item.Item.TheVariants as i
 use Rattle.sql_reader.specs.declared.column.FoundColumn.{FoundColumn}
 use Rattle.sql_reader.specs.declared.truth_test.Asked.{Asked}
 use Rattle.sql_reader.specs.declared.truth_test.Asked.TheVariants as a
-use Rattle.sql_reader.specs.declared.truth_test.Question.{Question}
-use Rattle.sql_reader.specs.Expressions.{column, column_part, number_part, cast_or_none, string_part, truth_part, simple_by, simple, no_cast, no_operator, question_or_none, tested, primary, divisor, divisor_or_none, term, side, right_side, right_side_by, right_side_or_none, comparison, test, negation, one_more_negation, conjunction, one_more_conjunction, disjunction, behind_not, in_parentheses, nested, expression}
+use Rattle.sql_reader.specs.declared.truth_test.TruthTest.{TruthTest}
+use Rattle.sql_reader.specs.Expressions.{column, column_part, number_part, cast_or_none, string_part, truth_part, simple_by, simple, no_cast, no_operator, test_or_none, tested, primary, divisor, divisor_or_none, term, side, right_side, right_side_by, right_side_or_none, comparison, test, negation, one_more_negation, conjunction, one_more_conjunction, disjunction, after_not, in_parentheses, nested, expression}
 use Rattle.sql_reader.specs.Items.{Items, size}
 use Rattle.sql_reader.specs.Numbers.{placed_number}
 use Rattle.sql_reader.specs.Operands.{Forms, OperandOf, OfTerm, OfLiteral, OfFormula, PartOf, part, verdict_map, truth, true_or_clash, wanted, negated, joined, dividend, divided, remainder, comparison_by, fits, fitting, compared, compared_part, asking, answered, negated_if, tested as tested_part}
@@ -259,12 +259,12 @@ module _ {S T : Type 0} (from : Forms S) (to : Forms T) (h : S → T) (carries :
   negated_if-carried true s = carries.negated s
   negated_if-carried false s = refl
 
-  tested_part-carried : (asking : Option Question) (asked_part : PartOf S) → tested_part to asking (part_map h asked_part) ≡ verdict_map (part_map h) (tested_part from asking asked_part)
+  tested_part-carried : (asking : Option TruthTest) (asked_part : PartOf S) → tested_part to asking (part_map h asked_part) ≡ verdict_map (part_map h) (tested_part from asking asked_part)
   unfolding tested_part
   tested_part-carried None asked_part = refl
-  tested_part-carried (Some question) asked_part =
-      verdict_map-carried h (part_map h) _ _ (answered from question.place question.asked asked_part.operand) (answered to question.place question.asked (operand_map h asked_part.operand))
-      (answered-carried question.place question.asked asked_part.operand) (λ s. ap (λ t. part asked_part.place (OfFormula t)) (negated_if-carried question.is_negated s))
+  tested_part-carried (Some truth_test) asked_part =
+      verdict_map-carried h (part_map h) _ _ (answered from truth_test.place truth_test.asked asked_part.operand) (answered to truth_test.place truth_test.asked (operand_map h asked_part.operand))
+      (answered-carried truth_test.place truth_test.asked asked_part.operand) (λ s. ap (λ t. part asked_part.place (OfFormula t)) (negated_if-carried truth_test.is_negated s))
 
 -- ---- expressions
 
@@ -275,7 +275,7 @@ module _ {S T : Type 0} (from : Forms S) (to : Forms T) (h : S → T) (carries :
   tested-carried : (asked_part : PartOf S) (ts : Items) → tested to (part_map h asked_part) ts ≡ mapped (part_map h) (tested from asked_part ts)
   unfolding tested
   tested-carried asked_part ts =
-      then-same (part_map h) (question_or_none ts) _ _ (λ asking ts2.
+      then-same (part_map h) (test_or_none ts) _ _ (λ asking ts2.
       check-carried (part_map h) (tested_part from asking asked_part) (tested_part to asking (part_map h asked_part)) (tested_part-carried from to h carries asking asked_part) ts2)
 
   module _ (below : Bool → Rule (PartOf S)) (other : Bool → Rule (PartOf T)) (alike : Alike below other) where
@@ -370,9 +370,9 @@ module _ {S T : Type 0} (from : Forms S) (to : Forms T) (h : S → T) (carries :
         (repeat-carried (part_map h) (link (i.Keyword k.Or) (one_more_conjunction from columns below)) (link (i.Keyword k.Or) (one_more_conjunction to columns other))
         (link-carried (part_map h) (i.Keyword k.Or) (one_more_conjunction from columns below) (one_more_conjunction to columns other) one_more_conjunction-carried))
 
-    behind_not-carried : (ts : Items) → behind_not to columns other ts ≡ mapped (part_map h) (behind_not from columns below ts)
-    unfolding behind_not
-    behind_not-carried ts =
+    after_not-carried : (ts : Items) → after_not to columns other ts ≡ mapped (part_map h) (after_not from columns below ts)
+    unfolding after_not
+    after_not-carried ts =
         then-same (part_map h) (expect (i.Keyword k.Not) ts) _ _ (λ place ts2.
         then-carried (part_map h) (part_map h) (negation from columns below ts2) (negation to columns other ts2) _ _ (negation-carried ts2)
         (λ right ts3. check-carried (part_map h) (negated from place right) (negated to place (part_map h right)) (negated-carried from to h carries place right) ts3))
@@ -387,7 +387,7 @@ module _ {S T : Type 0} (from : Forms S) (to : Forms T) (h : S → T) (carries :
   nested-carried : (n : ℕ) → Alike (nested from columns n) (nested to columns n)
   unfolding nested
   nested-carried zero is_not ts = refl
-  nested-carried (suc n) true ts = behind_not-carried (nested from columns n) (nested to columns n) (nested-carried n) ts
+  nested-carried (suc n) true ts = after_not-carried (nested from columns n) (nested to columns n) (nested-carried n) ts
   nested-carried (suc n) false ts = in_parentheses-carried (nested from columns n) (nested to columns n) (nested-carried n) ts
 
   pub expression-carried : (ts : Items) → expression to columns ts ≡ mapped h (expression from columns ts)

@@ -2,7 +2,7 @@
 use Rattle.std.proofs.Common.{◌≡◌, ℕ, ◌+◌, ◌-◌, ◌≤◌, List, length, take, drop, ap, sym, ◌∙◌, arith}
 use Rattle.std.proofs.lemmas.List.{length-take-le, length-drop, drop-take, take-take, drop-drop}
 
--- what stands between the first and the last byte of a token, and where that stands in the text
+-- what is between the first and the last byte of a token, and where that is in the text
 pub between_ends : (text : List ℕ) (place len : ℕ) → 2 ≤ len → place + len ≤ length text →
     take (length (take len (drop place text)) - 2) (drop 1 (take len (drop place text))) ≡ take ((place + len - 1) - (place + 1)) (drop (place + 1) text)
 between_ends text place len two within =

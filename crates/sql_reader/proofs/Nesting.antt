@@ -1,7 +1,7 @@
--- What may stand in parentheses or behind NOT where so many more may nest.
+-- What may be in parentheses or after NOT where so many more may nest.
 use Rattle.std.proofs.Common.{◌≡◌, ℕ, zero, suc, ◌-◌, ◌≢◌, Bool, true, false, List, refl, ap, arith}
 use Rattle.filter_tree.specs.declared.table.Column.{Column}
-use Rattle.sql_reader.specs.Expressions.{Forms, nested, behind_not, in_parentheses}
+use Rattle.sql_reader.specs.Expressions.{Forms, nested, after_not, in_parentheses}
 use Rattle.sql_reader.specs.Items.{Items}
 use Rattle.sql_reader.specs.Reading.{refuse_as}
 use Rattle.sql_reader.specs.Wrong as w
@@ -14,14 +14,14 @@ unfolding nested
 nested-deepest forms columns zero is_not ts e = refl
 nested-deepest forms columns (suc n) is_not ts e = cc
 
-pub nested-behind_not : {S : Type 0} (forms : Forms S) (columns : List Column) (n : ℕ) (ts : Items) → n ≢ 0 → nested forms columns n true ts ≡ behind_not forms columns (nested forms columns (n - 1)) ts
+pub nested-after_not : {S : Type 0} (forms : Forms S) (columns : List Column) (n : ℕ) (ts : Items) → n ≢ 0 → nested forms columns n true ts ≡ after_not forms columns (nested forms columns (n - 1)) ts
 unfolding nested
-nested-behind_not forms columns zero ts h = absurd (h refl)
-nested-behind_not forms columns (suc n) ts h = ap (λ m. behind_not forms columns (nested forms columns m) ts) (one_less n)
+nested-after_not forms columns zero ts h = absurd (h refl)
+nested-after_not forms columns (suc n) ts h = ap (λ m. after_not forms columns (nested forms columns m) ts) (one_less n)
 
 pub nested-in_parentheses : {S : Type 0} (forms : Forms S) (columns : List Column) (n : ℕ) (ts : Items) → n ≢ 0 → nested forms columns n false ts ≡ in_parentheses forms columns (nested forms columns (n - 1)) ts
 unfolding nested
 nested-in_parentheses forms columns zero ts h = absurd (h refl)
 nested-in_parentheses forms columns (suc n) ts h = ap (λ m. in_parentheses forms columns (nested forms columns m) ts) (one_less n)
 
-pub ruleset nests = (nested-deepest, nested-behind_not, nested-in_parentheses)
+pub ruleset nests = (nested-deepest, nested-after_not, nested-in_parentheses)

@@ -150,7 +150,7 @@ with_all-append : (held xs ys : List AtomOf) → with_all held (xs ++ ys) ≡ wi
 with_all-append held [] ys = refl
 with_all-append held (x ∷ xs) ys = with_all-append (added held x) xs ys
 
--- two lists in turn, each of which may stand in another order, and the two changed round
+-- two lists in turn, each of which may come in another order, and the two changed round
 both_ways : (xs' xs ys' ys : List AtomOf)
     → ((held : List AtomOf) → Alike (with_all held xs') (with_all held xs))
     → ((held : List AtomOf) → Alike (with_all held ys') (with_all held ys))

@@ -27,7 +27,7 @@ use Rattle.sql_reader.specs.Turns.{link, repeat}
 use Rattle.sql_reader.specs.WrittenRows.{value_text, row_text, IsReadable, IsReadableRow, least}
 use Rattle.sql_reader.proofs.Turning.{link-goes_on, link-ends}
 
--- the tokens of bytes that stand at a place of the text
+-- the tokens of bytes that are at a place of the text
 abbrev ahead : ℕ → List ℕ → Items
 ahead place text = items (tokens_from place 0 text)
 
@@ -78,7 +78,7 @@ negative_again k place next rest small ends =
       token_ahead (t.Number (suc k)) (place + 1) (decimal (suc k)) (next ∷ rest) (number_token (place + 1) (suc k) next rest small ends),
     ) (record { reads = refl; fewer = omega arith })
 
-no_cast : (place next : ℕ) (rest : List ℕ) → EndsValue next → cast_or_none (ahead place (next ∷ rest)) ≡ Ok (0, ahead place (next ∷ rest))
+no_cast : (place next : ℕ) (rest : List ℕ) → EndsValue next → cast_or_none (ahead place (next ∷ rest)) ≡ Ok (tt, ahead place (next ∷ rest))
 unfolding cast_or_none next_is look is_ahead
 no_cast place next rest ends = elim ends [ inl e ↦ rw (e, comma_ahead place rest) refl | inr e ↦ rw (e, close_ahead place rest) refl ]
 
@@ -89,7 +89,7 @@ string_again text place next rest is ends =
     rw (token_ahead t.Text place (in_quotes 39 text) (next ∷ rest) (string_token place text next rest is.no_zero is.short ends))
     (record { reads = rw (no_cast (place + length (in_quotes 39 text)) next rest ends, string_says text) refl; fewer = omega arith })
 
--- what stands behind a value begins so
+-- what follows a value begins so
 record EndsText (text : List ℕ) : Type 0 where
   next : ℕ
   rest : List ℕ
@@ -108,9 +108,9 @@ value_next (Known (Number (negsuc k))) place next rest is ends =
     (negative_again k place next rest (omega (arith, ints, is.0)) ends)
 value_next (Known (Bytes text)) place next rest is ends = string_again text place next rest is ends
 
-value_again : (cell : Datum) (place : ℕ) (behind : List ℕ) → IsReadable cell → EndsText behind
-    → ReadsValue cell (ahead place (value_text cell ++ behind)) (ahead (place + length (value_text cell)) behind)
-value_again cell place behind is ends =
+value_again : (cell : Datum) (place : ℕ) (following : List ℕ) → IsReadable cell → EndsText following
+    → ReadsValue cell (ahead place (value_text cell ++ following)) (ahead (place + length (value_text cell)) following)
+value_again cell place following is ends =
     subst (λ text. ReadsValue cell (ahead place (value_text cell ++ text)) (ahead (place + length (value_text cell)) text)) (sym ends.is)
     (value_next cell place ends.next ends.rest is ends.ends)
 
@@ -119,7 +119,7 @@ value_again cell place behind is ends =
 abbrev other_text : Datum → List ℕ
 other_text cell = codes ", " ++ value_text cell
 
--- the values behind the first, up to the end of the text
+-- the values after the first, up to the end of the text
 abbrev others_text : List Datum → List ℕ
 others_text cells = flat_map other_text cells ++ (41 ∷ [])
 
@@ -143,20 +143,20 @@ close_next : (place : ℕ) → next_is i.Comma (closing place) ≡ Ok (false, cl
 unfolding next_is look is_ahead
 close_next place = rw (close_ahead place []) refl
 
-step : (read : List Datum) (cell : Datum) (place : ℕ) (behind : List ℕ) → IsReadable cell → EndsText behind
-    → repeat (link i.Comma one_value) read (ahead place (other_text cell ++ behind))
-    ≡ repeat (link i.Comma one_value) (read ++ (cell ∷ [])) (ahead (place + length (other_text cell)) behind)
-step read cell place behind is ends =
-    let text = value_text cell ++ behind in
+step : (read : List Datum) (cell : Datum) (place : ℕ) (following : List ℕ) → IsReadable cell → EndsText following
+    → repeat (link i.Comma one_value) read (ahead place (other_text cell ++ following))
+    ≡ repeat (link i.Comma one_value) (read ++ (cell ∷ [])) (ahead (place + length (other_text cell)) following)
+step read cell place following is ends =
+    let text = value_text cell ++ following in
     let start = place + 1 + 1 in
-    let takes = value_again cell start behind is ends in
+    let takes = value_again cell start following is ends in
     let tokens : ahead place (44 ∷ 32 ∷ text) ≡ Then (seen (lexeme t.Comma place (44 ∷ []))) (ahead start text) =
     comma_ahead place (32 ∷ text) ∙ ap (λ tokens. Then (seen (lexeme t.Comma place (44 ∷ []))) (items tokens)) (space_passes (place + 1) text) in
-    let read_next = ap (one_value read) (ap rest_of tokens) ∙ one_more read cell (ahead start text) (ahead (start + length (value_text cell)) behind) takes in
-    let fewer : size (ahead (start + length (value_text cell)) behind) < size (ahead place (44 ∷ 32 ∷ text)) = omega (arith, takes.fewer, ap size tokens) in
+    let read_next = ap (one_value read) (ap rest_of tokens) ∙ one_more read cell (ahead start text) (ahead (start + length (value_text cell)) following) takes in
+    let fewer : size (ahead (start + length (value_text cell)) following) < size (ahead place (44 ∷ 32 ∷ text)) = omega (arith, takes.fewer, ap size tokens) in
     let there : start + length (value_text cell) ≡ place + length (other_text cell) = omega arith in
-    link-goes_on i.Comma one_value read (ahead place (44 ∷ 32 ∷ text)) (read ++ (cell ∷ [])) (ahead (start + length (value_text cell)) behind) (comma_next place (32 ∷ text)) read_next fewer
-    ∙ ap (λ p. repeat (link i.Comma one_value) (read ++ (cell ∷ [])) (ahead p behind)) there
+    link-goes_on i.Comma one_value read (ahead place (44 ∷ 32 ∷ text)) (read ++ (cell ∷ [])) (ahead (start + length (value_text cell)) following) (comma_next place (32 ∷ text)) read_next fewer
+    ∙ ap (λ p. repeat (link i.Comma one_value) (read ++ (cell ∷ [])) (ahead p following)) there
 
 others_again : (cells read : List Datum) (place : ℕ) → All IsReadable cells
     → repeat (link i.Comma one_value) read (ahead place (others_text cells)) ≡ Ok (read ++ cells, closing (place + length (flat_map other_text cells)))
@@ -221,7 +221,7 @@ value_readable : (column : Column) (cell : Datum) → Fits column cell → cell 
 value_readable column Missing fits other = tt
 value_readable column (Known constant) fits other = constant_readable column.kind constant fits other
 
--- the value of a column of the row, whatever stands past the row's end
+-- the value of a column of the row, whatever is past the row's end
 value_at_is : (row : List Datum) (k : ℕ) (d : Datum) → k < length row → value_at row k ≡ get_or row k d
 value_at_is [] k d below = absurd (omega arith)
 value_at_is (cell ∷ row) zero d below = refl

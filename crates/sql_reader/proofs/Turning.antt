@@ -2,11 +2,11 @@
 use Rattle.std.proofs.Common.{◌≡◌, ℕ, zero, suc, ◌<◌, Bool, true, false, refl, ap, ◌∙◌, arith}
 use Rattle.std.specs.Prelude.{nat_lt, Option, Some, None, Result, Ok, Err}
 use Rattle.std.proofs.lemmas.Bool.Decides.{nat_tests}
+use Rattle.filter_tree.specs.Memory.{TellsFault}
 use Rattle.sql_reader.specs.declared.item.Item.{Item}
 use Rattle.sql_reader.specs.declared.error.ReadError.{ReadError}
 use Rattle.sql_reader.specs.Items.{Items, size}
-use Rattle.sql_reader.specs.Wrong.{Wrong, wrong_of}
-use Rattle.sql_reader.specs.Reading.{Fault, Outcome, Rule, next_is, rest_of, Tells, TellsOf, fault}
+use Rattle.sql_reader.specs.Reading.{Fault, Outcome, Rule, next_is, rest_of, Tells, told}
 use Rattle.sql_reader.specs.Turns.{Step, after_step, goes, at_most, repeat, link, linked, one_more, each, guarded}
 
 by_test : {P : Type 0} (b : Bool) → (b ≡ true → P) → (b ≡ false → P) → P
@@ -81,20 +81,20 @@ link-ends separator read s ts is = ends (link separator read) s ts (ap (linked r
 pub link-look_fails : {S : Type 0} (separator : Item) (read : S → Rule S) (s : S) (ts : Items) (e : ReadError) →
     Tells e (next_is separator ts) → Tells e (repeat (link separator read) s ts)
 unfolding link
-link-look_fails {S} separator read s ts e told = by_wrong (wrong_of e.kind) told
+link-look_fails {S} separator read s ts e tells = by_fault (told e) tells
   where
-    by_wrong : (wrong : Option Wrong) → TellsOf e.place wrong (next_is separator ts) → TellsOf e.place wrong (repeat (link separator read) s ts)
-    by_wrong None h = tt
-    by_wrong (Some wrong) h = fails (link separator read) s ts (fault e.place wrong) (ap (linked read s) h)
+    by_fault : (found : Option Fault) → TellsFault found (next_is separator ts) → TellsFault found (repeat (link separator read) s ts)
+    by_fault None h = tt
+    by_fault (Some found) h = fails (link separator read) s ts found (ap (linked read s) h)
 
 pub link-part_fails : {S : Type 0} (separator : Item) (read : S → Rule S) (s : S) (ts : Items) (e : ReadError) →
     next_is separator ts ≡ Ok (true, ts) → Tells e (read s (rest_of ts)) → Tells e (repeat (link separator read) s ts)
 unfolding link
-link-part_fails {S} separator read s ts e is told = by_wrong (wrong_of e.kind) told
+link-part_fails {S} separator read s ts e is tells = by_fault (told e) tells
   where
-    by_wrong : (wrong : Option Wrong) → TellsOf e.place wrong (read s (rest_of ts)) → TellsOf e.place wrong (repeat (link separator read) s ts)
-    by_wrong None h = tt
-    by_wrong (Some wrong) h = fails (link separator read) s ts (fault e.place wrong) (ap (linked read s) is ∙ ap one_more h)
+    by_fault : (found : Option Fault) → TellsFault found (read s (rest_of ts)) → TellsFault found (repeat (link separator read) s ts)
+    by_fault None h = tt
+    by_fault (Some found) h = fails (link separator read) s ts found (ap (linked read s) is ∙ ap one_more h)
 
 -- ---- the same of a loop whose parts show by themselves whether there is one more
 
@@ -114,20 +114,20 @@ each-ends more read s ts is = ends (each more read) s ts (ap (guarded read s ts)
 pub each-look_fails : {S : Type 0} (more : Items → Result Bool Fault) (read : S → Rule S) (s : S) (ts : Items) (e : ReadError) →
     Tells e (more ts) → Tells e (repeat (each more read) s ts)
 unfolding each
-each-look_fails {S} more read s ts e told = by_wrong (wrong_of e.kind) told
+each-look_fails {S} more read s ts e tells = by_fault (told e) tells
   where
-    by_wrong : (wrong : Option Wrong) → TellsOf e.place wrong (more ts) → TellsOf e.place wrong (repeat (each more read) s ts)
-    by_wrong None h = tt
-    by_wrong (Some wrong) h = fails (each more read) s ts (fault e.place wrong) (ap (guarded read s ts) h)
+    by_fault : (found : Option Fault) → TellsFault found (more ts) → TellsFault found (repeat (each more read) s ts)
+    by_fault None h = tt
+    by_fault (Some found) h = fails (each more read) s ts found (ap (guarded read s ts) h)
 
 pub each-part_fails : {S : Type 0} (more : Items → Result Bool Fault) (read : S → Rule S) (s : S) (ts : Items) (e : ReadError) →
     more ts ≡ Ok true → Tells e (read s ts) → Tells e (repeat (each more read) s ts)
 unfolding each
-each-part_fails {S} more read s ts e is told = by_wrong (wrong_of e.kind) told
+each-part_fails {S} more read s ts e is tells = by_fault (told e) tells
   where
-    by_wrong : (wrong : Option Wrong) → TellsOf e.place wrong (read s ts) → TellsOf e.place wrong (repeat (each more read) s ts)
-    by_wrong None h = tt
-    by_wrong (Some wrong) h = fails (each more read) s ts (fault e.place wrong) (ap (guarded read s ts) is ∙ ap one_more h)
+    by_fault : (found : Option Fault) → TellsFault found (read s ts) → TellsFault found (repeat (each more read) s ts)
+    by_fault None h = tt
+    by_fault (Some found) h = fails (each more read) s ts found (ap (guarded read s ts) is ∙ ap one_more h)
 
 pub ruleset chains = (link-goes_on, link-ends, link-look_fails, link-part_fails)
 

@@ -5,7 +5,7 @@ use Rattle.std.proofs.lemmas.Bool.Decides.{nat_tests}
 use Rattle.std.proofs.lemmas.Str.{encode_ascii, inside_one, length-encode, len_utf8_bounds}
 use Rattle.sql_tokens.specs.Quotes.{undoubled}
 
--- What is left once quotes are undoubled, behind a quote that may be the first of two, or behind another byte.
+-- What is left once quotes are undoubled, after a quote that may be the first of two, or after another byte.
 unfoldable pub undoubled_from : ℕ → Bool → List ℕ → List ℕ
 undoubled_from quote is_quote [] = []
 undoubled_from quote is_quote (b ∷ bytes) = if is_quote && b == quote then undoubled_from quote false bytes else b ∷ undoubled_from quote (b == quote) bytes
@@ -40,12 +40,12 @@ kept quote (x ∷ xs) rest small high =
     let e = kept quote xs rest small (λ k below. high (suc k) (omega arith)) in
     grind (arith, nat_tests)
 
--- the same behind a quote, if there is a byte
-kept_behind : (quote : ℕ) (is_quote : Bool) (xs rest : List ℕ) → quote < 128 → 0 < length xs → ((k : ℕ) → k < length xs → 128 ≤ get_or xs k 0)
+-- the same after a quote, if there is a byte
+kept_after : (quote : ℕ) (is_quote : Bool) (xs rest : List ℕ) → quote < 128 → 0 < length xs → ((k : ℕ) → k < length xs → 128 ≤ get_or xs k 0)
     → undoubled_from quote is_quote (xs ++ rest) ≡ xs ++ undoubled_from quote false rest
 unfolding undoubled_from
-kept_behind quote is_quote [] rest small some high = absurd (omega arith)
-kept_behind quote is_quote (x ∷ xs) rest small some high =
+kept_after quote is_quote [] rest small some high = absurd (omega arith)
+kept_after quote is_quote (x ∷ xs) rest small some high =
     let first : 128 ≤ x = high 0 (omega arith) in
     let e = kept quote xs rest small (λ k below. high (suc k) (omega arith)) in
     grind (arith, nat_tests)
@@ -64,7 +64,7 @@ undoubled_from-char quote is_quote c rest small = elim (cases_lt c 128) [
         | inl low ↦ absurd (omega (arith, inside_one c [] (encode_utf8 c) k (sym (append-nil _)) below low))
         | inr h ↦ h
       ] in
-      let e = kept_behind quote is_quote (encode_utf8 c) rest small (omega (arith, length-encode c, len_utf8_bounds c)) high in
+      let e = kept_after quote is_quote (encode_utf8 c) rest small (omega (arith, length-encode c, len_utf8_bounds c)) high in
       grind (arith, nat_tests)
 ]
 

@@ -22,7 +22,7 @@ IsNarrow parts = length parts.columns ≤ 100
 
 -- where what is new is let in only below a limit, there is room for it
 pub room-gives : (is_taken is_full : Bool) (n most : ℕ) (one other : Fault) (ts : Items) → (is_full ≡ false → n < most) →
-    Gives (λ (k : ℕ). n < most) (with_rest (if is_taken then Err one else (if is_full then Err other else Ok 0)) ts)
+    Gives (λ (u : Unit {0}). n < most) (with_rest (if is_taken then Err one else (if is_full then Err other else Ok tt)) ts)
 room-gives true is_full n most one other ts h = tt
 room-gives false true n most one other ts h = tt
 room-gives false false n most one other ts h = h refl
@@ -30,7 +30,7 @@ room-gives false false n most one other ts h = h refl
 pub below : (most n : ℕ) → nat_le most n ≡ false → n < most
 below most n e = grind (arith, nat_tests)
 
-new_column-gives : (parts : Parts) (called : PlacedName) (ts : Items) → Gives (λ (k : ℕ). length parts.columns < 100) (with_rest (new_column parts called) ts)
+new_column-gives : (parts : Parts) (called : PlacedName) (ts : Items) → Gives (λ (u : Unit {0}). length parts.columns < 100) (with_rest (new_column parts called) ts)
 unfolding new_column
 new_column-gives parts called ts =
     room-gives (is_some (find_column called.text parts.columns)) (nat_le 100 (length parts.columns)) (length parts.columns) 100 _ _ ts (below 100 (length parts.columns))
@@ -42,7 +42,7 @@ column_element-gives : (parts : Parts) (ts : Items) → IsNarrow parts → Gives
 unfolding column_element
 column_element-gives parts ts narrow =
     any-gives IsNarrow (name ts) _ (λ called ts2.
-    then-gives (λ (k : ℕ). length parts.columns < 100) IsNarrow (with_rest (new_column parts called) ts2) _ (new_column-gives parts called ts2) (λ n ts3 room.
+    then-gives (λ (u : Unit {0}). length parts.columns < 100) IsNarrow (with_rest (new_column parts called) ts2) _ (new_column-gives parts called ts2) (λ n ts3 room.
     any-gives IsNarrow (column_type ts3) _ (λ kind ts4.
     any-gives IsNarrow (constraints (has_key parts) ts4) _ (λ given ts5. pushed-narrow parts.columns _ room))))
 

@@ -81,7 +81,7 @@ constraint_looked ts = Ok (is_constraint (item_ahead ts))
 unfoldable pub constraint_ahead : Items → Verdict Bool
 constraint_ahead ts = constraint_looked ts
 
--- a word and this keyword behind it, with which the column is given these constraints
+-- a word and this keyword after it, with which the column is given these constraints
 unfoldable pub given_by : Keyword → Constraints → Rule Constraints
 given_by second given = advance >> expect (i.Keyword second) >> pure given
 
@@ -106,10 +106,10 @@ abbrev pub has_key : Parts → Bool
 has_key parts = not (length parts.key == 0)
 
 -- a new column has a new name, and there are at most 100
-unfoldable pub new_column : Parts → PlacedName → Verdict ℕ
+unfoldable pub new_column : Parts → PlacedName → Verdict (Unit {0})
 new_column parts called =
     if is_some (find_column called.text parts.columns) then Err (fault called.place w.NameTwice)
-    else (if nat_le 100 (length parts.columns) then Err (fault called.place (w.TooMany Columns)) else Ok 0)
+    else (if nat_le 100 (length parts.columns) then Err (fault called.place (w.TooMany Columns)) else Ok tt)
 
 -- the columns of a primary key are NOT NULL
 abbrev pub with_column : Parts → PlacedName → ColType → Constraints → Parts
@@ -134,9 +134,9 @@ required [] number = []
 required (column ∷ columns) zero = record column { not_null = true } ∷ columns
 required (column ∷ columns) (suc number) = column ∷ required columns number
 
-unfoldable pub once_in_key : Parts → PlacedName → FoundColumn → Verdict ℕ
+unfoldable pub once_in_key : Parts → PlacedName → FoundColumn → Verdict (Unit {0})
 once_in_key parts called column =
-    if list_any (λ n. n == column.number) parts.key then Err (fault called.place w.NameTwice) else Ok 0
+    if list_any (λ n. n == column.number) parts.key then Err (fault called.place w.NameTwice) else Ok tt
 
 abbrev pub with_key_column : Parts → FoundColumn → Parts
 with_key_column parts column = record { columns = required parts.columns column.number; key = parts.key ++ column.number ∷ [] }

@@ -14,7 +14,7 @@ use Rattle.sql_reader.specs.declared.name.PlacedName.{PlacedName}
 use Rattle.sql_reader.specs.declared.column.FoundColumn.{FoundColumn}
 use Rattle.sql_reader.specs.declared.truth_test.Asked.{Asked}
 use Rattle.sql_reader.specs.declared.truth_test.Asked.TheVariants as a
-use Rattle.sql_reader.specs.declared.truth_test.Question.{Question}
+use Rattle.sql_reader.specs.declared.truth_test.TruthTest.{TruthTest}
 use Rattle.sql_reader.specs.declared.error.Omitted.TheVariants as l
 use Rattle.sql_reader.specs.declared.error.Later.TheVariants as y
 use Rattle.sql_reader.specs.Wrong as w
@@ -23,7 +23,7 @@ use Rattle.sql_reader.specs.Names.{name, string_meant}
 use Rattle.sql_reader.specs.Numbers.{placed_number}
 use Rattle.sql_reader.specs.Operands.{PartOf, OfTerm, OfLiteral, part, wanted, negated, joined, dividend, remainder, comparison_by, compared_part, tested as tested_part}
 pub use Rattle.sql_reader.specs.Operands.{Forms}
-use Rattle.sql_reader.specs.Reading.{Rule, Verdict, fault, ◌>>=◌, ◌>>◌, pure, check, here, refuse, refuse_as, advance, look, expect, next_is, is_ahead, item_ahead, place_ahead, written_ahead, rest_of}
+use Rattle.sql_reader.specs.Reading.{Rule, Verdict, fault, ◌>>=◌, ◌>>◌, pure, check, here, refuse, refuse_as, advance, look, eat, expect, next_is, is_ahead, item_ahead, place_ahead, written_ahead}
 use Rattle.sql_reader.specs.Turns.{link, repeat}
 
 -- ---- columns
@@ -46,12 +46,12 @@ unfoldable pub known_column : List Column → PlacedName → Verdict FoundColumn
 known_column columns called = known called (find_column called.text columns)
 
 -- a name that a parenthesis or a point follows is no column
-abbrev pub no_call_by : Option Item → PlacedName → Verdict ℕ
+abbrev pub no_call_by : Option Item → PlacedName → Verdict (Unit {0})
 no_call_by (Some i.Open) called = Err (fault called.place (w.LeftOut l.Function))
 no_call_by (Some i.Dot) called = Err (fault called.place (w.LeftOut l.Qualified))
-no_call_by _ called = Ok 0
+no_call_by _ called = Ok tt
 
-unfoldable pub no_call : PlacedName → Rule ℕ
+unfoldable pub no_call : PlacedName → Rule (Unit {0})
 no_call called = look >> (λ ts. check (no_call_by (item_ahead ts) called) ts)
 
 unfoldable pub column : List Column → Rule FoundColumn
@@ -78,7 +78,7 @@ number_part = do
   digits ← placed_number
   pure (part place (OfLiteral digits.place (Number digits.number)))
 
--- the type behind `::`, which stands at this place, is the word text: another is left out
+-- the type after `::`, which is at this place, is the word text: another is left out
 abbrev pub text_type_by : ℕ → Option Item → Rule (Unit {0})
 text_type_by place (Some (i.Keyword k.Text)) = advance
 text_type_by place (Some item) = if is_name item then check (Err (fault place (w.LeftOut l.Cast))) else refuse
@@ -90,7 +90,7 @@ text_type place ts = text_type_by place (item_ahead ts) ts
 unfoldable pub text_cast : Rule (Unit {0})
 text_cast = expect i.DoubleColon >>= text_type
 
--- behind a string, `:: text` changes nothing
+-- after a string, `:: text` changes nothing
 unfoldable pub cast_or_none : Rule (Unit {0})
 cast_or_none = do
   has_cast ← next_is i.DoubleColon
@@ -116,7 +116,7 @@ simple_by columns _ = column_part columns
 unfoldable pub simple : {S : Type 0} → List Column → Rule (PartOf S)
 simple columns ts = simple_by columns (item_ahead ts) ts
 
--- ---- operators behind an operand that are not read: all bind tighter than comparisons
+-- ---- operators after an operand that are not read: all bind tighter than comparisons
 
 abbrev pub no_word_by : Option Item → Rule (Unit {0})
 no_word_by (Some (i.Keyword k.Like)) = refuse_as (w.LeftOut l.Operator)
@@ -129,7 +129,7 @@ no_word_by _ = pure tt
 unfoldable pub no_word_operator : Rule (Unit {0})
 no_word_operator ts = no_word_by (item_ahead ts) ts
 
--- NOT behind an operand begins one of these words' operators
+-- NOT after an operand begins one of these words' operators
 unfoldable pub no_negated_operator : Rule (Unit {0})
 no_negated_operator = advance >> no_word_operator >> refuse
 
@@ -145,9 +145,6 @@ no_operator = look >> (λ ts. no_operator_by (item_ahead ts) ts)
 
 -- ---- IS tests
 
-unfoldable pub not_or_none : Rule Bool
-not_or_none ts = if is_ahead (i.Keyword k.Not) ts then Ok (true, rest_of ts) else Ok (false, ts)
-
 abbrev pub asked_by : Option Item → Rule Asked
 asked_by (Some (i.Keyword k.Null)) = advance >> pure a.Null
 asked_by (Some (i.Keyword k.True)) = advance >> pure (a.Truth t.True)
@@ -159,51 +156,51 @@ asked_by _ = refuse
 unfoldable pub asked_for : Rule Asked
 asked_for ts = asked_by (item_ahead ts) ts
 
-unfoldable pub is_question : Rule (Option Question)
-is_question = do
+unfoldable pub is_test : Rule (Option TruthTest)
+is_test = do
   place ← expect (i.Keyword k.Is)
-  is_negated ← not_or_none
+  is_negated ← eat (i.Keyword k.Not)
   what ← asked_for
   pure (Some (record { place = place; is_negated = is_negated; asked = what }))
 
 -- ISNULL and NOTNULL
-unfoldable pub null_question : Bool → Rule (Option Question)
-null_question is_negated = λ ts. (advance >> pure (Some (record { place = place_ahead ts; is_negated = is_negated; asked = a.Null }))) ts
+unfoldable pub null_test : Bool → Rule (Option TruthTest)
+null_test is_negated = λ ts. (advance >> pure (Some (record { place = place_ahead ts; is_negated = is_negated; asked = a.Null }))) ts
 
-abbrev pub question_by : Option Item → Rule (Option Question)
-question_by (Some (i.Keyword k.Is)) = is_question
-question_by (Some (i.Keyword k.IsNull)) = null_question false
-question_by (Some (i.Keyword k.NotNull)) = null_question true
-question_by _ = pure None
+abbrev pub test_by : Option Item → Rule (Option TruthTest)
+test_by (Some (i.Keyword k.Is)) = is_test
+test_by (Some (i.Keyword k.IsNull)) = null_test false
+test_by (Some (i.Keyword k.NotNull)) = null_test true
+test_by _ = pure None
 
 -- a test, if one is ahead
-unfoldable pub question_or_none : Rule (Option Question)
-question_or_none ts = question_by (item_ahead ts) ts
+unfoldable pub test_or_none : Rule (Option TruthTest)
+test_or_none ts = test_by (item_ahead ts) ts
 
 unfoldable pub tested : {S : Type 0} → Forms S → PartOf S → Rule (PartOf S)
 tested forms asked_part = do
-  asking ← question_or_none
+  asking ← test_or_none
   check (tested_part forms asking asked_part)
 
 -- ---- expressions
 
--- a look at what stands behind a side of a comparison
+-- a look at what follows a side of a comparison
 abbrev pub side_ended : {S : Type 0} → PartOf S → Rule (PartOf S)
 side_ended read = no_operator >> pure read
 
--- the parenthesis behind a part; with its parentheses the part begins at this place
+-- the parenthesis after a part; with its parentheses the part begins at this place
 abbrev pub closed : {S : Type 0} → ℕ → PartOf S → Rule (PartOf S)
 closed place inner = expect i.Close >> pure (part place inner.operand)
 
 module _ {S : Type 0} (forms : Forms S) (columns : List Column) where
-  -- What stands in parentheses, and behind NOT. Each adds one to the nesting, which is refused at the parenthesis or the NOT that passes the limit.
+  -- What is in parentheses, and after NOT. Each adds one to the nesting, which is refused at the parenthesis or the NOT that passes the limit.
   abbrev Below : Type 0
   Below = Bool → Rule (PartOf S)
 
   unfoldable pub primary : Below → Rule (PartOf S)
   primary below ts = if is_ahead i.Open ts then below false ts else simple columns ts
 
-  -- `%` and the divisor, behind what begins at this place
+  -- `%` and the divisor, after what begins at this place
   unfoldable pub divisor : Below → ℕ → Option FoundColumn → Rule (PartOf S)
   divisor below first column = do
     place ← expect (i.Operator o.Percent)
@@ -222,7 +219,7 @@ module _ {S : Type 0} (forms : Forms S) (columns : List Column) where
   unfoldable pub side : Below → Rule (PartOf S)
   side below = term below >>= side_ended
 
-  -- a comparison is checked before what stands behind it, but for a cast
+  -- a comparison is checked before what follows it, but for a cast
   unfoldable pub right_side : Below → PartOf S → Op → Rule (PartOf S)
   right_side below left operator = do
     place ← here
@@ -248,13 +245,13 @@ module _ {S : Type 0} (forms : Forms S) (columns : List Column) where
   unfoldable pub negation : Below → Rule (PartOf S)
   negation below ts = if is_ahead (i.Keyword k.Not) ts then below true ts else test below ts
 
-  unfoldable pub behind_not : Below → Rule (PartOf S)
-  behind_not below = do
+  unfoldable pub after_not : Below → Rule (PartOf S)
+  after_not below = do
     place ← expect (i.Keyword k.Not)
     right ← negation below
     check (negated forms place right)
 
-  -- AND wants filters: the one before it once it is seen, and the one behind it once that has ended
+  -- AND wants filters: the one before it once it is seen, and the one after it once that has ended
   unfoldable pub one_more_negation : Below → PartOf S → Rule (PartOf S)
   one_more_negation below left = do
     filter ← check (wanted forms left)
@@ -282,7 +279,7 @@ module _ {S : Type 0} (forms : Forms S) (columns : List Column) where
   -- NOT and what it negates, or an expression in parentheses, where so many more may nest
   unfoldable pub nested : ℕ → Below
   nested zero is_not = refuse_as w.TooDeep
-  nested (suc n) true = behind_not (nested n)
+  nested (suc n) true = after_not (nested n)
   nested (suc n) false = in_parentheses (nested n)
 
   -- a filter

@@ -58,7 +58,7 @@ is_name i.QuotedName = true
 is_name (i.Keyword keyword) = not (is_reserved keyword)
 is_name _ = false
 
--- a token as the grammar sees it: `written` is what stands between the quotes of a quoted name or a string, and the whole token of any other kind
+-- a token as the grammar sees it: `written` is what is between the quotes of a quoted name or a string, and the whole token of any other kind
 pub record Seen : Type 0 where
   pub item : Item
   pub place : ℕ

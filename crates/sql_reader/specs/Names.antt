@@ -12,7 +12,7 @@ abbrev pub is_name_item : Option Item → Bool
 is_name_item (Some item) = is_name item
 is_name_item None = false
 
--- whether a name stands next
+-- whether a name comes next
 unfoldable pub name_ahead : Items → Bool
 name_ahead ts = is_name_item (item_ahead ts)
 

@@ -12,5 +12,5 @@ operand_view (p.Term term kind) = OfTerm term kind
 operand_view (p.Literal place literal) = OfLiteral place (constant_view literal)
 operand_view (p.Formula filter) = OfFormula (expr_view filter)
 
-abbrev pub part_of : Part → PartOf Expr
-part_of part = record { place = part.place; operand = operand_view part.operand }
+abbrev pub part_view : Part → PartOf Expr
+part_view part = record { place = part.place; operand = operand_view part.operand }

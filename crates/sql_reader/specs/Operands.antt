@@ -17,7 +17,7 @@ use Rattle.sql_reader.specs.declared.item.Item.TheVariants as i
 use Rattle.sql_reader.specs.declared.column.FoundColumn.{FoundColumn}
 use Rattle.sql_reader.specs.declared.truth_test.Asked.{Asked}
 use Rattle.sql_reader.specs.declared.truth_test.Asked.TheVariants as a
-use Rattle.sql_reader.specs.declared.truth_test.Question.{Question}
+use Rattle.sql_reader.specs.declared.truth_test.TruthTest.{TruthTest}
 use Rattle.sql_reader.specs.declared.error.Omitted.TheVariants as l
 use Rattle.sql_reader.specs.Reading.{Verdict, fault}
 use Rattle.sql_reader.specs.Wrong as w
@@ -41,7 +41,7 @@ pub record Forms (S : Type 0) : Type 0 where
   -- the filter tree of what they make, whose size is limited
   pub tree : S → Expr
 
--- a part of an expression: a column or a remainder of one with the column's type, a literal with the place of its token, which is that of the digits behind a minus, or a boolean expression that is neither a column nor a literal
+-- a part of an expression: a column or a remainder of one with the column's type, a literal with the place of its token, which is that of the digits after a minus, or a boolean expression that is neither a column nor a literal
 pub data OperandOf (S : Type 0) : Type 0 where
   OfTerm : Term → ColType → OperandOf S
   OfLiteral : ℕ → Constant → OperandOf S
@@ -153,7 +153,7 @@ abbrev pub asking : {S : Type 0} → Forms S → ℕ → Test → Option S → V
 asking forms place test (Some s) = Ok (forms.asked test s)
 asking forms place test None = Err (fault place w.TypeClash)
 
--- the test of an operand, whose word stands at this place: a number or a string is not tested, and IS NULL of a boolean expression is IS UNKNOWN
+-- the test of an operand, whose word is at this place: a number or a string is not tested, and IS NULL of a boolean expression is IS UNKNOWN
 abbrev pub answered : {S : Type 0} → Forms S → ℕ → Asked → OperandOf S → Verdict S
 answered forms place asked (OfLiteral at (Number number)) = Err (fault place (w.LeftOut l.Constant))
 answered forms place asked (OfLiteral at (Bytes text)) = Err (fault place (w.LeftOut l.Constant))
@@ -167,7 +167,7 @@ negated_if forms true s = forms.negated s
 negated_if forms false s = s
 
 -- a part that is tested, or one that is not
-unfoldable pub tested : {S : Type 0} → Forms S → Option Question → PartOf S → Verdict (PartOf S)
+unfoldable pub tested : {S : Type 0} → Forms S → Option TruthTest → PartOf S → Verdict (PartOf S)
 tested forms None asked_part = Ok asked_part
-tested forms (Some question) asked_part =
-    verdict_map (λ s. part asked_part.place (OfFormula (negated_if forms question.is_negated s))) (answered forms question.place question.asked asked_part.operand)
+tested forms (Some truth_test) asked_part =
+    verdict_map (λ s. part asked_part.place (OfFormula (negated_if forms truth_test.is_negated s))) (answered forms truth_test.place truth_test.asked asked_part.operand)

@@ -1,5 +1,6 @@
 -- How the grammar is read: each rule takes tokens from the front of a list and gives what it reads and the tokens that are left, or the first fault of the text.
 use Rattle.std.specs.Prelude.{◌≡◌, ℕ, Bool, true, false, if◌then◌else◌, List, [], Option, Some, None, Result, Ok, Err}
+use Rattle.filter_tree.specs.Memory.{TellsFault, Answers as AnswersBy}
 use Rattle.sql_reader.specs.declared.error.ReadError.{ReadError}
 use Rattle.sql_reader.specs.declared.item.Item.{Item}
 use Rattle.sql_reader.specs.Items.{Items, Stop, Broken, Then, is_like}
@@ -67,7 +68,7 @@ written_ahead (Stop place) = []
 written_ahead (Broken place kind) = []
 written_ahead (Then token rest) = token.written
 
--- the tokens behind it
+-- the tokens after it
 abbrev pub rest_of : Items → Items
 rest_of (Stop place) = Stop place
 rest_of (Broken place kind) = Broken place kind
@@ -96,7 +97,7 @@ is_like_ahead item (Some found) = is_like found item
 unfoldable pub is_ahead : Item → Items → Bool
 is_ahead item ts = is_like_ahead item (item_ahead ts)
 
--- a look at it, which a faulty one does not stand
+-- a look at it, which a faulty one does not pass
 abbrev pub looked : Rule (Unit {0})
 looked (Stop place) = Ok (tt, Stop place)
 looked (Broken place kind) = Err (fault place (wrong_token kind))
@@ -122,29 +123,35 @@ more_ahead ts = more_looked ts
 abbrev pub advance : Rule (Unit {0})
 advance = λ ts. Ok (tt, rest_of ts)
 
+-- takes this one if it is ahead, and tells whether it was
+unfoldable pub eat : Item → Rule Bool
+eat item = λ ts. if is_ahead item ts then Ok (true, rest_of ts) else Ok (false, ts)
+
 -- takes this one, and tells its place
 unfoldable pub expect : Item → Rule ℕ
 expect item = λ ts. if is_ahead item ts then Ok (place_ahead ts, rest_of ts) else Err (refusal ts)
 
 -- ---- what a function that reads ensures
 
--- an error tells the fault of the text; for want of memory it may stand for any outcome
-abbrev pub TellsOf : ℕ → Option Wrong → {A : Type 0} → Result A Fault → Type 0
-TellsOf place None outcome = Unit {0}
-TellsOf place (Some wrong) outcome = outcome ≡ Err (fault place wrong)
+abbrev pub fault_or_none : ℕ → Option Wrong → Option Fault
+fault_or_none place None = None
+fault_or_none place (Some wrong) = Some (fault place wrong)
 
+-- the fault that an error tells; want of memory tells none
+abbrev pub told : ReadError → Option Fault
+told e = fault_or_none e.place (wrong_of e.kind)
+
+-- an error tells the fault of the text, or want of memory
 abbrev pub Tells : {A : Type 0} → ReadError → Result A Fault → Type 0
-Tells e outcome = TellsOf e.place (wrong_of e.kind) outcome
+Tells e outcome = TellsFault (told e) outcome
 
--- the function's answer is the rule's, where `view` is what the value read stands for and `rest` are the tokens left
+-- the function's answer is the rule's, or want of memory, where `view` is what the value read stands for and `rest` are the tokens left
 abbrev pub Reads : {A B : Type 0} → (A → B) → Outcome B → Result A ReadError → Items → Type 0
-Reads view outcome (Ok a) rest = outcome ≡ Ok (view a, rest)
-Reads view outcome (Err e) rest = Tells e outcome
+Reads view outcome result rest = AnswersBy (λ a. (view a, rest)) told outcome result
 
 -- the same of a check
 abbrev pub Answers : {A B : Type 0} → (A → B) → Verdict B → Result A ReadError → Type 0
-Answers view verdict (Ok a) = verdict ≡ Ok (view a)
-Answers view verdict (Err e) = Tells e verdict
+Answers view verdict result = AnswersBy view told verdict result
 
 -- an error tells a fault
 abbrev pub IsFault : ReadError → Fault → Type 0

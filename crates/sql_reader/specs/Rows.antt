@@ -12,13 +12,13 @@ use Rattle.sql_reader.specs.Reading.{Rule, Verdict, Outcome, ◌>>=◌, ◌>>◌
 use Rattle.sql_reader.specs.Turns.{link, repeat}
 
 -- `:: text`, which changes nothing
-unfoldable pub text_cast : Rule ℕ
-text_cast = advance >> expect (i.Keyword k.Text)
+unfoldable pub text_cast : Rule (Unit {0})
+text_cast = advance >> expect (i.Keyword k.Text) >> pure tt
 
-unfoldable pub cast_or_none : Rule ℕ
+unfoldable pub cast_or_none : Rule (Unit {0})
 cast_or_none = do
   has_cast ← next_is i.DoubleColon
-  if has_cast then text_cast else pure 0
+  if has_cast then text_cast else pure tt
 
 unfoldable pub string_value : Rule Datum
 string_value = λ ts. (advance >> cast_or_none >> pure (Known (Bytes (string_meant (written_ahead ts))))) ts
@@ -46,11 +46,11 @@ unfoldable pub values : Rule (List Datum)
 values = one_value [] >>= repeat (link i.Comma one_value)
 
 -- the end of the text
-abbrev pub ended : Rule ℕ
-ended (Stop place) = Ok (place, Stop place)
+abbrev pub ended : Rule (Unit {0})
+ended (Stop place) = Ok (tt, Stop place)
 ended ts = Err (refusal ts)
 
-unfoldable pub end : Rule ℕ
+unfoldable pub end : Rule (Unit {0})
 end ts = ended ts
 
 unfoldable pub row : Rule (List Datum)

@@ -95,7 +95,7 @@ fn constraint_ahead(r: &Reader<'_>) -> Result<bool, ReadError>
     Ok(is_constraint(r.item()))
 }
 
-/// Takes a word and this keyword behind it, with which the column is given these constraints.
+/// Takes a word and this keyword after it, with which the column is given these constraints.
 #[tactic(auto, using(crate::proofs::Ahead::rest_is_no_more), unfolding(crate::specs::Columns::given_by))]
 fn given_by(
     r: &mut Reader<'_>,

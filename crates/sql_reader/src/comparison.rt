@@ -5,7 +5,7 @@ ghost use Rattle.filter_tree.specs.Expr as expr;
 ghost use Rattle.filter_tree.specs.Shape.{expr_view};
 ghost use Rattle.filter_tree.specs.Values.{constant_view};
 ghost use Rattle.sql_reader.specs.Operands as spec;
-ghost use Rattle.sql_reader.specs.OperandView.{operand_view, part_of};
+ghost use Rattle.sql_reader.specs.OperandView.{operand_view, part_view};
 ghost use Rattle.sql_reader.specs.Reading.{Answers};
 ghost use Rattle.sql_reader.specs.Written as written;
 ghost use Rattle.sql_reader.specs.Written.{as_filter};
@@ -132,7 +132,7 @@ fn compared(place: usize, left: Operand, op: Op, right: Operand) -> Result<Filte
 
 /// The comparison of two parts, at the place of the left one.
 pub fn compared_part(place: usize, left: Part, op: Op, right: Part) -> Result<Part, ReadError>
-    ensures { Answers part_of (spec.compared_part as_filter place (part_of left) op (part_of right)) result }
+    ensures { Answers part_view (spec.compared_part as_filter place (part_view left) op (part_view right)) result }
 {
     let first = left.place;
     let filter = compared(place, left.operand, op, right.operand)?;

@@ -5,7 +5,7 @@ ghost use Rattle.sql_reader.specs.Ahead.{to_read};
 ghost use Rattle.sql_reader.specs.Items.{size};
 ghost use Rattle.sql_reader.specs.Reading.{Reads, Answers};
 ghost use Rattle.sql_reader.specs.Columns as spec;
-ghost use Rattle.sql_reader.specs.PartsView.{parts_of};
+ghost use Rattle.sql_reader.specs.PartsView.{parts_view};
 
 use crate::column::{FoundColumn, find_column, known_column};
 use crate::column_rule::{Constraints, column_constraints, column_type, left_out_clause};
@@ -30,8 +30,8 @@ pub struct TableParts {
 
 /// Refuses a column whose name is taken, or that is one too many.
 #[tactic(auto, unfolding(crate::specs::Columns::new_column))]
-fn new_column(parts: &TableParts, name: &PlacedName) -> Result<usize, ReadError>
-    ensures { Answers (λ n. n) (spec.new_column (parts_of parts.now) name.now) result }
+fn new_column(parts: &TableParts, name: &PlacedName) -> Result<(), ReadError>
+    ensures { Answers (λ u. u) (spec.new_column (parts_view parts.now) name.now) result }
 {
     let found = find_column(parts.columns.as_slice(), name.text.as_str());
     if found.is_some() {
@@ -46,7 +46,7 @@ fn new_column(parts: &TableParts, name: &PlacedName) -> Result<usize, ReadError>
             kind: ErrorKind::TooMany(Limit::Columns),
         });
     }
-    Ok(0)
+    Ok(())
 }
 
 /// Adds a column.
@@ -56,7 +56,7 @@ fn add_column(
     kind: ColType,
     given: Constraints,
 ) -> Result<(), AllocError>
-    ensures { OnOk result (parts_of parts.new ≡ spec.with_column (parts_of parts.old) name kind given) }
+    ensures { OnOk result (parts_view parts.new ≡ spec.with_column (parts_view parts.old) name kind given) }
 {
     let number = parts.columns.len();
     let column = Column {
@@ -79,7 +79,7 @@ fn column_element(
     alloc: Global,
     parts: &mut TableParts,
 ) -> Result<(), ReadError>
-    ensures reads { Reads (λ _. parts_of parts.new) (spec.column_element (parts_of parts.old) (to_read r.old)) result (to_read r.new) }
+    ensures reads { Reads (λ _. parts_view parts.new) (spec.column_element (parts_view parts.old) (to_read r.old)) result (to_read r.new) }
     ensures fewer { OnOk result (size (to_read r.new) < size (to_read r.old)) }
 {
     let name = read_name(r, alloc, "a column or PRIMARY KEY")?;
@@ -100,14 +100,10 @@ fn require(columns: &mut Vec<Column>, number: usize)
     }
 }
 
-/// Refuses a column that stands in the key already.
+/// Refuses a column that is in the key already.
 #[tactic(auto, unfolding(crate::specs::Columns::once_in_key))]
-fn once_in_key(
-    parts: &TableParts,
-    name: &PlacedName,
-    column: FoundColumn,
-) -> Result<usize, ReadError>
-    ensures { Answers (λ n. n) (spec.once_in_key (parts_of parts.now) name.now column) result }
+fn once_in_key(parts: &TableParts, name: &PlacedName, column: FoundColumn) -> Result<(), ReadError>
+    ensures { Answers (λ u. u) (spec.once_in_key (parts_view parts.now) name.now column) result }
 {
     if parts.key.contains(&column.number) {
         return Err(ReadError {
@@ -115,12 +111,12 @@ fn once_in_key(
             kind: ErrorKind::NameTwice,
         });
     }
-    Ok(0)
+    Ok(())
 }
 
 /// Adds a column to the key.
 fn add_key_column(parts: &mut TableParts, column: FoundColumn) -> Result<(), AllocError>
-    ensures { OnOk result (parts_of parts.new ≡ spec.with_key_column (parts_of parts.old) column) }
+    ensures { OnOk result (parts_view parts.new ≡ spec.with_key_column (parts_view parts.old) column) }
 {
     require(&mut parts.columns, column.number);
     parts.key.push(column.number)?;
@@ -130,7 +126,7 @@ fn add_key_column(parts: &mut TableParts, column: FoundColumn) -> Result<(), All
 /// Takes the name of a column of the key.
 #[tactic(auto, unfolding(crate::specs::Columns::key_column))]
 fn key_column(r: &mut Reader<'_>, alloc: Global, parts: &mut TableParts) -> Result<(), ReadError>
-    ensures reads { Reads (λ _. parts_of parts.new) (spec.key_column (parts_of parts.old) (to_read r.old)) result (to_read r.new) }
+    ensures reads { Reads (λ _. parts_view parts.new) (spec.key_column (parts_view parts.old) (to_read r.old)) result (to_read r.new) }
     ensures fewer { OnOk result (size (to_read r.new) < size (to_read r.old)) }
 {
     let name = read_name(r, alloc, "a column of the key")?;
@@ -143,7 +139,7 @@ fn key_column(r: &mut Reader<'_>, alloc: Global, parts: &mut TableParts) -> Resu
 /// Takes the names of the key's columns, which commas part.
 #[tactic(auto, using(crate::proofs::Turning::chains), unfolding(crate::specs::Columns::key_columns))]
 fn key_columns(r: &mut Reader<'_>, alloc: Global, parts: &mut TableParts) -> Result<(), ReadError>
-    ensures reads { Reads (λ _. parts_of parts.new) (spec.key_columns (parts_of parts.old) (to_read r.old)) result (to_read r.new) }
+    ensures reads { Reads (λ _. parts_view parts.new) (spec.key_columns (parts_view parts.old) (to_read r.old)) result (to_read r.new) }
     ensures fewer { OnOk result (size (to_read r.new) < size (to_read r.old)) }
 {
     key_column(r, alloc, parts)?;
@@ -157,7 +153,7 @@ fn key_columns(r: &mut Reader<'_>, alloc: Global, parts: &mut TableParts) -> Res
 /// Takes `PRIMARY KEY ( name , .. )`.
 #[tactic(auto, unfolding(crate::specs::Columns::first_key))]
 fn first_key(r: &mut Reader<'_>, alloc: Global, parts: &mut TableParts) -> Result<(), ReadError>
-    ensures reads { Reads (λ _. parts_of parts.new) (spec.first_key (parts_of parts.old) (to_read r.old)) result (to_read r.new) }
+    ensures reads { Reads (λ _. parts_view parts.new) (spec.first_key (parts_view parts.old) (to_read r.old)) result (to_read r.new) }
     ensures fewer { OnOk result (size (to_read r.new) < size (to_read r.old)) }
 {
     r.expect(Item::Keyword(Keyword::Primary), "PRIMARY KEY")?;
@@ -171,7 +167,7 @@ fn first_key(r: &mut Reader<'_>, alloc: Global, parts: &mut TableParts) -> Resul
 /// Takes the primary key, if the table has none so far.
 #[tactic(auto, unfolding(crate::specs::Columns::key_element))]
 fn key_element(r: &mut Reader<'_>, alloc: Global, parts: &mut TableParts) -> Result<(), ReadError>
-    ensures reads { Reads (λ _. parts_of parts.new) (spec.key_element (parts_of parts.old) (to_read r.old)) result (to_read r.new) }
+    ensures reads { Reads (λ _. parts_view parts.new) (spec.key_element (parts_view parts.old) (to_read r.old)) result (to_read r.new) }
     ensures fewer { OnOk result (size (to_read r.new) < size (to_read r.old)) }
 {
     if !parts.key.is_empty() {
@@ -183,7 +179,7 @@ fn key_element(r: &mut Reader<'_>, alloc: Global, parts: &mut TableParts) -> Res
 /// Takes an element of CREATE TABLE.
 #[tactic(auto, unfolding(crate::specs::Columns::element))]
 fn element(r: &mut Reader<'_>, alloc: Global, parts: &mut TableParts) -> Result<(), ReadError>
-    ensures reads { Reads (λ _. parts_of parts.new) (spec.element (parts_of parts.old) (to_read r.old)) result (to_read r.new) }
+    ensures reads { Reads (λ _. parts_view parts.new) (spec.element (parts_view parts.old) (to_read r.old)) result (to_read r.new) }
     ensures fewer { OnOk result (size (to_read r.new) < size (to_read r.old)) }
 {
     match r.item() {
@@ -204,7 +200,7 @@ fn element(r: &mut Reader<'_>, alloc: Global, parts: &mut TableParts) -> Result<
 /// The first fault of the elements, with its place, or `OutOfMemory`.
 #[tactic(auto, using(crate::proofs::Turning::chains), unfolding(crate::specs::Columns::elements))]
 pub fn read_elements(r: &mut Reader<'_>, alloc: Global) -> Result<TableParts, ReadError>
-    ensures reads { Reads (λ parts. parts_of parts) (spec.elements (to_read r.old)) result (to_read r.new) }
+    ensures reads { Reads (λ parts. parts_view parts) (spec.elements (to_read r.old)) result (to_read r.new) }
     ensures fewer { OnOk result (size (to_read r.new) < size (to_read r.old)) }
 {
     let mut parts = TableParts {

@@ -5,7 +5,7 @@ ghost use Rattle.filter_tree.specs.Shape.{expr_view};
 ghost use Rattle.sql_reader.specs.Ahead.{to_read};
 ghost use Rattle.sql_reader.specs.Expressions as spec;
 ghost use Rattle.sql_reader.specs.Items.{size};
-ghost use Rattle.sql_reader.specs.OperandView.{part_of};
+ghost use Rattle.sql_reader.specs.OperandView.{part_view};
 ghost use Rattle.sql_reader.specs.Reading.{Reads};
 ghost use Rattle.sql_reader.specs.Written.{as_filter};
 
@@ -26,9 +26,9 @@ use std::alloc::Global;
 /// How deep parentheses and NOT may nest.
 const MAX_NESTING: u32 = 64;
 
-/// Takes the parenthesis behind a part, which begins at the one before it.
+/// Takes the parenthesis after a part, which begins at the one before it.
 fn closed(r: &mut Reader<'_>, place: usize, inner: Part) -> Result<Part, ReadError>
-    ensures reads { Reads part_of (spec.closed place (part_of inner) (to_read r.old)) result (to_read r.new) }
+    ensures reads { Reads part_view (spec.closed place (part_view inner) (to_read r.old)) result (to_read r.new) }
     ensures fewer { OnOk result (size (to_read r.new) < size (to_read r.old)) }
 {
     r.expect(Item::Close, "AND, OR or `)`")?;
@@ -47,7 +47,7 @@ fn in_parentheses(
     columns: &[Column],
     depth: u32,
 ) -> Result<Part, ReadError>
-    ensures reads { Reads part_of (spec.nested as_filter columns.now depth false (to_read r.old)) result (to_read r.new) }
+    ensures reads { Reads part_view (spec.nested as_filter columns.now depth false (to_read r.old)) result (to_read r.new) }
     ensures fewer { OnOk result (size (to_read r.new) < size (to_read r.old)) }
 {
     if depth == 0 {
@@ -67,7 +67,7 @@ fn primary(
     columns: &[Column],
     depth: u32,
 ) -> Result<Part, ReadError>
-    ensures reads { Reads part_of (spec.primary as_filter columns.now (spec.nested as_filter columns.now depth) (to_read r.old)) result (to_read r.new) }
+    ensures reads { Reads part_view (spec.primary as_filter columns.now (spec.nested as_filter columns.now depth) (to_read r.old)) result (to_read r.new) }
     ensures fewer { OnOk result (size (to_read r.new) < size (to_read r.old)) }
 {
     if r.is(Item::Open) {
@@ -76,7 +76,7 @@ fn primary(
     simple(r, alloc, columns)
 }
 
-/// Takes `%` and the divisor of a column, behind what begins at `first`.
+/// Takes `%` and the divisor of a column, after what begins at `first`.
 #[cycle(expression)]
 #[tactic(auto, unfolding(crate::specs::Expressions::divisor))]
 fn divisor(
@@ -87,7 +87,7 @@ fn divisor(
     first: usize,
     column: Option<FoundColumn>,
 ) -> Result<Part, ReadError>
-    ensures reads { Reads part_of (spec.divisor as_filter columns.now (spec.nested as_filter columns.now depth) first column (to_read r.old)) result (to_read r.new) }
+    ensures reads { Reads part_view (spec.divisor as_filter columns.now (spec.nested as_filter columns.now depth) first column (to_read r.old)) result (to_read r.new) }
     ensures fewer { OnOk result (size (to_read r.new) < size (to_read r.old)) }
 {
     let place = r.expect(Item::Operator(Operator::Percent), "`%`")?;
@@ -95,7 +95,7 @@ fn divisor(
     Ok(remainder(place, first, column, right.operand)?)
 }
 
-/// Takes `%` and a divisor behind an operand, if they follow.
+/// Takes `%` and a divisor after an operand, if they follow.
 #[cycle(expression)]
 #[tactic(auto, unfolding(crate::specs::Expressions::divisor_or_none))]
 fn divisor_or_none(
@@ -105,7 +105,7 @@ fn divisor_or_none(
     depth: u32,
     left: Part,
 ) -> Result<Part, ReadError>
-    ensures reads { Reads part_of (spec.divisor_or_none as_filter columns.now (spec.nested as_filter columns.now depth) (part_of left) (to_read r.old)) result (to_read r.new) }
+    ensures reads { Reads part_view (spec.divisor_or_none as_filter columns.now (spec.nested as_filter columns.now depth) (part_view left) (to_read r.old)) result (to_read r.new) }
     ensures fewer { OnOk result (size (to_read r.new) ≤ size (to_read r.old)) }
 {
     if r.next_is(Item::Operator(Operator::Percent))? {
@@ -124,16 +124,16 @@ fn term(
     columns: &[Column],
     depth: u32,
 ) -> Result<Part, ReadError>
-    ensures reads { Reads part_of (spec.term as_filter columns.now (spec.nested as_filter columns.now depth) (to_read r.old)) result (to_read r.new) }
+    ensures reads { Reads part_view (spec.term as_filter columns.now (spec.nested as_filter columns.now depth) (to_read r.old)) result (to_read r.new) }
     ensures fewer { OnOk result (size (to_read r.new) < size (to_read r.old)) }
 {
     let left = primary(r, alloc, columns, depth)?;
     Ok(divisor_or_none(r, alloc, columns, depth, left)?)
 }
 
-/// Looks behind a side of a comparison.
+/// Looks at what follows a side of a comparison.
 fn side_ended(r: &mut Reader<'_>, part: Part) -> Result<Part, ReadError>
-    ensures reads { Reads part_of (spec.side_ended (part_of part) (to_read r.old)) result (to_read r.new) }
+    ensures reads { Reads part_view (spec.side_ended (part_view part) (to_read r.old)) result (to_read r.new) }
     ensures fewer { OnOk result (size (to_read r.new) ≤ size (to_read r.old)) }
 {
     no_operator(r)?;
@@ -149,14 +149,14 @@ fn side(
     columns: &[Column],
     depth: u32,
 ) -> Result<Part, ReadError>
-    ensures reads { Reads part_of (spec.side as_filter columns.now (spec.nested as_filter columns.now depth) (to_read r.old)) result (to_read r.new) }
+    ensures reads { Reads part_view (spec.side as_filter columns.now (spec.nested as_filter columns.now depth) (to_read r.old)) result (to_read r.new) }
     ensures fewer { OnOk result (size (to_read r.new) < size (to_read r.old)) }
 {
     let part = term(r, alloc, columns, depth)?;
     Ok(side_ended(r, part)?)
 }
 
-/// Takes a comparison operator and the side behind it.
+/// Takes a comparison operator and the side after it.
 #[cycle(expression)]
 #[tactic(auto, using(crate::proofs::Ahead::rest_is_no_more), unfolding(crate::specs::Expressions::right_side))]
 fn right_side(
@@ -167,7 +167,7 @@ fn right_side(
     left: Part,
     op: Op,
 ) -> Result<Part, ReadError>
-    ensures reads { Reads part_of (spec.right_side as_filter columns.now (spec.nested as_filter columns.now depth) (part_of left) op (to_read r.old)) result (to_read r.new) }
+    ensures reads { Reads part_view (spec.right_side as_filter columns.now (spec.nested as_filter columns.now depth) (part_view left) op (to_read r.old)) result (to_read r.new) }
     ensures fewer { OnOk result (size (to_read r.new) ≤ size (to_read r.old)) }
 {
     let place = r.place();
@@ -178,7 +178,7 @@ fn right_side(
     Ok(side_ended(r, whole)?)
 }
 
-/// Takes a comparison operator and the side behind it, if they follow.
+/// Takes a comparison operator and the side after it, if they follow.
 #[cycle(expression)]
 #[tactic(auto, unfolding(crate::specs::Expressions::right_side_or_none))]
 fn right_side_or_none(
@@ -188,7 +188,7 @@ fn right_side_or_none(
     depth: u32,
     left: Part,
 ) -> Result<Part, ReadError>
-    ensures reads { Reads part_of (spec.right_side_or_none as_filter columns.now (spec.nested as_filter columns.now depth) (part_of left) (to_read r.old)) result (to_read r.new) }
+    ensures reads { Reads part_view (spec.right_side_or_none as_filter columns.now (spec.nested as_filter columns.now depth) (part_view left) (to_read r.old)) result (to_read r.new) }
     ensures fewer { OnOk result (size (to_read r.new) ≤ size (to_read r.old)) }
 {
     match comparison_by(r.item()) {
@@ -206,14 +206,14 @@ fn comparison(
     columns: &[Column],
     depth: u32,
 ) -> Result<Part, ReadError>
-    ensures reads { Reads part_of (spec.comparison as_filter columns.now (spec.nested as_filter columns.now depth) (to_read r.old)) result (to_read r.new) }
+    ensures reads { Reads part_view (spec.comparison as_filter columns.now (spec.nested as_filter columns.now depth) (to_read r.old)) result (to_read r.new) }
     ensures fewer { OnOk result (size (to_read r.new) < size (to_read r.old)) }
 {
     let left = side(r, alloc, columns, depth)?;
     Ok(right_side_or_none(r, alloc, columns, depth, left)?)
 }
 
-/// Takes a comparison with a test behind it or none.
+/// Takes a comparison with a test after it or none.
 #[cycle(expression)]
 #[tactic(auto, unfolding(crate::specs::Expressions::test))]
 fn test(
@@ -222,7 +222,7 @@ fn test(
     columns: &[Column],
     depth: u32,
 ) -> Result<Part, ReadError>
-    ensures reads { Reads part_of (spec.test as_filter columns.now (spec.nested as_filter columns.now depth) (to_read r.old)) result (to_read r.new) }
+    ensures reads { Reads part_view (spec.test as_filter columns.now (spec.nested as_filter columns.now depth) (to_read r.old)) result (to_read r.new) }
     ensures fewer { OnOk result (size (to_read r.new) < size (to_read r.old)) }
 {
     let part = comparison(r, alloc, columns, depth)?;
@@ -231,14 +231,14 @@ fn test(
 
 /// Takes NOT and what it negates.
 #[cycle(expression)]
-#[tactic(auto, using(crate::proofs::Nesting::nests), unfolding(crate::specs::Expressions::behind_not))]
-fn behind_not(
+#[tactic(auto, using(crate::proofs::Nesting::nests), unfolding(crate::specs::Expressions::after_not))]
+fn after_not(
     r: &mut Reader<'_>,
     alloc: Global,
     columns: &[Column],
     depth: u32,
 ) -> Result<Part, ReadError>
-    ensures reads { Reads part_of (spec.nested as_filter columns.now depth true (to_read r.old)) result (to_read r.new) }
+    ensures reads { Reads part_view (spec.nested as_filter columns.now depth true (to_read r.old)) result (to_read r.new) }
     ensures fewer { OnOk result (size (to_read r.new) < size (to_read r.old)) }
 {
     if depth == 0 {
@@ -258,11 +258,11 @@ fn negation(
     columns: &[Column],
     depth: u32,
 ) -> Result<Part, ReadError>
-    ensures reads { Reads part_of (spec.negation as_filter columns.now (spec.nested as_filter columns.now depth) (to_read r.old)) result (to_read r.new) }
+    ensures reads { Reads part_view (spec.negation as_filter columns.now (spec.nested as_filter columns.now depth) (to_read r.old)) result (to_read r.new) }
     ensures fewer { OnOk result (size (to_read r.new) < size (to_read r.old)) }
 {
     if r.is(Item::Keyword(Keyword::Not)) {
-        return Ok(behind_not(r, alloc, columns, depth)?);
+        return Ok(after_not(r, alloc, columns, depth)?);
     }
     test(r, alloc, columns, depth)
 }
@@ -277,7 +277,7 @@ fn one_more_negation(
     depth: u32,
     left: Part,
 ) -> Result<Part, ReadError>
-    ensures reads { Reads part_of (spec.one_more_negation as_filter columns.now (spec.nested as_filter columns.now depth) (part_of left) (to_read r.old)) result (to_read r.new) }
+    ensures reads { Reads part_view (spec.one_more_negation as_filter columns.now (spec.nested as_filter columns.now depth) (part_view left) (to_read r.old)) result (to_read r.new) }
     ensures fewer { OnOk result (size (to_read r.new) < size (to_read r.old)) }
 {
     let place = left.place;
@@ -295,7 +295,7 @@ fn conjunction(
     columns: &[Column],
     depth: u32,
 ) -> Result<Part, ReadError>
-    ensures reads { Reads part_of (spec.conjunction as_filter columns.now (spec.nested as_filter columns.now depth) (to_read r.old)) result (to_read r.new) }
+    ensures reads { Reads part_view (spec.conjunction as_filter columns.now (spec.nested as_filter columns.now depth) (to_read r.old)) result (to_read r.new) }
     ensures fewer { OnOk result (size (to_read r.new) < size (to_read r.old)) }
 {
     let mut left = negation(r, alloc, columns, depth)?;
@@ -316,7 +316,7 @@ fn one_more_conjunction(
     depth: u32,
     left: Part,
 ) -> Result<Part, ReadError>
-    ensures reads { Reads part_of (spec.one_more_conjunction as_filter columns.now (spec.nested as_filter columns.now depth) (part_of left) (to_read r.old)) result (to_read r.new) }
+    ensures reads { Reads part_view (spec.one_more_conjunction as_filter columns.now (spec.nested as_filter columns.now depth) (part_view left) (to_read r.old)) result (to_read r.new) }
     ensures fewer { OnOk result (size (to_read r.new) < size (to_read r.old)) }
 {
     let place = left.place;
@@ -334,7 +334,7 @@ fn disjunction(
     columns: &[Column],
     depth: u32,
 ) -> Result<Part, ReadError>
-    ensures reads { Reads part_of (spec.disjunction as_filter columns.now (spec.nested as_filter columns.now depth) (to_read r.old)) result (to_read r.new) }
+    ensures reads { Reads part_view (spec.disjunction as_filter columns.now (spec.nested as_filter columns.now depth) (to_read r.old)) result (to_read r.new) }
     ensures fewer { OnOk result (size (to_read r.new) < size (to_read r.old)) }
 {
     let mut left = conjunction(r, alloc, columns, depth)?;

@@ -13,7 +13,7 @@ use crate::reader::Reader;
 use filter_tree::Text;
 use std::alloc::{AllocError, Global};
 
-/// A name that was read as it is meant, and the place where it stands, in bytes from the start of the text.
+/// A name that was read as it is meant, and the place where it is, in bytes from the start of the text.
 #[derive(Drop)]
 pub struct PlacedName {
     pub place: usize,

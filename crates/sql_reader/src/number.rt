@@ -18,7 +18,7 @@ pub struct PlacedNumber {
     pub number: i64,
 }
 
-/// Takes a number, as the negative one where a minus stood before it.
+/// Takes a number, as the negative one where a minus came before it.
 #[tactic(auto, using(crate::proofs::Ahead::rest_of_number_is_fewer), unfolding(crate::specs::Numbers::number))]
 fn number(r: &mut Reader<'_>, negative: bool) -> Result<PlacedNumber, ReadError>
     ensures reads { Reads (λ number. number) (spec.number negative (to_read r.old)) result (to_read r.new) }

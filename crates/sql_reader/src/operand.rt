@@ -4,7 +4,7 @@ ghost use Rattle.std.specs.Prelude.{◌≡◌};
 ghost use Rattle.std.specs.Option.{option_map};
 ghost use Rattle.filter_tree.specs.Shape.{expr_view};
 ghost use Rattle.sql_reader.specs.Operands as spec;
-ghost use Rattle.sql_reader.specs.OperandView.{operand_view, part_of};
+ghost use Rattle.sql_reader.specs.OperandView.{operand_view, part_view};
 ghost use Rattle.sql_reader.specs.Reading.{Answers};
 ghost use Rattle.sql_reader.specs.Written.{as_filter};
 
@@ -18,7 +18,7 @@ use std::alloc::Global;
 pub enum Operand {
     /// A column or a remainder of one, and the type of the column.
     Term(Term, ColType),
-    /// A literal, and the place of its token: of the digits, where a minus stands before them.
+    /// A literal, and the place of its token: of the digits, where a minus comes before them.
     Literal(usize, Literal),
     /// A boolean expression that is neither a column nor a literal.
     Formula(Filter),
@@ -51,7 +51,7 @@ pub fn truth(operand: Operand) -> Option<Filter>
 /// The filter that a part is, where one is wanted.
 #[tactic(auto, unfolding(crate::specs::Operands::wanted))]
 pub fn wanted(part: Part) -> Result<Filter, ReadError>
-    ensures { Answers expr_view (spec.wanted as_filter (part_of part)) result }
+    ensures { Answers expr_view (spec.wanted as_filter (part_view part)) result }
 {
     let place = part.place;
     match truth(part.operand) {
@@ -66,7 +66,7 @@ pub fn wanted(part: Part) -> Result<Filter, ReadError>
 /// NOT of a part, at the place of the NOT.
 #[tactic(auto, unfolding(crate::specs::Operands::negated))]
 pub fn negated(alloc: Global, place: usize, part: Part) -> Result<Part, ReadError>
-    ensures { Answers part_of (spec.negated as_filter place (part_of part)) result }
+    ensures { Answers part_view (spec.negated as_filter place (part_view part)) result }
 {
     let filter = wanted(part)?;
     Ok(Part {
@@ -78,7 +78,7 @@ pub fn negated(alloc: Global, place: usize, part: Part) -> Result<Part, ReadErro
 /// AND of a filter and a part, at the place of the filter.
 #[tactic(auto, unfolding(crate::specs::Operands::joined))]
 pub fn both(alloc: Global, place: usize, left: Filter, right: Part) -> Result<Part, ReadError>
-    ensures { Answers part_of (spec.joined as_filter as_filter.both place (expr_view left) (part_of right)) result }
+    ensures { Answers part_view (spec.joined as_filter as_filter.both place (expr_view left) (part_view right)) result }
 {
     let right = wanted(right)?;
     Ok(Part {
@@ -90,7 +90,7 @@ pub fn both(alloc: Global, place: usize, left: Filter, right: Part) -> Result<Pa
 /// OR of a filter and a part, at the place of the filter.
 #[tactic(auto, unfolding(crate::specs::Operands::joined))]
 pub fn either(alloc: Global, place: usize, left: Filter, right: Part) -> Result<Part, ReadError>
-    ensures { Answers part_of (spec.joined as_filter as_filter.either place (expr_view left) (part_of right)) result }
+    ensures { Answers part_view (spec.joined as_filter as_filter.either place (expr_view left) (part_view right)) result }
 {
     let right = wanted(right)?;
     Ok(Part {
@@ -112,7 +112,7 @@ pub fn dividend(operand: Operand) -> Option<FoundColumn>
     }
 }
 
-/// The remainder of a column by a divisor, by the place of `%`, which stands behind what begins at `first`.
+/// The remainder of a column by a divisor, by the place of `%`, which follows what begins at `first`.
 #[tactic(auto, unfolding(crate::specs::Operands::remainder))]
 pub fn remainder(
     place: usize,
@@ -120,7 +120,7 @@ pub fn remainder(
     dividend: Option<FoundColumn>,
     divisor: Operand,
 ) -> Result<Part, ReadError>
-    ensures { Answers part_of (spec.remainder place first dividend (operand_view divisor)) result }
+    ensures { Answers part_view (spec.remainder place first dividend (operand_view divisor)) result }
 {
     match (dividend, divisor) {
         (Some(_), Operand::Literal(digits, Literal::Int(0))) => Err(ReadError {

@@ -1,4 +1,4 @@
-//! Operators behind an operand that are not read.
+//! Operators after an operand that are not read.
 
 ghost use Rattle.std.specs.Prelude.{◌≤◌, OnOk};
 ghost use Rattle.sql_reader.specs.Ahead.{to_read};
@@ -27,7 +27,7 @@ fn no_word_operator(r: &Reader<'_>) -> Result<(), ReadError>
     }
 }
 
-/// Takes NOT behind an operand, and refuses the operator that it begins.
+/// Takes NOT after an operand, and refuses the operator that it begins.
 #[tactic(auto, unfolding(crate::specs::Expressions::no_negated_operator))]
 fn no_negated_operator(r: &mut Reader<'_>) -> Result<(), ReadError>
     ensures reads { Reads (λ u. u) (spec.no_negated_operator (to_read r.old)) result (to_read r.new) }
@@ -49,7 +49,7 @@ pub fn no_cast(r: &Reader<'_>) -> Result<(), ReadError>
     Ok(())
 }
 
-/// Looks at the token behind an operand, and refuses a cast and the operators that are not read.
+/// Looks at the token after an operand, and refuses a cast and the operators that are not read.
 #[tactic(auto, unfolding(crate::specs::Expressions::no_operator))]
 pub fn no_operator(r: &mut Reader<'_>) -> Result<(), ReadError>
     ensures reads { Reads (λ u. u) (spec.no_operator (to_read r.old)) result (to_read r.new) }

@@ -1,4 +1,4 @@
-//! What stands between quotes.
+//! What is between quotes.
 
 ghost use Rattle.std.specs.Prelude.{◌≡◌, ◌<◌, IfOk};
 ghost use Rattle.std.specs.String.{string_bytes};
@@ -6,7 +6,7 @@ ghost use Rattle.sql_tokens.specs.Meant.{undoubled as meant};
 
 use std::alloc::{AllocError, Global};
 
-/// What stands between two quotes, with each two quotes side by side read as one.
+/// What is between two quotes, with each two quotes side by side read as one.
 #[tactic(auto, using(crate::proofs::Undoubling::undoubled_turns))]
 pub fn undoubled(alloc: Global, quote: char, written: &str) -> Result<String, AllocError>
     requires { quote < 128 }

@@ -9,7 +9,7 @@ use crate::item::Item;
 use crate::token::{token_kind, whole, within_quotes};
 use sql_tokens::{FaultKind, Tokens};
 
-/// What stands ahead of a reader.
+/// What is ahead of a reader.
 #[derive(Clone, Copy)]
 pub enum Ahead {
     End,
@@ -18,7 +18,7 @@ pub enum Ahead {
 }
 
 /// A reader of the tokens of a text, which looks at one token before it takes it.
-/// Where it stands after a name, a filter or the elements of a table were refused, no contract says.
+/// Where it is after a name, a filter or the elements of a table were refused, no contract says.
 #[derive(Drop)]
 pub struct Reader<'a> {
     text: &'a str,
@@ -31,7 +31,7 @@ pub struct Reader<'a> {
 }
 
 impl<'a> Reader<'a> {
-    ghost use Rattle.std.specs.Prelude.{◌≡◌, ◌<◌, IfErr, OnErr, OnOk};
+    ghost use Rattle.std.specs.Prelude.{◌≡◌, ◌<◌, ◌≤◌, IfErr, Ok, OnErr, OnOk};
     ghost use Rattle.sql_tokens.specs.Left.{text_of, left};
     ghost use Rattle.sql_reader.specs.Items.{items, items_of, size};
     ghost use Rattle.sql_reader.specs.Ahead.{to_read};
@@ -195,6 +195,19 @@ impl<'a> Reader<'a> {
         Ok(self.is(item))
     }
 
+    /// Takes this token, if it is ahead, and tells whether it was.
+    #[tactic(auto, using(crate::proofs::Ahead::rest_is_no_more), unfolding(crate::specs::Reading::eat))]
+    pub fn eat(&mut self, item: Item) -> bool
+        ensures takes { spec.eat item (to_read self.old) ≡ Ok (result, to_read self.new) }
+        ensures fewer { size (to_read self.new) ≤ size (to_read self.old) }
+    {
+        let is_ahead = self.is(item);
+        if is_ahead {
+            self.advance();
+        }
+        is_ahead
+    }
+
     /// Takes this token and tells its place, in bytes from the start of the text.
     ///
     /// # Errors
@@ -229,13 +242,13 @@ impl<'a> Reader<'a> {
         }
     }
 
-    /// Refuses all but the end of the text, and tells its place.
+    /// Refuses all but the end of the text.
     #[tactic(auto, unfolding(crate::specs::Rows::end, crate::specs::Ahead::to_read))]
-    pub(crate) fn end(&self, what: &'static str) -> Result<usize, ReadError>
-        ensures { Reads (λ place. place) (end (to_read self.now)) result (to_read self.now) }
+    pub(crate) fn end(&self, what: &'static str) -> Result<(), ReadError>
+        ensures { Reads (λ u. u) (end (to_read self.now)) result (to_read self.now) }
     {
         match self.ahead {
-            Ahead::End => Ok(self.place),
+            Ahead::End => Ok(()),
             Ahead::Fault(_) | Ahead::Item(_) => Err(self.refusal(what)),
         }
     }

@@ -19,27 +19,28 @@ use std::alloc::Global;
 
 /// Takes `:: text`.
 #[tactic(auto, using(crate::proofs::Ahead::rest_is_no_more), unfolding(crate::specs::Rows::text_cast))]
-fn text_cast(r: &mut Reader<'_>) -> Result<usize, ReadError>
-    ensures reads { Reads (λ place. place) (spec.text_cast (to_read r.old)) result (to_read r.new) }
+fn text_cast(r: &mut Reader<'_>) -> Result<(), ReadError>
+    ensures reads { Reads (λ u. u) (spec.text_cast (to_read r.old)) result (to_read r.new) }
     ensures fewer { OnOk result (size (to_read r.new) < size (to_read r.old)) }
 {
     r.advance();
-    r.expect(Item::Keyword(Keyword::Text), "`text`")
+    r.expect(Item::Keyword(Keyword::Text), "`text`")?;
+    Ok(())
 }
 
 /// Takes `:: text`, if it follows.
 #[tactic(auto, unfolding(crate::specs::Rows::cast_or_none))]
-fn cast_or_none(r: &mut Reader<'_>) -> Result<usize, ReadError>
-    ensures reads { Reads (λ place. place) (spec.cast_or_none (to_read r.old)) result (to_read r.new) }
+fn cast_or_none(r: &mut Reader<'_>) -> Result<(), ReadError>
+    ensures reads { Reads (λ u. u) (spec.cast_or_none (to_read r.old)) result (to_read r.new) }
     ensures fewer { OnOk result (size (to_read r.new) ≤ size (to_read r.old)) }
 {
     if r.next_is(Item::DoubleColon)? {
         return Ok(text_cast(r)?);
     }
-    Ok(0)
+    Ok(())
 }
 
-/// Takes a string, with `:: text` behind it or nothing.
+/// Takes a string, with `:: text` after it or nothing.
 #[tactic(auto, using(crate::proofs::Ahead::rest_of_some_is_fewer), unfolding(crate::specs::Rows::string_value))]
 fn string_value(r: &mut Reader<'_>, alloc: Global) -> Result<Value, ReadError>
     requires { IsSome (item_ahead (to_read r.old)) }

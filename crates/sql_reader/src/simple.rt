@@ -4,7 +4,7 @@ ghost use Rattle.std.specs.Prelude.{◌<◌, ◌≤◌, IsSome, OnOk};
 ghost use Rattle.sql_reader.specs.Ahead.{to_read};
 ghost use Rattle.sql_reader.specs.Expressions as spec;
 ghost use Rattle.sql_reader.specs.Items.{size};
-ghost use Rattle.sql_reader.specs.OperandView.{part_of};
+ghost use Rattle.sql_reader.specs.OperandView.{part_view};
 ghost use Rattle.sql_reader.specs.Reading.{Reads, item_ahead};
 
 use crate::column::{FoundColumn, known_column};
@@ -21,8 +21,8 @@ use std::alloc::Global;
 
 /// Refuses a name that a parenthesis or a point follows.
 #[tactic(auto, unfolding(crate::specs::Expressions::no_call))]
-fn no_call(r: &Reader<'_>, name: &PlacedName) -> Result<usize, ReadError>
-    ensures { Reads (λ n. n) (spec.no_call name.now (to_read r.now)) result (to_read r.now) }
+fn no_call(r: &Reader<'_>, name: &PlacedName) -> Result<(), ReadError>
+    ensures { Reads (λ u. u) (spec.no_call name.now (to_read r.now)) result (to_read r.now) }
 {
     r.look()?;
     match r.item() {
@@ -34,7 +34,7 @@ fn no_call(r: &Reader<'_>, name: &PlacedName) -> Result<usize, ReadError>
             place: name.place,
             kind: ErrorKind::LeftOut(Omitted::Qualified),
         }),
-        _ => Ok(0),
+        _ => Ok(()),
     }
 }
 
@@ -52,7 +52,7 @@ fn column(r: &mut Reader<'_>, alloc: Global, columns: &[Column]) -> Result<Found
 /// Takes a column.
 #[tactic(auto, unfolding(crate::specs::Expressions::column_part))]
 fn column_part(r: &mut Reader<'_>, alloc: Global, columns: &[Column]) -> Result<Part, ReadError>
-    ensures reads { Reads part_of (spec.column_part columns.now (to_read r.old)) result (to_read r.new) }
+    ensures reads { Reads part_view (spec.column_part columns.now (to_read r.old)) result (to_read r.new) }
     ensures fewer { OnOk result (size (to_read r.new) < size (to_read r.old)) }
 {
     let place = r.place();
@@ -66,7 +66,7 @@ fn column_part(r: &mut Reader<'_>, alloc: Global, columns: &[Column]) -> Result<
 /// Takes a number, with a minus before it or none.
 #[tactic(auto, unfolding(crate::specs::Expressions::number_part))]
 fn number_part(r: &mut Reader<'_>) -> Result<Part, ReadError>
-    ensures reads { Reads part_of (spec.number_part (to_read r.old)) result (to_read r.new) }
+    ensures reads { Reads part_view (spec.number_part (to_read r.old)) result (to_read r.new) }
     ensures fewer { OnOk result (size (to_read r.new) < size (to_read r.old)) }
 {
     let place = r.place();
@@ -77,7 +77,7 @@ fn number_part(r: &mut Reader<'_>) -> Result<Part, ReadError>
     })
 }
 
-/// Takes the type behind `::`, which stands at `place`.
+/// Takes the type after `::`, which is at `place`.
 #[tactic(auto, using(crate::proofs::Ahead::rest_is_no_more), unfolding(crate::specs::Expressions::text_type))]
 fn text_type(r: &mut Reader<'_>, place: usize) -> Result<(), ReadError>
     ensures reads { Reads (λ u. u) (spec.text_type place (to_read r.old)) result (to_read r.new) }
@@ -96,7 +96,7 @@ fn text_type(r: &mut Reader<'_>, place: usize) -> Result<(), ReadError>
     }
 }
 
-/// Takes `::` and the type behind it.
+/// Takes `::` and the type after it.
 #[tactic(auto, unfolding(crate::specs::Expressions::text_cast))]
 fn text_cast(r: &mut Reader<'_>) -> Result<(), ReadError>
     ensures reads { Reads (λ u. u) (spec.text_cast (to_read r.old)) result (to_read r.new) }
@@ -106,7 +106,7 @@ fn text_cast(r: &mut Reader<'_>) -> Result<(), ReadError>
     text_type(r, place)
 }
 
-/// Takes the cast behind a string, if there is one.
+/// Takes the cast after a string, if there is one.
 #[tactic(auto, unfolding(crate::specs::Expressions::cast_or_none))]
 fn cast_or_none(r: &mut Reader<'_>) -> Result<(), ReadError>
     ensures reads { Reads (λ u. u) (spec.cast_or_none (to_read r.old)) result (to_read r.new) }
@@ -118,11 +118,11 @@ fn cast_or_none(r: &mut Reader<'_>) -> Result<(), ReadError>
     Ok(())
 }
 
-/// Takes a string, with `:: text` behind it or nothing.
+/// Takes a string, with `:: text` after it or nothing.
 #[tactic(auto, using(crate::proofs::Ahead::rest_of_some_is_fewer), unfolding(crate::specs::Expressions::string_part))]
 fn string_part(r: &mut Reader<'_>, alloc: Global) -> Result<Part, ReadError>
     requires { IsSome (item_ahead (to_read r.old)) }
-    ensures reads { Reads part_of (spec.string_part (to_read r.old)) result (to_read r.new) }
+    ensures reads { Reads part_view (spec.string_part (to_read r.old)) result (to_read r.new) }
     ensures fewer { OnOk result (size (to_read r.new) < size (to_read r.old)) }
 {
     let place = r.place();
@@ -139,7 +139,7 @@ fn string_part(r: &mut Reader<'_>, alloc: Global) -> Result<Part, ReadError>
 #[tactic(auto, using(crate::proofs::Ahead::rest_of_some_is_fewer), unfolding(crate::specs::Expressions::truth_part))]
 fn truth_part(r: &mut Reader<'_>, known: bool) -> Result<Part, ReadError>
     requires { IsSome (item_ahead (to_read r.old)) }
-    ensures reads { Reads part_of (spec.truth_part known (to_read r.old)) result (to_read r.new) }
+    ensures reads { Reads part_view (spec.truth_part known (to_read r.old)) result (to_read r.new) }
     ensures fewer { OnOk result (size (to_read r.new) < size (to_read r.old)) }
 {
     let place = r.place();
@@ -153,7 +153,7 @@ fn truth_part(r: &mut Reader<'_>, known: bool) -> Result<Part, ReadError>
 /// Takes a literal or a column.
 #[tactic(auto, unfolding(crate::specs::Expressions::simple))]
 pub fn simple(r: &mut Reader<'_>, alloc: Global, columns: &[Column]) -> Result<Part, ReadError>
-    ensures reads { Reads part_of (spec.simple columns.now (to_read r.old)) result (to_read r.new) }
+    ensures reads { Reads part_view (spec.simple columns.now (to_read r.old)) result (to_read r.new) }
     ensures fewer { OnOk result (size (to_read r.new) < size (to_read r.old)) }
 {
     match r.item() {

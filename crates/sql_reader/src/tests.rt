@@ -2,6 +2,7 @@ mod chains;
 mod elements;
 mod expression_cases;
 mod expressions;
+mod largest;
 mod row_cases;
 mod written_rows;
 

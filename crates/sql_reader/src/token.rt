@@ -16,7 +16,7 @@ pub fn whole<'a>(text: &'a str, token: Token) -> &'a str
     &text[token.place..token.place + token.length]
 }
 
-/// What stands between the quotes of a quoted name or a string; the whole token of any other kind.
+/// What is between the quotes of a quoted name or a string; the whole token of any other kind.
 #[tactic(auto, using(crate::proofs::Cuts::between_ends))]
 pub fn within_quotes<'a>(text: &'a str, token: Token) -> &'a str
     requires { IsCut text.now token }

@@ -7,7 +7,7 @@ ghost use Rattle.sql_reader.specs.Ahead.{to_read};
 ghost use Rattle.sql_reader.specs.Expressions as grammar;
 ghost use Rattle.sql_reader.specs.Items.{size};
 ghost use Rattle.sql_reader.specs.Operands as spec;
-ghost use Rattle.sql_reader.specs.OperandView.{operand_view, part_of};
+ghost use Rattle.sql_reader.specs.OperandView.{operand_view, part_view};
 ghost use Rattle.sql_reader.specs.Reading.{Reads, Answers};
 ghost use Rattle.sql_reader.specs.Written.{as_filter};
 ghost use Rattle.sql_reader.specs.declared.truth_test.Asked.TheVariants.{Null, Truth};
@@ -29,26 +29,13 @@ pub enum Asked {
 
 /// A test that was read, and the place of its first word.
 #[derive(Clone, Copy)]
-pub struct Question {
+pub struct TruthTest {
     pub place: usize,
     pub is_negated: bool,
     pub asked: Asked,
 }
 
-/// Takes NOT, if it is ahead.
-#[tactic(auto, using(crate::proofs::Ahead::rest_is_no_more), unfolding(crate::specs::Expressions::not_or_none))]
-fn not_or_none(r: &mut Reader<'_>) -> Result<bool, ReadError>
-    ensures reads { Reads (λ b. b) (grammar.not_or_none (to_read r.old)) result (to_read r.new) }
-    ensures fewer { OnOk result (size (to_read r.new) ≤ size (to_read r.old)) }
-{
-    let is_negated = r.is(Item::Keyword(Keyword::Not));
-    if is_negated {
-        r.advance();
-    }
-    Ok(is_negated)
-}
-
-/// Takes what stands behind IS.
+/// Takes what follows IS.
 #[tactic(auto, using(crate::proofs::Ahead::rest_is_no_more), unfolding(crate::specs::Expressions::asked_for))]
 fn asked_for(r: &mut Reader<'_>) -> Result<Asked, ReadError>
     ensures reads { Reads (λ asked. asked) (grammar.asked_for (to_read r.old)) result (to_read r.new) }
@@ -69,15 +56,15 @@ fn asked_for(r: &mut Reader<'_>) -> Result<Asked, ReadError>
 }
 
 /// Takes IS and what is asked.
-#[tactic(auto, unfolding(crate::specs::Expressions::is_question))]
-fn is_question(r: &mut Reader<'_>) -> Result<Option<Question>, ReadError>
-    ensures reads { Reads (λ question. question) (grammar.is_question (to_read r.old)) result (to_read r.new) }
+#[tactic(auto, unfolding(crate::specs::Expressions::is_test))]
+fn is_test(r: &mut Reader<'_>) -> Result<Option<TruthTest>, ReadError>
+    ensures reads { Reads (λ test. test) (grammar.is_test (to_read r.old)) result (to_read r.new) }
     ensures fewer { OnOk result (size (to_read r.new) < size (to_read r.old)) }
 {
     let place = r.expect(Item::Keyword(Keyword::Is), "IS")?;
-    let is_negated = not_or_none(r)?;
+    let is_negated = r.eat(Item::Keyword(Keyword::Not));
     let asked = asked_for(r)?;
-    Ok(Some(Question {
+    Ok(Some(TruthTest {
         place,
         is_negated,
         asked,
@@ -85,14 +72,14 @@ fn is_question(r: &mut Reader<'_>) -> Result<Option<Question>, ReadError>
 }
 
 /// Takes ISNULL or NOTNULL.
-#[tactic(auto, using(crate::proofs::Ahead::rest_is_no_more), unfolding(crate::specs::Expressions::null_question))]
-fn null_question(r: &mut Reader<'_>, is_negated: bool) -> Result<Option<Question>, ReadError>
-    ensures reads { Reads (λ question. question) (grammar.null_question is_negated (to_read r.old)) result (to_read r.new) }
+#[tactic(auto, using(crate::proofs::Ahead::rest_is_no_more), unfolding(crate::specs::Expressions::null_test))]
+fn null_test(r: &mut Reader<'_>, is_negated: bool) -> Result<Option<TruthTest>, ReadError>
+    ensures reads { Reads (λ test. test) (grammar.null_test is_negated (to_read r.old)) result (to_read r.new) }
     ensures fewer { OnOk result (size (to_read r.new) ≤ size (to_read r.old)) }
 {
     let place = r.place();
     r.advance();
-    Ok(Some(Question {
+    Ok(Some(TruthTest {
         place,
         is_negated,
         asked: Asked::Null,
@@ -100,15 +87,15 @@ fn null_question(r: &mut Reader<'_>, is_negated: bool) -> Result<Option<Question
 }
 
 /// Takes a test, if one is ahead.
-#[tactic(auto, unfolding(crate::specs::Expressions::question_or_none))]
-fn question_or_none(r: &mut Reader<'_>) -> Result<Option<Question>, ReadError>
-    ensures reads { Reads (λ question. question) (grammar.question_or_none (to_read r.old)) result (to_read r.new) }
+#[tactic(auto, unfolding(crate::specs::Expressions::test_or_none))]
+fn test_or_none(r: &mut Reader<'_>) -> Result<Option<TruthTest>, ReadError>
+    ensures reads { Reads (λ test. test) (grammar.test_or_none (to_read r.old)) result (to_read r.new) }
     ensures fewer { OnOk result (size (to_read r.new) ≤ size (to_read r.old)) }
 {
     match r.item() {
-        Some(Item::Keyword(Keyword::Is)) => is_question(r),
-        Some(Item::Keyword(Keyword::IsNull)) => null_question(r, false),
-        Some(Item::Keyword(Keyword::NotNull)) => null_question(r, true),
+        Some(Item::Keyword(Keyword::Is)) => is_test(r),
+        Some(Item::Keyword(Keyword::IsNull)) => null_test(r, false),
+        Some(Item::Keyword(Keyword::NotNull)) => null_test(r, true),
         _ => Ok(None),
     }
 }
@@ -192,25 +179,25 @@ fn negated_if(alloc: Global, is_negated: bool, filter: Filter) -> Result<Filter,
 
 /// The test of a part.
 #[tactic(auto, unfolding(crate::specs::Operands::tested))]
-fn tested_by(alloc: Global, question: Question, part: Part) -> Result<Part, ReadError>
-    ensures { Answers part_of (spec.tested as_filter (Some question) (part_of part)) result }
+fn tested_by(alloc: Global, test: TruthTest, part: Part) -> Result<Part, ReadError>
+    ensures { Answers part_view (spec.tested as_filter (Some test) (part_view part)) result }
 {
     let place = part.place;
-    let filter = answered(alloc, question.place, question.asked, part.operand)?;
+    let filter = answered(alloc, test.place, test.asked, part.operand)?;
     Ok(Part {
         place,
-        operand: Operand::Formula(negated_if(alloc, question.is_negated, filter)?),
+        operand: Operand::Formula(negated_if(alloc, test.is_negated, filter)?),
     })
 }
 
-/// Takes the test behind a part, if there is one.
+/// Takes the test after a part, if there is one.
 #[tactic(auto, unfolding(crate::specs::Expressions::tested, crate::specs::Operands::tested))]
 pub fn tested(r: &mut Reader<'_>, alloc: Global, part: Part) -> Result<Part, ReadError>
-    ensures reads { Reads part_of (grammar.tested as_filter (part_of part) (to_read r.old)) result (to_read r.new) }
+    ensures reads { Reads part_view (grammar.tested as_filter (part_view part) (to_read r.old)) result (to_read r.new) }
     ensures fewer { OnOk result (size (to_read r.new) ≤ size (to_read r.old)) }
 {
-    match question_or_none(r)? {
-        Some(question) => Ok(tested_by(alloc, question, part)?),
+    match test_or_none(r)? {
+        Some(test) => Ok(tested_by(alloc, test, part)?),
         None => Ok(part),
     }
 }

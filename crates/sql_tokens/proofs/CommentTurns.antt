@@ -3,7 +3,7 @@ use Rattle.std.proofs.Common.{◌≡◌, ℕ, ◌+◌, ◌-◌, ◌&&◌, ◌==�
 use Rattle.std.proofs.lemmas.Bool.Decides.{nat_tests}
 use Rattle.sql_tokens.specs.Comments.{longer, block_comment}
 
--- What is left of a comment behind the byte `before`, which is 0 where that byte belongs to a mark.
+-- What is left of a comment after the byte `before`, which is 0 where that byte belongs to a mark.
 unfoldable pub comment_from : ℕ → ℕ → List ℕ → Option ℕ
 comment_from depth before [] = None
 comment_from depth before (b ∷ bytes) =

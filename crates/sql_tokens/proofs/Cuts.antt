@@ -39,7 +39,7 @@ cut text token utf8 within found =
       number = found.number;
     }
 
--- What stands between the quotes of a token is the text between its ends, without a byte on each side. A reader of the tokens cuts that.
+-- What is between the quotes of a token is the text between its ends, without a byte on each side. A reader of the tokens cuts that.
 pub between_quotes-cut : (text : List ℕ) (place n : ℕ) → 2 ≤ n → place + n ≤ length text → between_quotes (take n (drop place text)) ≡ take (place + n - 1 - (place + 1)) (drop (place + 1) text)
 between_quotes-cut text place n two within =
     let long : n ≤ length (drop place text) = omega (arith, length-drop place text) in

@@ -5,14 +5,14 @@ use Rattle.sql_tokens.specs.Comments.{longer}
 use Rattle.sql_tokens.specs.Quotes.{inner_len, undoubled}
 use Rattle.sql_tokens.proofs.CommentTurns.{longer_none, longer_longer, longer_zero}
 
--- How many bytes more stand before the quote that closes, behind a quote that closes if no other follows, or behind another byte.
+-- How many bytes more come before the quote that closes, after a quote that closes if no other follows, or after another byte.
 unfoldable pub inner_from : ℕ → Bool → List ℕ → Option ℕ
 inner_from quote is_quote [] = if is_quote then Some 0 else None
 inner_from quote is_quote (b ∷ bytes) =
     if is_quote then (if b == quote then longer 2 (inner_from quote false bytes) else Some 0)
     else (if b == 0 then None else (if b == quote then inner_from quote true bytes else longer 1 (inner_from quote false bytes)))
 
--- How many bytes are left once quotes are undoubled, behind a quote that may be the first of two, or behind another byte.
+-- How many bytes are left once quotes are undoubled, after a quote that may be the first of two, or after another byte.
 unfoldable pub undoubled_from : ℕ → Bool → List ℕ → ℕ
 undoubled_from quote is_quote [] = 0
 undoubled_from quote is_quote (b ∷ bytes) = if is_quote && b == quote then undoubled_from quote false bytes else 1 + undoubled_from quote (b == quote) bytes

@@ -26,7 +26,7 @@ use Rattle.sql_tokens.specs.Meant.{between_quotes}
 use Rattle.sql_tokens.proofs.Lexing.{tokens_from-skip}
 use Rattle.sql_tokens.specs.Doubled.{doubled, in_quotes}
 
--- what stands behind a value of a row: a comma, or the parenthesis that closes it
+-- what follows a value of a row: a comma, or the parenthesis that closes it
 abbrev pub EndsValue : ℕ → Type 0
 EndsValue next = (next ≡ 44) ⊎ (next ≡ 41)
 
@@ -35,7 +35,7 @@ EndsValue next = (next ≡ 44) ⊎ (next ≡ 41)
 abbrev pub lexeme : TokenKind → ℕ → List ℕ → Lexeme
 lexeme kind place text = record { kind = kind; place = place; text = text }
 
--- the bytes of a token stand before others
+-- the bytes of a token come before others
 abbrev pub Begins : TokenKind → ℕ → List ℕ → List ℕ → Type 0
 Begins kind place text rest = tokens_from place 0 (text ++ rest) ≡ Then (lexeme kind place text) (tokens_from (place + length text) 0 rest)
 
@@ -96,16 +96,16 @@ digits_len (digit ∷ digits) next rest e ends =
     let more = digits_len digits next rest both.1 ends in
     rw both.0 (omega (arith, more))
 
-byte_behind : (digits : List ℕ) (next : ℕ) (rest : List ℕ) → get_or (digits ++ (next ∷ rest)) (length digits) 0 ≡ next
-byte_behind [] next rest = refl
-byte_behind (digit ∷ digits) next rest = byte_behind digits next rest
+byte_after : (digits : List ℕ) (next : ℕ) (rest : List ℕ) → get_or (digits ++ (next ∷ rest)) (length digits) 0 ≡ next
+byte_after [] next rest = refl
+byte_after (digit ∷ digits) next rest = byte_after digits next rest
 
 digits_number : (digits : List ℕ) (n next : ℕ) (rest : List ℕ) → all_ascii_digits digits ≡ true → number_of digits ≡ n → n < 2 ^ 63 → EndsValue next
     → number (digits ++ (next ∷ rest)) ≡ Whole (Number n) (length digits)
 unfolding number
 digits_number digits n next rest digital value small ends =
     let fits : nat_lt n (2 ^ 63) ≡ true = lt-ltb n (2 ^ 63) small in
-    rw (digits_len digits next rest digital ends, take_at digits (next ∷ rest) (length digits) refl, byte_behind digits next rest, value)
+    rw (digits_len digits next rest digital ends, take_at digits (next ∷ rest) (length digits) refl, byte_after digits next rest, value)
     (elim ends [ inl e ↦ rw (e, fits) refl | inr e ↦ rw (e, fits) refl ])
 
 digits_front : (digits : List ℕ) (rest : List ℕ) → 0 < length digits → all_ascii_digits digits ≡ true → front (digits ++ rest) ≡ number (digits ++ rest)

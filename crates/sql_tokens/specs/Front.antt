@@ -1,4 +1,4 @@
--- What stands at the front of a text: PostgreSQL 15, "SQL Syntax", 4.1 Lexical Structure. The text reads as zero bytes past its end.
+-- What is at the front of a text: PostgreSQL 15, "SQL Syntax", 4.1 Lexical Structure. The text reads as zero bytes past its end.
 use Rattle.std.specs.Prelude.{ℕ, ◌+◌, Bool, ◌&&◌, ◌||◌, ◌==◌, nat_lt, if◌then◌else◌, List, drop, slice_index, Option, Some, None}
 use Rattle.std.specs.List.{prefix_len}
 use Rattle.std.specs.Char.{to_ascii_lowercase}
@@ -18,7 +18,7 @@ abbrev pub comment_piece : Option ℕ → Piece
 comment_piece None = Faulty BadToken
 comment_piece (Some n) = Blank (2 + n)
 
--- a letter directly before a quote, by what the letter and the two bytes behind it are
+-- a letter directly before a quote, by what the letter and the two bytes after it are
 abbrev pub is_string_form : ℕ → ℕ → ℕ → Bool
 is_string_form letter next after =
     let e = to_ascii_lowercase letter in

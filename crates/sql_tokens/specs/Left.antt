@@ -20,13 +20,13 @@ left tokens = at (text_of tokens) tokens.place
 abbrev pub lexeme : List ℕ → Token → Lexeme
 lexeme text token = record { kind = token.kind; place = token.place; text = take token.length (drop token.place text) }
 
--- the tokens that an answer tells of, where `rest` are those behind it
+-- the tokens that an answer tells of, where `rest` are those after it
 abbrev pub answered : List ℕ → Result (Option Token) TokenFault → Lexed → Lexed
 answered text (Ok None) rest = End (length text)
 answered text (Ok (Some token)) rest = Then (lexeme text token) rest
 answered text (Err fault) rest = Bad fault.place fault.kind
 
--- where the text goes on behind an answer
+-- where the text goes on after an answer
 abbrev pub place_after : List ℕ → Result (Option Token) TokenFault → ℕ
 place_after text (Ok (Some token)) = token.place + token.length
 place_after text _ = length text

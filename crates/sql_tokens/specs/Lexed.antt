@@ -18,13 +18,13 @@ pub data Lexed : Type 0 where
   Bad : ℕ → FaultKind → Lexed
   Then : Lexeme → Lexed → Lexed
 
--- what the piece at the front of some bytes makes, where `go_on` reads on past a number of bytes behind the first
+-- what the piece at the front of some bytes makes, where `go_on` reads on past a number of bytes after the first
 abbrev pub begins : Piece → ℕ → List ℕ → (ℕ → Lexed) → Lexed
 begins (Blank n) place bytes go_on = go_on (n - 1)
 begins (Whole kind n) place bytes go_on = Then (record { kind = kind; place = place; text = take n bytes }) (go_on (n - 1))
 begins (Faulty fault) place bytes go_on = Bad place fault
 
--- the tokens of bytes that stand at a place of the text, past `skip` of them
+-- the tokens of bytes that are at a place of the text, past `skip` of them
 unfoldable pub tokens_from : ℕ → ℕ → List ℕ → Lexed
 tokens_from place skip [] = End place
 tokens_from place (suc skip) (b ∷ bytes) = tokens_from (place + 1) skip bytes

@@ -10,7 +10,7 @@ pub use Rattle.sql_tokens.specs.Quotes.{undoubled}
 abbrev pub between_quotes : List ℕ → List ℕ
 between_quotes text = take (length text - 2) (drop 1 text)
 
--- a quoted name as it stands between its quotes, another in lower case
+-- a quoted name as it is between its quotes, another in lower case
 abbrev pub name_of : TokenKind → List ℕ → List ℕ
 name_of QuotedName text = undoubled 34 (between_quotes text)
 name_of _ text = str_to_ascii_lowercase text

@@ -8,7 +8,7 @@ use Rattle.sql_tokens.specs.declared.kinds.Piece.{Piece}
 use Rattle.sql_tokens.specs.declared.kinds.Piece.TheVariants.{Whole, Faulty}
 use Rattle.sql_tokens.specs.Bytes.{is_of}
 
--- digits read behind a number
+-- digits read after a number
 unfoldable pub number_from : ℕ → List ℕ → ℕ
 number_from n [] = n
 number_from n (d ∷ digits) = number_from (10 * n + (d - 48)) digits
@@ -16,7 +16,7 @@ number_from n (d ∷ digits) = number_from (10 * n + (d - 48)) digits
 abbrev pub number_of : List ℕ → ℕ
 number_of digits = number_from 0 digits
 
--- a number of `n` digits, by the byte behind it
+-- a number of `n` digits, by the byte after it
 abbrev pub number_piece : ℕ → ℕ → ℕ → Piece
 number_piece n value next =
     if is_of class.Letter next then Faulty fault.BadToken

@@ -1,4 +1,4 @@
-//! What stands at the front of some bytes.
+//! What is at the front of some bytes.
 
 ghost use Rattle.std.specs.Prelude.{◌≡◌, ◌<◌, ◌^◌, length, slice_index, true, IfSome};
 ghost use Rattle.sql_tokens.specs.declared.bytes.Class.TheVariants as class;
@@ -13,7 +13,7 @@ use crate::numbers::number;
 use crate::quotes::{quoted_name, string};
 use crate::signs::operator;
 
-/// What a comment makes, by its length behind the two characters that begin it.
+/// What a comment makes, by its length after the two characters that begin it.
 fn comment_piece(length: Option<usize>) -> Piece
     requires { IfSome length (λ n. n < 2 ^ 63) }
     ensures { result ≡ spec.comment_piece length }
@@ -24,7 +24,7 @@ fn comment_piece(length: Option<usize>) -> Piece
     }
 }
 
-/// Whether a letter stands directly before a quote that it changes, by the bytes behind it.
+/// Whether a letter comes directly before a quote that it changes, by the bytes after it.
 fn is_string_form(letter: u8, next: u8, after: u8) -> bool
     ensures { result ≡ spec.is_string_form letter next after }
 {
@@ -69,7 +69,7 @@ fn punctuation(bytes: &[u8]) -> Piece
     }
 }
 
-/// What stands at the front of some bytes.
+/// What is at the front of some bytes.
 #[tactic(auto, unfolding(crate::specs::Front::front))]
 pub(crate) fn front(bytes: &[u8]) -> Piece
     requires { 0 < length bytes.now }

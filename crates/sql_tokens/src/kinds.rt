@@ -1,6 +1,6 @@
 //! What a token is, and what a faulty one is.
 
-/// A token of a text: its kind, and where it stands.
+/// A token of a text: its kind, and where it is.
 #[derive(Clone, Copy, Debug, PartialEq, Eq)]
 pub struct Token {
     pub kind: TokenKind,
@@ -80,7 +80,7 @@ pub enum FaultKind {
     NumberTooLarge,
     /// A string constant of more than 65,535 bytes.
     LiteralBytes,
-    /// A number with a point behind it.
+    /// A number with a point after it.
     Number,
     /// A string constant or a quoted name with a letter before it that changes how it is read.
     StringForm,
@@ -91,7 +91,7 @@ pub enum FaultKind {
 /// The most bytes of a name.
 pub(crate) const NAME_BYTES: usize = 63;
 
-/// What stands at the front of some bytes.
+/// What is at the front of some bytes.
 #[derive(Clone, Copy)]
 pub(crate) enum Piece {
     /// White space or a comment, of this many bytes.

@@ -9,7 +9,7 @@ use crate::kinds::{FaultKind, NAME_BYTES, Piece, TokenKind};
 /// The most bytes of a string constant.
 const STRING_BYTES: usize = 65_535;
 
-/// How many bytes stand before the quote that closes, or `None` where none does.
+/// How many bytes come before the quote that closes, or `None` where none does.
 #[tactic(auto, using(crate::proofs::QuoteTurns::inner_turns), unfolding(crate::proofs::QuoteTurns::inner_from))]
 fn inner_len(quote: u8, bytes: &[u8]) -> Option<usize>
     ensures value { result ≡ spec.inner_len quote bytes.now }
@@ -18,7 +18,7 @@ fn inner_len(quote: u8, bytes: &[u8]) -> Option<usize>
 {
     let mut rest = bytes;
     let mut length = 0;
-    // Whether a quote stands before the rest that closes if no other follows.
+    // Whether a quote comes before the rest that closes if no other follows.
     let mut is_quote = false;
     while let [byte, after @ ..] = rest {
         if is_quote {

@@ -295,8 +295,8 @@ pub const WHOLE: &[Case] = &[
     ),
 ];
 
-/// What stands behind `TABLE`, with places counted from there.
-pub const BEHIND_A_TABLE: &[Case] = &[
+/// What follows `TABLE`, with places counted from there.
+pub const AFTER_A_TABLE: &[Case] = &[
     ("\u{e9}", "BadToken", 0),
     (
         ";CREATE TABLE u (id integer PRIMARY KEY, region text);\n",
@@ -360,7 +360,7 @@ pub const BEHIND_A_TABLE: &[Case] = &[
     ),
 ];
 
-/// What stands behind `FILTER`, with places counted from there.
+/// What follows `FILTER`, with places counted from there.
 pub const FILTERS: &[Case] = &[
     ("id < 5);", "ok", 0),
     (");", "Expected", 0),

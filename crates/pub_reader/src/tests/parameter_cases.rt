@@ -2,7 +2,7 @@
 
 use super::catalog_cases::Case;
 
-/// What stands behind the tables `t` and `s.u`, with places counted from there.
+/// What follows the tables `t` and `s.u`, with places counted from there.
 pub const PARAMETERS: &[Case] = &[
     ("CREATE PUBLICATION p WITH (publish = 'insert');", "ok", 0),
     (

@@ -2,8 +2,8 @@
 
 use super::catalog_cases::Case;
 
-/// What stands behind the tables `t`, of the columns `id` and `region`, and `s.u`, with places counted from there.
-pub const BEHIND_TABLES: &[Case] = &[
+/// What follows the tables `t`, of the columns `id` and `region`, and `s.u`, with places counted from there.
+pub const AFTER_TABLES: &[Case] = &[
     ("ALTER TABLE ONLY t REPLICA IDENTITY FULL;", "ok", 0),
     ("ALTER TABLE s.u REPLICA IDENTITY NOTHING;", "ok", 0),
     ("ALTER TABLE u REPLICA IDENTITY FULL;", "UnknownName", 12),
@@ -250,8 +250,8 @@ pub const BEHIND_TABLES: &[Case] = &[
     ),
 ];
 
-/// What stands behind the publications `p` and `q`, with places counted from there.
-pub const BEHIND_PUBLICATIONS: &[Case] = &[
+/// What follows the publications `p` and `q`, with places counted from there.
+pub const AFTER_PUBLICATIONS: &[Case] = &[
     (
         "CREATE SUBSCRIPTION s0 CONNECTION '' PUBLICATION p;",
         "ok",

@@ -49,11 +49,11 @@ fn shown(alloc: Global, catalog: &Catalog) -> Result<String, AllocError> {
     Ok(text)
 }
 
-/// What stands before each of `CATALOGS`, and behind it.
+/// What comes before each of `CATALOGS`, and after it.
 const BEFORE: &str =
     "CREATE SCHEMA s;CREATE SCHEMA \"E\";CREATE TABLE t (id integer PRIMARY KEY);\n";
 
-const BEHIND: &str =
+const AFTER: &str =
     "CREATE TABLE s.t (id bigint PRIMARY KEY);CREATE TABLE \"E\".\"T\" (id text PRIMARY KEY);\n";
 
 /// Catalogs, and what they have.
@@ -126,7 +126,7 @@ fn gives_the_publications_of_subscriptions(rt: HostRuntime) -> Result<(), Fail> 
 fn gives_what_publications_cover(rt: HostRuntime) -> Result<(), Fail> {
     let alloc = rt.alloc();
     for (statements, expected) in CATALOGS {
-        let text = format!(in alloc; "{BEFORE}{statements}{BEHIND}")?;
+        let text = format!(in alloc; "{BEFORE}{statements}{AFTER}")?;
         let catalog = read_catalog(alloc, text.as_str())?;
         assert_eq!(rt;
             shown(alloc, &catalog)?.as_str(),

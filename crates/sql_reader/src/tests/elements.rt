@@ -8,7 +8,7 @@ use crate::{
 use std::alloc::{AllocError, Global};
 use std::test::Fail;
 
-/// What stands behind the parenthesis before the elements, and the columns, with a `!` behind those that are NOT NULL,
+/// What follows the parenthesis before the elements, and the columns, with a `!` after those that are NOT NULL,
 /// and the key.
 const ELEMENTS: &[(&str, &str)] = &[
     (

@@ -3,7 +3,7 @@
 /// A text, what is wrong with it ("ok" for nothing), and at which byte.
 pub type Case = (&'static str, &'static str, usize);
 
-/// What stands behind the parenthesis before a filter.
+/// What follows the parenthesis before a filter.
 pub const EXPRESSIONS: &[Case] = &[
     // Worked filters.
     ("id % 0 = 1);", "ZeroDivisor", 5),

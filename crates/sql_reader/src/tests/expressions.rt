@@ -16,7 +16,7 @@ const COLUMNS: [(&str, ColType); 5] = [
 ];
 
 /// The columns of the filters here.
-fn columns(alloc: Global) -> Result<Vec<Column>, AllocError> {
+pub fn columns(alloc: Global) -> Result<Vec<Column>, AllocError> {
     let mut columns = Vec::new(alloc);
     for (name, kind) in COLUMNS {
         columns.push(Column {

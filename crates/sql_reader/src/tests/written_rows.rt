@@ -117,16 +117,3 @@ fn writes_rows_that_are_refused(rt: HostRuntime) -> Result<(), Fail> {
     }
     Ok(())
 }
-
-/// A text may have 65,535 bytes, each of which is written as two quotes.
-#[test]
-fn writes_the_longest_text(rt: HostRuntime) -> Result<(), Fail> {
-    let mut values = Vec::new(rt.alloc());
-    values.push(Value::Text(Text::new("'".repeat(rt.alloc(), 65_535)?)))?;
-    let row = Row::from_values(values);
-    let text = write_row(rt.alloc(), &row)?;
-    assert_eq!(rt; text.len(), 131_074);
-    let read = read_row(rt.alloc(), text.as_str())?;
-    assert!(rt; same_row(&row, &read));
-    Ok(())
-}

@@ -4,12 +4,12 @@ use Rattle.sql_reader.specs.Ahead.{to_read}
 use Rattle.sql_reader.specs.Items.{size}
 use Rattle.sql_reader.specs.Turns.{link, repeat}
 use Rattle.sql_reader.specs.Columns as spec
-use Rattle.sql_reader.specs.PartsView.{parts_of}
+use Rattle.sql_reader.specs.PartsView.{parts_view}
 use Rattle.sql_reader.proofs.element.key_columns.Given as goal
 
 abbrev pub invariant-loop-r : goal.invariant-loop-r
 invariant-loop-r l = record {
-  so_far : spec.key_columns (parts_of l.fn.parts) (to_read l.fn.r) ≡ repeat (link Comma spec.key_column) (parts_of l.parts) (to_read l.r);
+  so_far : spec.key_columns (parts_view l.fn.parts) (to_read l.fn.r) ≡ repeat (link Comma spec.key_column) (parts_view l.parts) (to_read l.r);
   fewer : size (to_read l.r) < size (to_read l.fn.r);
 }
 

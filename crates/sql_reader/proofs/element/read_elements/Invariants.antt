@@ -4,12 +4,12 @@ use Rattle.sql_reader.specs.Ahead.{to_read}
 use Rattle.sql_reader.specs.Items.{size}
 use Rattle.sql_reader.specs.Turns.{link, repeat}
 use Rattle.sql_reader.specs.Columns as spec
-use Rattle.sql_reader.specs.PartsView.{parts_of}
+use Rattle.sql_reader.specs.PartsView.{parts_view}
 use Rattle.sql_reader.proofs.element.read_elements.Given as goal
 
 abbrev pub invariant-loop-parts : goal.invariant-loop-parts
 invariant-loop-parts l = record {
-  so_far : spec.elements (to_read l.fn.r) ≡ repeat (link Comma spec.element) (parts_of l.parts) (to_read l.r);
+  so_far : spec.elements (to_read l.fn.r) ≡ repeat (link Comma spec.element) (parts_view l.parts) (to_read l.r);
   fewer : size (to_read l.r) < size (to_read l.fn.r);
 }
 

@@ -4,7 +4,7 @@ use Rattle.sql_reader.specs.declared.item.Item.TheVariants as i
 use Rattle.sql_reader.specs.Ahead.{to_read}
 use Rattle.sql_reader.specs.Expressions as spec
 use Rattle.sql_reader.specs.Items.{size}
-use Rattle.sql_reader.specs.OperandView.{part_of}
+use Rattle.sql_reader.specs.OperandView.{part_view}
 use Rattle.sql_reader.specs.Turns.{link, repeat}
 use Rattle.sql_reader.specs.Written.{as_filter}
 use Rattle.sql_reader.proofs.expression.+expression.Given as goal
@@ -51,8 +51,8 @@ decreases-divisor l = 16 * l.depth + 3
 abbrev pub decreases-primary : goal.decreases-primary
 decreases-primary l = 16 * l.depth + 2
 
-abbrev pub decreases-behind_not : goal.decreases-behind_not
-decreases-behind_not l = 16 * l.depth + 1
+abbrev pub decreases-after_not : goal.decreases-after_not
+decreases-after_not l = 16 * l.depth + 1
 
 abbrev pub decreases-in_parentheses : goal.decreases-in_parentheses
 decreases-in_parentheses l = 16 * l.depth + 1
@@ -60,7 +60,7 @@ decreases-in_parentheses l = 16 * l.depth + 1
 abbrev pub invariant-conjunction-loop-left : goal.invariant-conjunction-loop-left
 invariant-conjunction-loop-left l = record {
   so_far : spec.conjunction as_filter l.columns (spec.nested as_filter l.columns l.depth) (to_read l.fn.r)
-      ≡ repeat (link (i.Keyword k.And) (spec.one_more_negation as_filter l.columns (spec.nested as_filter l.columns l.depth))) (part_of l.left) (to_read l.r);
+      ≡ repeat (link (i.Keyword k.And) (spec.one_more_negation as_filter l.columns (spec.nested as_filter l.columns l.depth))) (part_view l.left) (to_read l.r);
   fewer : size (to_read l.r) < size (to_read l.fn.r);
 }
 
@@ -70,7 +70,7 @@ decreases-conjunction-loop-left l = size (to_read l.r)
 abbrev pub invariant-disjunction-loop-left : goal.invariant-disjunction-loop-left
 invariant-disjunction-loop-left l = record {
   so_far : spec.disjunction as_filter l.columns (spec.nested as_filter l.columns l.depth) (to_read l.fn.r)
-      ≡ repeat (link (i.Keyword k.Or) (spec.one_more_conjunction as_filter l.columns (spec.nested as_filter l.columns l.depth))) (part_of l.left) (to_read l.r);
+      ≡ repeat (link (i.Keyword k.Or) (spec.one_more_conjunction as_filter l.columns (spec.nested as_filter l.columns l.depth))) (part_view l.left) (to_read l.r);
   fewer : size (to_read l.r) < size (to_read l.fn.r);
 }
 
