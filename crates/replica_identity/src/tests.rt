@@ -105,3 +105,73 @@ fn identities_have_their_columns(rt: HostRuntime) -> Result<(), Fail> {
     }
     Ok(())
 }
+
+/// 64 tables of 100 columns, the first of which has them all as its key; 64 publications, each of every table with a
+/// filter; 32 subscriptions, each to every publication.
+fn largest_catalog(alloc: Global) -> Result<String, AllocError> {
+    let mut text = String::new(alloc);
+    for table in 0..64 {
+        write!(text, "CREATE TABLE t{table} (")?;
+        for column in 0..100 {
+            write!(text, "c{column} integer, ")?;
+        }
+        write!(text, "PRIMARY KEY (c0")?;
+        if table == 0 {
+            for column in 1..100 {
+                write!(text, ", c{column}")?;
+            }
+        }
+        writeln!(text, "));")?;
+    }
+    writeln!(text, "ALTER TABLE t63 REPLICA IDENTITY FULL;")?;
+    for publication in 0..64 {
+        write!(
+            text,
+            "CREATE PUBLICATION p{publication} FOR TABLE t0 WHERE (c0 = {publication})"
+        )?;
+        for table in 1..64 {
+            write!(text, ", t{table} WHERE (c0 = {publication})")?;
+        }
+        writeln!(text, ";")?;
+    }
+    for subscription in 0..32 {
+        write!(
+            text,
+            "CREATE SUBSCRIPTION s{subscription} CONNECTION '' PUBLICATION p0"
+        )?;
+        for publication in 1..64 {
+            write!(text, ", p{publication}")?;
+        }
+        writeln!(text, ";")?;
+    }
+    Ok(text)
+}
+
+#[test]
+fn the_largest_catalog_has_a_plan(rt: HostRuntime) -> Result<(), Fail> {
+    let alloc = rt.alloc();
+    let catalog = read_catalog(alloc, &largest_catalog(alloc)?)?;
+    let plan = plan(alloc, &catalog)?;
+    for (text, is_taken) in [
+        ("(0)", true),
+        ("(63)", true),
+        ("(64)", false),
+        ("(NULL)", false),
+    ] {
+        let row = row(alloc, text)?;
+        for subscriber in 0..32 {
+            for table in 0..64 {
+                assert_eq!(rt; plan.share(subscriber, table).takes(&row), is_taken);
+            }
+        }
+        assert!(rt; !plan.share(32, 0).takes(&row));
+        assert!(rt; !plan.share(0, 64).takes(&row));
+    }
+    let tables = catalog.tables.as_slice();
+    let counts = [(0, 100), (1, 1), (63, 100)];
+    for (table, count) in counts {
+        assert_eq!(rt; identity_columns(alloc, &tables[table])?.len(), count);
+        assert_eq!(rt; covered(&tables[table], 99), count == 100);
+    }
+    Ok(())
+}
