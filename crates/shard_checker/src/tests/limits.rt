@@ -138,7 +138,12 @@ fn the_last_of_a_catalog_at_the_limits_is_refused(rt: HostRuntime) -> Result<(),
     let second = CheckError::NotOwner { table: 63, node: 0 };
     let cases = [
         (Identity::Full, false, 31, missing),
-        (Identity::Nothing, true, 31, CheckError::NoIdentity { table: 63 }),
+        (
+            Identity::Nothing,
+            true,
+            31,
+            CheckError::NoIdentity { table: 63 },
+        ),
         (Identity::Default, true, 31, uncovered),
         (Identity::Full, true, 0, second),
     ];
@@ -187,10 +192,7 @@ fn each_node_of_a_certificate_at_the_limits_is_checked(rt: HostRuntime) -> Resul
             table: 0,
             node: last,
         };
-        assert_eq!(rt;
-            check_one(alloc, &table, &shares, &wrong),
-            Err(bad_index)
-        );
+        assert_eq!(rt; check_one(alloc, &table, &shares, &wrong), Err(bad_index));
     }
     Ok(())
 }
@@ -200,10 +202,7 @@ fn the_last_of_many_shares_and_columns_is_looked_at(rt: HostRuntime) -> Result<(
     let alloc = rt.alloc();
     let table = wide_table(alloc, 0, Identity::Full)?;
     let large = Share::Where(large_filter(alloc)?);
-    let last = Share::Where(Filter::Not(Box::new(
-        alloc,
-        Filter::Atom(Atom::IsNull(99)),
-    )?));
+    let last = Share::Where(Filter::Not(Box::new(alloc, Filter::Atom(Atom::IsNull(99)))?));
     let nothing = Share::Nothing;
     let mut shares = vec![in alloc; &large]?;
     for _ in 1..31 {
@@ -215,6 +214,9 @@ fn the_last_of_many_shares_and_columns_is_looked_at(rt: HostRuntime) -> Result<(
         node: 0,
         subscriber: 31,
     };
-    assert_eq!(rt; check_one(alloc, &table, &shares, &Cert::<Global>::Owner(0)), Err(second));
+    assert_eq!(rt;
+        check_one(alloc, &table, &shares, &Cert::<Global>::Owner(0)),
+        Err(second)
+    );
     Ok(())
 }
