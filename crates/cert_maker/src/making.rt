@@ -10,8 +10,8 @@ ghost use Rattle.cert_maker.specs.Owners.{IsRight};
 ghost use Rattle.cert_maker.specs.declared.made.Made.TheVariants.{Unknown};
 
 use crate::made::Made;
-use crate::search::{Found, look};
 use crate::owners::owners_of;
+use crate::search::{Found, look};
 use bumpalo::Bump;
 use filter_tree::{Row, Table, valid};
 use pub_reader::Catalog;

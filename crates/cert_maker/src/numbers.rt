@@ -2,7 +2,7 @@
 
 use crate::board::Board;
 use crate::masks::value_at;
-use crate::problem::{AtomKind, PlainAtom, Domain, Problem};
+use crate::problem::{AtomKind, Domain, PlainAtom, Problem};
 use filter_tree::{Literal, Mask, Op, Tri, compare_literals};
 use shard_checker::Range;
 use std::alloc::Global;

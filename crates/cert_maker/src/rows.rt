@@ -1,8 +1,8 @@
 //! Rows, and the simple ones that are tried first.
 
 use crate::choices::{Choice, empty_text};
-use crate::problem::{AtomKind, Problem, number};
 use crate::owners::is_counter;
+use crate::problem::{AtomKind, Problem, number};
 use filter_tree::{ColType, Column, Row, Table, Text, Value};
 use replica_identity::Share;
 use std::alloc::{AllocError, Global};
@@ -56,11 +56,7 @@ fn value_of(
 }
 
 /// The row of the values that were chosen.
-pub fn row_of(
-    alloc: Global,
-    problem: &Problem<'_>,
-    choices: &[Choice],
-) -> Result<Row, AllocError> {
+pub fn row_of(alloc: Global, problem: &Problem<'_>, choices: &[Choice]) -> Result<Row, AllocError> {
     let mut values = Vec::new(alloc);
     for (place, column) in problem.columns.iter().enumerate() {
         let choice = choices.get(place).copied().unwrap_or(None);
@@ -149,10 +145,7 @@ fn simple_values(
     Ok(numbers)
 }
 
-fn all_simple_values(
-    alloc: Global,
-    problem: &Problem<'_>,
-) -> Result<Vec<Vec<Choice>>, AllocError> {
+fn all_simple_values(alloc: Global, problem: &Problem<'_>) -> Result<Vec<Vec<Choice>>, AllocError> {
     let mut values = Vec::new(alloc);
     for (place, column) in problem.columns.iter().enumerate() {
         values.push(simple_values(alloc, problem, place, column)?)?;

@@ -3,10 +3,10 @@
 use crate::board::{Board, Standing};
 use crate::choices::choices;
 use crate::masks::{is_sure, mask_at};
+use crate::owners::is_counter;
 use crate::problem::{AtomKind, PlainAtom, Problem};
 use crate::rows::{row_of, simple_counter};
 use crate::scores::Aim;
-use crate::owners::is_counter;
 use bumpalo::Bump;
 use filter_tree::{Mask, Row, Table, Tri};
 use replica_identity::Share;

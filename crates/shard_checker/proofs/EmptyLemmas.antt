@@ -1,6 +1,6 @@
 -- A term is empty exactly if no value is left to it, null among them.
-use Rattle.std.proofs.Common.{◌≡◌, ℕ, Bool, true, false, not, ◌&&◌, ◌||◌, List, [], ◌∷◌, refl, sym, ap}
-use Rattle.std.specs.Prelude.{Option, Some, ◌↔◌, ◌==◌, if◌then◌else◌}
+use Rattle.std.proofs.Common.{◌≡◌, Bool, true, false, not, ◌&&◌, List, [], ◌∷◌, refl, ap}
+use Rattle.std.specs.Prelude.{Option, Some, ◌==◌, if◌then◌else◌}
 use Rattle.filter_tree.specs.Datum.{Constant, Datum, Missing, Known}
 use Rattle.filter_tree.specs.Expr.{AtomOf, Cmp, IsNull}
 use Rattle.filter_tree.specs.Lists.{column_of}
@@ -12,7 +12,7 @@ use Rattle.filter_tree.specs.declared.tri.Tri.{Tri}
 use Rattle.filter_tree.specs.declared.tri.Tri.TheVariants.{True, False, Null}
 use Rattle.filter_tree.proofs.SameLemmas.{same_term_is}
 use Rattle.shard_checker.specs.Domain.{kind_at}
-use Rattle.shard_checker.specs.Emptiness.{IsConstantLeft, IsLeft, HasValue, is_empty, EmptyHasNoValue, OthersHaveValue}
+use Rattle.shard_checker.specs.Emptiness.{IsLeft, HasValue, is_empty, EmptyHasNoValue, OthersHaveValue}
 use Rattle.shard_checker.specs.Facts.{says_present, is_declared, is_null, is_found_present, is_present, leaves, may_be}
 use Rattle.shard_checker.specs.Trying.{has_value}
 use Rattle.shard_checker.proofs.ExistingLemmas.{value_exists}
@@ -89,9 +89,10 @@ has_not_empty columns term path has = left_not_empty columns term path has.value
 -- ---- the laws
 
 pub empty_is_by_values : EmptyHasNoValue
-empty_is_by_values columns term path =
-    ((λ empty has. clash (is_empty columns term path) empty (has_not_empty columns term path has)),
-    (λ none. by_test (is_empty columns term path) (λ empty. empty) (λ rest. absurd (none (not_empty_has columns term path rest)))))
+empty_is_by_values columns term path = (
+  (λ empty has. clash (is_empty columns term path) empty (has_not_empty columns term path has)),
+  (λ none. by_test (is_empty columns term path) (λ empty. empty) (λ rest. absurd (none (not_empty_has columns term path rest)))),
+)
 
 pub others_are_by_values : OthersHaveValue
 others_are_by_values columns term path = (not_empty_has columns term path, has_not_empty columns term path)

@@ -1,5 +1,5 @@
 -- When a term has no value left at the end of a path, so that no row is there: "9.2 Comparison Functions and Operators", by which a comparison is null where its column is, and only there.
-use Rattle.std.specs.Prelude.{◌≡◌, ℕ, Bool, true, false, not, ◌&&◌, ◌||◌, ◌↔◌, List, Some}
+use Rattle.std.specs.Prelude.{◌≡◌, Bool, true, false, not, ◌&&◌, ◌||◌, ◌↔◌, List, Some}
 use Rattle.filter_tree.specs.Datum.{Constant, Datum, Missing, Known}
 use Rattle.filter_tree.specs.Lists.{column_of}
 use Rattle.filter_tree.specs.Paths.{Path}

@@ -1,5 +1,5 @@
 -- The first node, in the order in which a certificate is written, at which it says something that isn't so. Certificates are this project's own, and restate no section of PostgreSQL's documentation.
-use Rattle.std.specs.Prelude.{ℕ, ◌+◌, ◌-◌, ◌^◌, min, not, ◌&&◌, ◌||◌, Bool, if◌then◌else◌, List, [], ◌∷◌, ◌++◌, Option, Some, None, slice_get}
+use Rattle.std.specs.Prelude.{ℕ, ◌+◌, ◌-◌, ◌^◌, min, if◌then◌else◌, List, [], ◌∷◌, ◌++◌, Option, Some, None, slice_get}
 use Rattle.filter_tree.specs.Datum.{Datum}
 use Rattle.filter_tree.specs.Expr.{AtomOf}
 use Rattle.filter_tree.specs.Paths.{Path, Agrees}

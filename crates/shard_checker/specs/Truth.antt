@@ -1,5 +1,5 @@
 -- What the first refusal in a certificate says of the node that it names. Certificates are this project's own, and restate no section of PostgreSQL's documentation.
-use Rattle.std.specs.Prelude.{◌≡◌, ◌≢◌, ℕ, ◌<◌, true, false, ◌&&◌, ◌⊎◌, List, [], ◌∷◌, ◌++◌, Option, Some, None, slice_get}
+use Rattle.std.specs.Prelude.{◌≡◌, ◌≢◌, ℕ, ◌<◌, true, false, ◌⊎◌, List, [], ◌∷◌, ◌++◌, Option, Some, None, slice_get}
 use Rattle.filter_tree.specs.Expr.{AtomOf}
 use Rattle.filter_tree.specs.Paths.{Path}
 use Rattle.filter_tree.specs.declared.filter.Term.{Term}

@@ -15,9 +15,9 @@ ghost use Rattle.shard_checker.specs.Owners.{shares_view};
 ghost use Rattle.shard_checker.specs.Sound.{IsSound};
 
 use crate::checked::Checked;
-use crate::one_table::check_table;
 use crate::covering::{check_covering, check_identities};
 use crate::error::CheckError;
+use crate::one_table::check_table;
 use crate::publishing::check_publishing;
 use filter_tree::Table;
 use pub_reader::{Catalog, Subscription};

@@ -47,8 +47,7 @@ fn check_branch<'a, A: Allocator, B: Allocator>(
 ) -> Result<(), CheckError>
     ensures kept { OnOk result (path.new.items ≡ path.old.items) }
     ensures counted { OnOk result (node.new ≡ spec.later node.old (nodes (tree_view branch.now))) }
-    ensures exact {
-        let longer = path_view path.old.items ++ (atom_view atom.now, value) ∷ [] in
+    ensures exact { let longer = path_view path.old.items ++ (atom_view atom.now, value) ∷ [] in
         Checks (spec.refusal (subject_view subject.now) (tree_view branch.now) longer node.old) result }
 {
     extend(path, atom, value)?;
@@ -74,7 +73,7 @@ fn check_branches<'a, A: Allocator, B: Allocator>(
         (node.new ≡ spec.after_branches node.old (tree_view if_true.now) (tree_view if_false.now) (tree_view if_null.now)) }
     ensures exact { Checks
         (spec.branches_refusal (subject_view subject.now) (path_view path.old.items) node.old (atom_view atom.now)
-            (tree_view if_true.now) (tree_view if_false.now) (tree_view if_null.now))
+        (tree_view if_true.now) (tree_view if_false.now) (tree_view if_null.now))
         result }
 {
     check_branch(subject, path, node, atom, Tri::True, if_true)?;

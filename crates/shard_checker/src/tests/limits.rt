@@ -138,7 +138,12 @@ fn the_last_of_a_catalog_at_the_limits_is_refused(rt: HostRuntime) -> Result<(),
     let second = CheckError::NotOwner { table: 63, node: 0 };
     let cases = [
         (Identity::Full, false, 31, missing),
-        (Identity::Nothing, true, 31, CheckError::NoIdentity { table: 63 }),
+        (
+            Identity::Nothing,
+            true,
+            31,
+            CheckError::NoIdentity { table: 63 },
+        ),
         (Identity::Default, true, 31, uncovered),
         (Identity::Full, true, 0, second),
     ];
@@ -171,23 +176,23 @@ fn each_node_of_a_certificate_at_the_limits_is_checked(rt: HostRuntime) -> Resul
     let alloc = rt.alloc();
     let table = wide_table(alloc, 0, Identity::Full)?;
     let all = Share::Where(or(alloc, number(ID, Op::Lt, 0), Filter::Const(true))?);
+    let shares = [&all];
     let mut even = String::new(alloc);
     push_even(166_666, &mut even)?;
     let large = format!(in alloc; "s 0 {even} {even}")?;
     let deep = "s 0 o 0 o 0 ".repeat(alloc, 64)?;
     let cases = [(large.as_str(), 999_999), (deep.trim_end(), 192)];
     for (text, last) in cases {
-        let right = read_in(alloc, format!(in alloc; "{text} o 0")?.as_str())?;
-        assert_eq!(rt; check_one(alloc, &table, &[&all], &right), Ok(()));
-        let wrong = read_in(alloc, format!(in alloc; "{text} o 1")?.as_str())?;
+        let right_text = format!(in alloc; "{text} o 0")?;
+        let right = read_in(alloc, right_text.as_str())?;
+        assert_eq!(rt; check_one(alloc, &table, &shares, &right), Ok(()));
+        let wrong_text = format!(in alloc; "{text} o 1")?;
+        let wrong = read_in(alloc, wrong_text.as_str())?;
         let bad_index = CheckError::BadIndex {
             table: 0,
             node: last,
         };
-        assert_eq!(rt;
-            check_one(alloc, &table, &[&all], &wrong),
-            Err(bad_index)
-        );
+        assert_eq!(rt; check_one(alloc, &table, &shares, &wrong), Err(bad_index));
     }
     Ok(())
 }
@@ -197,13 +202,11 @@ fn the_last_of_many_shares_and_columns_is_looked_at(rt: HostRuntime) -> Result<(
     let alloc = rt.alloc();
     let table = wide_table(alloc, 0, Identity::Full)?;
     let large = Share::Where(large_filter(alloc)?);
-    let last = Share::Where(Filter::Not(Box::new(
-        alloc,
-        Filter::Atom(Atom::IsNull(99)),
-    )?));
+    let last = Share::Where(Filter::Not(Box::new(alloc, Filter::Atom(Atom::IsNull(99)))?));
+    let nothing = Share::Nothing;
     let mut shares = vec![in alloc; &large]?;
     for _ in 1..31 {
-        shares.push(&Share::Nothing)?;
+        shares.push(&nothing)?;
     }
     shares.push(&last)?;
     let second = CheckError::SecondOwner {
@@ -211,6 +214,9 @@ fn the_last_of_many_shares_and_columns_is_looked_at(rt: HostRuntime) -> Result<(
         node: 0,
         subscriber: 31,
     };
-    assert_eq!(rt; check_one(alloc, &table, &shares, &Cert::<Global>::Owner(0)), Err(second));
+    assert_eq!(rt;
+        check_one(alloc, &table, &shares, &Cert::<Global>::Owner(0)),
+        Err(second)
+    );
     Ok(())
 }
