@@ -1,6 +1,6 @@
 //! Inputs at their limits, with ample memory.
 
-use crate::check::tests::{ACCEPTED, check_of, halves};
+use crate::check::tests::{ACCEPTED, Expected, check_of, halves};
 use crate::tests::output_of;
 use std::alloc::{AllocError, Global};
 use std::test::Fail;
@@ -112,9 +112,9 @@ fn a_row_has_a_limit(rt: HostRuntime) -> Result<(), Fail> {
     let catalog = format!(in alloc;
         "CREATE TABLE t ({columns}, PRIMARY KEY (c0)); CREATE PUBLICATION p FOR TABLE t WHERE (c99 <> '');"
     )?;
-    let used = catalog.len() + values.len() + 6;
+    let used = catalog.len().saturating_add(values.len()).saturating_add(6);
     for (more, expected) in [(0, (0, "p=true\n")), (1, (3, "input\n"))] {
-        let spaces = " ".repeat(alloc, MAX_INPUT - used + more)?;
+        let spaces = " ".repeat(alloc, MAX_INPUT.saturating_sub(used).saturating_add(more))?;
         let row = format!(in alloc; "({values}{spaces})")?;
         let (status, output) = eval_of(alloc, catalog.as_str(), row.as_str(), &[])?;
         assert_eq!(rt;
@@ -131,7 +131,7 @@ fn largest_catalog(alloc: Global) -> Result<String, AllocError> {
     for table in 0..64 {
         write!(text, "CREATE TABLE t{table} (id integer PRIMARY KEY);\n")?;
     }
-    for part in 0..32 {
+    for part in 0..32_u32 {
         let low = part * 100;
         let high = low + 100;
         let mut entries = Vec::new(alloc);
@@ -174,16 +174,17 @@ fn large_certificate(alloc: Global, splits: usize) -> Result<String, AllocError>
     let mut text = String::from_str(alloc, "s 0 s 1 ")?;
     let mut left = Vec::new(alloc);
     left.push(splits)?;
-    for _ in 0..3 * splits + 1 {
+    for _ in 0..splits.saturating_mul(3).saturating_add(1) {
         match left.pop() {
             None => break,
             Some(0) => text.push_str("e 0 ")?,
             Some(splits) => {
                 text.push_str("s 0 ")?;
-                let third = (splits - 1) / 3;
+                let others = splits.saturating_sub(1);
+                let third = others / 3;
                 left.push(third)?;
                 left.push(third)?;
-                left.push(splits - 1 - 2 * third)?;
+                left.push(others.saturating_sub(third).saturating_sub(third))?;
             }
         }
     }
@@ -194,8 +195,11 @@ fn large_certificate(alloc: Global, splits: usize) -> Result<String, AllocError>
 #[test]
 fn a_certificate_has_a_million_nodes(rt: HostRuntime) -> Result<(), Fail> {
     let catalog = halves(rt.alloc(), " WHERE (id < 100)", " WHERE (id >= 100)")?;
-    let past = (3, "certificate 1 TooLarge\n");
-    for (splits, expected) in [(333_330, ACCEPTED), (333_331, past)] {
+    let cases: [(usize, Expected); 2] = [
+        (333_330, ACCEPTED),
+        (333_331, (3, "certificate 1 TooLarge\n")),
+    ];
+    for (splits, expected) in cases {
         let certificate = large_certificate(rt.alloc(), splits)?;
         let (status, output) = check_of(rt.alloc(), catalog.as_str(), certificate.as_str())?;
         assert_eq!(rt;
