@@ -82,7 +82,7 @@ fn texts_have_a_limit(rt: HostRuntime) -> Result<(), Fail> {
     let (status, output) = eval_of(alloc, NAMED, rows.as_str(), &[])?;
     assert_eq!(rt;
         output.as_slice(),
-        b"p=true\np=false\np=true\ninvalid TextTooLong 1\n".as_slice()
+        b"p=true\np=false\np=true\nunreadable 4 TooMany\n".as_slice()
     );
     assert_eq!(rt; status, 1);
     let digits = "61".repeat(alloc, MAX_TEXT)?;
@@ -169,26 +169,30 @@ fn the_largest_sharding_is_made_and_accepted(rt: HostRuntime) -> Result<(), Fail
     Ok(())
 }
 
-/// A certificate of two halves, of which the rows in both are split by so many splits more.
-fn large_certificate(alloc: Global, splits: usize) -> Result<String, AllocError> {
-    let mut text = String::from_str(alloc, "s 0 s 1 ")?;
+/// Writes the root of a tree of so many splits, and what is left of them for each of its branches.
+fn push_root(text: &mut String, left: &mut Vec<usize>, splits: usize) -> Result<(), AllocError> {
+    if splits == 0 {
+        return text.push_str("e 0 ");
+    }
+    text.push_str("s 0 ")?;
+    let third = (splits - 1) / 3;
+    left.push(third)?;
+    left.push(third)?;
+    left.push((splits - 1) - third - third)?;
+    Ok(())
+}
+
+/// A tree of so many splits, each of whose leaves says that no row comes to it.
+fn empty_tree(alloc: Global, splits: usize) -> Result<String, AllocError> {
+    let mut text = String::new(alloc);
     let mut left = Vec::new(alloc);
     left.push(splits)?;
     for _ in 0..splits.saturating_mul(3).saturating_add(1) {
-        match left.pop() {
-            None => break,
-            Some(0) => text.push_str("e 0 ")?,
-            Some(splits) => {
-                text.push_str("s 0 ")?;
-                let others = splits.saturating_sub(1);
-                let third = others / 3;
-                left.push(third)?;
-                left.push(third)?;
-                left.push(others.saturating_sub(third).saturating_sub(third))?;
-            }
-        }
+        let Some(splits) = left.pop() else {
+            break;
+        };
+        push_root(&mut text, &mut left, splits)?;
     }
-    text.push_str("o 0 n 1 s 1 o 1 e 0 n 1 n 0")?;
     Ok(text)
 }
 
@@ -200,7 +204,8 @@ fn a_certificate_has_a_million_nodes(rt: HostRuntime) -> Result<(), Fail> {
         (333_331, (3, "certificate 1 TooLarge\n")),
     ];
     for (splits, expected) in cases {
-        let certificate = large_certificate(rt.alloc(), splits)?;
+        let tree = empty_tree(rt.alloc(), splits)?;
+        let certificate = format!(in rt.alloc(); "s 0 s 1 {tree}o 0 n 1 s 1 o 1 e 0 n 1 n 0")?;
         let (status, output) = check_of(rt.alloc(), catalog.as_str(), certificate.as_str())?;
         assert_eq!(rt;
             (status, output.as_slice()),
