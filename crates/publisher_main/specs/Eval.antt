@@ -4,4 +4,5 @@ pub mod Carriers
 pub mod Evaluation
 pub mod Hexadecimal
 pub mod Inserts
+pub mod Printing
 pub mod Tables

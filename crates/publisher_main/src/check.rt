@@ -38,8 +38,10 @@ fn refusal_of(
     certs: &[Cert],
 ) -> Result<Option<CheckError>, AllocError>
     ensures sound { IfOk result (λ refusal. refusal ≡ None → IsSound (catalog_view catalog)) }
-    ensures first { IfOk result (λ refusal. spec.first_refusal (catalog_view catalog) (map tree_view certs.now) ≡ refusal) }
-    ensures wrong { IfOk result (λ refusal. IfSome refusal (ShardingIsWrong (catalog_view catalog) (plan_of (catalog_view catalog)) (map tree_view certs.now))) }
+    ensures first { IfOk result (λ refusal. spec.first_refusal (catalog_view catalog) (map tree_view certs.now) ≡
+        refusal) }
+    ensures wrong { IfOk result (λ refusal. IfSome refusal (ShardingIsWrong (catalog_view catalog)
+        (plan_of (catalog_view catalog)) (map tree_view certs.now))) }
 {
     let plan = plan(alloc, &catalog)?;
     match check(alloc, catalog, plan, certs) {
@@ -52,7 +54,8 @@ fn refusal_of(
 fn write_accepted<'a, W: Write>(alloc: Global, writer: &mut W) -> Result<Status, Failure<'a>>
     ensures status { IfOk result (λ status. status ≡ Done) }
     ensures written { OnOk result (Appends (W.contents writer.old) (W.contents writer.new) (ended (codes "accepted"))) }
-    ensures stopped { IfErr result (StopsText (ended (codes "accepted")) (W.contents writer.old) (W.contents writer.new)) }
+    ensures stopped { IfErr result (StopsText (ended (codes "accepted")) (W.contents writer.old)
+        (W.contents writer.new)) }
 {
     let mut line = String::from_str(alloc, "accepted")?;
     write_line(&mut line, writer)?;
@@ -66,8 +69,10 @@ fn write_refused<'a, W: Write>(
     writer: &mut W,
 ) -> Result<Status, Failure<'a>>
     ensures status { IfOk result (λ status. status ≡ Refused) }
-    ensures written { OnOk result (Appends (W.contents writer.old) (W.contents writer.new) (ended (refused_line (catalog_view catalog.now) refusal))) }
-    ensures stopped { IfErr result (StopsText (ended (refused_line (catalog_view catalog.now) refusal)) (W.contents writer.old) (W.contents writer.new)) }
+    ensures written { OnOk result (Appends (W.contents writer.old) (W.contents writer.new)
+        (ended (refused_line (catalog_view catalog.now) refusal))) }
+    ensures stopped { IfErr result (StopsText (ended (refused_line (catalog_view catalog.now) refusal))
+        (W.contents writer.old) (W.contents writer.new)) }
 {
     let mut line = String::new(alloc);
     push_refusal(&mut line, catalog, refusal)?;

@@ -1,11 +1,10 @@
 //! `eval`: a line for each row of a table.
 
-ghost use Rattle.std.specs.Prelude.{◌≡◌, [], IfOk, OnOk, map};
+ghost use Rattle.std.specs.Prelude.{◌≡◌, [], IfOk, OnOk};
 ghost use Rattle.std.specs.String.{string_bytes};
 ghost use Rattle.filter_tree.specs.Valid.{IsValid};
 ghost use Rattle.publisher_main.specs.Eval.BadRows.{is_answered};
-ghost use Rattle.publisher_main.specs.Eval.Carriers.{carrier_view};
-ghost use Rattle.publisher_main.specs.Eval.Evaluation as spec;
+ghost use Rattle.publisher_main.specs.Eval.Printing.{IsLineIn, WritesRowsIn, told_in};
 ghost use Rattle.publisher_main.specs.Parts.{lines_of};
 ghost use Rattle.publisher_main.specs.Requests.{EndsRequest};
 ghost use Rattle.publisher_main.specs.declared.arguments.Request.TheVariants.{Eval};
@@ -45,7 +44,7 @@ fn push_told(
 ) -> Result<(), AllocError>
     requires empty { string_bytes line.old ≡ [] }
     requires fits { IsValid carried.table.now.columns row.now }
-    ensures { OnOk result (string_bytes line.new ≡ spec.told wanted carried.entry.number row.now (map carrier_view carried.entry.carriers.now)) }
+    ensures { OnOk result (string_bytes line.new ≡ told_in wanted carried.entry row.now) }
 {
     match wanted {
         RowOutput::Answers => push_answers(line, carried.carriers, row),
@@ -64,7 +63,7 @@ fn push_line(
 ) -> Result<bool, AllocError>
     requires { string_bytes line.old ≡ [] }
     ensures answered { IfOk result (λ answered. answered ≡ is_answered carried.entry.table.now.columns text.now) }
-    ensures line { OnOk result (spec.IsLine wanted carried.entry.number (map carrier_view carried.entry.carriers.now) carried.entry.table.now.columns text.now (string_bytes line.new)) }
+    ensures line { OnOk result (IsLineIn wanted carried.entry text.now (string_bytes line.new)) }
 {
     match table_row(alloc, carried.table, text) {
         Ok(row) => {
@@ -89,7 +88,8 @@ pub fn write_rows<'a, W: Write>(
     rows: &str,
     writer: &mut W,
 ) -> Result<Status, Failure<'a>>
-    ensures { spec.WritesRows wanted carried.entry.number (map carrier_view carried.entry.carriers.now) carried.entry.table.now.columns (lines_of rows.now) (W.contents writer.old) (W.contents writer.new) result }
+    ensures { WritesRowsIn wanted carried.entry (lines_of rows.now) (W.contents writer.old) (W.contents writer.new)
+        result }
 {
     let mut status = Status::Done;
     let mut line = String::new(alloc);

@@ -43,7 +43,8 @@ impl<R: Read> Read for Input<R> {
 
     fn read(&mut self, buffer: &mut [u8]) -> io::Result<usize>
         ensures bound { ReadsAtMost result buffer.new }
-        ensures bytes { ReadConsumes (R.remaining (reader_of self.old)) (R.remaining (reader_of self.new)) result buffer.new }
+        ensures bytes { ReadConsumes (R.remaining (reader_of self.old)) (R.remaining (reader_of self.new)) result
+            buffer.new }
         ensures count { reads_of self.new ≡ reads_of self.old - 1 }
         ensures spent { reads_of self.old ≡ 0 → IsErr result }
         ensures unread { reads_of self.old ≡ 0 → reader_of self.new ≡ reader_of self.old }

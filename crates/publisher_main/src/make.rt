@@ -34,8 +34,10 @@ fn write_table<'a, W: Write>(
     writer: &mut W,
 ) -> Result<bool, Failure<'a>>
     requires { plan_view plan.now ≡ plan_of (catalog_view catalog.now) }
-    ensures written { IfOk result (spec.WritesTable (catalog_view catalog.now) number (W.contents writer.old) (W.contents writer.new)) }
-    ensures stopped { IfErr result (spec.StopsTable (catalog_view catalog.now) number (W.contents writer.old) (W.contents writer.new)) }
+    ensures written { IfOk result (spec.WritesTable (catalog_view catalog.now) number (W.contents writer.old)
+        (W.contents writer.new)) }
+    ensures stopped { IfErr result (spec.StopsTable (catalog_view catalog.now) number (W.contents writer.old)
+        (W.contents writer.new)) }
 {
     let arena = Bump::new(alloc);
     let made = make(alloc, &arena, catalog, plan, number);

@@ -59,7 +59,8 @@ pub fn push_word(line: &mut String, word: &str) -> Result<(), AllocError>
 
 /// Writes a space, and the name of a table behind that of its schema.
 fn push_table_name(line: &mut String, table: &Table) -> Result<(), AllocError>
-    ensures { OnOk result (string_bytes line.new ≡ string_bytes line.old ++ spec.spaced (spec.table_named (Some table.now) ∷ [])) }
+    ensures { OnOk result (string_bytes line.new ≡ string_bytes line.old ++ spec.spaced
+        (spec.table_named (Some table.now) ∷ [])) }
 {
     push_word(line, table.schema.as_str())?;
     line.push('.')?;
@@ -68,7 +69,8 @@ fn push_table_name(line: &mut String, table: &Table) -> Result<(), AllocError>
 
 /// Writes a space, and the name of the table of this number.
 pub fn push_table(line: &mut String, tables: &[Table], number: usize) -> Result<(), AllocError>
-    ensures { OnOk result (string_bytes line.new ≡ string_bytes line.old ++ spec.spaced (spec.table_name tables.now number ∷ [])) }
+    ensures { OnOk result (string_bytes line.new ≡ string_bytes line.old ++ spec.spaced
+        (spec.table_name tables.now number ∷ [])) }
 {
     match tables.get(number) {
         None => push_word(line, ""),

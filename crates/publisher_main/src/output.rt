@@ -39,8 +39,10 @@ pub fn write_text<'a, W: Write>(text: &str, writer: &mut W) -> Result<(), Failur
 /// `OutOfMemory` where nothing is written; `Output` where the writer fails. The first bytes of the line may be written
 /// then, and nothing else.
 pub fn write_line<'a, W: Write>(line: &mut String, writer: &mut W) -> Result<(), Failure<'a>>
-    ensures written { OnOk result (Appends (W.contents writer.old) (W.contents writer.new) (ended (string_bytes line.old))) }
-    ensures stopped { IfErr result (StopsText (ended (string_bytes line.old)) (W.contents writer.old) (W.contents writer.new)) }
+    ensures written { OnOk result (Appends (W.contents writer.old) (W.contents writer.new)
+        (ended (string_bytes line.old))) }
+    ensures stopped { IfErr result (StopsText (ended (string_bytes line.old)) (W.contents writer.old)
+        (W.contents writer.new)) }
 {
     line.push('\n')?;
     write_text(line.as_str(), writer)

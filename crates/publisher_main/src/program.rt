@@ -43,7 +43,8 @@ fn answer_words<'a, S: AsStr, R: Read + Drop, W: Write>(
     input: Input<R>,
     writer: &mut W,
 ) -> Result<Status, Failure<'a>>
-    ensures { IsEnding (map S.text words.entry.now) (R.remaining (reader_of input)) (W.contents writer.old) (W.contents writer.new) result }
+    ensures { IsEnding (map S.text words.entry.now) (R.remaining (reader_of input)) (W.contents writer.old)
+        (W.contents writer.new) result }
 {
     match parse(alloc, words)? {
         Asked::Help(mut text) => {
@@ -102,7 +103,8 @@ fn outcome<S: AsStr, R: Read + Drop, W: Write>(
     input: Input<R>,
     writer: &mut W,
 ) -> Status
-    ensures { IsOutcome (map S.text words.now) (R.remaining (reader_of input)) (W.contents writer.old) (W.contents writer.new) result }
+    ensures { IsOutcome (map S.text words.now) (R.remaining (reader_of input)) (W.contents writer.old)
+        (W.contents writer.new) result }
 {
     match answer_words(alloc, words, input, writer) {
         Ok(status) => status,
@@ -124,7 +126,8 @@ pub fn run<S: AsStr, R: Read + Drop, W: Write>(
     input: Input<R>,
     writer: &mut W,
 ) -> u8
-    ensures { IsRun (map S.text words.now) (R.remaining (reader_of input)) (W.contents writer.old) (W.contents writer.new) result }
+    ensures { IsRun (map S.text words.now) (R.remaining (reader_of input)) (W.contents writer.old)
+        (W.contents writer.new) result }
 {
     let status = outcome(alloc, words, input, writer);
     if status == Status::Output {

@@ -47,7 +47,8 @@ fn push_node(
     table: usize,
     node: usize,
 ) -> Result<(), AllocError>
-    ensures { OnOk result (string_bytes line.new ≡ string_bytes line.old ++ spaced (spec.node_words tables.now table node)) }
+    ensures { OnOk result (string_bytes line.new ≡ string_bytes line.old ++ spaced
+        (spec.node_words tables.now table node)) }
 {
     push_table(line, tables, table)?;
     write!(line, " {node}")
@@ -55,7 +56,8 @@ fn push_node(
 
 /// Writes the arguments of a refusal, with a space before each.
 fn push_arguments(line: &mut String, catalog: &Catalog, error: CheckError) -> Result<(), AllocError>
-    ensures { OnOk result (string_bytes line.new ≡ string_bytes line.old ++ spaced (spec.arguments_of (catalog_view catalog.now) error)) }
+    ensures { OnOk result (string_bytes line.new ≡ string_bytes line.old ++ spaced
+        (spec.arguments_of (catalog_view catalog.now) error)) }
 {
     let tables = catalog.tables.as_slice();
     let publications = catalog.publications.as_slice();

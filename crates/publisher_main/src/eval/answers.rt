@@ -49,7 +49,8 @@ pub fn answer_of(filter: Option<&Filter>, row: &Row) -> Answer
 
 /// Writes `name=answer` behind what stands on the line.
 fn push_answer(line: &mut String, name: &str, answer: Answer) -> Result<(), AllocError>
-    ensures { OnOk result (string_bytes line.new ≡ spec.with_said (string_bytes line.old) (spec.spelled name.now answer)) }
+    ensures { OnOk result (string_bytes line.new ≡ spec.with_said (string_bytes line.old)
+        (spec.spelled name.now answer)) }
 {
     if !line.is_empty() {
         line.push(' ')?;
@@ -61,7 +62,8 @@ fn push_answer(line: &mut String, name: &str, answer: Answer) -> Result<(), Allo
 
 /// Writes what a publication says of a row behind what stands on the line.
 fn push_said(line: &mut String, carrier: Carrier<'_>, row: &Row) -> Result<(), AllocError>
-    ensures { OnOk result (string_bytes line.new ≡ spec.with_said (string_bytes line.old) (spec.said_by row.now (carrier_view carrier.entry))) }
+    ensures { OnOk result (string_bytes line.new ≡ spec.with_said (string_bytes line.old)
+        (spec.said_by row.now (carrier_view carrier.entry))) }
 {
     push_answer(line, carrier.name, answer_of(carrier.filter, row))
 }

@@ -58,7 +58,8 @@ fn add_carrier<'a>(
     publication: &'a Publication,
     table: usize,
 ) -> Result<(), AllocError>
-    ensures { OnOk result (map spec.carrier_view carriers.new.items ≡ map spec.carrier_view carriers.old.items ++ cons_option (spec.carried_by table publication.now) []) }
+    ensures { OnOk result (map spec.carrier_view carriers.new.items ≡ map spec.carrier_view carriers.old.items ++
+        cons_option (spec.carried_by table publication.now) []) }
 {
     match carrier_in(publication, table) {
         None => Ok(()),

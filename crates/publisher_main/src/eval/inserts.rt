@@ -6,6 +6,7 @@ ghost use Rattle.filter_tree.specs.Valid.{IsValid};
 ghost use Rattle.pgoutput_msgs.specs.Spelling.{IsWithinRange};
 ghost use Rattle.publisher_main.specs.Eval.Carriers.{carrier_view};
 ghost use Rattle.publisher_main.specs.Eval.Inserts as spec;
+ghost use Rattle.publisher_main.specs.Eval.Printing.{carriers_in};
 
 use crate::eval::answers::{Answer, answer_of};
 use crate::eval::carriers::Carrier;
@@ -59,7 +60,8 @@ fn push_message(
     row: &Row,
 ) -> Result<(), AllocError>
     requires fits { IsValid carried.table.now.columns row.now }
-    ensures { OnOk result (string_bytes line.new ≡ string_bytes line.old ++ spec.message_text carried.entry.number row.now) }
+    ensures { OnOk result (string_bytes line.new ≡ string_bytes line.old ++ spec.message_text carried.entry.number
+        row.now) }
 {
     let message = insert_of(alloc, carried, row)?;
     let mut bytes = Vec::new(alloc);
@@ -76,7 +78,8 @@ pub fn push_insert(
 ) -> Result<(), AllocError>
     requires empty { string_bytes line.old ≡ [] }
     requires fits { IsValid carried.table.now.columns row.now }
-    ensures { OnOk result (string_bytes line.new ≡ spec.insert_line carried.entry.number row.now (map carrier_view carried.entry.carriers.now)) }
+    ensures { OnOk result (string_bytes line.new ≡ spec.insert_line carried.entry.number row.now
+        (carriers_in carried.entry)) }
 {
     if is_carried(carried.carriers, row) {
         return push_message(alloc, line, carried, row);

@@ -21,7 +21,8 @@ fn push_owners(
     subscriptions: &[Subscription],
     owners: &[usize],
 ) -> Result<(), AllocError>
-    ensures { OnOk result (string_bytes line.new ≡ string_bytes line.old ++ spaced (spec.owners_text subscriptions.now owners.now ∷ [])) }
+    ensures { OnOk result (string_bytes line.new ≡ string_bytes line.old ++ spaced
+        (spec.owners_text subscriptions.now owners.now ∷ [])) }
 {
     match owners {
         [] => push_word(line, "none"),
@@ -44,7 +45,8 @@ fn counter_line(
     row: &Row,
     owners: &[usize],
 ) -> Result<String, AllocError>
-    ensures { IfOk result (λ line. string_bytes line ≡ codes "counter" ++ spaced (spec.counter_words (catalog_view catalog.now) number row.now owners.now)) }
+    ensures { IfOk result (λ line. string_bytes line ≡ codes "counter" ++ spaced
+        (spec.counter_words (catalog_view catalog.now) number row.now owners.now)) }
 {
     let mut line = String::from_str(alloc, "counter")?;
     push_table(&mut line, catalog.tables.as_slice(), number)?;
@@ -61,7 +63,8 @@ fn undecided_line(
     number: usize,
     words: &str,
 ) -> Result<String, AllocError>
-    ensures { IfOk result (λ line. string_bytes line ≡ words.now ++ spaced (table_name (catalog_view catalog.now).tables number ∷ [])) }
+    ensures { IfOk result (λ line. string_bytes line ≡ words.now ++ spaced
+        (table_name (catalog_view catalog.now).tables number ∷ [])) }
 {
     let mut line = String::from_str(alloc, words)?;
     push_table(&mut line, catalog.tables.as_slice(), number)?;
@@ -75,7 +78,8 @@ pub fn finding_line(
     number: usize,
     made: &Made<'_>,
 ) -> Result<String, AllocError>
-    ensures { IfOk result (λ line. string_bytes line ≡ spec.line_for (catalog_view catalog.now) number (finding_view made.now)) }
+    ensures { IfOk result (λ line. string_bytes line ≡ spec.line_for (catalog_view catalog.now) number
+        (finding_view made.now)) }
 {
     match made {
         Made::Cert(cert) => write(alloc, cert),

@@ -32,45 +32,40 @@ fn other_words_are_refused(rt: HostRuntime) -> Result<(), Fail> {
 
 #[test]
 fn help_is_shown(rt: HostRuntime) -> Result<(), Fail> {
-    let cases: [(&[&str], &[&str]); 6] = [
+    let cases: [(&[&str], &str); 18] = [
+        (&["pgshard", "--help"], "pgshard 0.1.0"),
+        (&["pgshard", "--help"], "standard input"),
         (
             &["pgshard", "--help"],
-            &[
-                "pgshard 0.1.0",
-                "standard input",
-                "%%",
-                "eval takes a catalog and rows",
-                "check a catalog and certificates",
-                "make a catalog alone",
-                "\n  0  ",
-                "\n  1  ",
-                "\n  2  ",
-                "\n  3  ",
-                "\n  4  ",
-                "\n  5  ",
-            ],
+            "separated by lines that are exactly %%",
         ),
-        (&["pgshard", "-h"], &["standard input", "Exit status"]),
+        (&["pgshard", "--help"], "eval takes a catalog and rows"),
+        (&["pgshard", "--help"], "check a catalog and certificates"),
+        (&["pgshard", "--help"], "make a catalog alone"),
+        (&["pgshard", "--help"], "\n  0  "),
+        (&["pgshard", "--help"], "\n  1  "),
+        (&["pgshard", "--help"], "\n  2  "),
+        (&["pgshard", "--help"], "\n  3  "),
+        (&["pgshard", "--help"], "\n  4  "),
+        (&["pgshard", "--help"], "\n  5  "),
+        (&["pgshard", "-h"], "Exit status"),
         (
             &["pgshard", "eval", "--help"],
-            &["TABLE", "--insert", "a catalog, a line %% and rows"],
+            "a catalog, a line %% and rows",
         ),
-        (&["pgshard", "eval", "t", "--help"], &["TABLE", "--insert"]),
+        (&["pgshard", "eval", "t", "-h"], "--insert"),
         (
             &["pgshard", "check", "--help"],
-            &["a catalog, a line %% and certificates"],
+            "a catalog, a line %% and certificates",
         ),
-        (&["pgshard", "make", "--help"], &["reads a catalog"]),
+        (&["pgshard", "make", "--help"], "reads a catalog"),
+        (&["pgshard", "help"], "standard input"),
     ];
-    for (words, expected) in cases {
+    for (words, part) in cases {
         let (status, output) = output_of(rt.alloc(), words, BASE.as_bytes())?;
         assert_eq!(rt; status, 0, "{words:?}");
-        let Ok(text) = String::from_utf8(output) else {
-            return Err(Fail::new("not UTF-8"));
-        };
-        for part in expected {
-            assert!(rt; text.as_str().contains(*part), "{words:?}: {part}");
-        }
+        let text = String::from_utf8(output).map_err(|_| Fail::new("not UTF-8"))?;
+        assert!(rt; text.as_str().contains(part), "{words:?}: {part}");
     }
     Ok(())
 }

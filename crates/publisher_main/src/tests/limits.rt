@@ -1,6 +1,6 @@
 //! Inputs at their limits, with ample memory.
 
-use crate::check::tests::{ACCEPTED, check_of, halves};
+use crate::check::tests::{ACCEPTED, Expected, check_of, halves};
 use crate::tests::output_of;
 use std::alloc::{AllocError, Global};
 use std::test::Fail;
@@ -82,7 +82,7 @@ fn texts_have_a_limit(rt: HostRuntime) -> Result<(), Fail> {
     let (status, output) = eval_of(alloc, NAMED, rows.as_str(), &[])?;
     assert_eq!(rt;
         output.as_slice(),
-        b"p=true\np=false\np=true\ninvalid TextTooLong 1\n".as_slice()
+        b"p=true\np=false\np=true\nunreadable 4 TooMany\n".as_slice()
     );
     assert_eq!(rt; status, 1);
     let digits = "61".repeat(alloc, MAX_TEXT)?;
@@ -112,9 +112,9 @@ fn a_row_has_a_limit(rt: HostRuntime) -> Result<(), Fail> {
     let catalog = format!(in alloc;
         "CREATE TABLE t ({columns}, PRIMARY KEY (c0)); CREATE PUBLICATION p FOR TABLE t WHERE (c99 <> '');"
     )?;
-    let used = catalog.len() + values.len() + 6;
+    let used = catalog.len().saturating_add(values.len()).saturating_add(6);
     for (more, expected) in [(0, (0, "p=true\n")), (1, (3, "input\n"))] {
-        let spaces = " ".repeat(alloc, MAX_INPUT - used + more)?;
+        let spaces = " ".repeat(alloc, MAX_INPUT.saturating_sub(used).saturating_add(more))?;
         let row = format!(in alloc; "({values}{spaces})")?;
         let (status, output) = eval_of(alloc, catalog.as_str(), row.as_str(), &[])?;
         assert_eq!(rt;
@@ -131,7 +131,7 @@ fn largest_catalog(alloc: Global) -> Result<String, AllocError> {
     for table in 0..64 {
         write!(text, "CREATE TABLE t{table} (id integer PRIMARY KEY);\n")?;
     }
-    for part in 0..32 {
+    for part in 0..32_u32 {
         let low = part * 100;
         let high = low + 100;
         let mut entries = Vec::new(alloc);
@@ -169,34 +169,43 @@ fn the_largest_sharding_is_made_and_accepted(rt: HostRuntime) -> Result<(), Fail
     Ok(())
 }
 
-/// A certificate of two halves, of which the rows in both are split by so many splits more.
-fn large_certificate(alloc: Global, splits: usize) -> Result<String, AllocError> {
-    let mut text = String::from_str(alloc, "s 0 s 1 ")?;
+/// Writes the root of a tree of so many splits, and what is left of them for each of its branches.
+fn push_root(text: &mut String, left: &mut Vec<usize>, splits: usize) -> Result<(), AllocError> {
+    if splits == 0 {
+        return text.push_str("e 0 ");
+    }
+    text.push_str("s 0 ")?;
+    let third = (splits - 1) / 3;
+    left.push(third)?;
+    left.push(third)?;
+    left.push((splits - 1) - third - third)?;
+    Ok(())
+}
+
+/// A tree of so many splits, each of whose leaves says that no row comes to it.
+fn empty_tree(alloc: Global, splits: usize) -> Result<String, AllocError> {
+    let mut text = String::new(alloc);
     let mut left = Vec::new(alloc);
     left.push(splits)?;
-    for _ in 0..3 * splits + 1 {
-        match left.pop() {
-            None => break,
-            Some(0) => text.push_str("e 0 ")?,
-            Some(splits) => {
-                text.push_str("s 0 ")?;
-                let third = (splits - 1) / 3;
-                left.push(third)?;
-                left.push(third)?;
-                left.push(splits - 1 - 2 * third)?;
-            }
-        }
+    for _ in 0..splits.saturating_mul(3).saturating_add(1) {
+        let Some(splits) = left.pop() else {
+            break;
+        };
+        push_root(&mut text, &mut left, splits)?;
     }
-    text.push_str("o 0 n 1 s 1 o 1 e 0 n 1 n 0")?;
     Ok(text)
 }
 
 #[test]
 fn a_certificate_has_a_million_nodes(rt: HostRuntime) -> Result<(), Fail> {
     let catalog = halves(rt.alloc(), " WHERE (id < 100)", " WHERE (id >= 100)")?;
-    let past = (3, "certificate 1 TooLarge\n");
-    for (splits, expected) in [(333_330, ACCEPTED), (333_331, past)] {
-        let certificate = large_certificate(rt.alloc(), splits)?;
+    let cases: [(usize, Expected); 2] = [
+        (333_330, ACCEPTED),
+        (333_331, (3, "certificate 1 TooLarge\n")),
+    ];
+    for (splits, expected) in cases {
+        let tree = empty_tree(rt.alloc(), splits)?;
+        let certificate = format!(in rt.alloc(); "s 0 s 1 {tree}o 0 n 1 s 1 o 1 e 0 n 1 n 0")?;
         let (status, output) = check_of(rt.alloc(), catalog.as_str(), certificate.as_str())?;
         assert_eq!(rt;
             (status, output.as_slice()),
