@@ -168,8 +168,8 @@ words AS (
 taken AS (
     SELECT w.place, w.subscription, found.place AS publication_place, found.part[1] AS publication
     FROM words w
-    LEFT JOIN regexp_matches(w.publications, $$((?:[^,"]|"(?:[^"]|"")*")+)$$, 'g') WITH ORDINALITY AS found (part, place)
-        ON true
+    LEFT JOIN regexp_matches(w.publications, $$((?:[^,"]|"(?:[^"]|"")*")+)$$, 'g')
+        WITH ORDINALITY AS found (part, place) ON true
 ),
 subscriptions AS (
     SELECT place, subscription, string_agg(publication, ', ' ORDER BY publication_place) AS publications

@@ -184,7 +184,9 @@ LATER_FORMS = [
     same("i % 3 IN (0, -1)", "((i % 3) IN (0, -1))"),
     same("s % 3 NOT IN (0, 1)", "((s % 3) NOT IN (0, 1))"),
     same("b % 3 IN (0, -1)", "((b % 3) IN (0, -1))"),
-    same("NOT \"Up\" IN (5, 6) AND \"'\" IN ('a', '\"')", "((NOT (\"Up\" IN (5, 6))) AND (\"'\" IN ('a'::text, '\"'::text)))"),
+    same(
+        "NOT \"Up\" IN (5, 6) AND \"'\" IN ('a', '\"')",
+        "((NOT (\"Up\" IN (5, 6))) AND (\"'\" IN ('a'::text, '\"'::text)))"),
     same("i = ANY (ARRAY[5, 6])", "(i IN (5, 6))"),
     same("i <> ALL (ARRAY[5, 6])", "(i NOT IN (5, 6))"),
     other("i = ANY (ARRAY[5])", "(i IN (5))"),
@@ -240,7 +242,9 @@ REFUSED = [
     Refused("t COLLATE \"C\" = 'a'", "((t COLLATE \"C\") = 'a'::text)", "Expected", "COLLATE"),
     Refused("length(t) = 3", "(length(t) = 3)", "LeftOut", "length"),
     Refused("coalesce(i, 5) = 3", "(COALESCE(i, 5) = 3)", "LeftOut", "COALESCE"),
-    Refused("CASE WHEN o THEN false ELSE true END", "\nCASE\n    WHEN o THEN false\n    ELSE true\nEND", "LeftOut", "CASE"),
+    Refused(
+        "CASE WHEN o THEN false ELSE true END", "\nCASE\n    WHEN o THEN false\n    ELSE true\nEND",
+        "LeftOut", "CASE"),
     Refused("o = (i = 5)", "(o = (i = 5))", "TypeClash", "= (i"),
     Refused("i = ANY ('{1,2}')", "(i = ANY ('{1,2}'::integer[]))", "LeftOut", "ANY"),
     Refused("i > ANY (ARRAY[1, 2])", "(i > ANY (ARRAY[1, 2]))", "LeftOut", "ANY"),

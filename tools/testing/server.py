@@ -13,14 +13,21 @@ USER = "postgres"
 
 
 def is_installed():
-    return (PROGRAMS / "initdb").exists() and shutil.which("psql") is not None
+    return (PROGRAMS / "initdb").exists() and shutil.which("psql") is not None and (os.geteuid() != 0 or has_user())
+
+
+def has_user():
+    try:
+        return pwd.getpwnam(USER) is not None
+    except KeyError:
+        return False
 
 
 def run_as_user(*words):
     """Runs a program as the server's user, who can't be root."""
     words = [str(word) for word in words]
     user = ["runuser", "-u", USER, "--"] if os.geteuid() == 0 else []
-    subprocess.run([*user, *words], check=True, stdout=subprocess.DEVNULL, cwd="/tmp")
+    subprocess.run([*user, *words], check=True, stdout=subprocess.DEVNULL, cwd="/tmp", env=environment())
 
 
 class Server:
@@ -34,16 +41,20 @@ class Server:
     def psql(self, database, sql):
         """What some statements print, without its last newline."""
         words = ["psql", "-X", "-q", "-A", "-t", "-v", "ON_ERROR_STOP=1", *self.words(database)]
-        answer = subprocess.run(words, input=sql, stdout=subprocess.PIPE, text=True, check=True, env=environment())
+        answer = subprocess.run(
+            words, input=sql, stdout=subprocess.PIPE, encoding="utf-8", check=True, env=environment())
         return answer.stdout.removesuffix("\n")
 
-    def create(self, database, sql=""):
-        self.psql("postgres", f"CREATE DATABASE {database};")
-        self.psql(database, f"SET client_min_messages = error;\n{sql}")
+    def create(self, database, sql):
+        """Makes a database, and runs some statements in it."""
+        begin = f"CREATE DATABASE {database};\n\\connect {database}\nSET client_min_messages = error;\n"
+        self.psql("postgres", begin + sql)
 
 
 def environment():
-    return os.environ | {"PGCLIENTENCODING": "UTF8"}
+    """Without what names another server, or another form of its answers."""
+    others = {name: value for name, value in os.environ.items() if not name.startswith("PG")}
+    return others | {"PGCLIENTENCODING": "UTF8", "PYTHONUTF8": "1"}
 
 
 @contextlib.contextmanager
