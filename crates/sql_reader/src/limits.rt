@@ -10,7 +10,7 @@ ghost use Rattle.sql_reader.specs.Limits.{exceeded as exceeded_of};
 ghost use Rattle.sql_reader.specs.Counting.{atoms_backwards, gathered, left_after};
 
 use crate::error::Limit;
-use filter_tree::{Atom, Filter, same_atom};
+use filter_tree::{Atom, Filter, add_atom};
 use std::alloc::{AllocError, Global};
 
 /// How many distinct atoms the filters of a table may have together.
@@ -77,28 +77,6 @@ fn gather_atoms<'a>(atoms: &mut Vec<&'a Atom, Global>, filter: &'a Filter) -> Re
             }
         }
     }
-}
-
-fn add_atom<'a>(atoms: &mut Vec<&'a Atom, Global>, atom: &'a Atom) -> Result<(), AllocError>
-    ensures { OnOk result (atoms_view atoms.new.items
-        ≡ with_item same_atom (atoms_view atoms.old.items) (atom_view atom.now)) }
-{
-    if has_atom(atoms, atom) {
-        return Ok(());
-    }
-    atoms.push(atom)?;
-    Ok(())
-}
-
-fn has_atom(atoms: &[&Atom], atom: &Atom) -> bool
-    ensures { result ≡ list_any (same_atom (atom_view atom.now)) (atoms_view atoms.now) }
-{
-    for held in atoms {
-        if same_atom(atom, *held) {
-            return true;
-        }
-    }
-    false
 }
 
 fn has_too_many_nodes(filters: &[&Filter]) -> bool
