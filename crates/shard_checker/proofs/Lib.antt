@@ -4,10 +4,12 @@ pub mod ExistingLemmas
 pub mod FactLemmas
 pub mod OwnerLemmas
 pub mod PlaceLemmas
+pub mod PlanFacts
 pub mod RangeLemmas
 pub mod ReasonLemmas
 pub mod RowLemmas
 pub mod ShardingLemmas
+pub mod SoundFacts
 pub mod SoundLemmas
 pub mod StandingLemmas
 pub mod Testing

@@ -7,11 +7,9 @@ pub mod Emptiness
 pub mod Facts
 pub mod Numbering
 pub mod Owners
-pub mod PlanFacts
 pub mod Refusal
 pub mod Rows
 pub mod Sound
-pub mod SoundFacts
 pub mod SubjectView
 pub mod Truth
 pub mod Trying

@@ -4,9 +4,7 @@ ghost use Rattle.std.specs.Prelude.{◌≡◌};
 ghost use Rattle.pub_reader.specs.CatalogView.{catalog_view};
 ghost use Rattle.replica_identity.specs.Plans.{plan_of};
 ghost use Rattle.replica_identity.specs.PlanView.{plan_view};
-ghost use Rattle.shard_checker.specs.PlanFacts.{PlanOf-set};
 ghost use Rattle.shard_checker.specs.Sound.{IsSound};
-ghost use Rattle.shard_checker.specs.SoundFacts.{IsSound-prop};
 
 use pub_reader::Catalog;
 use replica_identity::Plan;
@@ -19,8 +17,8 @@ use replica_identity::Plan;
 pub struct Checked {
     catalog: Catalog,
     plan: Plan,
-    ghost own: { plan_view plan ≡ plan_of (catalog_view catalog) } by { PlanOf-set (plan_view plan) (plan_of (catalog_view catalog)) },
-    ghost sound: { IsSound (catalog_view catalog) } by { IsSound-prop (catalog_view catalog) },
+    ghost own: { ∥ plan_view plan ≡ plan_of (catalog_view catalog) ∥₁ },
+    ghost sound: { ∥ IsSound (catalog_view catalog) ∥₁ },
 }
 
 impl Checked {
@@ -44,7 +42,6 @@ impl Checked {
     /// The catalog, whose sharding is sound. In the setting that it makes with its plan a row's replica identity tells to
     /// whom the row passes (`covered`), commands that are accepted leave no two rows of a table with one identity
     /// (`apart`), and each row that fits its table passes to exactly one subscriber (`divided`).
-    #[tactic(auto, using(crate::proofs::StandingLemmas::standing))]
     pub fn catalog(&self) -> &Catalog
         ensures shows { catalog_view result.now ≡ (checked_view self.now).catalog }
         ensures sound { IsSound (catalog_view result.now) }
@@ -56,7 +53,6 @@ impl Checked {
     }
 
     /// The catalog's own plan: each subscriber's share of a table takes the rows that pass to it.
-    #[tactic(auto, using(crate::proofs::ShardingLemmas::takes_own))]
     pub fn plan(&self) -> &Plan
         ensures shows { plan_view result.now ≡ (checked_view self.now).plan }
         ensures own { plan_view result.now ≡ plan_of (checked_view self.now).catalog }

@@ -10,7 +10,9 @@ use Rattle.filter_tree.specs.Same.{same_atom}
 use Rattle.filter_tree.specs.declared.filter.Test.{Test}
 use Rattle.filter_tree.specs.declared.filter.Test.TheVariants.{True, False, Unknown}
 use Rattle.filter_tree.proofs.SameLemmas.{both_true, same_atom_is, same_atom_of_equal}
-use Rattle.replica_identity.specs.Plans.{PlanOf}
+use Rattle.std.proofs.Math.Logic.{∥∥₁_elim}
+use Rattle.pub_reader.specs.Catalogs.{CatalogOf}
+use Rattle.replica_identity.specs.Plans.{PlanOf, plan_of}
 use Rattle.replica_identity.specs.Shares.{ShareOf}
 
 abbrev same_test : Test → Test → Bool
@@ -85,3 +87,7 @@ ShareOf-set = Prim.hlevel (Expr-set, ⊎_set, prop→set (Unit-prop {0}))
 
 pub PlanOf-set : IsSet PlanOf
 PlanOf-set = is_set (is_set ShareOf-set)
+
+-- what is kept of a catalog and its plan
+pub kept_own : (catalog : CatalogOf Expr) (plan : PlanOf) → ∥ plan ≡ plan_of catalog ∥₁ → plan ≡ plan_of catalog
+kept_own catalog plan kept = ∥∥₁_elim kept (PlanOf-set plan (plan_of catalog)) (λ own. own)

@@ -1,6 +1,7 @@
 -- A sharding is sound in one way: a row that passes to exactly one subscriber leaves no choice of who that is.
 use Rattle.std.proofs.Common.{ap}
 use Rattle.std.specs.Prelude.{◌≡◌, ℕ, true, List}
+use Rattle.std.proofs.Math.Logic.{∥∥₁_elim}
 use Rattle.std.proofs.Props.{props}
 use mathlib.Core.HLevel.{Σ_prop_path}
 use Rattle.filter_tree.specs.Datum.{Datum}
@@ -18,3 +19,7 @@ RowHasOneOwner-prop catalog table cells = λ one other.
 
 pub IsSound-prop : (catalog : CatalogOf Expr) → IsProp (IsSound catalog)
 IsSound-prop catalog = Prim.hlevel (props, RowHasOneOwner-prop)
+
+-- what is kept of a catalog
+pub kept_sound : (catalog : CatalogOf Expr) → ∥ IsSound catalog ∥₁ → IsSound catalog
+kept_sound catalog kept = ∥∥₁_elim kept (IsSound-prop catalog) (λ sound. sound)

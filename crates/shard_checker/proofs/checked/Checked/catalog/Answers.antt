@@ -1,0 +1,22 @@
+use Rattle.pub_reader.specs.CatalogView.{catalog_view}
+use Rattle.replica_identity.specs.PlanView.{plan_view}
+use Rattle.shard_checker.proofs.PlanFacts.{kept_own}
+use Rattle.shard_checker.proofs.SoundFacts.{kept_sound}
+use Rattle.shard_checker.proofs.StandingLemmas.{own_covered, own_apart, own_divided}
+use Rattle.shard_checker.proofs.checked.Checked.catalog.Goals as goal
+
+-- what the fields keep, of which there is one proof at most
+pub returns-clause-sound : goal.returns-clause-sound
+returns-clause-sound c = kept_sound (catalog_view c.args.self.now.catalog) c.args.self.now.sound
+
+pub returns-clause-covered : goal.returns-clause-covered
+returns-clause-covered c = let kept = c.args.self.now in
+    own_covered (catalog_view kept.catalog) (plan_view kept.plan) (kept_own (catalog_view kept.catalog) (plan_view kept.plan) kept.own) (returns-clause-sound c)
+
+pub returns-clause-apart : goal.returns-clause-apart
+returns-clause-apart c = let kept = c.args.self.now in
+    own_apart (catalog_view kept.catalog) (plan_view kept.plan) (kept_own (catalog_view kept.catalog) (plan_view kept.plan) kept.own) (returns-clause-sound c)
+
+pub returns-clause-divided : goal.returns-clause-divided
+returns-clause-divided c = let kept = c.args.self.now in
+    own_divided (catalog_view kept.catalog) (plan_view kept.plan) (kept_own (catalog_view kept.catalog) (plan_view kept.plan) kept.own) (returns-clause-sound c)
