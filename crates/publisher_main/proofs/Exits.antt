@@ -117,7 +117,7 @@ module _ (words : List (List ℕ)) (known : Option (List ℕ)) where
   whole_outcome old new Output now = record { status = Output; text = now.text; is = now.is; first = first_whole now.text old new now.appends }
   whole_outcome old new OutOfMemory now = now
 
-  -- after the text that stands there the text of a report makes an output
+  -- after the text that is there the text of a report makes an output
   told : (old mid new : Option (List ℕ)) (before after : List ℕ) (status end : Status) → IsOutput words known status (before ++ after) → Appends old mid before
       → ((end ≡ status) × Appends mid new after) ⊎ ((end ≡ Output) × WritesFirst after mid new) → IsOutcome words known old new end
   told old mid new before after status end is appends (inl whole) =
