@@ -5,11 +5,11 @@ use Rattle.std.specs.Io.KnownBytes.{Appends, Keeps}
 use denote.Enum.Declared.{tag_of}
 use Rattle.std.proofs.KnownBytes.{Appends-kept, Appends-trans}
 use Rattle.publisher_main.proofs.Writing.{first_after, first_kept, first_of_longer, first_whole, text_of-more, unwritten}
-use Rattle.publisher_main.specs.CommandLine.{AsksHelp, IsMisworded}
-use Rattle.publisher_main.specs.Failures.{failure_lines, fault_line, number_of, status_of_failure}
-use Rattle.publisher_main.specs.Outcomes.{IsCutShort, IsOutput, Answered, Shown, Misworded, Rejected, CutShort, WritesOutput, WritesFirstOutput, IsOutcome, IsRun, WritesCutShort, IsEnding, IsReport, IsWritten}
-use Rattle.publisher_main.specs.Output.{StopsText, WritesFirst, WritesPart, ended, text_of}
-use Rattle.publisher_main.specs.Requests.{IsAsked, IsAnswer, IsBegun, IsFault, EndsRequest, IsReason, AnswersWords, BeginsWords, HasFault}
+use Rattle.publisher_main.specs.CommandLine.{AsksHelp}
+use Rattle.publisher_main.specs.Failures.{failure_lines, number_of, status_of_failure}
+use Rattle.publisher_main.specs.Outcomes.{IsOutput, Answered, Shown, Misworded, Rejected, CutShort, WritesOutput, WritesFirstOutput, IsOutcome, IsRun, WritesCutShort, IsEnding, IsReport, IsWritten}
+use Rattle.publisher_main.specs.Output.{StopsText, WritesFirst, ended, text_of}
+use Rattle.publisher_main.specs.Requests.{IsAsked, IsAnswer, IsBegun, IsFault, EndsRequest, IsReason}
 use Rattle.publisher_main.specs.contracts.failure.Status.{the_type}
 use Rattle.publisher_main.specs.declared.arguments.Request.{Request}
 use Rattle.publisher_main.specs.declared.failure.Failure.{Failure}
