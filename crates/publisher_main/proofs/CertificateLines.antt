@@ -16,24 +16,24 @@ Outcome = Result Tree CertError
 -- some of the lines are read, and these are their certificates; the others are left
 pub record IsSoFar (lines left : List (List ℕ)) (trees : List Tree) : Type 0 where
   pub seen : List (List ℕ)
-  pub stands : lines ≡ seen ++ left
+  pub split : lines ≡ seen ++ left
   pub good : AreCertificates seen trees
 
 pub so_far_at_start : (lines left : List (List ℕ)) → left ≡ lines → IsSoFar lines left []
-so_far_at_start lines left e = record { seen = []; stands = sym e; good = record { each = refl } }
+so_far_at_start lines left e = record { seen = []; split = sym e; good = record { each = refl } }
 
 pub so_far_next : (lines left : List (List ℕ)) (line : List ℕ) (later : List (List ℕ)) (trees : List Tree) (tree : Tree)
     → left ≡ line ∷ later → certificate_of line ≡ Ok tree → IsSoFar lines left trees → IsSoFar lines later (trees ++ tree ∷ [])
 so_far_next lines left line later trees tree left_is reads now = record {
   seen = now.seen ++ line ∷ [];
-  stands = now.stands ∙ ap (λ rest. now.seen ++ rest) left_is ∙ sym (append_assoc now.seen (line ∷ []) later);
+  split = now.split ∙ ap (λ rest. now.seen ++ rest) left_is ∙ sym (append_assoc now.seen (line ∷ []) later);
   good = record { each = map-append certificate_of now.seen (line ∷ []) ∙ ap₂ (λ (xs ys : List Outcome). xs ++ ys) now.good.each (ap (λ (r : Outcome). r ∷ []) reads) ∙ sym (map-append Ok trees (tree ∷ [])) };
 }
 
 -- where no line is left
 pub all_read : (lines left : List (List ℕ)) (trees : List Tree) → left ≡ [] → IsSoFar lines left trees → AreCertificates lines trees
 all_read lines left trees e now =
-    subst (λ (seen : List (List ℕ)). AreCertificates seen trees) (sym (append-nil now.seen) ∙ ap (λ rest. now.seen ++ rest) (sym e) ∙ sym now.stands) now.good
+    subst (λ (seen : List (List ℕ)). AreCertificates seen trees) (sym (append-nil now.seen) ∙ ap (λ rest. now.seen ++ rest) (sym e) ∙ sym now.split) now.good
 
 count_of : (lines : List (List ℕ)) (trees : List Tree) → AreCertificates lines trees → length trees ≡ length lines
 count_of lines trees good = sym (length-map trees Ok) ∙ sym (ap length good.each) ∙ length-map lines certificate_of
@@ -43,9 +43,9 @@ first_bad : (lines left : List (List ℕ)) (line : List ℕ) (later : List (List
 first_bad lines left line later trees number error left_is counted fault now = record {
   before = now.seen;
   line = line;
-  behind = later;
+  after = later;
   trees = trees;
-  stands = now.stands ∙ ap (λ rest. now.seen ++ rest) left_is;
+  split = now.split ∙ ap (λ rest. now.seen ++ rest) left_is;
   counted = counted ∙ ap (λ n. n + 1) (count_of now.seen trees now.good);
   good = now.good;
   bad = fault;

@@ -1,5 +1,5 @@
 -- What `eval` answers, from what its steps gave.
-use Rattle.std.proofs.Common.{◌≡◌, ℕ, inr, ◌⊎◌, List, [], ◌∷◌, Option, Some, Result, Ok, Err, slice_get, subst, refl}
+use Rattle.std.proofs.Common.{◌≡◌, ℕ, inr, ◌⊎◌, List, [], ◌∷◌, Option, Some, Result, Ok, slice_get, subst}
 use Rattle.filter_tree.specs.declared.table.Table.{Table}
 use Rattle.pub_reader.specs.CatalogView.{catalog_view}
 use Rattle.pub_reader.specs.Statements.{catalog_by}

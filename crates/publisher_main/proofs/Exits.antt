@@ -5,11 +5,11 @@ use Rattle.std.specs.Io.KnownBytes.{Appends, Keeps}
 use denote.Enum.Declared.{tag_of}
 use Rattle.std.proofs.KnownBytes.{Appends-kept, Appends-trans}
 use Rattle.publisher_main.proofs.Writing.{first_after, first_kept, first_of_longer, first_whole, text_of-more, unwritten}
-use Rattle.publisher_main.specs.CommandLine.{AsksHelp, IsMisworded}
-use Rattle.publisher_main.specs.Failures.{failure_lines, fault_line, number_of, status_of_failure}
-use Rattle.publisher_main.specs.Outcomes.{IsCutShort, IsOutput, Answered, Shown, Misworded, Rejected, CutShort, WritesOutput, WritesFirstOutput, IsOutcome, IsRun, WritesCutShort, IsEnding, IsReport, IsWritten}
-use Rattle.publisher_main.specs.Output.{StopsText, WritesFirst, WritesPart, ended, text_of}
-use Rattle.publisher_main.specs.Requests.{IsAsked, IsAnswer, IsBegun, IsFault, EndsRequest, IsReason, AnswersWords, BeginsWords, HasFault}
+use Rattle.publisher_main.specs.CommandLine.{AsksHelp}
+use Rattle.publisher_main.specs.Failures.{failure_lines, number_of, status_of_failure}
+use Rattle.publisher_main.specs.Outcomes.{IsOutput, Answered, Shown, Misworded, Rejected, CutShort, WritesOutput, WritesFirstOutput, IsOutcome, IsRun, WritesCutShort, IsEnding, IsReport, IsWritten}
+use Rattle.publisher_main.specs.Output.{StopsText, WritesFirst, ended, text_of}
+use Rattle.publisher_main.specs.Requests.{IsAsked, IsAnswer, IsBegun, IsFault, EndsRequest, IsReason}
 use Rattle.publisher_main.specs.contracts.failure.Status.{the_type}
 use Rattle.publisher_main.specs.declared.arguments.Request.{Request}
 use Rattle.publisher_main.specs.declared.failure.Failure.{Failure}
@@ -117,7 +117,7 @@ module _ (words : List (List ℕ)) (known : Option (List ℕ)) where
   whole_outcome old new Output now = record { status = Output; text = now.text; is = now.is; first = first_whole now.text old new now.appends }
   whole_outcome old new OutOfMemory now = now
 
-  -- after the text that stands there the text of a report makes an output
+  -- after the text that is there the text of a report makes an output
   told : (old mid new : Option (List ℕ)) (before after : List ℕ) (status end : Status) → IsOutput words known status (before ++ after) → Appends old mid before
       → ((end ≡ status) × Appends mid new after) ⊎ ((end ≡ Output) × WritesFirst after mid new) → IsOutcome words known old new end
   told old mid new before after status end is appends (inl whole) =

@@ -1,4 +1,4 @@
--- A reader that is cut off behind a limit, and gives no more bytes than the limit, gave all it has.
+-- A reader that is cut off after a limit, and gives no more bytes than the limit, gave all it has.
 use Rattle.std.proofs.Common.{◌≡◌, ℕ, ◌+◌, ◌≤◌, List, [], ◌++◌, length, take, Option, Some, None, IfSome, arith, ◌∙◌, ap, min}
 use Rattle.std.proofs.lemmas.List.{length-take, take_all}
 use Rattle.std.specs.Option.{option_map}

@@ -1,12 +1,12 @@
 -- The lines of rows are written one after the other.
-use Rattle.std.proofs.Common.{◌≡◌, ℕ, inl, inr, ◌⊎◌, Bool, true, false, if◌then◌else◌, ◌&&◌, List, [], ◌∷◌, ◌++◌, Option, refl, sym, ap, subst, ◌∙◌, append_assoc, append-nil}
+use Rattle.std.proofs.Common.{◌≡◌, ℕ, inl, inr, ◌⊎◌, Bool, true, false, if◌then◌else◌, ◌&&◌, List, [], ◌∷◌, ◌++◌, Option, refl, sym, ap, subst, ◌∙◌, append_assoc}
 use Rattle.std.specs.List.{list_all}
 use Rattle.std.specs.Prelude.{Err, IsErrAnd, Ok, Result}
 use Rattle.std.proofs.lemmas.List.Folds.{list_all-append}
 use Rattle.std.specs.Io.KnownBytes.{Appends}
 use Rattle.filter_tree.specs.declared.table.Column.{Column}
 use Rattle.std.proofs.KnownBytes.{Appends-nil, Appends-trans}
-use Rattle.publisher_main.proofs.Writing.{first_after, text_of-more, unwritten}
+use Rattle.publisher_main.proofs.Writing.{first_after, text_of-more}
 use Rattle.publisher_main.specs.Eval.BadRows.{is_answered}
 use Rattle.publisher_main.specs.Eval.Carriers.{CarrierOf}
 use Rattle.publisher_main.specs.Eval.Evaluation.{status_of, IsLine, NoRow, OneMore, AreFirstLines, AreSomeLines, WritesRows}

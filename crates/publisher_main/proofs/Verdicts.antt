@@ -14,9 +14,9 @@ use Rattle.sql_reader.specs.Written.{as_filter}
 use Rattle.publisher_main.proofs.Faults.{out_of_memory}
 use Rattle.publisher_main.proofs.Writing.{text_of-one}
 use Rattle.publisher_main.specs.Check.Certificates.{AreCertificates}
-use Rattle.publisher_main.specs.Check.Checking.{IsCheck, IsVerdict, first_refusal}
+use Rattle.publisher_main.specs.Check.Checking.{IsCheck, first_refusal}
 use Rattle.publisher_main.specs.Check.Refusals.{refused_line}
-use Rattle.publisher_main.specs.Output.{StopsText, WritesFirst, ended, text_of}
+use Rattle.publisher_main.specs.Output.{StopsText, WritesFirst, ended}
 use Rattle.publisher_main.specs.Parts.{Cut, lines_of, two_parts}
 use Rattle.publisher_main.specs.Requests.{EndsRequest}
 use Rattle.publisher_main.specs.declared.arguments.Request.TheVariants.{Check}

@@ -1,4 +1,4 @@
--- The parts of an input and the lines of a part, in the program's own format: a newline ends a line, and a last line without one counts if it is not empty. A line that is exactly `%%` stands between two parts.
+-- The parts of an input and the lines of a part, in the program's own format: a newline ends a line, and a last line without one counts if it is not empty. A line that is exactly `%%` is between two parts.
 use Rattle.std.specs.Prelude.{ℕ, ◌==◌, Bool, true, ◌&&◌, if◌then◌else◌, List, [], ◌∷◌, Option, Some, None, is_none, codes}
 use Rattle.std.specs.Option.{option_map}
 use Rattle.std.specs.List.{before_first, after_first}
@@ -11,9 +11,9 @@ is_newline byte = byte == 10
 abbrev pub first_line : List ℕ → List ℕ
 first_line text = before_first is_newline text
 
--- the text behind the first line and its newline
-abbrev pub behind_line : List ℕ → List ℕ
-behind_line text = after_first is_newline text
+-- the text after the first line and its newline
+abbrev pub after_line : List ℕ → List ℕ
+after_line text = after_first is_newline text
 
 -- a byte in front of the first line
 abbrev pub onto_line : ℕ → List (List ℕ) → List (List ℕ)
@@ -25,7 +25,7 @@ abbrev pub lines_of : List ℕ → List (List ℕ)
 lines_of [] = []
 lines_of (byte ∷ text) = if is_newline byte then [] ∷ lines_of text else onto_line byte (lines_of text)
 
--- a text cut in two: the part before a separator, and the text behind it
+-- a text cut in two: the part before a separator, and the text after it
 pub record Cut : Type 0 where
   pub part : List ℕ
   pub rest : List ℕ
@@ -40,13 +40,13 @@ is_separator line = bytes_eq line (codes "%%")
 abbrev pub cut_from : Bool → List ℕ → Option Cut
 cut_from starts [] = None
 cut_from starts (byte ∷ text) =
-    if starts && is_separator (first_line (byte ∷ text)) then Some (record { part = []; rest = behind_line (byte ∷ text) })
+    if starts && is_separator (first_line (byte ∷ text)) then Some (record { part = []; rest = after_line (byte ∷ text) })
     else option_map (onto_part byte) (cut_from (is_newline byte) text)
 
 abbrev pub cut_of : List ℕ → Option Cut
 cut_of text = cut_from true text
 
--- a cut behind which there is no other
+-- a cut after which there is no other
 abbrev pub only_cut : Option Cut → Option Cut
 only_cut None = None
 only_cut (Some cut) = if is_none (cut_of cut.rest) then Some cut else None

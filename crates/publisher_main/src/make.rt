@@ -23,7 +23,7 @@ use replica_identity::{Plan, plan};
 use std::alloc::Global;
 use std::io::Write;
 
-/// Writes the line of the table of this number, and tells whether it is a certificate. The certificate stands in an arena
+/// Writes the line of the table of this number, and tells whether it is a certificate. The certificate is in an arena
 /// of its own.
 #[tactic(auto, using(crate::proofs::FindingLines::table_written, crate::proofs::FindingLines::table_stopped))]
 fn write_table<'a, W: Write>(

@@ -49,7 +49,7 @@ pub fn column_name(tables: &[Table], table: usize, number: usize) -> &str
     }
 }
 
-/// Writes a space and a word behind what stands on the line.
+/// Writes a space and a word after what is on the line.
 pub fn push_word(line: &mut String, word: &str) -> Result<(), AllocError>
     ensures { OnOk result (string_bytes line.new ≡ string_bytes line.old ++ spec.spaced (word.now ∷ [])) }
 {
@@ -57,7 +57,7 @@ pub fn push_word(line: &mut String, word: &str) -> Result<(), AllocError>
     line.push_str(word)
 }
 
-/// Writes a space, and the name of a table behind that of its schema.
+/// Writes a space, and the name of a table after that of its schema.
 fn push_table_name(line: &mut String, table: &Table) -> Result<(), AllocError>
     ensures { OnOk result (string_bytes line.new ≡ string_bytes line.old ++ spec.spaced
         (spec.table_named (Some table.now) ∷ [])) }

@@ -1,13 +1,13 @@
-//! The parts of an input, between which stand lines that are exactly `%%`, and the lines of a part.
+//! The parts of an input, between which are lines that are exactly `%%`, and the lines of a part.
 
 ghost use Rattle.std.specs.Prelude.{◌≡◌};
 ghost use Rattle.std.specs.Option.{option_map};
 ghost use Rattle.publisher_main.specs.Parts as spec;
 
-/// The first line of a text, without its newline, and the text behind that.
+/// The first line of a text, without its newline, and the text after that.
 pub fn first_line(text: &str) -> (&str, &str)
     ensures line { result.0.now ≡ spec.first_line text.now }
-    ensures behind { result.1.now ≡ spec.behind_line text.now }
+    ensures after { result.1.now ≡ spec.after_line text.now }
 {
     text.split_once('\n').unwrap_or((text, ""))
 }
@@ -50,17 +50,17 @@ impl<'a> Iterator for Lines<'a> {
     }
 }
 
-/// The text before the first line that is exactly `%%`, and the text behind that line.
+/// The text before the first line that is exactly `%%`, and the text after that line.
 pub fn cut(text: &str) -> Option<(&str, &str)>
     ensures { option_map (λ cut. record { part = cut.0.now; rest = cut.1.now }) result ≡ spec.cut_of text.now }
 {
     let mut rest = text;
     while !rest.is_empty() {
-        let (line, behind) = first_line(rest);
+        let (line, after) = first_line(rest);
         if line == "%%" {
-            return Some((&text[..text.len() - rest.len()], behind));
+            return Some((&text[..text.len() - rest.len()], after));
         }
-        rest = behind;
+        rest = after;
     }
     None
 }

@@ -117,8 +117,8 @@ fn outcome<S: AsStr, R: Read + Drop, W: Write>(
 /// where for some table no certificate was found), 0 where the help or the version was asked, 2 where the words ask
 /// nothing, 3 where the input is not taken, 4 where the writer fails, 5 where memory runs out.
 ///
-/// With the statuses 2 and 3 a line says why, and nothing else is written. With 5 the first lines of the answer may stand
-/// before the line `out of memory`. With 4 what is written are the first bytes of what would have been.
+/// With the statuses 2 and 3 a line says why, and nothing else is written. With 5 the first lines of the answer may be
+/// written before the line `out of memory`. With 4 what is written are the first bytes of what would have been.
 #[tactic(auto, using(crate::proofs::Exits::ran, crate::proofs::Exits::ran_at_once, crate::proofs::Exits::ran_unflushed))]
 pub fn run<S: AsStr, R: Read + Drop, W: Write>(
     alloc: Global,

@@ -16,9 +16,9 @@ pub record AreCertificates (lines : List (List ℕ)) (trees : List Tree) : Type 
 pub record IsFirstBad (lines : List (List ℕ)) (number : ℕ) (error : CertError) : Type 0 where
   pub before : List (List ℕ)
   pub line : List ℕ
-  pub behind : List (List ℕ)
+  pub after : List (List ℕ)
   pub trees : List Tree
-  pub stands : lines ≡ before ++ line ∷ behind
+  pub split : lines ≡ before ++ line ∷ after
   pub counted : number ≡ length before + 1
   pub good : AreCertificates before trees
   pub bad : certificate_of line ≡ Err error

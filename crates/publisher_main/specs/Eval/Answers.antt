@@ -30,7 +30,7 @@ said_by cells carrier = spelled carrier.name (answer_of cells carrier.filter)
 abbrev pub line_of : List Datum → List CarrierOf → List ℕ
 line_of cells carriers = join_with_byte 32 (map (said_by cells) carriers)
 
--- a line behind which one more publication has its say
+-- a line after which one more publication has its say
 abbrev pub with_said : List ℕ → List ℕ → List ℕ
 with_said [] said = said
 with_said (byte ∷ line) said = (byte ∷ line) ++ 32 ∷ said

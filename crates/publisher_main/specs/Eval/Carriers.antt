@@ -29,6 +29,6 @@ carried_by table publication =
 abbrev pub carriers_of : ℕ → List Publication → List CarrierOf
 carriers_of table publications = filter_map (carried_by table) publications
 
--- what a carrier of the code stands for
+-- what a carrier of the code is the view of
 abbrev pub carrier_view : Carrier → CarrierOf
 carrier_view carrier = record { name = carrier.name.now; filter = option_map (λ filter. expr_view filter.now) carrier.filter }

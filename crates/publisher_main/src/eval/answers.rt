@@ -47,7 +47,7 @@ pub fn answer_of(filter: Option<&Filter>, row: &Row) -> Answer
     }
 }
 
-/// Writes `name=answer` behind what stands on the line.
+/// Writes `name=answer` after what is on the line.
 fn push_answer(line: &mut String, name: &str, answer: Answer) -> Result<(), AllocError>
     ensures { OnOk result (string_bytes line.new ≡ spec.with_said (string_bytes line.old)
         (spec.spelled name.now answer)) }
@@ -60,7 +60,7 @@ fn push_answer(line: &mut String, name: &str, answer: Answer) -> Result<(), Allo
     line.push_str(answer.word())
 }
 
-/// Writes what a publication says of a row behind what stands on the line.
+/// Writes what a publication says of a row after what is on the line.
 fn push_said(line: &mut String, carrier: Carrier<'_>, row: &Row) -> Result<(), AllocError>
     ensures { OnOk result (string_bytes line.new ≡ spec.with_said (string_bytes line.old)
         (spec.said_by row.now (carrier_view carrier.entry))) }

@@ -6,7 +6,7 @@ ghost use Rattle.publisher_main.specs.Eval.Hexadecimal.{digits_of, hexadecimal};
 
 use std::alloc::AllocError;
 
-/// Writes each byte as two hexadecimal digits in lower case, behind what stands on the line.
+/// Writes each byte as two hexadecimal digits in lower case, after what is on the line.
 pub fn push_hexadecimal(line: &mut String, bytes: &[u8]) -> Result<(), AllocError>
     ensures { OnOk result (string_bytes line.new ≡ string_bytes line.old ++ hexadecimal bytes.now) }
 {

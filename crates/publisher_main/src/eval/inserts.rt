@@ -52,7 +52,7 @@ fn insert_of(alloc: Global, carried: CatalogTable<'_>, row: &Row) -> Result<Msg,
     Ok(Msg::Insert { relation, new })
 }
 
-/// Writes the message of a row of the table behind what stands on the line.
+/// Writes the message of a row of the table after what is on the line.
 fn push_message(
     alloc: Global,
     line: &mut String,

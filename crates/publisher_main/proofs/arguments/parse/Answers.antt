@@ -1,5 +1,5 @@
-use Rattle.std.proofs.Common.{◌≡◌, ◌⊎◌, ap, map, subst}
-use Rattle.clap.specs.Words.{App, HasKind, IsAmong, fault_of, is_simple_and_free, kind_of}
+use Rattle.std.proofs.Common.{ap, map, subst}
+use Rattle.clap.specs.Words.{App, HasKind, fault_of, is_simple_and_free, kind_of}
 use Rattle.publisher_main.proofs.Asking.{error_asks, error_stops}
 use Rattle.publisher_main.proofs.arguments.parse.Goals as goal
 

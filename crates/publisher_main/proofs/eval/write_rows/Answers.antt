@@ -1,4 +1,4 @@
-use Rattle.std.proofs.Common.{◌≡◌, if◌then◌else◌, ap, map, ◌∙◌, refl}
+use Rattle.std.proofs.Common.{◌≡◌, if◌then◌else◌, ap, map, ◌∙◌}
 use Rattle.std.specs.String.{string_bytes}
 use Rattle.publisher_main.proofs.RowLines.{so_far_at_start, so_far_next, memory_returned, stop_returned, all_written}
 use Rattle.publisher_main.specs.Eval.Carriers.{carrier_view}

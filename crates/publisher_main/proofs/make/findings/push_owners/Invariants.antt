@@ -6,7 +6,7 @@ use Rattle.publisher_main.specs.Make.Making.{owners_text}
 use Rattle.publisher_main.specs.Names.{spaced, subscriber_name}
 use Rattle.publisher_main.proofs.make.findings.push_owners.Given as goal
 
--- what is written, and the names that are left behind a comma each, make the text of all
+-- what is written, and the names that are left, each after a comma, make the text of all
 abbrev pub invariant-loop-owner : goal.invariant-loop-owner
 invariant-loop-owner l =
     string_bytes l.line ++ flat_map (λ owner. codes "," ++ subscriber_name l.subscriptions owner) (drop l.owner-index l.others)

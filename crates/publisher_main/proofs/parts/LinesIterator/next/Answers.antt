@@ -8,7 +8,7 @@ pub returns-clause-steps : goal.returns-clause-steps
 returns-clause-steps c =
     let full : (length c.args.self.now.rest.now == 0) ≡ false = sym (c.if-is_empty.ensures) in
     let some : 0 < length c.args.self.now.rest.now = grind (arith, nat_tests) in
-    rw (c.first_line.ensures.line, c.first_line.ensures.behind) (lines_of-some c.args.self.now.rest.now some)
+    rw (c.first_line.ensures.line, c.first_line.ensures.after) (lines_of-some c.args.self.now.rest.now some)
 
 pub returns-clause-goes : goal.returns-clause-goes
 returns-clause-goes c =
