@@ -65,7 +65,7 @@ class Comparison:
             if status == 3 and output.endswith(" NotYet\n"):
                 print(f"{self.first}: pgshard does not read them all yet, so the server alone tells their values")
                 continue
-            tally.check(f"pgshard reads table {table} of {self.first}", output if status else "", "")
+            tally.check(f"pgshard reads table {table} of {self.first}", output[:200] if status else "", "")
             ours = [[word.split("=")[1] for word in line.split()] for line in output.splitlines()]
             for place, form in enumerate(listed):
                 what = f"rows of which {form.filter} has another value by pgshard"
