@@ -6,7 +6,8 @@ use Rattle.filter_tree.specs.Valid.{row_fault}
 use Rattle.filter_tree.specs.declared.table.Column.{Column}
 use Rattle.filter_tree.specs.declared.validity.RowFault.{RowFault}
 use Rattle.publisher_main.specs.Eval.Carriers.{CarrierOf}
-use Rattle.sql_reader.specs.Reading.{Fault, Tells, TellsOf, fault}
+use Rattle.filter_tree.specs.Memory.{TellsFault}
+use Rattle.sql_reader.specs.Reading.{Fault, Tells, fault, fault_or_none}
 use Rattle.sql_reader.specs.Rows.{row_of}
 use Rattle.sql_reader.specs.Wrong.{Wrong, wrong_of}
 use Rattle.sql_reader.specs.Wrong as w
@@ -46,7 +47,7 @@ module _ (wanted : RowOutput) (number : ℕ) (carriers : List CarrierOf) (column
   unreadable_line : (error : ReadError) (wrong : Wrong) (outcome : Result (List Datum) Fault) (line : List ℕ) → wrong_of error.kind ≡ Some wrong → Tells error outcome
       → line ≡ bad_line (Unreadable error) → IsLineOf wanted number carriers columns outcome line
   unreadable_line error wrong outcome line is tells same =
-      let found : outcome ≡ Err (fault error.place wrong) = subst (λ (w : Option Wrong). TellsOf error.place w outcome) is tells in
+      let found : outcome ≡ Err (fault error.place wrong) = subst (λ (w : Option Wrong). TellsFault (fault_or_none error.place w) outcome) is tells in
       subst (λ (o : Result (List Datum) Fault). IsLineOf wanted number carriers columns o line) (sym found) (record { error = error; tells = (refl, is); is = same })
 
   invalid_line : (cells : List Datum) (wrong : RowFault) (outcome : Result (List Datum) Fault) (line : List ℕ) → outcome ≡ Ok cells → row_fault columns cells ≡ Some wrong
