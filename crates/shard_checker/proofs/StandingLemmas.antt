@@ -224,10 +224,10 @@ is_there [] number h e = absurd (omega arith)
 is_there (table ∷ tables) zero h e = cc
 is_there (table ∷ tables) (suc number) h e = is_there tables number (omega arith) e
 
-one_subscriber : (catalog : CatalogOf Expr) (plan : PlanOf) → TakesWhatPasses catalog plan → (number : ℕ) → number < length catalog.tables → (row : List Datum)
+one_owner : (catalog : CatalogOf Expr) (plan : PlanOf) → TakesWhatPasses catalog plan → (number : ℕ) → number < length catalog.tables → (row : List Datum)
     → RowHasOneOwner catalog number row → PassesToOne (setting_of catalog plan) number row
-one_subscriber catalog plan own number within row one = record {
-  subscriber = one.owner;
+one_owner catalog plan own number within row one = record {
+  owner = one.owner;
   takes_it = own.same one.owner number within row ∙ one.takes_it;
   no_other = λ other h. one.no_other other (sym (own.same other number within row) ∙ h);
 }
@@ -237,11 +237,11 @@ one_of_fitting : (catalog : CatalogOf Expr) (plan : PlanOf) → TakesWhatPasses 
     → IfSome found (λ table. (cells : List Datum) → IsTyped table.columns cells → RowHasOneOwner catalog number cells) → PassesToOne (setting_of catalog plan) number row
 one_of_fitting catalog plan own number within None row there h sound = absurd (is_there catalog.tables number within there)
 one_of_fitting catalog plan own number within (Some table) row there h sound =
-    one_subscriber catalog plan own number within row (sound row (typed_of_valid table.columns row (valid_from_no_fault table.columns row (no_fault (row_fault table.columns row) h))))
+    one_owner catalog plan own number within row (sound row (typed_of_valid table.columns row (valid_from_no_fault table.columns row (no_fault (row_fault table.columns row) h))))
 
 pub setting_sound : (catalog : CatalogOf Expr) (plan : PlanOf) → IsSound catalog → TakesWhatPasses catalog plan → Sound (setting_of catalog plan)
 setting_sound catalog plan sound own = record {
-  one_subscriber = λ table row h.
+  one_owner = λ table row h.
       let both = both_true (nat_lt table (length catalog.tables)) (is_none (fault_in (slice_get catalog.tables table) row)) h in
       one_of_fitting catalog plan own table (ltb-true table (length catalog.tables) both.0) (slice_get catalog.tables table) row refl both.1 (sound.one_owner table);
 }

@@ -21,10 +21,10 @@ pub record KeepsApart (setting : Setting) : Type 0 where
 
 -- exactly one subscriber has the row
 pub record PassesToOne (setting : Setting) (table : ℕ) (row : List Datum) : Type 0 where
-  pub subscriber : ℕ
-  pub takes_it : setting.passes subscriber table row ≡ true
-  pub no_other : (other : ℕ) → setting.passes other table row ≡ true → other ≡ subscriber
+  pub owner : ℕ
+  pub takes_it : setting.passes owner table row ≡ true
+  pub no_other : (other : ℕ) → setting.passes other table row ≡ true → other ≡ owner
 
 -- Each row that fits a table passes to exactly one subscriber.
 pub record Sound (setting : Setting) : Type 0 where
-  pub one_subscriber : (table : ℕ) (row : List Datum) → fits setting table row ≡ true → PassesToOne setting table row
+  pub one_owner : (table : ℕ) (row : List Datum) → fits setting table row ≡ true → PassesToOne setting table row
