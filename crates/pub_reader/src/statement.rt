@@ -115,7 +115,8 @@ pub fn read_catalog(alloc: Global, text: &str) -> Result<Catalog, ReadError>
 
 #[tactic(auto, unfolding(crate::specs::Statements::catalog_by))]
 fn whole_catalog(alloc: Global, text: &str) -> Result<Catalog, ReadError>
-    ensures { Answers catalog_view (spec.catalog_by as_filter text.now) result }
+    ensures catalog { Answers catalog_view (spec.catalog_by as_filter text.now) result }
+    ensures limits { IfOk result (λ catalog. IsLimited (catalog_view catalog)) }
 {
     let mut draft = Draft::new(alloc)?;
     statements(&mut Reader::new(text), alloc, &mut draft)?;
