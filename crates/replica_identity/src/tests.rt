@@ -167,11 +167,10 @@ fn the_largest_catalog_has_a_plan(rt: HostRuntime) -> Result<(), Fail> {
         assert!(rt; !plan.share(32, 0).takes(&row));
         assert!(rt; !plan.share(0, 64).takes(&row));
     }
-    let tables = catalog.tables.as_slice();
-    let counts = [(0, 100), (1, 1), (63, 100)];
-    for (table, count) in counts {
-        assert_eq!(rt; identity_columns(alloc, &tables[table])?.len(), count);
-        assert_eq!(rt; covered(&tables[table], 99), count == 100);
+    for (number, count) in [(0, 100), (1, 1), (63, 100)] {
+        let table = catalog.tables.get(number).expect(&rt, "a table");
+        assert_eq!(rt; identity_columns(alloc, table)?.len(), count);
+        assert_eq!(rt; covered(table, 99), count == 100);
     }
     Ok(())
 }

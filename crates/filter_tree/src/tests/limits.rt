@@ -51,7 +51,12 @@ fn a_tree_of_a_million_nodes_is_copied_and_listed(rt: HostRuntime) -> Result<(),
         eval(&copy, &Row::<Global>::from_values(Vec::new(alloc))),
         Tri::True
     );
-    assert!(rt; matches!(atoms_of(alloc, &copy)?.as_slice(), [Atom::IsNull(99)]));
+    let atoms = atoms_of(alloc, &copy)?;
+    let terms = atoms
+        .iter()
+        .map(|atom| atom.term())
+        .collect::<Vec<Term>>(alloc)?;
+    assert_eq!(rt; terms.as_slice(), [Term::Col(99)].as_slice());
     assert_eq!(rt;
         terms_of(alloc, &copy)?.as_slice(),
         [Term::Col(99)].as_slice()
@@ -73,6 +78,10 @@ fn lists_have_each_item_once(rt: HostRuntime) -> Result<(), Fail> {
     add_atom(&mut atoms, &other)?;
     add_atoms(&mut atoms, &null)?;
     add_atom(&mut atoms, &other)?;
-    assert!(rt; matches!(atoms.as_slice(), [Atom::IsNull(2), Atom::IsNull(1)]));
+    let columns = atoms
+        .iter()
+        .map(|atom| atom.term().column())
+        .collect::<Vec<usize>>(alloc)?;
+    assert_eq!(rt; columns.as_slice(), [2, 1].as_slice());
     Ok(())
 }

@@ -53,15 +53,12 @@ fn reads_the_longest_names(rt: HostRuntime) -> Result<(), Fail> {
     let alloc = rt.alloc();
     let letters = "N".repeat(alloc, NAME)?;
     let folded = "n".repeat(alloc, NAME)?;
-    let quotes = format!(in alloc; "\"{}\"", "\"\"".repeat(alloc, NAME)?)?;
-    let cases = [
-        (letters.as_str(), folded),
-        (quotes.as_str(), "\"".repeat(alloc, NAME)?),
-    ];
-    for (text, expected) in cases {
-        let name = read_name(&mut Reader::new(text), alloc, "a name")?;
-        assert_eq!(rt; name.text.as_str(), expected.as_str());
-    }
+    let name = read_name(&mut Reader::new(letters.as_str()), alloc, "a name")?;
+    assert_eq!(rt; name.text.as_str(), folded.as_str());
+    let doubled = format!(in alloc; "\"{}\"", "\"\"".repeat(alloc, NAME)?)?;
+    let quotes = "\"".repeat(alloc, NAME)?;
+    let name = read_name(&mut Reader::new(doubled.as_str()), alloc, "a name")?;
+    assert_eq!(rt; name.text.as_str(), quotes.as_str());
     Ok(())
 }
 
@@ -76,20 +73,20 @@ fn reads_a_hundred_columns(rt: HostRuntime) -> Result<(), Fail> {
         text.push_str(column.as_str())?;
     }
     text.push_str("PRIMARY KEY (")?;
-    for number in 100..200 {
-        let comma = if number > 100 { ", " } else { "" };
-        let column = format!(in alloc; "{comma}{start}{}", 299 - number)?;
+    for number in (100..200).rev() {
+        let comma = if number < 199 { ", " } else { "" };
+        let column = format!(in alloc; "{comma}{start}{number}")?;
         text.push_str(column.as_str())?;
     }
     text.push_str("))")?;
     let parts = read_elements(&mut Reader::new(text.as_str()), alloc)?;
     assert_eq!(rt; parts.columns.len(), 100);
-    assert_eq!(rt; parts.key.len(), 100);
     for (number, column) in parts.columns.iter().enumerate() {
         let name = format!(in alloc; "{start}{}", number + 100)?;
         assert_eq!(rt; column.name.as_str(), name.as_str());
-        assert_eq!(rt; parts.key[number], 99 - number);
     }
+    let order = (0..100).rev().collect::<Vec<usize>>(alloc)?;
+    assert_eq!(rt; parts.key.as_slice(), order.as_slice());
     Ok(())
 }
 
