@@ -1,12 +1,12 @@
 //! The largest catalog. There is memory for it, so that it is not refused for want of it.
 
-use crate::{Catalog, read_catalog};
+use crate::{Publication, read_catalog};
 use std::alloc::{AllocError, Global};
 use std::test::Fail;
 
 /// A name of 63 bytes.
 fn name(alloc: Global, letter: &str, number: usize) -> Result<String, AllocError> {
-    format!(in alloc; "{}{}", letter.repeat(alloc, 60)?, 100 + number)
+    format!(in alloc; "{}{number:03}", letter.repeat(alloc, 60)?)
 }
 
 /// A table of 100 columns, which are all in its key.
@@ -103,22 +103,14 @@ fn largest_catalog(alloc: Global) -> Result<String, AllocError> {
     Ok(text)
 }
 
-/// The publications whose entries are not all 64 tables in their order, the first two without filters and the others with
-/// one each.
-fn wrong_publications(catalog: &Catalog) -> usize {
-    let mut wrong = 0;
-    for (number, publication) in catalog.publications.iter().enumerate() {
-        let mut right = 0;
-        for (table, entry) in publication.entries.iter().enumerate() {
-            if entry.table == table && entry.filter.is_some() == (number >= 2) {
-                right += 1;
-            }
-        }
-        if right != 64 || publication.entries.len() != 64 {
-            wrong += 1;
+/// Whether a publication has all 64 tables in their order, each with a filter or each without.
+fn has_all_tables(publication: &Publication, filtered: bool) -> bool {
+    for (table, entry) in publication.entries.iter().enumerate() {
+        if entry.table != table || entry.filter.is_some() != filtered {
+            return false;
         }
     }
-    wrong
+    publication.entries.len() == 64
 }
 
 #[test]
@@ -133,7 +125,9 @@ fn reads_the_largest_catalog(rt: HostRuntime) -> Result<(), Fail> {
         assert_eq!(rt; table.key.len(), 100);
     }
     assert_eq!(rt; catalog.publications.len(), 64);
-    assert_eq!(rt; wrong_publications(&catalog), 0);
+    for (number, publication) in catalog.publications.iter().enumerate() {
+        assert!(rt; has_all_tables(publication, number >= 2));
+    }
     assert_eq!(rt; catalog.subscriptions.len(), 32);
     for subscription in &catalog.subscriptions {
         assert_eq!(rt; subscription.publications.len(), 64);
