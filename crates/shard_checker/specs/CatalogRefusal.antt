@@ -1,4 +1,4 @@
--- Why a sharding is refused, of several reasons the first: a publication that is taken and doesn't publish an operation, a table that records no old row, a filter that names a column outside the replica identity, too few or too many certificates, and then the certificates, table by table. PostgreSQL 15, "Logical Replication", 31.1 Publication.
+-- Why a sharding is refused, of several reasons the first: a publication that is taken and doesn't publish an operation, a table that records no old row, a publication that is taken and carries a table that isn't there or has a filter that names a column outside the replica identity, too few or too many certificates, and then the certificates, table by table. PostgreSQL 15, "Logical Replication", 31.1 Publication.
 use Rattle.std.specs.Prelude.{ℕ, ◌+◌, ◌==◌, if◌then◌else◌, List, [], ◌∷◌, length, Option, Some, None, slice_get}
 use Rattle.filter_tree.specs.Expr.{Expr}
 use Rattle.filter_tree.specs.Lists.{distinct_columns}
@@ -8,22 +8,25 @@ use Rattle.filter_tree.specs.declared.table.Table.{Table}
 use Rattle.pub_reader.specs.Catalogs.{CatalogOf, PublicationOf, EntryOf}
 use Rattle.pub_reader.specs.declared.catalog.Operations.{Operations}
 use Rattle.pub_reader.specs.declared.catalog.Subscription.{Subscription}
+use Rattle.replica_identity.specs.Identities.{is_covered}
 use Rattle.replica_identity.specs.Plans.{PlanOf, share_at}
 use Rattle.replica_identity.specs.Shares.{ShareOf}
 use Rattle.split_cert.specs.Tree.{Tree}
 use Rattle.shard_checker.specs.Refusal.{first_of, first_refusal}
-use Rattle.shard_checker.specs.Sound.{is_taken, covers}
+use Rattle.shard_checker.specs.Sound.{is_taken}
 use Rattle.shard_checker.specs.declared.error.CheckError.{CheckError}
-use Rattle.shard_checker.specs.declared.error.CheckError.TheVariants.{PublishMissing, NoIdentity, NotCovered, CertCount}
+use Rattle.shard_checker.specs.declared.error.CheckError.TheVariants.{PublishMissing, NoIdentity, UnknownTable, NotCovered, CertCount}
 use Rattle.shard_checker.specs.declared.error.Operation.{Operation}
-use Rattle.shard_checker.specs.declared.error.Operation.TheVariants.{Insert, Update, Delete}
+use Rattle.shard_checker.specs.declared.error.Operation.TheVariants.{Insert, Update, Delete, Truncate}
 
 -- ---- what is published
 
--- the first of insert, update and delete that isn't published
+-- the first of insert, update, delete and truncate that isn't published
 abbrev pub missing_operation : Operations → Option Operation
 missing_operation publishes =
-    if publishes.insert then (if publishes.update then (if publishes.delete then None else Some Delete) else Some Update) else Some Insert
+    if publishes.insert
+    then (if publishes.update then (if publishes.delete then (if publishes.truncate then None else Some Truncate) else Some Delete) else Some Update)
+    else Some Insert
 
 abbrev pub missing_by : ℕ → Option Operation → Option CheckError
 missing_by number None = None
@@ -50,20 +53,25 @@ abbrev pub identity_refusal : ℕ → List Table → Option CheckError
 identity_refusal number [] = None
 identity_refusal number (table ∷ tables) = first_of (table_refusal number table.identity) (identity_refusal (number + 1) tables)
 
--- ---- which columns filters name
+-- ---- which tables are carried, and which columns filters name
 
--- the first of these columns that the replica identity lacks
-abbrev pub column_refusal : ℕ → ℕ → Option Table → List ℕ → Option CheckError
-column_refusal publication table found [] = None
-column_refusal publication table found (column ∷ columns) =
-    if covers found column then column_refusal publication table found columns else Some (NotCovered publication table column)
+-- the first of these columns that the replica identity of the table, which has this number, lacks
+abbrev pub column_refusal : ℕ → ℕ → Table → List ℕ → Option CheckError
+column_refusal publication number table [] = None
+column_refusal publication number table (column ∷ columns) =
+    if is_covered table column then column_refusal publication number table columns else Some (NotCovered publication number column)
 
-abbrev pub filter_refusal : ℕ → ℕ → Option Table → Option Expr → Option CheckError
-filter_refusal publication table found None = None
-filter_refusal publication table found (Some filter) = column_refusal publication table found (distinct_columns filter)
+abbrev pub filter_refusal : ℕ → ℕ → Table → Option Expr → Option CheckError
+filter_refusal publication number table None = None
+filter_refusal publication number table (Some filter) = column_refusal publication number table (distinct_columns filter)
+
+-- of the table of this number, if it is there
+abbrev pub carried_refusal : ℕ → ℕ → Option Table → Option Expr → Option CheckError
+carried_refusal publication number None filter = Some (UnknownTable publication number)
+carried_refusal publication number (Some table) filter = filter_refusal publication number table filter
 
 abbrev pub entry_refusal : List Table → ℕ → EntryOf Expr → Option CheckError
-entry_refusal tables publication entry = filter_refusal publication entry.table (slice_get tables entry.table) entry.filter
+entry_refusal tables publication entry = carried_refusal publication entry.table (slice_get tables entry.table) entry.filter
 
 abbrev pub entries_refusal : List Table → ℕ → List (EntryOf Expr) → Option CheckError
 entries_refusal tables publication [] = None
