@@ -20,6 +20,7 @@ use Rattle.shard_checker.specs.CatalogRefusal.{missing_operation, missing_by, pu
 use Rattle.shard_checker.specs.CatalogTruth.{has_operation, NamesUncovered, HasWrongCertificate, ShardingIsWrong}
 use Rattle.shard_checker.specs.Refusal.{Subject, later, first_of, first_refusal}
 use Rattle.shard_checker.specs.Sound.{is_taken}
+use Rattle.shard_checker.specs.Trying.{is_empty}
 use Rattle.shard_checker.specs.Truth.{EmptyIsWrong, NeverNullIsWrong, OwnerIsWrong, SplitIsWrong, IsWrong}
 use Rattle.shard_checker.specs.declared.error.CheckError.{CheckError}
 use Rattle.shard_checker.specs.declared.error.CheckError.TheVariants.{PublishMissing, NoIdentity, UnknownTable, NotCovered, CertCount, BadIndex, NotEmpty, MayBeNull, NotOwner, SecondOwner, OutOfMemory}
@@ -238,21 +239,21 @@ record HasRefusedCertificate (plan : PlanOf) (subscriptions : List Subscription)
   there : slice_get tables place ≡ Some table
   tree : Tree
   given : slice_get trees place ≡ Some tree
-  refused : first_refusal (number + place) table (table_shares plan (number + place) 0 subscriptions) tree ≡ Some error
+  refused : first_refusal is_empty (number + place) table (table_shares plan (number + place) 0 subscriptions) tree ≡ Some error
 
 refused_certificate : (plan : PlanOf) (subscriptions : List Subscription) (number : ℕ) (tables : List Table) (trees : List Tree) (error : CheckError)
-    → certificates_refusal plan subscriptions number tables trees ≡ Some error → HasRefusedCertificate plan subscriptions number tables trees error
+    → certificates_refusal is_empty plan subscriptions number tables trees ≡ Some error → HasRefusedCertificate plan subscriptions number tables trees error
 refused_certificate plan subscriptions number [] trees error h = absurd cc
 refused_certificate plan subscriptions number (table ∷ tables) [] error h = absurd cc
 refused_certificate plan subscriptions number (table ∷ tables) (tree ∷ trees) error h =
-    by_first (first_refusal number table (table_shares plan number 0 subscriptions) tree) (certificates_refusal plan subscriptions (number + 1) tables trees) error h
+    by_first (first_refusal is_empty number table (table_shares plan number 0 subscriptions) tree) (certificates_refusal is_empty plan subscriptions (number + 1) tables trees) error h
     (λ here. record {
       place = 0;
       table = table;
       there = refl;
       tree = tree;
       given = refl;
-      refused = subst (λ n. first_refusal n table (table_shares plan n 0 subscriptions) tree ≡ Some error) (sym (at_zero number)) here;
+      refused = subst (λ n. first_refusal is_empty n table (table_shares plan n 0 subscriptions) tree ≡ Some error) (sym (at_zero number)) here;
     })
     (λ there. let rest = refused_certificate plan subscriptions (number + 1) tables trees error there in record {
       place = suc rest.place;
@@ -260,7 +261,7 @@ refused_certificate plan subscriptions number (table ∷ tables) (tree ∷ trees
       there = rest.there;
       tree = rest.tree;
       given = rest.given;
-      refused = subst (λ n. first_refusal n rest.table (table_shares plan n 0 subscriptions) rest.tree ≡ Some error) (sym (at_next number rest.place)) rest.refused;
+      refused = subst (λ n. first_refusal is_empty n rest.table (table_shares plan n 0 subscriptions) rest.tree ≡ Some error) (sym (at_next number rest.place)) rest.refused;
     })
 
 -- the error names a node of the certificate of the table of this number
@@ -368,26 +369,26 @@ count_wrong catalog plan trees error h =
     subst (ShardingIsWrong catalog plan trees) (sym both.1)
     (λ same. clash (length trees == length catalog.tables) ((unsigned_Decides (length trees) (length catalog.tables)).1 same) both.0)
 
-certificates_wrong : (catalog : CatalogOf Expr) (plan : PlanOf) (trees : List Tree) (error : CheckError) → certificates_refusal plan catalog.subscriptions 0 catalog.tables trees ≡ Some error
+certificates_wrong : (catalog : CatalogOf Expr) (plan : PlanOf) (trees : List Tree) (error : CheckError) → certificates_refusal is_empty plan catalog.subscriptions 0 catalog.tables trees ≡ Some error
     → ShardingIsWrong catalog plan trees error
 certificates_wrong catalog plan trees error h =
     let found = refused_certificate plan catalog.subscriptions 0 catalog.tables trees error h in
     let shares = table_shares plan found.place 0 catalog.subscriptions in
-    let refused : first_refusal found.place found.table shares found.tree ≡ Some error =
-    subst (λ n. first_refusal n found.table (table_shares plan n 0 catalog.subscriptions) found.tree ≡ Some error) (zero_more found.place) found.refused in
+    let refused : first_refusal is_empty found.place found.table shares found.tree ≡ Some error =
+    subst (λ n. first_refusal is_empty n found.table (table_shares plan n 0 catalog.subscriptions) found.tree ≡ Some error) (zero_more found.place) found.refused in
     let wrong = certificate_wrong found.place found.table shares found.tree error refused in
     wrong_by_table catalog plan trees found.place error (names_node _ found.tree [] 0 error wrong)
     (record { table = found.table; there = found.there; tree = found.tree; given = found.given; wrong = wrong })
 
-pub sharding_wrong : (catalog : CatalogOf Expr) (plan : PlanOf) (trees : List Tree) (error : CheckError) → sharding_refusal catalog plan trees ≡ Some error → ShardingIsWrong catalog plan trees error
+pub sharding_wrong : (catalog : CatalogOf Expr) (plan : PlanOf) (trees : List Tree) (error : CheckError) → sharding_refusal is_empty catalog plan trees ≡ Some error → ShardingIsWrong catalog plan trees error
 sharding_wrong catalog plan trees error h =
-    by_first (catalog_refusal catalog) (first_of (count_refusal (length catalog.tables) (length trees)) (certificates_refusal plan catalog.subscriptions 0 catalog.tables trees)) error h
+    by_first (catalog_refusal catalog) (first_of (count_refusal (length catalog.tables) (length trees)) (certificates_refusal is_empty plan catalog.subscriptions 0 catalog.tables trees)) error h
     (λ of_catalog. by_first (publishing_refusal catalog.subscriptions 0 catalog.publications)
     (first_of (identity_refusal 0 catalog.tables) (covering_refusal catalog.tables catalog.subscriptions 0 catalog.publications)) error of_catalog
     (λ publishing. publishing_wrong catalog plan trees error publishing)
     (λ rest. by_first (identity_refusal 0 catalog.tables) (covering_refusal catalog.tables catalog.subscriptions 0 catalog.publications) error rest
     (λ identity. identity_wrong catalog plan trees error identity)
     (λ covering. covering_wrong catalog plan trees error covering)))
-    (λ of_certificates. by_first (count_refusal (length catalog.tables) (length trees)) (certificates_refusal plan catalog.subscriptions 0 catalog.tables trees) error of_certificates
+    (λ of_certificates. by_first (count_refusal (length catalog.tables) (length trees)) (certificates_refusal is_empty plan catalog.subscriptions 0 catalog.tables trees) error of_certificates
     (λ count. count_wrong catalog plan trees error count)
     (λ certificates. certificates_wrong catalog plan trees error certificates))

@@ -23,6 +23,7 @@ use Rattle.shard_checker.specs.Owners.{share_in, HasOneOwner}
 use Rattle.shard_checker.specs.Refusal.{first_of, first_refusal}
 use Rattle.shard_checker.specs.Rows.{IsTyped}
 use Rattle.shard_checker.specs.Sound.{is_taken, RowHasOneOwner, PublishesChanges, is_covered_by, entry_is_covered, IsSound}
+use Rattle.shard_checker.specs.Trying.{is_empty}
 use Rattle.shard_checker.specs.declared.error.CheckError.{CheckError}
 use Rattle.shard_checker.specs.declared.error.CheckError.TheVariants.{NotCovered, CertCount}
 use Rattle.shard_checker.specs.declared.error.Operation.{Operation}
@@ -125,15 +126,15 @@ abbrev HasOwners : (ℕ → List s.ShareOf) → ℕ → Table → Type 0
 HasOwners shares number table = (cells : List Datum) → IsTyped table.columns cells → HasOneOwner (shares number) cells
 
 all_owned : (plan : PlanOf) (subscriptions : List Subscription) (number : ℕ) (tables : List Table) (trees : List Tree) → length trees ≡ length tables
-    → certificates_refusal plan subscriptions number tables trees ≡ None
+    → certificates_refusal is_empty plan subscriptions number tables trees ≡ None
     → (k : ℕ) → IfSome (slice_get tables k) (HasOwners (λ n. table_shares plan n 0 subscriptions) (number + k))
 all_owned plan subscriptions number [] trees same h k = tt
 all_owned plan subscriptions number (table ∷ tables) [] same h k = absurd (omega arith)
 all_owned plan subscriptions number (table ∷ tables) (tree ∷ trees) same h zero =
-    let both = none_first (first_refusal number table (table_shares plan number 0 subscriptions) tree) (certificates_refusal plan subscriptions (number + 1) tables trees) h in
+    let both = none_first (first_refusal is_empty number table (table_shares plan number 0 subscriptions) tree) (certificates_refusal is_empty plan subscriptions (number + 1) tables trees) h in
     subst (λ n. HasOwners (λ m. table_shares plan m 0 subscriptions) n table) (sym (at_zero number)) (certificate_sound number table (table_shares plan number 0 subscriptions) tree both.0)
 all_owned plan subscriptions number (table ∷ tables) (tree ∷ trees) same h (suc k) =
-    let both = none_first (first_refusal number table (table_shares plan number 0 subscriptions) tree) (certificates_refusal plan subscriptions (number + 1) tables trees) h in
+    let both = none_first (first_refusal is_empty number table (table_shares plan number 0 subscriptions) tree) (certificates_refusal is_empty plan subscriptions (number + 1) tables trees) h in
     subst (λ n. IfSome (slice_get tables k) (HasOwners (λ m. table_shares plan m 0 subscriptions) n)) (sym (at_next number k)) (all_owned plan subscriptions (number + 1) tables trees (omega arith) both.1 k)
 
 -- the share of a subscriber who is there
@@ -180,10 +181,10 @@ counted : (b : Bool) (error : CheckError) → (if b then None else Some error) �
 counted true error h = refl
 counted false error h = absurd cc
 
-pub sharding_sound : (catalog : CatalogOf Expr) (plan : PlanOf) (trees : List Tree) → sharding_refusal catalog plan trees ≡ None → plan ≡ plan_of catalog → IsSound catalog
+pub sharding_sound : (catalog : CatalogOf Expr) (plan : PlanOf) (trees : List Tree) → sharding_refusal is_empty catalog plan trees ≡ None → plan ≡ plan_of catalog → IsSound catalog
 sharding_sound catalog plan trees h own =
-    let all = none_first (catalog_refusal catalog) (first_of (count_refusal (length catalog.tables) (length trees)) (certificates_refusal plan catalog.subscriptions 0 catalog.tables trees)) h in
-    let certificates = none_first (count_refusal (length catalog.tables) (length trees)) (certificates_refusal plan catalog.subscriptions 0 catalog.tables trees) all.1 in
+    let all = none_first (catalog_refusal catalog) (first_of (count_refusal (length catalog.tables) (length trees)) (certificates_refusal is_empty plan catalog.subscriptions 0 catalog.tables trees)) h in
+    let certificates = none_first (count_refusal (length catalog.tables) (length trees)) (certificates_refusal is_empty plan catalog.subscriptions 0 catalog.tables trees) all.1 in
     let publishing = none_first (publishing_refusal catalog.subscriptions 0 catalog.publications)
     (first_of (identity_refusal 0 catalog.tables) (covering_refusal catalog.tables catalog.subscriptions 0 catalog.publications)) all.0 in
     let rest = none_first (identity_refusal 0 catalog.tables) (covering_refusal catalog.tables catalog.subscriptions 0 catalog.publications) publishing.1 in

@@ -12,6 +12,7 @@ use Rattle.replica_identity.specs.Identities.{is_covered}
 use Rattle.replica_identity.specs.Plans.{PlanOf, share_at}
 use Rattle.replica_identity.specs.Shares.{ShareOf}
 use Rattle.split_cert.specs.Tree.{Tree}
+use Rattle.shard_checker.specs.Emptiness.{Test}
 use Rattle.shard_checker.specs.Refusal.{first_of, first_refusal}
 use Rattle.shard_checker.specs.Sound.{is_taken}
 use Rattle.shard_checker.specs.declared.error.CheckError.{CheckError}
@@ -86,7 +87,7 @@ covering_refusal tables subscriptions number [] = None
 covering_refusal tables subscriptions number (publication ∷ publications) =
     first_of (taken_refusal tables subscriptions number publication.entries) (covering_refusal tables subscriptions (number + 1) publications)
 
--- ---- certificates
+-- ---- certificates, where a test tells which terms have no value
 
 -- the shares of a table that subscribers take, who begin at this number
 abbrev pub table_shares : PlanOf → ℕ → ℕ → List Subscription → List ShareOf
@@ -94,14 +95,14 @@ table_shares plan table number [] = []
 table_shares plan table number (subscription ∷ subscriptions) = share_at plan number table ∷ table_shares plan table (number + 1) subscriptions
 
 -- of the certificate of the table of this number
-abbrev pub certificate_refusal : PlanOf → List Subscription → ℕ → Table → Tree → Option CheckError
-certificate_refusal plan subscriptions number table tree = first_refusal number table (table_shares plan number 0 subscriptions) tree
+abbrev pub certificate_refusal : Test → PlanOf → List Subscription → ℕ → Table → Tree → Option CheckError
+certificate_refusal is_empty plan subscriptions number table tree = first_refusal is_empty number table (table_shares plan number 0 subscriptions) tree
 
 -- of the certificates of the tables that begin at this number
-abbrev pub certificates_refusal : PlanOf → List Subscription → ℕ → List Table → List Tree → Option CheckError
-certificates_refusal plan subscriptions number (table ∷ tables) (tree ∷ trees) =
-    first_of (certificate_refusal plan subscriptions number table tree) (certificates_refusal plan subscriptions (number + 1) tables trees)
-certificates_refusal plan subscriptions number tables trees = None
+abbrev pub certificates_refusal : Test → PlanOf → List Subscription → ℕ → List Table → List Tree → Option CheckError
+certificates_refusal is_empty plan subscriptions number (table ∷ tables) (tree ∷ trees) =
+    first_of (certificate_refusal is_empty plan subscriptions number table tree) (certificates_refusal is_empty plan subscriptions (number + 1) tables trees)
+certificates_refusal is_empty plan subscriptions number tables trees = None
 
 abbrev pub count_refusal : ℕ → ℕ → Option CheckError
 count_refusal tables certificates = if certificates == tables then None else Some CertCount
@@ -117,7 +118,7 @@ catalog_refusal catalog =
     first_of (publishing_refusal catalog.subscriptions 0 catalog.publications)
     (first_of (identity_refusal 0 catalog.tables) (covering_refusal catalog.tables catalog.subscriptions 0 catalog.publications))
 
-abbrev pub sharding_refusal : CatalogOf Expr → PlanOf → List Tree → Option CheckError
-sharding_refusal catalog plan trees =
+abbrev pub sharding_refusal : Test → CatalogOf Expr → PlanOf → List Tree → Option CheckError
+sharding_refusal is_empty catalog plan trees =
     first_of (catalog_refusal catalog)
-    (first_of (count_refusal (length catalog.tables) (length trees)) (certificates_refusal plan catalog.subscriptions 0 catalog.tables trees))
+    (first_of (count_refusal (length catalog.tables) (length trees)) (certificates_refusal is_empty plan catalog.subscriptions 0 catalog.tables trees))
