@@ -1,6 +1,9 @@
 pub mod HeadLemmas
+pub mod LevelLemmas
 pub mod MemoryLemmas
+pub mod NodeLemmas
 pub mod NumberLemmas
+pub mod PreorderLemmas
 pub mod RoundTrip
 pub mod TreeLemmas
 pub mod WordLemmas

@@ -1,4 +1,5 @@
 pub mod ErrorNames
+pub mod Nodes
 pub mod Numbers
 pub mod Reading
 pub mod Text

@@ -9,7 +9,7 @@ use crate::head::{Head, Kind, kind_of};
 use crate::number::number_of;
 
 /// Where a reader stands in the text of a certificate. It takes no memory.
-#[derive(Drop)]
+#[derive(Clone, Copy)]
 pub(crate) struct Cursor<'a> {
     rest: &'a [u8],
     place: usize,

@@ -8,7 +8,11 @@ mod cert;
 mod cursor;
 mod error;
 mod head;
+mod laws;
+mod levels;
 mod limits;
+mod node;
+mod node_reader;
 mod number;
 mod reading;
 #[cfg(test)]
@@ -17,6 +21,9 @@ mod writing;
 
 pub use cert::{Cert, MAX_NODES, MAX_SPLITS};
 pub use error::CertError;
+pub use laws::nodes_are_those_of_the_certificate;
 pub use limits::is_within_limits;
+pub use node::Node;
+pub use node_reader::NodeReader;
 pub use reading::read_in;
 pub use writing::write;

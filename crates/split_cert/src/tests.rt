@@ -1,4 +1,4 @@
-use crate::{Cert, CertError, is_within_limits, read_in, write};
+use crate::{Cert, CertError, Node, NodeReader, is_within_limits, read_in, write};
 use bumpalo::Bump;
 use std::alloc::{AllocError, Global};
 use std::test::Fail;
@@ -6,6 +6,18 @@ use std::test::Fail;
 /// Why a text is not read, or `None`.
 fn fault(alloc: Global, text: &str) -> Option<CertError> {
     read_in(alloc, text).err()
+}
+
+/// Why the nodes of a text end, or `None` where they end with the text.
+fn end_of(reader: &mut NodeReader<'_>) -> Option<CertError> {
+    for _ in 0..u64::MAX {
+        match reader.next() {
+            Ok(Some(_)) => {}
+            Ok(None) => return None,
+            Err(fault) => return Some(fault),
+        }
+    }
+    None
 }
 
 #[test]
@@ -57,7 +69,29 @@ fn faults_are_told_where_they_are_met(rt: HostRuntime) {
     ];
     for (text, expected) in cases {
         assert_eq!(rt; fault(rt.alloc(), text), Some(expected), "{text}");
+        let mut reader = NodeReader::new(text);
+        assert_eq!(rt; end_of(&mut reader), Some(expected), "{text}");
+        assert_eq!(rt; reader.next(), Err(expected), "{text}");
     }
+}
+
+#[test]
+fn nodes_come_as_they_are_written(rt: HostRuntime) {
+    let mut reader = NodeReader::new("s 1 s 2 o 3 e 4 n 5 o 4294967295 e 0");
+    let nodes = [
+        Node::Split(1),
+        Node::Split(2),
+        Node::Owner(3),
+        Node::Empty(4),
+        Node::NeverNull(5),
+        Node::Owner(4_294_967_295),
+        Node::Empty(0),
+    ];
+    for node in nodes {
+        assert_eq!(rt; reader.next(), Ok(Some(node)));
+    }
+    assert_eq!(rt; reader.next(), Ok(None));
+    assert_eq!(rt; reader.next(), Ok(None));
 }
 
 #[test]
@@ -114,6 +148,11 @@ fn paths_have_at_most_64_splits(rt: HostRuntime) -> Result<(), Fail> {
         assert_eq!(rt; write(rt.alloc(), &read_in(rt.alloc(), &whole)?)?, whole);
         let deep = chain(rt.alloc(), 65, before, behind)?;
         assert_eq!(rt; fault(rt.alloc(), &deep), Some(CertError::TooDeep));
+        assert_eq!(rt; end_of(&mut NodeReader::new(&whole)), None);
+        assert_eq!(rt;
+            end_of(&mut NodeReader::new(&deep)),
+            Some(CertError::TooDeep)
+        );
         let open = before.repeat(rt.alloc(), 64)?;
         let letter = format!(in rt.alloc(); "{open}s")?;
         assert_eq!(rt; fault(rt.alloc(), &letter), Some(CertError::TooDeep));
@@ -146,6 +185,7 @@ fn a_million_nodes_are_read_and_written_again(rt: HostRuntime) -> Result<(), Fai
     let cert = read_in(rt.alloc(), &text)?;
     assert!(rt; is_within_limits(&cert));
     assert!(rt; write(rt.alloc(), &cert)? == text);
+    assert_eq!(rt; end_of(&mut NodeReader::new(&text)), None);
     Ok(())
 }
 
