@@ -1,18 +1,25 @@
 -- The columns of a table's replica identity, whose old values an UPDATE or DELETE records: PostgreSQL 15, "Logical Replication", 31.1 Publication, and ALTER TABLE (REPLICA IDENTITY).
-use Rattle.std.specs.Prelude.{ℕ, zero, suc, ◌==◌, Bool, List, [], ◌∷◌, ◌++◌, length}
+use Rattle.std.specs.Prelude.{ℕ, zero, suc, ◌==◌, Bool, List, [], ◌∷◌, ◌++◌, length, Option, Some, None, slice_get}
 use Rattle.std.specs.List.{list_any}
 use Rattle.filter_tree.specs.declared.table.Identity.{Identity}
-use Rattle.filter_tree.specs.declared.table.Identity.TheVariants.{Default, Full, Nothing}
+use Rattle.filter_tree.specs.declared.table.Identity.TheVariants.{Default, Index, Full, Nothing}
 use Rattle.filter_tree.specs.declared.table.Table.{Table}
+use Rattle.filter_tree.specs.declared.table.UniqueIndex.{UniqueIndex}
 
 -- 0, 1 and so on, so many
 abbrev pub numbers_to : ℕ → List ℕ
 numbers_to zero = []
 numbers_to (suc n) = numbers_to n ++ n ∷ []
 
--- the primary key, every column, or none
+-- none where there is no such index
+abbrev pub index_columns : Option UniqueIndex → List ℕ
+index_columns None = []
+index_columns (Some index) = index.columns
+
+-- the primary key, a unique index, every column, or none
 abbrev pub columns_by : Identity → Table → List ℕ
 columns_by Default table = table.key
+columns_by (Index number) table = index_columns (slice_get table.indexes number)
 columns_by Full table = numbers_to (length table.columns)
 columns_by Nothing table = []
 

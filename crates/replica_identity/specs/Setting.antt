@@ -4,7 +4,7 @@ use Rattle.filter_tree.specs.Datum.{Datum}
 use Rattle.filter_tree.specs.Expr.{Expr}
 use Rattle.filter_tree.specs.Valid.{row_fault}
 use Rattle.filter_tree.specs.declared.table.Identity.{Identity}
-use Rattle.filter_tree.specs.declared.table.Identity.TheVariants.{Default, Full, Nothing}
+use Rattle.filter_tree.specs.declared.table.Identity.TheVariants.{Default, Index, Full, Nothing}
 use Rattle.filter_tree.specs.declared.table.Table.{Table}
 use Rattle.filter_tree.specs.declared.validity.RowFault.{RowFault}
 use Rattle.table_changes.specs.Columns.{values_at, blanked_from}
@@ -16,6 +16,7 @@ use Rattle.replica_identity.specs.Shares.{takes}
 
 abbrev pub recorded_as : Identity → Recorded
 recorded_as Default = Columns
+recorded_as (Index number) = Columns
 recorded_as Full = Whole
 recorded_as Nothing = Nowhere
 

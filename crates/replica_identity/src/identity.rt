@@ -1,6 +1,6 @@
 //! The columns of a table's replica identity.
 
-ghost use Rattle.std.specs.Prelude.{◌≡◌, IfOk};
+ghost use Rattle.std.specs.Prelude.{◌≡◌, IfOk, slice_get};
 ghost use Rattle.replica_identity.specs.Identities as spec;
 
 use filter_tree::{Identity, Table};
@@ -17,19 +17,36 @@ fn numbers(alloc: Global, length: usize) -> Result<Vec<usize>, AllocError>
     Ok(numbers)
 }
 
-/// The numbers of the columns of a table's replica identity: those of the primary key in its order for `Default`, all
-/// columns for `Full`, none for `Nothing`. The only error is want of memory.
+/// These numbers in memory of their own.
+fn copied(alloc: Global, numbers: &[usize]) -> Result<Vec<usize>, AllocError>
+    ensures { IfOk result (λ copy. copy.items ≡ numbers.now) }
+{
+    let mut copy = Vec::new(alloc);
+    copy.extend_from_slice(numbers)?;
+    Ok(copy)
+}
+
+/// The columns of a table's unique index of this number; none where there is no such index.
+fn index_columns(table: &Table, number: usize) -> &[usize]
+    ensures { result.now ≡ spec.index_columns (slice_get table.now.indexes number) }
+{
+    match table.indexes.get(number) {
+        Some(index) => index.columns.as_slice(),
+        None => &[],
+    }
+}
+
+/// The numbers of the columns of a table's replica identity: those of the primary key in its order for `Default`, those
+/// of the index in its order for `Index` (none where the table has no such index), all columns for `Full`, none for
+/// `Nothing`. The only error is want of memory.
 ///
 /// PostgreSQL 15, "Logical Replication", 31.1 Publication.
 pub fn identity_columns(alloc: Global, table: &Table) -> Result<Vec<usize>, AllocError>
     ensures { IfOk result (λ columns. columns.items ≡ spec.identity_columns table.now) }
 {
     match table.identity {
-        Identity::Default => {
-            let mut columns = Vec::new(alloc);
-            columns.extend_from_slice(table.key.as_slice())?;
-            Ok(columns)
-        }
+        Identity::Default => copied(alloc, table.key.as_slice()),
+        Identity::Index(number) => copied(alloc, index_columns(table, number)),
         Identity::Full => numbers(alloc, table.columns.len()),
         Identity::Nothing => Ok(Vec::new(alloc)),
     }
@@ -42,6 +59,7 @@ pub fn covered(table: &Table, column: usize) -> bool
 {
     match table.identity {
         Identity::Default => table.key.as_slice().contains(&column),
+        Identity::Index(number) => index_columns(table, number).contains(&column),
         Identity::Full => column < table.columns.len(),
         Identity::Nothing => false,
     }

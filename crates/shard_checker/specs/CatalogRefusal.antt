@@ -3,7 +3,7 @@ use Rattle.std.specs.Prelude.{ℕ, ◌+◌, ◌==◌, if◌then◌else◌, List,
 use Rattle.filter_tree.specs.Expr.{Expr}
 use Rattle.filter_tree.specs.Lists.{distinct_columns}
 use Rattle.filter_tree.specs.declared.table.Identity.{Identity}
-use Rattle.filter_tree.specs.declared.table.Identity.TheVariants.{Default, Full, Nothing}
+use Rattle.filter_tree.specs.declared.table.Identity.TheVariants.{Default, Index, Full, Nothing}
 use Rattle.filter_tree.specs.declared.table.Table.{Table}
 use Rattle.pub_reader.specs.Catalogs.{CatalogOf, PublicationOf, EntryOf}
 use Rattle.pub_reader.specs.declared.catalog.Operations.{Operations}
@@ -43,6 +43,7 @@ publishing_refusal subscriptions number (publication ∷ publications) =
 abbrev pub table_refusal : ℕ → Identity → Option CheckError
 table_refusal number Nothing = Some (NoIdentity number)
 table_refusal number Default = None
+table_refusal number (Index k) = None
 table_refusal number Full = None
 
 -- of the tables that begin at this number

@@ -20,7 +20,7 @@ fn check_identity(number: usize, identity: Identity) -> Result<(), CheckError>
 {
     match identity {
         Identity::Nothing => Err(CheckError::NoIdentity { table: number }),
-        Identity::Default | Identity::Full => Ok(()),
+        Identity::Default | Identity::Index(_) | Identity::Full => Ok(()),
     }
 }
 

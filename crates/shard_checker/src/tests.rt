@@ -26,6 +26,7 @@ fn table(alloc: Global, identity: Identity) -> Result<Table, AllocError> {
         name: Text::from_str(alloc, "t")?,
         columns: Items::from_vec(vec![in alloc; id, region]?),
         key: Items::from_vec(vec![in alloc; 0]?),
+        indexes: Items::from_vec(Vec::new(alloc)),
         identity,
     })
 }
