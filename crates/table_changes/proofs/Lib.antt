@@ -1,1 +1,1 @@
-pub mod ChangeLemmas
+pub mod TableLemmas

@@ -7,4 +7,3 @@ mod laws;
 mod tests;
 
 pub use key::key_of;
-pub use laws::commands_change_rows;
