@@ -1,1 +1,45 @@
 //! Laws of what commands do to tables.
+
+ghost use Rattle.table_changes.specs.Setting.{Setting};
+ghost use Rattle.table_changes.specs.Changes.{RowsStand, RowsStayKeyed, RowsStayFit, RowsStayApart, OneRowForKey, BeginsWell};
+ghost use Rattle.table_changes.specs.Growing.{SameAreAlike, FaultOfOneMore, FirstFaultStays, LeftByOneMore, RecordOfOneMore};
+ghost use Rattle.table_changes.specs.Showing.{RecordShows, RecordShowsAll};
+
+/// A law, and no code, of commands on tables. A command without a fault leaves exactly the rows that it adds and those
+/// that it doesn't take out (`stand`). Commands without a fault, each on what the earlier ones leave, keep each row where
+/// each of its unique keys has it (`keyed`), rows that fit their tables (`fit`), and the rows of a table apart by their
+/// identity (`apart`), as rows are in tables without any (`begin`). Where rows are kept so, those of a table that share a
+/// value in a unique key are one row (`one`).
+#[tactic(auto, using(crate::proofs::ChangeLemmas::rows_stand, crate::proofs::ChangeLemmas::stay_keyed, crate::proofs::ChangeLemmas::stay_fit, crate::proofs::ChangeLemmas::stay_apart, crate::proofs::TableLemmas::one_row, crate::proofs::ChangeLemmas::begins_well))]
+pub fn commands_change_rows()
+    ensures stand { RowsStand }
+    ensures keyed { RowsStayKeyed }
+    ensures fit { RowsStayFit }
+    ensures apart { RowsStayApart }
+    ensures one { OneRowForKey }
+    ensures begin { (setting : Setting) → BeginsWell setting }
+{}
+
+/// A law, and no code, of lists of commands. On tables with the same row in each place commands have the same faults, and
+/// leave, record and show the same (`alike`). After commands without a fault the first fault is that of one more command
+/// (`fault`), and after a fault it stays the first (`first`). One more command acts on what the others leave (`left`), and
+/// its change is recorded after theirs (`recorded`).
+#[tactic(auto, using(crate::proofs::GrowingLemmas::are_alike, crate::proofs::GrowingLemmas::fault_of_one_more, crate::proofs::GrowingLemmas::first_fault_stays, crate::proofs::GrowingLemmas::left_by_one_more, crate::proofs::GrowingLemmas::record_of_one_more))]
+pub fn commands_come_one_by_one()
+    ensures alike { SameAreAlike }
+    ensures fault { FaultOfOneMore }
+    ensures first { FirstFaultStays }
+    ensures left { LeftByOneMore }
+    ensures recorded { RecordOfOneMore }
+{}
+
+/// A law, and no code, of what is recorded of commands without a fault, where a row's identity tells to whom it passes. A
+/// subscriber gets of each recorded change what it sees of the command in its place, and nothing where it sees nothing
+/// (`each`); so it gets of the whole record what it sees of the commands (`all`).
+///
+/// PostgreSQL 15, "Logical Replication", 31.3.3 UPDATE Transformations.
+#[tactic(auto, using(crate::proofs::ShowingLemmas::record_shows, crate::proofs::ShowingLemmas::record_shows_all))]
+pub fn records_show_what_is_seen()
+    ensures each { RecordShows }
+    ensures all { RecordShowsAll }
+{}
