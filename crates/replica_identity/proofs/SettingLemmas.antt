@@ -15,8 +15,7 @@ use Rattle.replica_identity.specs.Plans.{PlanOf}
 use Rattle.replica_identity.specs.Setting.{recorded_as, fault_in, index_key, keys_in, identity_by, identity_in, setting_of}
 use Rattle.replica_identity.specs.SettingLaws.{HasTable}
 use Rattle.table_changes.specs.Columns.{values_at, unless_null}
-use Rattle.table_changes.specs.Keys.{value_in}
-use Rattle.table_changes.specs.Standing.{HasPrimaryKeys}
+use Rattle.table_changes.specs.Keys.{value_in, HasPrimaryKeys}
 
 -- ---- keys
 
@@ -24,7 +23,7 @@ primary_in : (found : Option Table) (row : List Datum) → is_some (value_in (sl
 primary_in None row = refl
 primary_in (Some table) row = refl
 
-pub has_primary_keys : (catalog : CatalogOf Expr) (plan : PlanOf) → HasPrimaryKeys (setting_of catalog plan)
+pub has_primary_keys : (catalog : CatalogOf Expr) (plan : PlanOf) → HasPrimaryKeys (setting_of catalog plan).keys
 has_primary_keys catalog plan = record { has_key = λ table row. primary_in (slice_get catalog.tables table) row }
 
 next_is : (place : ℕ) → place + 1 ≡ suc place

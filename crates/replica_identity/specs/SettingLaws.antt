@@ -10,9 +10,8 @@ use Rattle.replica_identity.specs.Identities.{identity_columns}
 use Rattle.replica_identity.specs.Plans.{PlanOf}
 use Rattle.replica_identity.specs.Setting.{identity_in, setting_of}
 use Rattle.table_changes.specs.Columns.{values_at, unless_null}
-use Rattle.table_changes.specs.Keys.{key_at}
+use Rattle.table_changes.specs.Keys.{key_at, HasPrimaryKeys}
 use Rattle.table_changes.specs.Setting.{Setting}
-use Rattle.table_changes.specs.Standing.{HasPrimaryKeys}
 
 -- the table of this number is there
 pub record HasTable (setting : Setting) (number : ℕ) (table : Table) : Type 0 where
@@ -28,7 +27,7 @@ SettingHasTables = (catalog : CatalogOf Expr) (plan : PlanOf) (number : ℕ) (ta
 
 -- Each row has a primary key.
 abbrev pub RowsHaveKeys : Type 0
-RowsHaveKeys = (catalog : CatalogOf Expr) (plan : PlanOf) → HasPrimaryKeys (setting_of catalog plan)
+RowsHaveKeys = (catalog : CatalogOf Expr) (plan : PlanOf) → HasPrimaryKeys (setting_of catalog plan).keys
 
 -- The values of the identity's columns identify a row that is as wide as its table; under FULL they are the row.
 abbrev pub ColumnsIdentify : Type 0

@@ -10,7 +10,8 @@ use Rattle.filter_tree.proofs.SameLemmas.{both_true, equal_from_same_cells}
 use Rattle.table_changes.specs.Changes.{is_this, is_named, stands_after, BeginsWell}
 use Rattle.table_changes.specs.Commands.{Command, Insert, Update, Delete, Truncate, CommandFault, NoTable, NoSuchRow, DuplicateKey, unless, unless_unfit, named, all_known, fault_of, applied, all_applied, numbered, first_fault}
 use Rattle.table_changes.specs.Setting.{Setting, fits}
-use Rattle.table_changes.specs.Standing.{Apart, AllFit, HasPrimaryKeys, KeepsApart}
+use Rattle.table_changes.specs.Keys.{HasPrimaryKeys}
+use Rattle.table_changes.specs.Standing.{Apart, AllFit, KeepsApart}
 use Rattle.table_changes.specs.Tables.{Tables, is_row, no_rows, put_in, without, emptied, is_free, holds, Stands}
 use Rattle.table_changes.proofs.TableLemmas.{by_test, put_keeps, take_keeps, emptied_keeps, some_is, holds_with, holds_without, holds_emptied, held, and_true, and_false}
 
@@ -78,24 +79,24 @@ without_keeps : (setting : Setting) (tables : Tables) (table : ℕ) (key : List 
 without_keeps setting tables table key None is stands = stands
 without_keeps setting tables table key (Some row) is stands = take_keeps setting.keys tables table 0 key row stands is
 
-holds_after : (setting : Setting) → HasPrimaryKeys setting → (tables : Tables) → Stands setting.keys tables → (table : ℕ) (key : List Datum) (found : Option (List Datum))
+holds_after : (setting : Setting) → HasPrimaryKeys setting.keys → (tables : Tables) → Stands setting.keys tables → (table : ℕ) (key : List Datum) (found : Option (List Datum))
     → named tables table key ≡ found → (other : ℕ) (another : List Datum)
     → holds setting.keys (without setting.keys tables table found) other another ≡ (holds setting.keys tables other another && not ((table == other) && is_row found another))
 holds_after setting keyed tables stands table key None is other another =
     sym (and_true (holds setting.keys tables other another)) ∙ ap (λ b. holds setting.keys tables other another && not b) (sym (and_false (table == other)))
-holds_after setting keyed tables stands table key (Some row) is other another = holds_without setting keyed tables stands table 0 key row is other another
+holds_after setting keyed tables stands table key (Some row) is other another = holds_without setting.keys keyed tables stands table 0 key row is other another
 
 -- ---- which rows are there
 
-pub rows_stand : (setting : Setting) → HasPrimaryKeys setting → (tables : Tables) (command : Command) → fault_of setting tables command ≡ None → Stands setting.keys tables
+pub rows_stand : (setting : Setting) → HasPrimaryKeys setting.keys → (tables : Tables) (command : Command) → fault_of setting tables command ≡ None → Stands setting.keys tables
     → (table : ℕ) (row : List Datum) → holds setting.keys (applied setting tables command) table row ≡ stands_after setting tables command table row
 rows_stand setting keyed tables (Insert table row) h stands other another =
-    holds_with setting keyed tables table row (may_insert setting tables table row h).free other another
+    holds_with setting.keys keyed tables table row (may_insert setting tables table row h).free other another
 rows_stand setting keyed tables (Update table key row) h stands other another =
-    holds_with setting keyed (without setting.keys tables table (named tables table key)) table row (may_update setting tables table key row h).free other another
+    holds_with setting.keys keyed (without setting.keys tables table (named tables table key)) table row (may_update setting tables table key row h).free other another
     ∙ ap (λ b. is_this table row other another || b) (holds_after setting keyed tables stands table key (named tables table key) refl other another)
 rows_stand setting keyed tables (Delete table key) h stands other another = holds_after setting keyed tables stands table key (named tables table key) refl other another
-rows_stand setting keyed tables (Truncate numbers) h stands other another = holds_emptied setting keyed tables numbers other another
+rows_stand setting keyed tables (Truncate numbers) h stands other another = holds_emptied setting.keys keyed tables numbers other another
 
 -- ---- rows stay where they belong
 
@@ -155,13 +156,13 @@ came_from setting tables (Delete table key) h other another after fit there =
 came_from setting tables (Truncate numbers) h other another after fit there =
     there (left_of (holds setting.keys tables other another) (not (list_any (λ table. table == other) numbers)) after)
 
-pub is_new_or_old : {P : Type 0} (setting : Setting) → HasPrimaryKeys setting → (tables : Tables) (command : Command) → fault_of setting tables command ≡ None → Stands setting.keys tables
+pub is_new_or_old : {P : Type 0} (setting : Setting) → HasPrimaryKeys setting.keys → (tables : Tables) (command : Command) → fault_of setting tables command ≡ None → Stands setting.keys tables
     → (table : ℕ) (row : List Datum) → holds setting.keys (applied setting tables command) table row ≡ true
     → (fits setting table row ≡ true → P) → (holds setting.keys tables table row ≡ true → P) → P
 is_new_or_old setting keyed tables command h stands table row after fit there =
     came_from setting tables command h table row (sym (rows_stand setting keyed tables command h stands table row) ∙ after) fit there
 
-pub stay_fit : (setting : Setting) → HasPrimaryKeys setting → (tables : Tables) (number : ℕ) (commands : List Command) → first_fault setting tables number commands ≡ None
+pub stay_fit : (setting : Setting) → HasPrimaryKeys setting.keys → (tables : Tables) (number : ℕ) (commands : List Command) → first_fault setting tables number commands ≡ None
     → Stands setting.keys tables → AllFit setting tables → AllFit setting (all_applied setting tables commands)
 stay_fit setting keyed tables number [] h stands fit = fit
 stay_fit setting keyed tables number (command ∷ commands) h stands fit =

@@ -10,7 +10,7 @@ use Rattle.table_changes.specs.Records.{change_of, record_of, part_found}
 use Rattle.table_changes.specs.Records as r
 use Rattle.table_changes.specs.Seen.{seen_of, seen_each, seen_rows, passing}
 use Rattle.table_changes.specs.Setting.{Setting}
-use Rattle.table_changes.specs.Tables.{Tables, SameTables, is_row, is_own, put, put_in, take_out, without, emptied, found_at, is_free_from, is_free, holds}
+use Rattle.table_changes.specs.Tables.{Tables, SameTables, is_row, is_own, put, put_in, take_out, without, emptied, found_at, is_free_from, is_free, holds, Stands}
 
 -- ---- tables with the same rows
 
@@ -20,6 +20,12 @@ found_alike one other same (Some value) = same value
 
 holds_alike : (keys : Keys) (one other : Tables) → SameTables one other → (table : ℕ) (row : List Datum) → holds keys one table row ≡ holds keys other table row
 holds_alike keys one other same table row = ap (λ found. is_row found row) (found_alike (one table 0) (other table 0) (same table 0) (key_at keys table 0 row))
+
+stands_alike : (keys : Keys) (one other : Tables) → SameTables one other → Stands keys one → Stands keys other
+stands_alike keys one other same stands = record {
+  keyed = λ table number value row h. stands.keyed table number value row (same table number value ∙ h);
+  whole = λ table number next value another row h k. sym (same table next another) ∙ stands.whole table number next value another row (same table number value ∙ h) k;
+}
 
 free_from_alike : (one other : ℕ → List Datum → Option (List Datum)) → ((number : ℕ) (value : List Datum) → one number value ≡ other number value)
     → (number : ℕ) (keys : List UniqueKey) (row : List Datum) → is_free_from one number keys row ≡ is_free_from other number keys row
@@ -115,6 +121,7 @@ each_alike setting subscriber one other same (command ∷ commands) =
 
 pub are_alike : (setting : Setting) (one other : Tables) → SameTables one other → AreAlike setting one other
 are_alike setting one other same = record {
+  standing = λ stands. stands_alike setting.keys one other same stands;
   holding = λ table row. holds_alike setting.keys one other same table row;
   fault = λ command. fault_alike setting one other same command;
   left = λ command. applied_alike setting one other same command;

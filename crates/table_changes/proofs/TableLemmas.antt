@@ -6,10 +6,8 @@ use Rattle.std.specs.Cmp.{unsigned_Decides}
 use Rattle.filter_tree.specs.Datum.{Datum}
 use Rattle.filter_tree.specs.Same.{same_cells}
 use Rattle.filter_tree.proofs.SameLemmas.{both_true, equal_from_same_cells, same_cells_of_equal}
-use Rattle.table_changes.specs.Changes.{is_this}
-use Rattle.table_changes.specs.Keys.{UniqueKey, Keys, value_in, key_at}
-use Rattle.table_changes.specs.Setting.{Setting}
-use Rattle.table_changes.specs.Standing.{HasPrimaryKeys}
+use Rattle.table_changes.specs.Changes.{is_this, StayWhereTheyBelong}
+use Rattle.table_changes.specs.Keys.{UniqueKey, Keys, value_in, key_at, HasPrimaryKeys}
 use Rattle.table_changes.specs.Tables.{Tables, is_row, is_own, put, put_in, take_out, emptied, found_at, is_free_from, is_free, holds, Stands}
 
 pub by_test : {P : Type 0} (b : Bool) → (b ≡ true → P) → (b ≡ false → P) → P
@@ -205,16 +203,16 @@ one_row keys tables stands table number one other value h k first second =
 
 -- ---- which rows are there
 
-record HasKey (setting : Setting) (table : ℕ) (row : List Datum) : Type 0 where
+record HasKey (keys : Keys) (table : ℕ) (row : List Datum) : Type 0 where
   value : List Datum
-  key : key_at setting.keys table 0 row ≡ Some value
+  key : key_at keys table 0 row ≡ Some value
 
-has_key_in : (setting : Setting) (table : ℕ) (row : List Datum) (found : Option (List Datum)) → key_at setting.keys table 0 row ≡ found → is_some found ≡ true → HasKey setting table row
-has_key_in setting table row None is h = absurd cc
-has_key_in setting table row (Some value) is h = record { value = value; key = is }
+has_key_in : (keys : Keys) (table : ℕ) (row : List Datum) (found : Option (List Datum)) → key_at keys table 0 row ≡ found → is_some found ≡ true → HasKey keys table row
+has_key_in keys table row None is h = absurd cc
+has_key_in keys table row (Some value) is h = record { value = value; key = is }
 
-has_key : (setting : Setting) → HasPrimaryKeys setting → (table : ℕ) (row : List Datum) → HasKey setting table row
-has_key setting keyed table row = has_key_in setting table row (key_at setting.keys table 0 row) refl (keyed.has_key table row)
+has_key : (keys : Keys) → HasPrimaryKeys keys → (table : ℕ) (row : List Datum) → HasKey keys table row
+has_key keys keyed table row = has_key_in keys table row (key_at keys table 0 row) refl (keyed.has_key table row)
 
 holds_by : (keys : Keys) (tables : Tables) (table : ℕ) (row value : List Datum) → key_at keys table 0 row ≡ Some value → holds keys tables table row ≡ is_row (tables table 0 value) row
 holds_by keys tables table row value h = ap (λ found. is_row (found_at (tables table 0) found) row) h
@@ -231,59 +229,73 @@ this_own keys table row other another value key h = by_test (is_this table row o
     (λ differs. differs)
 
 -- the row that comes is there, and the others as before
-pub holds_with : (setting : Setting) → HasPrimaryKeys setting → (tables : Tables) (table : ℕ) (row : List Datum) → is_free setting.keys tables table row ≡ true
+pub holds_with : (keys : Keys) → HasPrimaryKeys keys → (tables : Tables) (table : ℕ) (row : List Datum) → is_free keys tables table row ≡ true
     → (other : ℕ) (another : List Datum)
-    → holds setting.keys (put_in setting.keys tables table row) other another ≡ (is_this table row other another || holds setting.keys tables other another)
-holds_with setting keyed tables table row free other another =
-    let its = has_key setting keyed other another in
-    let after = holds_by setting.keys (put_in setting.keys tables table row) other another its.value its.key in
-    let before = holds_by setting.keys tables other another its.value its.key in
-    by_test (is_own setting.keys table row other 0 its.value)
+    → holds keys (put_in keys tables table row) other another ≡ (is_this table row other another || holds keys tables other another)
+holds_with keys keyed tables table row free other another =
+    let its = has_key keys keyed other another in
+    let after = holds_by keys (put_in keys tables table row) other another its.value its.key in
+    let before = holds_by keys tables other another its.value its.key in
+    by_test (is_own keys table row other 0 its.value)
     (λ own.
-    let place = own_is setting.keys table row other 0 its.value own in
+    let place = own_is keys table row other 0 its.value own in
     let none : tables other 0 its.value ≡ None =
-    free_place setting.keys tables other row (subst (λ t. is_free setting.keys tables t row ≡ true) place.table_is free) 0 its.value place.value_is in
+    free_place keys tables other row (subst (λ t. is_free keys tables t row ≡ true) place.table_is free) 0 its.value place.value_is in
     let tables_same : (table == other) ≡ true = (unsigned_Decides table other).1 place.table_is in
-    after ∙ ap (λ found. is_row found another) (put_own setting.keys tables table row (Some row) other 0 its.value own)
+    after ∙ ap (λ found. is_row found another) (put_own keys tables table row (Some row) other 0 its.value own)
     ∙ sym (ap (λ b. b && same_cells row another) tables_same)
     ∙ sym (or_false (is_this table row other another))
     ∙ ap (λ b. is_this table row other another || b) (sym (before ∙ ap (λ found. is_row found another) none)))
     (λ elsewhere.
-    after ∙ ap (λ found. is_row found another) (put_elsewhere setting.keys tables table row (Some row) other 0 its.value elsewhere)
-    ∙ sym before ∙ ap (λ b. b || holds setting.keys tables other another) (sym (this_own setting.keys table row other another its.value its.key elsewhere)))
+    after ∙ ap (λ found. is_row found another) (put_elsewhere keys tables table row (Some row) other 0 its.value elsewhere)
+    ∙ sym before ∙ ap (λ b. b || holds keys tables other another) (sym (this_own keys table row other another its.value its.key elsewhere)))
 
 -- the row that goes is no more there, and the others as before
-pub holds_without : (setting : Setting) → HasPrimaryKeys setting → (tables : Tables) → Stands setting.keys tables
+pub holds_without : (keys : Keys) → HasPrimaryKeys keys → (tables : Tables) → Stands keys tables
     → (table place : ℕ) (at row : List Datum) → tables table place at ≡ Some row → (other : ℕ) (another : List Datum)
-    → holds setting.keys (take_out setting.keys tables table row) other another ≡ (holds setting.keys tables other another && not (is_this table row other another))
-holds_without setting keyed tables stands table place at row there other another =
-    let its = has_key setting keyed other another in
-    let after = holds_by setting.keys (take_out setting.keys tables table row) other another its.value its.key in
-    let before = holds_by setting.keys tables other another its.value its.key in
-    by_test (is_own setting.keys table row other 0 its.value)
+    → holds keys (take_out keys tables table row) other another ≡ (holds keys tables other another && not (is_this table row other another))
+holds_without keys keyed tables stands table place at row there other another =
+    let its = has_key keys keyed other another in
+    let after = holds_by keys (take_out keys tables table row) other another its.value its.key in
+    let before = holds_by keys tables other another its.value its.key in
+    by_test (is_own keys table row other 0 its.value)
     (λ own.
-    let at_key = own_is setting.keys table row other 0 its.value own in
+    let at_key = own_is keys table row other 0 its.value own in
     let found : tables other 0 its.value ≡ Some row =
     stands.whole other place 0 at its.value row (subst (λ t. tables t place at ≡ Some row) at_key.table_is there) at_key.value_is in
     let tables_same : (table == other) ≡ true = (unsigned_Decides table other).1 at_key.table_is in
-    after ∙ ap (λ o. is_row o another) (put_own setting.keys tables table row None other 0 its.value own)
+    after ∙ ap (λ o. is_row o another) (put_own keys tables table row None other 0 its.value own)
     ∙ sym (and_not (same_cells row another))
     ∙ ap (λ b. same_cells row another && not (b && same_cells row another)) (sym tables_same)
     ∙ ap (λ b. b && not (is_this table row other another)) (sym (before ∙ ap (λ o. is_row o another) found)))
     (λ elsewhere.
-    after ∙ ap (λ o. is_row o another) (put_elsewhere setting.keys tables table row None other 0 its.value elsewhere)
-    ∙ sym before ∙ sym (and_true (holds setting.keys tables other another))
-    ∙ ap (λ b. holds setting.keys tables other another && not b) (sym (this_own setting.keys table row other another its.value its.key elsewhere)))
+    after ∙ ap (λ o. is_row o another) (put_elsewhere keys tables table row None other 0 its.value elsewhere)
+    ∙ sym before ∙ sym (and_true (holds keys tables other another))
+    ∙ ap (λ b. holds keys tables other another && not b) (sym (this_own keys table row other another its.value its.key elsewhere)))
 
 -- no row of a table that is emptied is there
-pub holds_emptied : (setting : Setting) → HasPrimaryKeys setting → (tables : Tables) (numbers : List ℕ) (other : ℕ) (another : List Datum)
-    → holds setting.keys (emptied tables numbers) other another ≡ (holds setting.keys tables other another && not (list_any (λ table. table == other) numbers))
-holds_emptied setting keyed tables numbers other another =
-    let its = has_key setting keyed other another in
-    let after = holds_by setting.keys (emptied tables numbers) other another its.value its.key in
-    let before = holds_by setting.keys tables other another its.value its.key in
+pub holds_emptied : (keys : Keys) → HasPrimaryKeys keys → (tables : Tables) (numbers : List ℕ) (other : ℕ) (another : List Datum)
+    → holds keys (emptied tables numbers) other another ≡ (holds keys tables other another && not (list_any (λ table. table == other) numbers))
+holds_emptied keys keyed tables numbers other another =
+    let its = has_key keys keyed other another in
+    let after = holds_by keys (emptied tables numbers) other another its.value its.key in
+    let before = holds_by keys tables other another its.value its.key in
     by_test (list_any (λ table. table == other) numbers)
     (λ named. after ∙ ap (λ o. is_row o another) (emptied_here tables numbers other 0 its.value named)
-    ∙ sym (and_false (holds setting.keys tables other another)) ∙ ap (λ b. holds setting.keys tables other another && not b) (sym named))
+    ∙ sym (and_false (holds keys tables other another)) ∙ ap (λ b. holds keys tables other another && not b) (sym named))
     (λ elsewhere. after ∙ ap (λ o. is_row o another) (emptied_elsewhere tables numbers other 0 its.value elsewhere)
-    ∙ sym before ∙ sym (and_true (holds setting.keys tables other another)) ∙ ap (λ b. holds setting.keys tables other another && not b) (sym elsewhere))
+    ∙ sym before ∙ sym (and_true (holds keys tables other another)) ∙ ap (λ b. holds keys tables other another && not b) (sym elsewhere))
+
+-- ---- a row that is there goes
+
+pub row_goes : (keys : Keys) → HasPrimaryKeys keys → (tables : Tables) → Stands keys tables → (table : ℕ) (row : List Datum) → holds keys tables table row ≡ true
+    → (other : ℕ) (another : List Datum) → holds keys (take_out keys tables table row) other another ≡ (holds keys tables other another && not (is_this table row other another))
+row_goes keys keyed tables stands table row h other another =
+    let at = held keys tables table row h in holds_without keys keyed tables stands table 0 at.value row at.there other another
+
+pub others_stay : (keys : Keys) (tables : Tables) → Stands keys tables → StayWhereTheyBelong keys tables
+others_stay keys tables stands = record {
+  comes = λ table row free. put_keeps keys tables table row stands free;
+  goes = λ table row h. let at = held keys tables table row h in take_keeps keys tables table 0 at.value row stands at.there;
+  emptied_too = λ numbers. emptied_keeps keys tables numbers stands;
+}

@@ -5,10 +5,11 @@ use Rattle.table_changes.specs.Commands.{Command, CommandFault, fault_of, applie
 use Rattle.table_changes.specs.Records.{change_of, record_of}
 use Rattle.table_changes.specs.Seen.{seen_each}
 use Rattle.table_changes.specs.Setting.{Setting}
-use Rattle.table_changes.specs.Tables.{Tables, SameTables, holds}
+use Rattle.table_changes.specs.Tables.{Tables, SameTables, holds, Stands}
 
 -- commands find and do the same
 pub record AreAlike (setting : Setting) (one other : Tables) : Type 0 where
+  pub standing : Stands setting.keys one → Stands setting.keys other
   pub holding : (table : ℕ) (row : List Datum) → holds setting.keys one table row ≡ holds setting.keys other table row
   pub fault : (command : Command) → fault_of setting one command ≡ fault_of setting other command
   pub left : (command : Command) → SameTables (applied setting one command) (applied setting other command)

@@ -1,8 +1,7 @@
--- What laws about changes of tables ask of a setting, and nothing else: that each row has a primary key, that a row's identity tells to whom it passes, that identities tell rows apart, and that each row that fits passes to exactly one subscriber: PostgreSQL 15, "Logical Replication", 31.1 Publication and 31.3 Row Filters, and 5.4.4 Primary Keys.
-use Rattle.std.specs.Prelude.{◌≡◌, ◌≢◌, ℕ, true, List, is_some, None}
+-- What laws about changes of tables ask of a setting, beside that each row has a primary key: that a row's identity tells to whom it passes, that identities tell rows apart, and that each row that fits passes to exactly one subscriber: PostgreSQL 15, "Logical Replication", 31.1 Publication and 31.3 Row Filters.
+use Rattle.std.specs.Prelude.{◌≡◌, ◌≢◌, ℕ, true, List, None}
 use Rattle.filter_tree.specs.Datum.{Datum}
 use Rattle.table_changes.specs.Commands.{Command, fault_of, applied}
-use Rattle.table_changes.specs.Keys.{key_at}
 use Rattle.table_changes.specs.Setting.{Setting, Nowhere, fits}
 use Rattle.table_changes.specs.Tables.{Tables, holds, Stands}
 
@@ -14,10 +13,6 @@ Apart setting tables = (table : ℕ) (one other : List Datum) → holds setting.
 -- each row fits its table
 abbrev pub AllFit : Setting → Tables → Type 0
 AllFit setting tables = (table : ℕ) (row : List Datum) → holds setting.keys tables table row ≡ true → fits setting table row ≡ true
-
--- Each row has a value in its table's primary key.
-pub record HasPrimaryKeys (setting : Setting) : Type 0 where
-  pub has_key : (table : ℕ) (row : List Datum) → is_some (key_at setting.keys table 0 row) ≡ true
 
 -- What is recorded of an old row tells to whom it passed.
 pub record Covered (setting : Setting) : Type 0 where

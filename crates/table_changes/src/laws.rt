@@ -1,22 +1,34 @@
 //! Laws of what commands do to tables.
 
 ghost use Rattle.table_changes.specs.Setting.{Setting};
-ghost use Rattle.table_changes.specs.Changes.{RowsStand, RowsStayKeyed, RowsStayFit, RowsStayApart, OneRowForKey, BeginsWell};
+ghost use Rattle.table_changes.specs.Changes.{RowComes, RowGoes, TablesAreEmptied, OthersStay, OneRowForKey};
+ghost use Rattle.table_changes.specs.Changes.{RowsStand, RowsStayKeyed, RowsStayFit, RowsStayApart, BeginsWell};
 ghost use Rattle.table_changes.specs.Growing.{SameAreAlike, FaultOfOneMore, FirstFaultStays, LeftByOneMore, RecordOfOneMore};
 ghost use Rattle.table_changes.specs.Showing.{RecordShows, RecordShowsAll};
+
+/// A law, and no code, of tables in which a row is found by each of its unique keys, and has a primary key. A row that
+/// comes where no row has its value in a unique key (`comes`), a row that goes (`goes`) and tables that are emptied
+/// (`empties`) change no other row, and rows stay where each of their unique keys finds them (`stay`). Rows of a table that
+/// share a value in a unique key are one row (`one`).
+#[tactic(auto, using(crate::proofs::TableLemmas::holds_with, crate::proofs::TableLemmas::row_goes, crate::proofs::TableLemmas::holds_emptied, crate::proofs::TableLemmas::others_stay, crate::proofs::TableLemmas::one_row))]
+pub fn rows_come_and_go()
+    ensures comes { RowComes }
+    ensures goes { RowGoes }
+    ensures empties { TablesAreEmptied }
+    ensures stay { OthersStay }
+    ensures one { OneRowForKey }
+{}
 
 /// A law, and no code, of commands on tables. A command without a fault leaves exactly the rows that it adds and those
 /// that it doesn't take out (`stand`). Commands without a fault, each on what the earlier ones leave, keep each row where
 /// each of its unique keys has it (`keyed`), rows that fit their tables (`fit`), and the rows of a table apart by their
-/// identity (`apart`), as rows are in tables without any (`begin`). Where rows are kept so, those of a table that share a
-/// value in a unique key are one row (`one`).
-#[tactic(auto, using(crate::proofs::ChangeLemmas::rows_stand, crate::proofs::ChangeLemmas::stay_keyed, crate::proofs::ChangeLemmas::stay_fit, crate::proofs::ChangeLemmas::stay_apart, crate::proofs::TableLemmas::one_row, crate::proofs::ChangeLemmas::begins_well))]
+/// identity (`apart`), as rows are in tables without any (`begin`).
+#[tactic(auto, using(crate::proofs::ChangeLemmas::rows_stand, crate::proofs::ChangeLemmas::stay_keyed, crate::proofs::ChangeLemmas::stay_fit, crate::proofs::ChangeLemmas::stay_apart, crate::proofs::ChangeLemmas::begins_well))]
 pub fn commands_change_rows()
     ensures stand { RowsStand }
     ensures keyed { RowsStayKeyed }
     ensures fit { RowsStayFit }
     ensures apart { RowsStayApart }
-    ensures one { OneRowForKey }
     ensures begin { (setting : Setting) → BeginsWell setting }
 {}
 
