@@ -79,8 +79,8 @@ fn check_carried(
     filter: Option<&Filter>,
 ) -> Result<(), CheckError>
     ensures { Checks
-        (spec.carried_refusal publication number (option_map (λ t. t.now) table) (option_map (λ f. expr_view f.now) filter))
-        result }
+        (spec.carried_refusal publication number (option_map (λ t. t.now) table.entry)
+        (option_map (λ f. expr_view f.now) filter.entry)) result }
 {
     match (table, filter) {
         (None, _) => Err(CheckError::UnknownTable {

@@ -143,7 +143,7 @@ fn check_sharding<A: Allocator>(
 /// What an error says of what it names is so (`wrong`). With an error the catalog and the plan are dropped.
 ///
 /// PostgreSQL 15, "Logical Replication", 31.3 Row Filters.
-#[tactic(auto, using(crate::proofs::StandingLemmas::standing, crate::proofs::ReasonLemmas::sharding_wrong, crate::proofs::AnyTest::none_by_any, crate::proofs::AnyTest::some_by_any))]
+#[tactic(auto, using(crate::proofs::StandingLemmas::standing, crate::proofs::ReasonLemmas::sharding_wrong))]
 pub fn check<A: Allocator>(
     alloc: Global,
     catalog: Catalog,
