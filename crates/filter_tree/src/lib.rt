@@ -30,7 +30,7 @@ pub use lists::{add_atom, add_atoms, atoms_of, columns_of, terms_of};
 pub use mask::Mask;
 pub use possibility::possible;
 pub use same::{same_atom, same_row, same_term};
-pub use table::{ColType, Column, Identity, Table};
+pub use table::{ColType, Column, Identity, Table, UniqueIndex};
 pub use text::Text;
 pub use tri::Tri;
 pub use validity::{MAX_TEXT_BYTES, RowFault, valid};

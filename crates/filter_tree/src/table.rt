@@ -47,21 +47,33 @@ pub struct Column {
     pub not_null: bool,
 }
 
-/// A table's replica identity: what is recorded of an old row. `Default` records the primary key's columns, `Full` the
-/// whole row, `Nothing` none.
+/// A unique index of a table: its name, and the numbers of its columns, from 0, in the index's order. No two rows have
+/// the same values in these columns, but rows with a null in one of them. PostgreSQL 15, SQL Commands, CREATE INDEX.
+#[derive(Debug, Drop)]
+pub struct UniqueIndex {
+    pub name: Text,
+    pub columns: Items<usize>,
+}
+
+/// A table's replica identity: what is recorded of an old row. `Default` records the primary key's columns, `Index` those
+/// of the table's unique index of this number, from 0, `Full` the whole row, `Nothing` none. PostgreSQL 15, SQL Commands,
+/// ALTER TABLE (REPLICA IDENTITY).
 #[derive(Clone, Copy, Debug, PartialEq, Eq)]
 pub enum Identity {
     Default,
+    Index(usize),
     Full,
     Nothing,
 }
 
-/// A table. `key` has the numbers of the primary key's columns, from 0, in the key's order.
+/// A table. `key` has the numbers of the primary key's columns, from 0, in the key's order; `indexes` are its unique
+/// indexes in the order in which they are made, without that of the primary key.
 #[derive(Debug, Drop)]
 pub struct Table {
     pub schema: Text,
     pub name: Text,
     pub columns: Items<Column>,
     pub key: Items<usize>,
+    pub indexes: Items<UniqueIndex>,
     pub identity: Identity,
 }

@@ -43,8 +43,8 @@ fn table_tail(r: &Reader<'_>) -> Result<(), ReadError>
     }
 }
 
-/// The table of a name and elements.
-fn table_of(name: NewName, parts: TableParts) -> Table
+/// The table of a name and elements. It has no unique index yet.
+fn table_of(alloc: Global, name: NewName, parts: TableParts) -> Table
     ensures { result ≡ spec.table_of name (parts_view parts) }
 {
     let NewName { schema, name } = name;
@@ -54,6 +54,7 @@ fn table_of(name: NewName, parts: TableParts) -> Table
         name: name.text,
         columns: Items::from_vec(columns),
         key: Items::from_vec(key),
+        indexes: Items::from_vec(Vec::new(alloc)),
         identity: Identity::Default,
     }
 }
@@ -80,6 +81,6 @@ pub fn create_table(r: &mut Reader<'_>, alloc: Global, draft: &mut Draft) -> Res
 {
     let name = new_name(r, alloc, draft)?;
     let parts = table_body(r, alloc, &name.name)?;
-    draft.add_table(table_of(name, parts))?;
+    draft.add_table(table_of(alloc, name, parts))?;
     Ok(())
 }

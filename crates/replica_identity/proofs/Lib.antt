@@ -2,3 +2,4 @@ pub mod JoiningLemmas
 pub mod NumberLemmas
 pub mod PassingLemmas
 pub mod PlanLemmas
+pub mod SettingLemmas

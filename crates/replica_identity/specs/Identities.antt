@@ -1,18 +1,26 @@
--- The columns of a table's replica identity, whose old values an UPDATE or DELETE records: PostgreSQL 15, "Logical Replication", 31.1 Publication, and ALTER TABLE (REPLICA IDENTITY).
-use Rattle.std.specs.Prelude.{ℕ, zero, suc, ◌==◌, Bool, List, [], ◌∷◌, ◌++◌, length}
-use Rattle.std.specs.List.{list_any}
+-- The columns of a table's replica identity, whose old values an UPDATE or DELETE records, and whether they tell which row it was: PostgreSQL 15, "Logical Replication", 31.1 Publication, and ALTER TABLE (REPLICA IDENTITY).
+use Rattle.std.specs.Prelude.{ℕ, zero, suc, ◌==◌, Bool, true, false, List, [], ◌∷◌, ◌++◌, length, Option, Some, None, slice_get}
+use Rattle.std.specs.List.{list_any, list_all}
+use Rattle.filter_tree.specs.declared.table.Column.{Column}
 use Rattle.filter_tree.specs.declared.table.Identity.{Identity}
-use Rattle.filter_tree.specs.declared.table.Identity.TheVariants.{Default, Full, Nothing}
+use Rattle.filter_tree.specs.declared.table.Identity.TheVariants.{Default, Index, Full, Nothing}
 use Rattle.filter_tree.specs.declared.table.Table.{Table}
+use Rattle.filter_tree.specs.declared.table.UniqueIndex.{UniqueIndex}
 
 -- 0, 1 and so on, so many
 abbrev pub numbers_to : ℕ → List ℕ
 numbers_to zero = []
 numbers_to (suc n) = numbers_to n ++ n ∷ []
 
--- the primary key, every column, or none
+-- none where there is no such index
+abbrev pub index_columns : Option UniqueIndex → List ℕ
+index_columns None = []
+index_columns (Some index) = index.columns
+
+-- the primary key, a unique index, every column, or none
 abbrev pub columns_by : Identity → Table → List ℕ
 columns_by Default table = table.key
+columns_by (Index number) table = index_columns (slice_get table.indexes number)
 columns_by Full table = numbers_to (length table.columns)
 columns_by Nothing table = []
 
@@ -22,3 +30,29 @@ identity_columns table = columns_by table.identity table
 -- whether the column is one of them
 abbrev pub is_covered : Table → ℕ → Bool
 is_covered table column = list_any (λ number. number == column) (identity_columns table)
+
+-- ---- rows told apart
+
+-- the column is there, and takes no null
+abbrev pub takes_no_null : Option Column → Bool
+takes_no_null None = false
+takes_no_null (Some column) = column.not_null
+
+-- the columns of these numbers
+abbrev pub take_no_null : List Column → List ℕ → Bool
+take_no_null columns numbers = list_all (λ number. takes_no_null (slice_get columns number)) numbers
+
+-- the index is there, and its columns take no null: any other is no replica identity, and one that was dropped is as NOTHING
+abbrev pub index_tells : List Column → Option UniqueIndex → Bool
+index_tells columns None = false
+index_tells columns (Some index) = take_no_null columns index.columns
+
+abbrev pub identity_tells : Identity → Table → Bool
+identity_tells Default table = true
+identity_tells (Index number) table = index_tells table.columns (slice_get table.indexes number)
+identity_tells Full table = true
+identity_tells Nothing table = false
+
+-- whether what is recorded of an old row tells which row of the table it was
+abbrev pub tells_rows_apart : Table → Bool
+tells_rows_apart table = identity_tells table.identity table

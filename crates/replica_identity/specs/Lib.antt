@@ -4,4 +4,5 @@ pub mod Passes
 pub mod PlanView
 pub mod Plans
 pub mod Setting
+pub mod SettingLaws
 pub mod Shares

@@ -1,9 +1,9 @@
 //! The columns of a table's replica identity.
 
-ghost use Rattle.std.specs.Prelude.{◌≡◌, IfOk};
+ghost use Rattle.std.specs.Prelude.{◌≡◌, IfOk, slice_get};
 ghost use Rattle.replica_identity.specs.Identities as spec;
 
-use filter_tree::{Identity, Table};
+use filter_tree::{Column, Identity, Table};
 use std::alloc::{AllocError, Global};
 
 /// The numbers from 0 up to a length.
@@ -17,19 +17,36 @@ fn numbers(alloc: Global, length: usize) -> Result<Vec<usize>, AllocError>
     Ok(numbers)
 }
 
-/// The numbers of the columns of a table's replica identity: those of the primary key in its order for `Default`, all
-/// columns for `Full`, none for `Nothing`. The only error is want of memory.
+/// These numbers in memory of their own.
+fn copied(alloc: Global, numbers: &[usize]) -> Result<Vec<usize>, AllocError>
+    ensures { IfOk result (λ copy. copy.items ≡ numbers.now) }
+{
+    let mut copy = Vec::new(alloc);
+    copy.extend_from_slice(numbers)?;
+    Ok(copy)
+}
+
+/// The columns of a table's unique index of this number; none where there is no such index.
+fn index_columns(table: &Table, number: usize) -> &[usize]
+    ensures { result.now ≡ spec.index_columns (slice_get table.now.indexes number) }
+{
+    match table.indexes.get(number) {
+        Some(index) => index.columns.as_slice(),
+        None => &[],
+    }
+}
+
+/// The numbers of the columns of a table's replica identity: those of the primary key in its order for `Default`, those
+/// of the index in its order for `Index` (none where the table has no such index), all columns for `Full`, none for
+/// `Nothing`. The only error is want of memory.
 ///
 /// PostgreSQL 15, "Logical Replication", 31.1 Publication.
 pub fn identity_columns(alloc: Global, table: &Table) -> Result<Vec<usize>, AllocError>
     ensures { IfOk result (λ columns. columns.items ≡ spec.identity_columns table.now) }
 {
     match table.identity {
-        Identity::Default => {
-            let mut columns = Vec::new(alloc);
-            columns.extend_from_slice(table.key.as_slice())?;
-            Ok(columns)
-        }
+        Identity::Default => copied(alloc, table.key.as_slice()),
+        Identity::Index(number) => copied(alloc, index_columns(table, number)),
         Identity::Full => numbers(alloc, table.columns.len()),
         Identity::Nothing => Ok(Vec::new(alloc)),
     }
@@ -42,7 +59,54 @@ pub fn covered(table: &Table, column: usize) -> bool
 {
     match table.identity {
         Identity::Default => table.key.as_slice().contains(&column),
+        Identity::Index(number) => index_columns(table, number).contains(&column),
         Identity::Full => column < table.columns.len(),
+        Identity::Nothing => false,
+    }
+}
+
+/// Whether the column of this number is there and takes no null.
+fn takes_no_null(columns: &[Column], number: usize) -> bool
+    ensures { result ≡ spec.takes_no_null (slice_get columns.now number) }
+{
+    match columns.get(number) {
+        Some(column) => column.not_null,
+        None => false,
+    }
+}
+
+fn take_no_null(columns: &[Column], numbers: &[usize]) -> bool
+    ensures { result ≡ spec.take_no_null columns.now numbers.now }
+{
+    for number in numbers {
+        if !takes_no_null(columns, *number) {
+            return false;
+        }
+    }
+    true
+}
+
+/// Whether the table has a unique index of this number, and its columns take no null.
+fn index_tells(table: &Table, number: usize) -> bool
+    ensures { result ≡ spec.index_tells table.now.columns (slice_get table.now.indexes number) }
+{
+    match table.indexes.get(number) {
+        Some(index) => take_no_null(table.columns.as_slice(), index.columns.as_slice()),
+        None => false,
+    }
+}
+
+/// Whether what a table's replica identity records of an old row tells which row of the table it was. That is not so of
+/// `Nothing`, nor of an `Index` that the table doesn't have or that has a column which may be null; `read_catalog` gives no
+/// such index.
+///
+/// PostgreSQL 15, SQL Commands, ALTER TABLE (REPLICA IDENTITY).
+pub fn tells_rows_apart(table: &Table) -> bool
+    ensures { result ≡ spec.tells_rows_apart table.now }
+{
+    match table.identity {
+        Identity::Default | Identity::Full => true,
+        Identity::Index(number) => index_tells(table, number),
         Identity::Nothing => false,
     }
 }

@@ -1,3 +1,5 @@
+mod identities;
+
 use crate::{Plan, Share, covered, identity_columns, plan};
 use filter_tree::{Filter, Row};
 use pub_reader::{Catalog, ReadError, read_catalog, read_row};

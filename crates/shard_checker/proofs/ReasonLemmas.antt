@@ -6,13 +6,11 @@ use Rattle.filter_tree.specs.Expr.{Expr, AtomOf}
 use Rattle.filter_tree.specs.Lists.{distinct_columns}
 use Rattle.filter_tree.specs.Paths.{Path}
 use Rattle.filter_tree.specs.declared.filter.Term.{Term}
-use Rattle.filter_tree.specs.declared.table.Identity.{Identity}
-use Rattle.filter_tree.specs.declared.table.Identity.TheVariants.{Default, Full, Nothing}
 use Rattle.filter_tree.specs.declared.table.Table.{Table}
 use Rattle.pub_reader.specs.Catalogs.{CatalogOf, PublicationOf, EntryOf}
 use Rattle.pub_reader.specs.declared.catalog.Operations.{Operations}
 use Rattle.pub_reader.specs.declared.catalog.Subscription.{Subscription}
-use Rattle.replica_identity.specs.Identities.{is_covered}
+use Rattle.replica_identity.specs.Identities.{is_covered, tells_rows_apart}
 use Rattle.replica_identity.specs.Plans.{PlanOf}
 use Rattle.replica_identity.specs.Shares.{ShareOf}
 use Rattle.split_cert.specs.Tree.{Tree, Split, Owner, Empty, NeverNull, nodes}
@@ -111,26 +109,21 @@ unpublished subscriptions number (publication ∷ publications) error h =
 
 -- ---- what is recorded of old rows
 
-records_nothing : (number : ℕ) (identity : Identity) (error : CheckError) → table_refusal number identity ≡ Some error → (identity ≡ Nothing) × (error ≡ NoIdentity number)
-records_nothing number Nothing error h = (refl, same_some (NoIdentity number) error h)
-records_nothing number Default error h = absurd cc
-records_nothing number Full error h = absurd cc
-
-record IsUnrecorded (number : ℕ) (tables : List Table) (error : CheckError) : Type 0 where
+record IsUntold (number : ℕ) (tables : List Table) (error : CheckError) : Type 0 where
   place : ℕ
   is : error ≡ NoIdentity (number + place)
   table : Table
   there : slice_get tables place ≡ Some table
-  nothing : table.identity ≡ Nothing
+  untold : tells_rows_apart table ≡ false
 
-unrecorded : (number : ℕ) (tables : List Table) (error : CheckError) → identity_refusal number tables ≡ Some error → IsUnrecorded number tables error
-unrecorded number [] error h = absurd cc
-unrecorded number (table ∷ tables) error h =
-    by_first (table_refusal number table.identity) (identity_refusal (number + 1) tables) error h
-    (λ here. let both = records_nothing number table.identity error here in
-    record { place = 0; is = both.1 ∙ ap NoIdentity (sym (at_zero number)); table = table; there = refl; nothing = both.0 })
-    (λ there. let rest = unrecorded (number + 1) tables error there in
-    record { place = suc rest.place; is = rest.is ∙ ap NoIdentity (sym (at_next number rest.place)); table = rest.table; there = rest.there; nothing = rest.nothing })
+first_untold : (number : ℕ) (tables : List Table) (error : CheckError) → identity_refusal number tables ≡ Some error → IsUntold number tables error
+first_untold number [] error h = absurd cc
+first_untold number (table ∷ tables) error h =
+    by_first (table_refusal number table) (identity_refusal (number + 1) tables) error h
+    (λ here. let both = failed (tells_rows_apart table) (NoIdentity number) error here in
+    record { place = 0; is = both.1 ∙ ap NoIdentity (sym (at_zero number)); table = table; there = refl; untold = both.0 })
+    (λ there. let rest = first_untold (number + 1) tables error there in
+    record { place = suc rest.place; is = rest.is ∙ ap NoIdentity (sym (at_next number rest.place)); table = rest.table; there = rest.there; untold = rest.untold })
 
 -- ---- which tables are carried, and which columns filters name
 
@@ -339,9 +332,9 @@ publishing_wrong catalog plan trees error h =
 
 identity_wrong : (catalog : CatalogOf Expr) (plan : PlanOf) (trees : List Tree) (error : CheckError) → identity_refusal 0 catalog.tables ≡ Some error → ShardingIsWrong catalog plan trees error
 identity_wrong catalog plan trees error h =
-    let found = unrecorded 0 catalog.tables error h in
+    let found = first_untold 0 catalog.tables error h in
     let is : error ≡ NoIdentity found.place = found.is ∙ ap NoIdentity (zero_more found.place) in
-    subst (ShardingIsWrong catalog plan trees) (sym is) (record { table = found.table; there = found.there; nothing = found.nothing })
+    subst (ShardingIsWrong catalog plan trees) (sym is) (record { table = found.table; there = found.there; untold = found.untold })
 
 -- the publication of this number is taken, and an entry of it is wrong
 entry_is_wrong : (catalog : CatalogOf Expr) (plan : PlanOf) (trees : List Tree) (error : CheckError) (number : ℕ) (publication : PublicationOf Expr)

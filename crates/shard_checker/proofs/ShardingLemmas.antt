@@ -6,13 +6,11 @@ use Rattle.std.proofs.lemmas.Option.{slice_get_within}
 use Rattle.filter_tree.specs.Datum.{Datum}
 use Rattle.filter_tree.specs.Expr.{Expr}
 use Rattle.filter_tree.specs.Lists.{distinct_columns}
-use Rattle.filter_tree.specs.declared.table.Identity.{Identity}
-use Rattle.filter_tree.specs.declared.table.Identity.TheVariants.{Default, Full, Nothing}
 use Rattle.filter_tree.specs.declared.table.Table.{Table}
 use Rattle.pub_reader.specs.Catalogs.{CatalogOf, PublicationOf, EntryOf}
 use Rattle.pub_reader.specs.declared.catalog.Operations.{Operations}
 use Rattle.pub_reader.specs.declared.catalog.Subscription.{Subscription}
-use Rattle.replica_identity.specs.Identities.{is_covered}
+use Rattle.replica_identity.specs.Identities.{is_covered, tells_rows_apart}
 use Rattle.replica_identity.specs.Passes.{listed_by, carries, passes}
 use Rattle.replica_identity.specs.Plans.{PlanOf, TakesWhatPasses, share_at, plan_of}
 use Rattle.replica_identity.specs.Shares as s
@@ -25,7 +23,7 @@ use Rattle.shard_checker.specs.Rows.{IsTyped}
 use Rattle.shard_checker.specs.Sound.{is_taken, RowHasOneOwner, PublishesChanges, is_covered_by, entry_is_covered, IsSound}
 use Rattle.shard_checker.specs.Trying.{is_empty}
 use Rattle.shard_checker.specs.declared.error.CheckError.{CheckError}
-use Rattle.shard_checker.specs.declared.error.CheckError.TheVariants.{NotCovered, CertCount}
+use Rattle.shard_checker.specs.declared.error.CheckError.TheVariants.{NoIdentity, NotCovered, CertCount}
 use Rattle.shard_checker.specs.declared.error.Operation.{Operation}
 use Rattle.shard_checker.specs.declared.error.Operation.TheVariants.{Insert, Update, Delete, Truncate}
 use Rattle.shard_checker.proofs.SoundLemmas.{certificate_sound}
@@ -69,17 +67,16 @@ all_publish subscriptions number (publication ∷ publications) h (suc k) taken 
 
 -- ---- what is recorded of old rows
 
-is_identified : (number : ℕ) (identity : Identity) → table_refusal number identity ≡ None → identity ≢ Nothing
-is_identified number Nothing h = absurd cc
-is_identified number Default h = λ is. cc
-is_identified number Full h = λ is. cc
+told : (b : Bool) (error : CheckError) → (if b then None else Some error) ≡ None → b ≡ true
+told true error h = refl
+told false error h = absurd cc
 
-all_identified : (number : ℕ) (tables : List Table) → identity_refusal number tables ≡ None → (k : ℕ) → IfSome (slice_get tables k) (λ table. table.identity ≢ Nothing)
+all_identified : (number : ℕ) (tables : List Table) → identity_refusal number tables ≡ None → (k : ℕ) → IfSome (slice_get tables k) (λ table. tells_rows_apart table ≡ true)
 all_identified number [] h k = tt
 all_identified number (table ∷ tables) h zero =
-    let both = none_first (table_refusal number table.identity) (identity_refusal (number + 1) tables) h in is_identified number table.identity both.0
+    let both = none_first (table_refusal number table) (identity_refusal (number + 1) tables) h in told (tells_rows_apart table) (NoIdentity number) both.0
 all_identified number (table ∷ tables) h (suc k) =
-    let both = none_first (table_refusal number table.identity) (identity_refusal (number + 1) tables) h in all_identified (number + 1) tables both.1 k
+    let both = none_first (table_refusal number table) (identity_refusal (number + 1) tables) h in all_identified (number + 1) tables both.1 k
 
 -- ---- which columns filters name
 

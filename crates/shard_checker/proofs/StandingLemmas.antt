@@ -1,31 +1,39 @@
 -- A sound sharding has what the laws about changes of tables ask of its setting.
-use Rattle.std.proofs.Common.{◌≡◌, ◌≢◌, ℕ, zero, suc, ◌+◌, ◌<◌, Bool, true, ◌&&◌, ◌||◌, List, [], ◌∷◌, length, refl, sym, ◌∙◌, ap, subst, arith}
+use Rattle.std.proofs.Common.{◌≡◌, ◌≢◌, ℕ, zero, suc, ◌+◌, ◌<◌, Bool, true, false, not, ◌&&◌, ◌||◌, List, [], ◌∷◌, length, refl, sym, ◌∙◌, ap, subst, arith}
 use Rattle.std.specs.Prelude.{Option, Some, None, IfSome, ◌==◌, nat_lt, if◌then◌else◌, is_none, slice_get, filter_map}
 use Rattle.std.specs.List.{list_any, list_all}
 use Rattle.std.proofs.lemmas.Bool.{ltb-true}
 use Rattle.std.proofs.lemmas.Option.{slice_get_within}
-use Rattle.filter_tree.specs.Datum.{Datum, Missing, value_at}
+use Rattle.filter_tree.specs.Datum.{Datum, Missing, Known, value_at}
 use Rattle.filter_tree.specs.Expr.{Expr}
 use Rattle.filter_tree.specs.Lists.{distinct_columns, AgreesOn}
-use Rattle.filter_tree.specs.Valid.{row_fault}
+use Rattle.filter_tree.specs.Valid.{row_fault, Fits, IsValid}
 use Rattle.filter_tree.specs.declared.table.Identity.{Identity}
-use Rattle.filter_tree.specs.declared.table.Identity.TheVariants.{Default, Full, Nothing}
+use Rattle.filter_tree.specs.declared.table.Identity.TheVariants.{Default, Index, Full, Nothing}
+use Rattle.filter_tree.specs.declared.table.Column.{Column}
 use Rattle.filter_tree.specs.declared.table.Table.{Table}
+use Rattle.filter_tree.specs.declared.table.UniqueIndex.{UniqueIndex}
 use Rattle.filter_tree.proofs.ListsLemmas.{determined_by_columns}
-use Rattle.filter_tree.proofs.SameLemmas.{both_true, equal_from_same_cells}
+use Rattle.filter_tree.proofs.SameLemmas.{both_true}
 use Rattle.filter_tree.proofs.ValidLemmas.{valid_from_no_fault}
 use Rattle.pub_reader.specs.Catalogs.{CatalogOf, PublicationOf, EntryOf}
 use Rattle.pub_reader.specs.declared.catalog.Subscription.{Subscription}
-use Rattle.replica_identity.specs.Identities.{columns_by, identity_columns}
+use Rattle.replica_identity.specs.Identities.{index_columns, columns_by, identity_columns, takes_no_null, take_no_null, index_tells, identity_tells, tells_rows_apart}
 use Rattle.replica_identity.specs.Passes.{listed_by, lets, entry_carries, carries}
 use Rattle.replica_identity.specs.Plans.{PlanOf, TakesWhatPasses, share_at, plan_of}
-use Rattle.table_changes.specs.Setting.{Nowhere}
-use Rattle.table_changes.specs.Columns.{values_at, blanked_from}
-use Rattle.replica_identity.specs.Setting.{recorded_as, fault_in, key_in, recorded_in, identity_by, identity_in, blanked_by, blanked_in, setting_of}
-use Rattle.replica_identity.specs.Shares.{takes, is_true}
-use Rattle.table_changes.specs.Standing.{Covered, KeepsApart, PassesToOne, Sound}
-use Rattle.table_changes.specs.Tables.{Tables, applied, is_row, holds}
+use Rattle.replica_identity.specs.Setting.{recorded_as, fault_in, recorded_in, identity_by, identity_in, blanked_by, blanked_in, setting_of}
+use Rattle.replica_identity.specs.SettingLaws.{HasTable}
+use Rattle.replica_identity.specs.Shares.{ShareOf, Everything, Where, takes, is_true, is_nothing}
+use Rattle.replica_identity.specs.Shares as share
 use Rattle.replica_identity.proofs.PassingLemmas.{takes_what_passes}
+use Rattle.replica_identity.proofs.SettingLemmas.{has_primary_keys, has_table}
+use Rattle.table_changes.specs.Columns.{values_at, is_null, unless_null, blanked_from}
+use Rattle.table_changes.specs.Commands.{Command, fault_of, applied}
+use Rattle.table_changes.specs.Setting.{Nowhere, fits}
+use Rattle.table_changes.specs.Standing.{Covered, Apart, KeepsApart, PassesToOne, Sound}
+use Rattle.table_changes.specs.Tables.{Tables, holds, Stands}
+use Rattle.table_changes.proofs.ChangeLemmas.{keeps_keyed, is_new_or_old}
+use Rattle.table_changes.proofs.TableLemmas.{one_row}
 use Rattle.shard_checker.specs.Rows.{IsTyped}
 use Rattle.shard_checker.specs.Sound.{is_listed, is_taken, RowHasOneOwner, is_covered_by, entry_is_covered, IsSound}
 use Rattle.shard_checker.proofs.RowLemmas.{typed_of_valid}
@@ -120,6 +128,7 @@ passes_alike catalog sound subscriber number table (Some subscription) one other
 by_identity : {P : Type 0} (identity : Identity) (table : Table) (one other : List Datum) → identity_by (recorded_as identity) table one ≡ identity_by (recorded_as identity) table other
     → (one ≡ other → P) → (values_at (identity_columns table) one ≡ values_at (identity_columns table) other → P) → P
 by_identity Default table one other h whole some = some h
+by_identity (Index number) table one other h whole some = some h
 by_identity Full table one other h whole some = whole h
 by_identity Nothing table one other h whole some = some h
 
@@ -156,6 +165,7 @@ values_kept columns (column ∷ part) row within =
 blanked_as : (identity : Identity) (table : Table) (row : List Datum)
     → identity_by (recorded_as identity) table (blanked_by (recorded_as identity) table row) ≡ identity_by (recorded_as identity) table row
 blanked_as Default table row = values_kept (identity_columns table) (identity_columns table) row (λ column h. h)
+blanked_as (Index number) table row = values_kept (identity_columns table) (identity_columns table) row (λ column h. h)
 blanked_as Full table row = refl
 blanked_as Nothing table row = values_kept (identity_columns table) (identity_columns table) row (λ column h. h)
 
@@ -163,61 +173,149 @@ blanked_is : (found : Option Table) (row : List Datum) → identity_in found (bl
 blanked_is None row = refl
 blanked_is (Some table) row = blanked_as table.identity table row
 
-recorded_some : (identity : Identity) → identity ≢ Nothing → recorded_as identity ≢ Nowhere
-recorded_some Default h = λ e. cc
-recorded_some Full h = λ e. cc
-recorded_some Nothing h = absurd (h refl)
+recorded_some : (identity : Identity) (table : Table) → identity_tells identity table ≡ true → recorded_as identity ≢ Nowhere
+recorded_some Default table h = λ e. cc
+recorded_some (Index number) table h = λ e. cc
+recorded_some Full table h = λ e. cc
+recorded_some Nothing table h = absurd cc
 
-recorded_is : (found : Option Table) → IfSome found (λ table. table.identity ≢ Nothing) → recorded_in found ≢ Nowhere
+recorded_is : (found : Option Table) → IfSome found (λ table. tells_rows_apart table ≡ true) → recorded_in found ≢ Nowhere
 recorded_is None h = λ e. cc
-recorded_is (Some table) h = recorded_some table.identity h
+recorded_is (Some table) h = recorded_some table.identity table h
+
+-- who takes a row takes something
+takes_some : (given : ShareOf) (row : List Datum) → takes given row ≡ true → not (is_nothing given) ≡ true
+takes_some share.Nothing row h = absurd cc
+takes_some Everything row h = refl
+takes_some (Where filter) row h = refl
 
 pub covered : (catalog : CatalogOf Expr) (plan : PlanOf) → IsSound catalog → TakesWhatPasses catalog plan → Covered (setting_of catalog plan)
 covered catalog plan sound own = record {
   decides = λ subscriber table one other h. takes_alike catalog plan sound own subscriber table (slice_get catalog.tables table) one other refl h;
   blanked = λ table row. blanked_is (slice_get catalog.tables table) row;
   recorded = λ table. recorded_is (slice_get catalog.tables table) (sound.identified table);
+  carried = λ subscriber table row h. takes_some (share_at plan subscriber table) row h;
 }
 
--- ---- identities tell rows apart
-
-row_found : (found : Option (List Datum)) (row : List Datum) → is_row found row ≡ true → found ≡ Some row
-row_found None row h = absurd cc
-row_found (Some found) row h = ap Some (equal_from_same_cells found row h)
-
--- rows of a table with one key are one row
-apart_by_key : (key : ℕ → List Datum → List Datum) (tables : Tables) (table : ℕ) (one other : List Datum) → holds key tables table one ≡ true → holds key tables table other ≡ true
-    → key table one ≡ key table other → one ≡ other
-apart_by_key key tables table one other h k e =
-    let first = row_found (tables table (key table one)) one h in
-    let second = row_found (tables table (key table other)) other k in
-    let both : Some one ≡ Some other = sym first ∙ ap (tables table) e ∙ second in cc
-
--- rows with one identity are one row, or have one key
-key_alike : {P : Type 0} (identity : Identity) (table : Table) (one other : List Datum) → table.identity ≡ identity → identity ≢ Nothing
-    → identity_by (recorded_as identity) table one ≡ identity_by (recorded_as identity) table other
-    → (one ≡ other → P) → (values_at table.key one ≡ values_at table.key other → P) → P
-key_alike Default table one other is something h whole key = key (subst (λ i. values_at (columns_by i table) one ≡ values_at (columns_by i table) other) is h)
-key_alike Full table one other is something h whole key = whole h
-key_alike Nothing table one other is something h whole key = absurd (something refl)
-
-key_alike_in : {P : Type 0} (found : Option Table) (one other : List Datum) → IfSome found (λ table. table.identity ≢ Nothing) → identity_in found one ≡ identity_in found other
-    → (one ≡ other → P) → (key_in found one ≡ key_in found other → P) → P
-key_alike_in None one other something h whole key = whole h
-key_alike_in (Some table) one other something h whole key = key_alike table.identity table one other refl something h whole key
-
-pub keeps_apart : (catalog : CatalogOf Expr) (plan : PlanOf) → IsSound catalog → KeepsApart (setting_of catalog plan)
-keeps_apart catalog plan sound = record {
-  kept = λ tables command accepted keyed apart table one other h k e. key_alike_in (slice_get catalog.tables table) one other (sound.identified table) e
-      (λ same. same)
-      (λ key. apart_by_key (setting_of catalog plan).key (applied (setting_of catalog plan) tables command) table one other h k key);
-}
-
--- ---- one subscriber
+-- ---- a row that fits has no null in columns that take none
 
 no_fault : {A : Type 0} (found : Option A) → is_none found ≡ true → found ≡ None
 no_fault None h = refl
 no_fault (Some fault) h = absurd cc
+
+valid_of_fits : (catalog : CatalogOf Expr) (plan : PlanOf) (number : ℕ) (table : Table) (row : List Datum) → slice_get catalog.tables number ≡ Some table
+    → fits (setting_of catalog plan) number row ≡ true → IsValid table.columns row
+valid_of_fits catalog plan number table row there h =
+    let both = both_true (nat_lt number (length catalog.tables)) (is_none (fault_in (slice_get catalog.tables number) row)) h in
+    valid_from_no_fault table.columns row (no_fault (row_fault table.columns row) (subst (λ found. is_none (fault_in found row) ≡ true) there both.1))
+
+value_there : (found : Option Column) (value : Datum) → IfSome found (λ column. Fits column value) → takes_no_null found ≡ true → is_null value ≡ false
+value_there None value fit h = absurd cc
+value_there (Some column) Missing fit h = absurd (let nullable : column.not_null ≡ false = fit in cc)
+value_there (Some column) (Known constant) fit h = refl
+
+no_null_in : (columns : List Column) (row : List Datum) → IsValid columns row → (numbers : List ℕ) → take_no_null columns numbers ≡ true → list_any is_null (values_at numbers row) ≡ false
+no_null_in columns row valid [] h = refl
+no_null_in columns row valid (number ∷ numbers) h =
+    let both = both_true (takes_no_null (slice_get columns number)) (take_no_null columns numbers) h in
+    let here : is_null (value_at row number) ≡ false = value_there (slice_get columns number) (value_at row number) (valid.fits number) both.0 in
+    let later : list_any is_null (values_at numbers row) ≡ false = no_null_in columns row valid numbers both.1 in
+    rw (here, later) refl
+
+whole_value : (values : List Datum) → list_any is_null values ≡ false → unless_null values ≡ Some values
+whole_value values h = rw h refl
+
+-- ---- identities tell rows apart
+
+-- what is known of tables and of what a command without a fault leaves of them
+record Leaves (catalog : CatalogOf Expr) (plan : PlanOf) (tables : Tables) (command : Command) : Type 0 where
+  accepted : fault_of (setting_of catalog plan) tables command ≡ None
+  before : Stands (setting_of catalog plan).keys tables
+  apart : Apart (setting_of catalog plan) tables
+
+-- two rows that are there after the command
+record BothHeld (catalog : CatalogOf Expr) (plan : PlanOf) (tables : Tables) (command : Command) (number : ℕ) (one other : List Datum) : Type 0 where
+  first : holds (setting_of catalog plan).keys (applied (setting_of catalog plan) tables command) number one ≡ true
+  second : holds (setting_of catalog plan).keys (applied (setting_of catalog plan) tables command) number other ≡ true
+  same : (setting_of catalog plan).identity number one ≡ (setting_of catalog plan).identity number other
+
+-- a row with a null in columns that take none was there before the command
+was_there : (catalog : CatalogOf Expr) (plan : PlanOf) (tables : Tables) (command : Command) → Leaves catalog plan tables command
+    → (number : ℕ) (table : Table) → slice_get catalog.tables number ≡ Some table → (columns : List ℕ) → take_no_null table.columns columns ≡ true → (row : List Datum)
+    → holds (setting_of catalog plan).keys (applied (setting_of catalog plan) tables command) number row ≡ true → list_any is_null (values_at columns row) ≡ true
+    → holds (setting_of catalog plan).keys tables number row ≡ true
+was_there catalog plan tables command leaves number table there columns none row held null =
+    is_new_or_old (setting_of catalog plan) (has_primary_keys catalog plan) tables command leaves.accepted leaves.before number row held
+    (λ fit. absurd (let whole = no_null_in table.columns row (valid_of_fits catalog plan number table row there fit) columns none in cc))
+    (λ old. old)
+
+apart_by_index : (catalog : CatalogOf Expr) (plan : PlanOf) (tables : Tables) (command : Command) → Leaves catalog plan tables command
+    → (number : ℕ) (table : Table) → slice_get catalog.tables number ≡ Some table → (one other : List Datum) → BothHeld catalog plan tables command number one other
+    → (place : ℕ) (index : UniqueIndex) → slice_get table.indexes place ≡ Some index → take_no_null table.columns index.columns ≡ true
+    → values_at index.columns one ≡ values_at index.columns other → one ≡ other
+apart_by_index catalog plan tables command leaves number table there one other both place index at none same =
+    by_test (list_any is_null (values_at index.columns one))
+    (λ null. leaves.apart number one other
+    (was_there catalog plan tables command leaves number table there index.columns none one both.first null)
+    (was_there catalog plan tables command leaves number table there index.columns none other both.second (subst (λ values. list_any is_null values ≡ true) same null))
+    both.same)
+    (λ whole.
+    let keys = (has_table catalog plan number table there).indexed place index at in
+    let value = whole_value (values_at index.columns one) whole in
+    one_row (setting_of catalog plan).keys (applied (setting_of catalog plan) tables command)
+    (keeps_keyed (setting_of catalog plan) tables command leaves.accepted leaves.before)
+    number (place + 1) one other (values_at index.columns one) both.first both.second
+    (keys one ∙ value) (keys other ∙ ap unless_null (sym same) ∙ value))
+
+apart_by_key : (catalog : CatalogOf Expr) (plan : PlanOf) (tables : Tables) (command : Command) → Leaves catalog plan tables command
+    → (number : ℕ) (table : Table) → slice_get catalog.tables number ≡ Some table → (one other : List Datum) → BothHeld catalog plan tables command number one other
+    → values_at table.key one ≡ values_at table.key other → one ≡ other
+apart_by_key catalog plan tables command leaves number table there one other both same =
+    let keys = (has_table catalog plan number table there).primary in
+    one_row (setting_of catalog plan).keys (applied (setting_of catalog plan) tables command)
+    (keeps_keyed (setting_of catalog plan) tables command leaves.accepted leaves.before)
+    number 0 one other (values_at table.key one) both.first both.second (keys one) (keys other ∙ ap Some (sym same))
+
+-- by an index that was looked for
+by_found : {P : Type 0} (table : Table) (one other : List Datum) (found : Option UniqueIndex) → index_tells table.columns found ≡ true
+    → values_at (index_columns found) one ≡ values_at (index_columns found) other
+    → ((index : UniqueIndex) → found ≡ Some index → take_no_null table.columns index.columns ≡ true → values_at index.columns one ≡ values_at index.columns other → P) → P
+by_found table one other None tells same next = absurd cc
+by_found table one other (Some index) tells same next = next index refl tells same
+
+-- the values of the columns of an identity
+by_columns : (identity : Identity) (table : Table) (one other : List Datum) → table.identity ≡ identity → values_at (identity_columns table) one ≡ values_at (identity_columns table) other
+    → values_at (columns_by identity table) one ≡ values_at (columns_by identity table) other
+by_columns identity table one other is h = subst (λ i. values_at (columns_by i table) one ≡ values_at (columns_by i table) other) is h
+
+apart_by : (catalog : CatalogOf Expr) (plan : PlanOf) (tables : Tables) (command : Command) → Leaves catalog plan tables command
+    → (number : ℕ) (table : Table) → slice_get catalog.tables number ≡ Some table → (one other : List Datum) → BothHeld catalog plan tables command number one other
+    → (identity : Identity) → table.identity ≡ identity → identity_tells identity table ≡ true
+    → identity_by (recorded_as identity) table one ≡ identity_by (recorded_as identity) table other → one ≡ other
+apart_by catalog plan tables command leaves number table there one other both Default is tells same =
+    apart_by_key catalog plan tables command leaves number table there one other both (by_columns Default table one other is same)
+apart_by catalog plan tables command leaves number table there one other both (Index place) is tells same =
+    by_found table one other (slice_get table.indexes place) tells (by_columns (Index place) table one other is same)
+    (λ index at none values. apart_by_index catalog plan tables command leaves number table there one other both place index at none values)
+apart_by catalog plan tables command leaves number table there one other both Full is tells same = same
+apart_by catalog plan tables command leaves number table there one other both Nothing is tells same = absurd cc
+
+apart_in : (catalog : CatalogOf Expr) (plan : PlanOf) (tables : Tables) (command : Command) → Leaves catalog plan tables command
+    → (number : ℕ) (one other : List Datum) → BothHeld catalog plan tables command number one other
+    → (found : Option Table) → slice_get catalog.tables number ≡ found → IfSome found (λ table. tells_rows_apart table ≡ true)
+    → identity_in found one ≡ identity_in found other → one ≡ other
+apart_in catalog plan tables command leaves number one other both None there tells same = same
+apart_in catalog plan tables command leaves number one other both (Some table) there tells same =
+    apart_by catalog plan tables command leaves number table there one other both table.identity refl tells same
+
+pub keeps_apart : (catalog : CatalogOf Expr) (plan : PlanOf) → IsSound catalog → KeepsApart (setting_of catalog plan)
+keeps_apart catalog plan sound = record {
+  kept = λ tables command accepted before apart number one other h k e.
+      apart_in catalog plan tables command (record { accepted = accepted; before = before; apart = apart }) number one other
+      (record { first = h; second = k; same = e }) (slice_get catalog.tables number) refl (sound.identified number) e;
+}
+
+-- ---- one subscriber
 
 is_there : (tables : List Table) (number : ℕ) → number < length tables → slice_get tables number ≡ None → ⊥
 is_there [] number h e = absurd (omega arith)

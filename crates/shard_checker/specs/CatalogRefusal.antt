@@ -1,14 +1,12 @@
--- Why a sharding is refused, of several reasons the first: a publication that is taken and doesn't publish an operation, a table that records no old row, a publication that is taken and carries a table that isn't there or has a filter that names a column outside the replica identity, too few or too many certificates, and then the certificates, table by table. PostgreSQL 15, "Logical Replication", 31.1 Publication.
+-- Why a sharding is refused, of several reasons the first: a publication that is taken and doesn't publish an operation, a table whose replica identity doesn't tell its rows apart, a publication that is taken and carries a table that isn't there or has a filter that names a column outside the replica identity, too few or too many certificates, and then the certificates, table by table. PostgreSQL 15, "Logical Replication", 31.1 Publication.
 use Rattle.std.specs.Prelude.{ℕ, ◌+◌, ◌==◌, if◌then◌else◌, List, [], ◌∷◌, length, Option, Some, None, slice_get}
 use Rattle.filter_tree.specs.Expr.{Expr}
 use Rattle.filter_tree.specs.Lists.{distinct_columns}
-use Rattle.filter_tree.specs.declared.table.Identity.{Identity}
-use Rattle.filter_tree.specs.declared.table.Identity.TheVariants.{Default, Full, Nothing}
 use Rattle.filter_tree.specs.declared.table.Table.{Table}
 use Rattle.pub_reader.specs.Catalogs.{CatalogOf, PublicationOf, EntryOf}
 use Rattle.pub_reader.specs.declared.catalog.Operations.{Operations}
 use Rattle.pub_reader.specs.declared.catalog.Subscription.{Subscription}
-use Rattle.replica_identity.specs.Identities.{is_covered}
+use Rattle.replica_identity.specs.Identities.{is_covered, tells_rows_apart}
 use Rattle.replica_identity.specs.Plans.{PlanOf, share_at}
 use Rattle.replica_identity.specs.Shares.{ShareOf}
 use Rattle.split_cert.specs.Tree.{Tree}
@@ -44,15 +42,13 @@ publishing_refusal subscriptions number (publication ∷ publications) =
 
 -- ---- what is recorded of old rows
 
-abbrev pub table_refusal : ℕ → Identity → Option CheckError
-table_refusal number Nothing = Some (NoIdentity number)
-table_refusal number Default = None
-table_refusal number Full = None
+abbrev pub table_refusal : ℕ → Table → Option CheckError
+table_refusal number table = if tells_rows_apart table then None else Some (NoIdentity number)
 
 -- of the tables that begin at this number
 abbrev pub identity_refusal : ℕ → List Table → Option CheckError
 identity_refusal number [] = None
-identity_refusal number (table ∷ tables) = first_of (table_refusal number table.identity) (identity_refusal (number + 1) tables)
+identity_refusal number (table ∷ tables) = first_of (table_refusal number table) (identity_refusal (number + 1) tables)
 
 -- ---- which tables are carried, and which columns filters name
 

@@ -2,11 +2,10 @@
 use Rattle.std.specs.Prelude.{◌≡◌, ◌≢◌, ℕ, Bool, true, false, List, length, Contains, Some, None, slice_get}
 use Rattle.filter_tree.specs.Expr.{Expr}
 use Rattle.filter_tree.specs.Lists.{distinct_columns}
-use Rattle.filter_tree.specs.declared.table.Identity.TheVariants.{Nothing}
 use Rattle.filter_tree.specs.declared.table.Table.{Table}
 use Rattle.pub_reader.specs.Catalogs.{CatalogOf, PublicationOf, EntryOf}
 use Rattle.pub_reader.specs.declared.catalog.Operations.{Operations}
-use Rattle.replica_identity.specs.Identities.{is_covered}
+use Rattle.replica_identity.specs.Identities.{is_covered, tells_rows_apart}
 use Rattle.replica_identity.specs.Plans.{PlanOf}
 use Rattle.split_cert.specs.Tree.{Tree}
 use Rattle.shard_checker.specs.CatalogRefusal.{table_shares}
@@ -30,11 +29,11 @@ pub record DoesNotPublish (catalog : CatalogOf Expr) (number : ℕ) (operation :
   pub taken : is_taken catalog.subscriptions number ≡ true
   pub missing : has_operation publication.publishes operation ≡ false
 
--- the replica identity of the table of this number is NOTHING
-pub record RecordsNothing (catalog : CatalogOf Expr) (number : ℕ) : Type 0 where
+-- the replica identity of the table of this number doesn't tell its rows apart
+pub record TellsNoRows (catalog : CatalogOf Expr) (number : ℕ) : Type 0 where
   pub table : Table
   pub there : slice_get catalog.tables number ≡ Some table
-  pub nothing : table.identity ≡ Nothing
+  pub untold : tells_rows_apart table ≡ false
 
 -- the publication of this number is taken, and carries a table of a number that no table has
 pub record CarriesUnknown (catalog : CatalogOf Expr) (number table : ℕ) : Type 0 where
@@ -76,7 +75,7 @@ pub record HasWrongCertificate (catalog : CatalogOf Expr) (plan : PlanOf) (trees
 -- what the error says of what it names is so
 abbrev pub ShardingIsWrong : CatalogOf Expr → PlanOf → List Tree → CheckError → Type 0
 ShardingIsWrong catalog plan trees (PublishMissing publication operation) = DoesNotPublish catalog publication operation
-ShardingIsWrong catalog plan trees (NoIdentity table) = RecordsNothing catalog table
+ShardingIsWrong catalog plan trees (NoIdentity table) = TellsNoRows catalog table
 ShardingIsWrong catalog plan trees (UnknownTable publication table) = CarriesUnknown catalog publication table
 ShardingIsWrong catalog plan trees (NotCovered publication table column) = HasUncovered catalog publication table column
 ShardingIsWrong catalog plan trees CertCount = length trees ≢ length catalog.tables

@@ -1,15 +1,14 @@
 -- When the sharding of a catalog is sound: each row that may stand in its table passes to exactly one subscriber, and what is taken publishes the operations and names the columns by which rows move between subscribers. PostgreSQL 15, "Logical Replication", 31.1 Publication and 31.3 Row Filters.
-use Rattle.std.specs.Prelude.{◌≡◌, ◌≢◌, ℕ, ◌==◌, Bool, true, false, List, Option, Some, None, IfSome, slice_get}
+use Rattle.std.specs.Prelude.{◌≡◌, ℕ, ◌==◌, Bool, true, false, List, Option, Some, None, IfSome, slice_get}
 use Rattle.std.specs.List.{list_any, list_all}
 use Rattle.filter_tree.specs.Datum.{Datum}
 use Rattle.filter_tree.specs.Expr.{Expr}
 use Rattle.filter_tree.specs.Lists.{distinct_columns}
-use Rattle.filter_tree.specs.declared.table.Identity.TheVariants.{Nothing}
 use Rattle.filter_tree.specs.declared.table.Table.{Table}
 use Rattle.pub_reader.specs.Catalogs.{CatalogOf, EntryOf}
 use Rattle.pub_reader.specs.declared.catalog.Operations.{Operations}
 use Rattle.pub_reader.specs.declared.catalog.Subscription.{Subscription}
-use Rattle.replica_identity.specs.Identities.{is_covered}
+use Rattle.replica_identity.specs.Identities.{is_covered, tells_rows_apart}
 use Rattle.replica_identity.specs.Passes.{passes}
 use Rattle.shard_checker.specs.Rows.{IsTyped}
 
@@ -49,5 +48,5 @@ pub record IsSound (catalog : CatalogOf Expr) : Type 0 where
   pub publishes : (number : ℕ) → is_taken catalog.subscriptions number ≡ true → IfSome (slice_get catalog.publications number) (λ publication. PublishesChanges publication.publishes)
   -- and carries only tables that are there, by filters that name only columns of their replica identities
   pub covered : (number : ℕ) → is_taken catalog.subscriptions number ≡ true → IfSome (slice_get catalog.publications number) (λ publication. list_all (entry_is_covered catalog.tables) publication.entries ≡ true)
-  -- no table's replica identity is NOTHING
-  pub identified : (number : ℕ) → IfSome (slice_get catalog.tables number) (λ table. table.identity ≢ Nothing)
+  -- each table's replica identity tells its rows apart
+  pub identified : (number : ℕ) → IfSome (slice_get catalog.tables number) (λ table. tells_rows_apart table ≡ true)

@@ -9,28 +9,29 @@ ghost use Rattle.shard_checker.specs.Checks.{Checks, Finds};
 
 use crate::error::CheckError;
 use crate::publishing::is_taken;
-use filter_tree::{Filter, Identity, Table, columns_of};
+use filter_tree::{Filter, Table, columns_of};
 use pub_reader::{Entry, Publication, Subscription};
-use replica_identity::covered;
+use replica_identity::{covered, tells_rows_apart};
 use std::alloc::Global;
 
-fn check_identity(number: usize, identity: Identity) -> Result<(), CheckError>
-    ensures exact { Finds (spec.table_refusal number identity) result }
+fn check_identity(number: usize, table: &Table) -> Result<(), CheckError>
+    ensures exact { Finds (spec.table_refusal number table.now) result }
     ensures told { IfErr result (λ error. error ≢ CheckError.OutOfMemory) }
 {
-    match identity {
-        Identity::Nothing => Err(CheckError::NoIdentity { table: number }),
-        Identity::Default | Identity::Full => Ok(()),
+    if tells_rows_apart(table) {
+        Ok(())
+    } else {
+        Err(CheckError::NoIdentity { table: number })
     }
 }
 
-/// Checks that no table's replica identity is NOTHING.
+/// Checks that each table's replica identity tells its rows apart.
 pub fn check_identities(tables: &[Table]) -> Result<(), CheckError>
     ensures exact { Finds (spec.identity_refusal 0 tables.now) result }
     ensures told { IfErr result (λ error. error ≢ CheckError.OutOfMemory) }
 {
     for (number, table) in tables.iter().enumerate() {
-        check_identity(number, table.identity)?;
+        check_identity(number, table)?;
     }
     Ok(())
 }

@@ -27,8 +27,9 @@ pub enum CheckError {
         publication: usize,
         operation: Operation,
     },
-    /// The table's replica identity is NOTHING.
-    #[error("table {table} has the replica identity NOTHING")]
+    /// The table's replica identity doesn't tell its rows apart: it is NOTHING, or a unique index that the table doesn't
+    /// have or that has a column which may be null. No catalog that `read_catalog` gives has such an index.
+    #[error("the replica identity of table {table} does not tell its rows apart")]
     NoIdentity {
         table: usize,
     },

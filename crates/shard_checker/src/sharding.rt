@@ -127,19 +127,20 @@ fn check_sharding<A: Allocator>(
 /// Checks that the sharding of the catalog is sound: that each row that may stand in its table, with texts of any length,
 /// passes to exactly one subscriber, as the certificates of the tables, in their order, say it does; that each publication
 /// that a subscription takes publishes insert, update, delete and truncate, and carries only tables that are there, by
-/// filters that name only columns of their replica identities; and that no replica identity is NOTHING. The plan is the
-/// catalog's own.
+/// filters that name only columns of their replica identities; and that each table's replica identity tells its rows
+/// apart, as NOTHING doesn't, nor an index that isn't there or has a column which may be null. The plan is the catalog's
+/// own.
 ///
 /// In the setting of a catalog that is accepted and its plan a row's replica identity tells to whom the row passes
 /// (`covered`), commands that are accepted leave no two rows of a table with one identity (`apart`), and each row that
 /// fits its table passes to exactly one subscriber (`divided`). A `Checked` keeps that.
 ///
 /// The error is the first of these: an operation that a publication which is taken doesn't publish, by publications; a
-/// table whose replica identity is NOTHING; a table that isn't there, or a column that a filter names and the replica
-/// identity lacks, by publications that are taken, their entries, and columns in the order of first appearance; another
-/// number of certificates than of tables; and then that of the first certificate, as `check_one` has it, with the table's number. `OutOfMemory` may stand
-/// in place of these, but of none of the first two sorts (`memory`). What an error says of what it names is so (`wrong`).
-/// With an error the catalog and the plan are dropped.
+/// table whose replica identity doesn't tell its rows apart; a table that isn't there, or a column that a filter names and
+/// the replica identity lacks, by publications that are taken, their entries, and columns in the order of first
+/// appearance; another number of certificates than of tables; and then that of the first certificate, as `check_one` has
+/// it, with the table's number. `OutOfMemory` may stand in place of these, but of none of the first two sorts (`memory`).
+/// What an error says of what it names is so (`wrong`). With an error the catalog and the plan are dropped.
 ///
 /// PostgreSQL 15, "Logical Replication", 31.3 Row Filters.
 #[tactic(auto, using(crate::proofs::StandingLemmas::standing, crate::proofs::ReasonLemmas::sharding_wrong))]

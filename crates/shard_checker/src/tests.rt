@@ -3,7 +3,9 @@ mod limits;
 mod terms;
 
 use crate::{CheckError, check_one};
-use filter_tree::{Atom, ColType, Column, Filter, Identity, Items, Literal, Op, Table, Term, Text};
+use filter_tree::{
+    Atom, ColType, Column, Filter, Identity, Items, Literal, Op, Table, Term, Text, UniqueIndex,
+};
 use replica_identity::Share;
 use split_cert::Cert;
 use std::alloc::{AllocError, Global};
@@ -17,7 +19,16 @@ fn column(alloc: Global, name: &str, kind: ColType, not_null: bool) -> Result<Co
     })
 }
 
-/// `CREATE TABLE t (id integer, region text, PRIMARY KEY (id))`, with this replica identity.
+/// An index of one column.
+fn index(alloc: Global, column: usize) -> Result<UniqueIndex, AllocError> {
+    Ok(UniqueIndex {
+        name: Text::from_str(alloc, "i")?,
+        columns: Items::from_vec(vec![in alloc; column]?),
+    })
+}
+
+/// `CREATE TABLE t (id integer, region text, PRIMARY KEY (id))` with an index of id and one of region, and with this
+/// replica identity.
 fn table(alloc: Global, identity: Identity) -> Result<Table, AllocError> {
     let id = column(alloc, "id", ColType::Integer, true)?;
     let region = column(alloc, "region", ColType::Text, false)?;
@@ -26,6 +37,7 @@ fn table(alloc: Global, identity: Identity) -> Result<Table, AllocError> {
         name: Text::from_str(alloc, "t")?,
         columns: Items::from_vec(vec![in alloc; id, region]?),
         key: Items::from_vec(vec![in alloc; 0]?),
+        indexes: Items::from_vec(vec![in alloc; index(alloc, 0)?, index(alloc, 1)?]?),
         identity,
     })
 }

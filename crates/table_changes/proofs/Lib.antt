@@ -1,1 +1,4 @@
 pub mod ChangeLemmas
+pub mod GrowingLemmas
+pub mod ShowingLemmas
+pub mod TableLemmas

@@ -1,5 +1,12 @@
 pub mod Changes
 pub mod Columns
+pub mod Commands
+pub mod Growing
+pub mod Keys
+pub mod Outs
+pub mod Records
+pub mod Seen
 pub mod Setting
+pub mod Showing
 pub mod Standing
 pub mod Tables

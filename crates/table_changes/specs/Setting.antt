@@ -1,7 +1,8 @@
--- What changes of tables depend on, told apart from the catalog that says it: which tables there are, which rows fit them, a row's primary key, what of it the replica identity records, and to whom it passes: PostgreSQL 15, "Logical Replication", 31.1 Publication and 31.3 Row Filters.
+-- What changes of tables depend on, told apart from the catalog that says it: which tables there are, which rows fit them, their unique keys, what the replica identity records of a row, to whom it passes, and who takes anything of a table: PostgreSQL 15, "Logical Replication", 31.1 Publication and 31.3 Row Filters.
 use Rattle.std.specs.Prelude.{ℕ, Bool, ◌&&◌, List, is_none, Option}
 use Rattle.filter_tree.specs.Datum.{Datum}
 use Rattle.filter_tree.specs.declared.validity.RowFault.{RowFault}
+use Rattle.table_changes.specs.Keys.{Keys}
 
 -- what is recorded of an old row: the values of some columns, the whole row, or nothing
 pub data Recorded : Type 0 where
@@ -15,8 +16,7 @@ pub record Setting : Type 0 where
   pub known : ℕ → Bool
   -- what first keeps the row from standing in it
   pub fault : ℕ → List Datum → Option RowFault
-  -- the row's primary key
-  pub key : ℕ → List Datum → List Datum
+  pub keys : Keys
   pub recorded : ℕ → Recorded
   -- the values that identify an old row
   pub identity : ℕ → List Datum → List Datum
@@ -24,6 +24,8 @@ pub record Setting : Type 0 where
   pub blanked : ℕ → List Datum → List Datum
   -- the row passes to the subscriber: subscriber, table, row
   pub passes : ℕ → ℕ → List Datum → Bool
+  -- the subscriber takes anything of the table: subscriber, table
+  pub carries : ℕ → ℕ → Bool
 
 -- the table is there, and the row may stand in it
 abbrev pub fits : Setting → ℕ → List Datum → Bool

@@ -1,8 +1,18 @@
--- What laws about changes of tables ask of a setting, and nothing else: that a row's identity tells to whom it passes, that identities tell rows apart, and that each row that fits passes to exactly one subscriber: PostgreSQL 15, "Logical Replication", 31.1 Publication and 31.3 Row Filters.
+-- What laws about changes of tables ask of a setting, beside that each row has a primary key: that a row's identity tells to whom it passes, that identities tell rows apart, and that each row that fits passes to exactly one subscriber: PostgreSQL 15, "Logical Replication", 31.1 Publication and 31.3 Row Filters.
 use Rattle.std.specs.Prelude.{◌≡◌, ◌≢◌, ℕ, true, List, None}
 use Rattle.filter_tree.specs.Datum.{Datum}
+use Rattle.table_changes.specs.Commands.{Command, fault_of, applied}
 use Rattle.table_changes.specs.Setting.{Setting, Nowhere, fits}
-use Rattle.table_changes.specs.Tables.{Tables, Command, fault_of, applied, Keyed, Apart}
+use Rattle.table_changes.specs.Tables.{Tables, holds, Stands}
+
+-- no two rows of a table have one identity
+abbrev pub Apart : Setting → Tables → Type 0
+Apart setting tables = (table : ℕ) (one other : List Datum) → holds setting.keys tables table one ≡ true → holds setting.keys tables table other ≡ true
+    → setting.identity table one ≡ setting.identity table other → one ≡ other
+
+-- each row fits its table
+abbrev pub AllFit : Setting → Tables → Type 0
+AllFit setting tables = (table : ℕ) (row : List Datum) → holds setting.keys tables table row ≡ true → fits setting table row ≡ true
 
 -- What is recorded of an old row tells to whom it passed.
 pub record Covered (setting : Setting) : Type 0 where
@@ -13,10 +23,12 @@ pub record Covered (setting : Setting) : Type 0 where
   pub blanked : (table : ℕ) (row : List Datum) → setting.identity table (setting.blanked table row) ≡ setting.identity table row
   -- of each table something is recorded
   pub recorded : (table : ℕ) → setting.recorded table ≢ Nowhere
+  -- to whom a row passes takes something of its table
+  pub carried : (subscriber table : ℕ) (row : List Datum) → setting.passes subscriber table row ≡ true → setting.carries subscriber table ≡ true
 
 -- A command without a fault leaves no two rows of a table with one identity where there were none.
 pub record KeepsApart (setting : Setting) : Type 0 where
-  pub kept : (tables : Tables) (command : Command) → fault_of setting tables command ≡ None → Keyed setting.key tables → Apart setting tables
+  pub kept : (tables : Tables) (command : Command) → fault_of setting tables command ≡ None → Stands setting.keys tables → Apart setting tables
       → Apart setting (applied setting tables command)
 
 -- exactly one subscriber has the row

@@ -1,16 +1,57 @@
 //! Laws of what commands do to tables.
 
 ghost use Rattle.table_changes.specs.Setting.{Setting};
-ghost use Rattle.table_changes.specs.Changes.{RowsStand, RowsStayKeyed, RowsStayApart, BeginsWell};
+ghost use Rattle.table_changes.specs.Changes.{RowComes, RowGoes, TablesAreEmptied, OthersStay, OneRowForKey};
+ghost use Rattle.table_changes.specs.Changes.{RowsStand, RowsStayKeyed, RowsStayFit, RowsStayApart, BeginsWell};
+ghost use Rattle.table_changes.specs.Growing.{SameAreAlike, FaultOfOneMore, FirstFaultStays, LeftByOneMore, RecordOfOneMore};
+ghost use Rattle.table_changes.specs.Showing.{RecordShows, RecordShowsAll};
+
+/// A law, and no code, of tables in which a row is found by each of its unique keys, and has a primary key. A row that
+/// comes where no row has its value in a unique key (`comes`), a row that goes (`goes`) and tables that are emptied
+/// (`empties`) change no other row, and rows stay where each of their unique keys finds them (`stay`). Rows of a table that
+/// share a value in a unique key are one row (`one`).
+#[tactic(auto, using(crate::proofs::TableLemmas::holds_with, crate::proofs::TableLemmas::row_goes, crate::proofs::TableLemmas::holds_emptied, crate::proofs::TableLemmas::others_stay, crate::proofs::TableLemmas::one_row))]
+pub fn rows_come_and_go()
+    ensures comes { RowComes }
+    ensures goes { RowGoes }
+    ensures empties { TablesAreEmptied }
+    ensures stay { OthersStay }
+    ensures one { OneRowForKey }
+{}
 
 /// A law, and no code, of commands on tables. A command without a fault leaves exactly the rows that it adds and those
-/// that it doesn't take out (`stand`). Commands, each on what the earlier ones leave, keep each row in the place of its
-/// key (`keyed`) and, where they have no fault, the rows of a table apart by their identity (`apart`), as rows are in
-/// tables without any (`begin`).
-#[tactic(auto, using(crate::proofs::ChangeLemmas::rows_stand, crate::proofs::ChangeLemmas::stay_keyed, crate::proofs::ChangeLemmas::stay_apart, crate::proofs::ChangeLemmas::begins_well))]
+/// that it doesn't take out (`stand`). Commands without a fault, each on what the earlier ones leave, keep each row where
+/// each of its unique keys has it (`keyed`), rows that fit their tables (`fit`), and the rows of a table apart by their
+/// identity (`apart`), as rows are in tables without any (`begin`).
+#[tactic(auto, using(crate::proofs::ChangeLemmas::rows_stand, crate::proofs::ChangeLemmas::stay_keyed, crate::proofs::ChangeLemmas::stay_fit, crate::proofs::ChangeLemmas::stay_apart, crate::proofs::ChangeLemmas::begins_well))]
 pub fn commands_change_rows()
     ensures stand { RowsStand }
     ensures keyed { RowsStayKeyed }
+    ensures fit { RowsStayFit }
     ensures apart { RowsStayApart }
     ensures begin { (setting : Setting) → BeginsWell setting }
+{}
+
+/// A law, and no code, of lists of commands. On tables with the same row in each place commands have the same faults, and
+/// leave, record and show the same (`alike`). After commands without a fault the first fault is that of one more command
+/// (`fault`), and after a fault it stays the first (`first`). One more command acts on what the others leave (`left`), and
+/// its change is recorded after theirs (`recorded`).
+#[tactic(auto, using(crate::proofs::GrowingLemmas::are_alike, crate::proofs::GrowingLemmas::fault_of_one_more, crate::proofs::GrowingLemmas::first_fault_stays, crate::proofs::GrowingLemmas::left_by_one_more, crate::proofs::GrowingLemmas::record_of_one_more))]
+pub fn commands_come_one_by_one()
+    ensures alike { SameAreAlike }
+    ensures fault { FaultOfOneMore }
+    ensures first { FirstFaultStays }
+    ensures left { LeftByOneMore }
+    ensures recorded { RecordOfOneMore }
+{}
+
+/// A law, and no code, of what is recorded of commands without a fault, where a row's identity tells to whom it passes. A
+/// subscriber gets of each recorded change what it sees of the command in its place, and nothing where it sees nothing
+/// (`each`); so it gets of the whole record what it sees of the commands (`all`).
+///
+/// PostgreSQL 15, "Logical Replication", 31.3.3 UPDATE Transformations.
+#[tactic(auto, using(crate::proofs::ShowingLemmas::record_shows, crate::proofs::ShowingLemmas::record_shows_all))]
+pub fn records_show_what_is_seen()
+    ensures each { RecordShows }
+    ensures all { RecordShowsAll }
 {}

@@ -7,4 +7,6 @@ mod laws;
 mod tests;
 
 pub use key::key_of;
-pub use laws::commands_change_rows;
+pub use laws::{
+    commands_change_rows, commands_come_one_by_one, records_show_what_is_seen, rows_come_and_go,
+};

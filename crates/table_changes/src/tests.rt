@@ -18,6 +18,7 @@ fn table(alloc: Global, columns: usize, key: &[usize]) -> Result<Table, AllocErr
         name: Text::from_str(alloc, "t")?,
         columns: Items::from_vec(made),
         key: Items::from_vec(Vec::from_slice(alloc, key)?),
+        indexes: Items::from_vec(Vec::new(alloc)),
         identity: Identity::Default,
     })
 }

@@ -26,6 +26,7 @@ fn table_of_all_types(alloc: Global) -> Result<Table, AllocError> {
         name: Text::from_str(alloc, "kinds")?,
         columns: Items::from_vec(columns),
         key: Items::from_vec(vec![in alloc; 0]?),
+        indexes: Items::from_vec(Vec::new(alloc)),
         identity: Identity::Default,
     })
 }

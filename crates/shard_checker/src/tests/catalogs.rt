@@ -186,6 +186,16 @@ fn filters_name_identity_columns(rt: HostRuntime) -> Result<(), Fail> {
                 column: 1,
             },
         ),
+        (
+            Identity::Index(0),
+            CheckError::NotCovered {
+                publication: 0,
+                table: 0,
+                column: 1,
+            },
+        ),
+        (Identity::Index(1), CheckError::NoIdentity { table: 0 }),
+        (Identity::Index(2), CheckError::NoIdentity { table: 0 }),
         (Identity::Full, CheckError::CertCount),
     ];
     for (identity, expected) in cases {

@@ -22,6 +22,7 @@ fn wide_table(alloc: Global, number: usize, identity: Identity) -> Result<Table,
         name: Text::from_str(alloc, name.as_str())?,
         columns: Items::from_vec(columns),
         key: Items::from_vec(vec![in alloc; 0]?),
+        indexes: Items::from_vec(Vec::new(alloc)),
         identity,
     })
 }

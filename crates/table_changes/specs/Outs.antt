@@ -1,0 +1,68 @@
+-- What a subscriber gets of a recorded change, where the old row is known by its part alone: PostgreSQL 15, "Logical Replication", 31.3.1 Row Filter Rules and 31.3.3 UPDATE Transformations.
+use Rattle.std.specs.Prelude.{ℕ, Bool, true, false, List, filter, Option, Some, None, option_map, if◌then◌else◌}
+use Rattle.std.specs.List.{list_any}
+use Rattle.filter_tree.specs.Datum.{Datum}
+use Rattle.table_changes.specs.Records as r
+use Rattle.table_changes.specs.Seen as s
+use Rattle.table_changes.specs.Setting.{Setting}
+
+-- The table is that of the change; TRUNCATE names all tables of the change.
+pub data OutOf : Type 0 where
+  Insert : List Datum → OutOf
+  Update : Option r.PartOf → List Datum → OutOf
+  Delete : Option r.PartOf → OutOf
+  Truncate : List ℕ → OutOf
+
+-- the row of which it is asked whether the old row passed: the recorded part, and where nothing is recorded the new row
+abbrev pub asked : Option r.PartOf → List Datum → List Datum
+asked None new = new
+asked (Some (r.Key part)) new = part
+asked (Some (r.Full old)) new = old
+
+-- by whether the old row and the new one pass
+abbrev pub out_by : Bool → Bool → Option r.PartOf → List Datum → Option OutOf
+out_by false false part new = None
+out_by false true part new = Some (Insert new)
+out_by true false part new = Some (Delete part)
+out_by true true part new = Some (Update part new)
+
+-- of an old row that goes; where nothing is recorded of it, nobody is told
+abbrev pub out_gone : (List Datum → Bool) → Option r.PartOf → Option OutOf
+out_gone passes None = None
+out_gone passes (Some (r.Key part)) = if passes part then Some (Delete (Some (r.Key part))) else None
+out_gone passes (Some (r.Full old)) = if passes old then Some (Delete (Some (r.Full old))) else None
+
+-- What a subscriber gets of a change, if anything. `passes` tells which rows of a table pass to it, and `carries` of which tables it takes anything.
+abbrev pub transform_of : (ℕ → List Datum → Bool) → (ℕ → Bool) → r.ChangeOf → Option OutOf
+transform_of passes carries (r.Insert table new) = if passes table new then Some (Insert new) else None
+transform_of passes carries (r.Update table part new) = out_by (passes table (asked part new)) (passes table new) part new
+transform_of passes carries (r.Delete table part) = out_gone (passes table) part
+transform_of passes carries (r.Truncate numbers) = if list_any carries numbers then Some (Truncate numbers) else None
+
+-- ---- what it stands for
+
+-- the table of a change of rows
+abbrev pub table_of : r.ChangeOf → ℕ
+table_of (r.Insert table new) = table
+table_of (r.Update table part new) = table
+table_of (r.Delete table part) = table
+table_of (r.Truncate numbers) = 0
+
+-- as a change of this table, or of those tables that the subscriber takes anything of
+abbrev pub stands_for : ℕ → (ℕ → Bool) → OutOf → r.ChangeOf
+stands_for table carries (Insert new) = r.Insert table new
+stands_for table carries (Update part new) = r.Update table part new
+stands_for table carries (Delete part) = r.Delete table part
+stands_for table carries (Truncate numbers) = r.Truncate (filter carries numbers)
+
+-- what the subscriber of this number gets of a change, as a change
+abbrev pub got : Setting → ℕ → r.ChangeOf → Option r.ChangeOf
+got setting subscriber change =
+    option_map (stands_for (table_of change) (setting.carries subscriber)) (transform_of (setting.passes subscriber) (setting.carries subscriber) change)
+
+-- what is seen, as it is recorded
+abbrev pub as_recorded : Setting → s.Seen → r.ChangeOf
+as_recorded setting (s.Insert table new) = r.Insert table new
+as_recorded setting (s.Update table old new) = r.Update table (r.part_of setting table old (Some new)) new
+as_recorded setting (s.Delete table old) = r.Delete table (r.part_of setting table old None)
+as_recorded setting (s.Truncate numbers) = r.Truncate numbers
