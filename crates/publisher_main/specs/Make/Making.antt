@@ -26,14 +26,14 @@ use Rattle.publisher_main.specs.declared.failure.Status.TheVariants.{Done, Refus
 
 -- ---- what is found of a table
 
--- a certificate; a row and the subscribers to whom it passes; neither; or no certificate within the limits, and no row
+-- a certificate; a row and the subscribers that get it; neither; or no certificate within the limits, and no row
 pub data Finding : Type 0 where
   Certified : Tree → Finding
   Shown : List Datum → List ℕ → Finding
   Undecided : Finding
   PastLimits : Finding
 
--- The check accepts the certificate with the catalog's own plan; the row fits the table, passes to these subscribers, and they are not one. The others say nothing of the table.
+-- The check accepts the certificate with the catalog's own plan; the row fits the table and passes to exactly these subscribers, which are none or several. The others say nothing of the table.
 abbrev pub IsTrueOf : CatalogOf Expr → ℕ → Finding → Type 0
 IsTrueOf catalog number (Certified tree) = IsAccepted catalog (plan_of catalog) number tree
 IsTrueOf catalog number (Shown cells owners) = IsCounter catalog (plan_of catalog) number cells owners
