@@ -1,6 +1,6 @@
 """`check` on certificates of up to 1,000,000 nodes, for 32 ranges of a key.
 
-Such a certificate tells the ranges apart by halves, as `make` does. Behind 36 splits, where the first subscriber is found
+Such a certificate tells the ranges apart by halves, as `make` does. After 36 splits, where the first subscriber is found
 or no value is left, it splits by further bounds that tell nothing new and only make nodes: as many as are wanted, in a
 tree that is as flat as can be.
 """
@@ -41,27 +41,27 @@ def closed(atoms, tree):
     return tree
 
 
-def told_apart(first, behind, spot, found, missing):
+def told_apart(first, after, spot, found, missing):
     """A tree for the rows of the subscribers from the first on and before the other, which halves them.
 
-    One tree stands where the subscriber `spot` takes the rows, and one where no value is left between the first two."""
-    if behind - first == 1:
+    `found` is put where the subscriber `spot` takes the rows, and `missing` where no value is left between the first two."""
+    if after - first == 1:
         return found if first == spot else f"o {first}"
-    middle = (first + behind) // 2
-    below = closed(map(lower, range(middle, behind)), told_apart(first, middle, spot, found, missing))
-    above = closed(map(upper, range(first, middle - 1)), told_apart(middle, behind, spot, found, missing))
+    middle = (first + after) // 2
+    below = closed(map(lower, range(middle, after)), told_apart(first, middle, spot, found, missing))
+    above = closed(map(upper, range(first, middle - 1)), told_apart(middle, after, spot, found, missing))
     return split(upper(middle - 1), below, split(lower(middle), above, missing if middle == 1 else "e 0"))
 
 
 def bounds_on_path(spot):
     """The atoms by which that tree splits on the way to a subscriber."""
-    first, behind, atoms = 0, SUBSCRIBERS, set()
-    while behind - first > 1:
-        middle = (first + behind) // 2
+    first, after, atoms = 0, SUBSCRIBERS, set()
+    while after - first > 1:
+        middle = (first + after) // 2
         atoms.add(upper(middle - 1))
         if spot < middle:
-            atoms |= {lower(at) for at in range(middle, behind)}
-            behind = middle
+            atoms |= {lower(at) for at in range(middle, after)}
+            after = middle
         else:
             atoms |= {lower(middle), *(upper(at) for at in range(first, middle - 1))}
             first = middle
@@ -78,7 +78,7 @@ def filled(count, atoms, leaf):
 
 
 def tree_of(count, spot, leaf):
-    """The tree whose further nodes stand where a subscriber takes the rows, or for a leaf `e` where no value is left."""
+    """The tree whose further nodes are put where a subscriber takes the rows, or for a leaf `e` where no value is left."""
     further = sorted(set(range(2 * SUBSCRIBERS - 2)) - bounds_on_path(spot))
     tree = filled(count, further, leaf)
     return told_apart(0, SUBSCRIBERS, spot, f"o {spot}", tree) if leaf == "e 0" else told_apart(0, SUBSCRIBERS, spot, tree, "e 0")

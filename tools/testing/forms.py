@@ -222,6 +222,10 @@ REFUSED = [
     Refused("i::smallint = 5", "((i)::smallint = 5)", "LeftOut", "::smallint"),
     Refused("b::integer = 5", "((b)::integer = 5)", "LeftOut", "::integer"),
     Refused("s::integer::bigint = 5", "((s)::bigint = 5)", "LeftOut", "::bigint"),
+    # A cast after a remainder comes after the fault of its operands, and one in parentheses before it.
+    Refused("s % i::smallint = 1", "((s % (i)::smallint) = 1)", "TypeClash", "% (i)"),
+    Refused("b % b::integer = 1", "((b % ((b)::integer)::bigint) = 1)", "LeftOut", "::integer"),
+    Refused("b = 5 % 3", "(b = (5 % 3))", "TypeClash", "% 3"),
     Refused("(i % 3)::bigint = 1", "(((i % 3))::bigint = 1)", "LeftOut", "::bigint"),
     Refused("i = 5.0", "((i)::numeric = 5.0)", "LeftOut", "::numeric"),
     Refused("o::text = 'true'", "((o)::text = 'true'::text)", "LeftOut", "::text"),

@@ -5,11 +5,15 @@ import os
 import pathlib
 import pwd
 import shutil
+import signal
 import subprocess
+import sys
 import tempfile
 
 PROGRAMS = pathlib.Path("/usr/lib/postgresql/15/bin")
 USER = "postgres"
+# By these a program is asked to end.
+ENDINGS = (signal.SIGTERM, signal.SIGINT, signal.SIGHUP)
 
 
 def is_installed():
@@ -57,6 +61,22 @@ def environment():
     return others | {"PGCLIENTENCODING": "UTF8", "PYTHONUTF8": "1"}
 
 
+def stop_on_endings():
+    """From here on a signal that asks the program to end is an exit, so that the server is stopped first."""
+    for ending in ENDINGS:
+        signal.signal(ending, lambda number, _: sys.exit(128 + number))
+
+
+@contextlib.contextmanager
+def endings_held():
+    """Such a signal waits until the block is done."""
+    before = signal.pthread_sigmask(signal.SIG_BLOCK, ENDINGS)
+    try:
+        yield
+    finally:
+        signal.pthread_sigmask(signal.SIG_SETMASK, before)
+
+
 @contextlib.contextmanager
 def server():
     with tempfile.TemporaryDirectory(prefix="pgshard_tools_", dir="/tmp") as name:
@@ -65,10 +85,21 @@ def server():
             user = pwd.getpwnam(USER)
             os.chown(folder, user.pw_uid, user.pw_gid)
         data = folder / "data"
-        run_as_user(PROGRAMS / "initdb", "-D", data, "-U", USER, "-A", "trust", "-E", "UTF8", "--locale=C", "--no-sync")
-        options = f"-k {folder} -c listen_addresses='' -c wal_level=logical -c fsync=off"
-        run_as_user(PROGRAMS / "pg_ctl", "-D", data, "-o", options, "-l", folder / "log", "-w", "start")
         try:
+            with endings_held():
+                start(data, folder)
             yield Server(folder)
         finally:
-            run_as_user(PROGRAMS / "pg_ctl", "-D", data, "-m", "immediate", "-w", "stop")
+            with endings_held():
+                stop(data)
+
+
+def start(data, folder):
+    run_as_user(PROGRAMS / "initdb", "-D", data, "-U", USER, "-A", "trust", "-E", "UTF8", "--locale=C", "--no-sync")
+    options = f"-k {folder} -c listen_addresses='' -c wal_level=logical -c fsync=off"
+    run_as_user(PROGRAMS / "pg_ctl", "-D", data, "-o", options, "-l", folder / "log", "-w", "start")
+
+
+def stop(data):
+    if (data / "postmaster.pid").exists():
+        run_as_user(PROGRAMS / "pg_ctl", "-D", data, "-m", "immediate", "-w", "stop")

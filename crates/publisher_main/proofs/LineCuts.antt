@@ -29,9 +29,6 @@ after_line-other byte text e =
 
 -- ---- lines
 
-onto_line-lines : (byte : ℕ) (text : List ℕ) → lines_of text ≡ first_line text ∷ lines_of (after_line text) → onto_line byte (lines_of text) ≡ (byte ∷ first_line text) ∷ lines_of (after_line text)
-onto_line-lines byte text e = ap (onto_line byte) e
-
 lines_step : (byte : ℕ) (text : List ℕ) (test : Bool) → is_newline byte ≡ test → (test ≡ false → onto_line byte (lines_of text) ≡ (byte ∷ first_line text) ∷ lines_of (after_line text))
     → lines_of (byte ∷ text) ≡ first_line (byte ∷ text) ∷ lines_of (after_line (byte ∷ text))
 lines_step byte text true e later = rw (first_line-newline byte text e, after_line-newline byte text e, e) refl

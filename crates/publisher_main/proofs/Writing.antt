@@ -67,9 +67,6 @@ pub record IsToGo (text rest : List ℕ) (old new : Option (List ℕ)) : Type 0 
   pub is : text ≡ written ++ rest
   pub appends : Appends old new written
 
-pub to_go_at_start : (text rest : List ℕ) (known : Option (List ℕ)) → text ≡ rest → IsToGo text rest known known
-to_go_at_start text rest known e = record { written = []; is = e; appends = Appends-nil known }
-
 pub to_go_next : (text rest : List ℕ) (count : ℕ) (old new newer : Option (List ℕ)) → IsToGo text rest old new → Appends new newer (take count rest) → IsToGo text (take (length rest - count) (drop count rest)) old newer
 to_go_next text rest count old new newer now more = record {
   written = now.written ++ take count rest;
@@ -80,13 +77,6 @@ to_go_next text rest count old new newer now more = record {
 
 pub to_go_kept : (text rest : List ℕ) (old new newer : Option (List ℕ)) → IsToGo text rest old new → Keeps new newer → IsToGo text rest old newer
 to_go_kept text rest old new newer now keeps = record { written = now.written; is = now.is; appends = Appends-kept old new newer now.written now.appends keeps }
-
-pub all_gone : (text rest : List ℕ) (old new : Option (List ℕ)) → IsToGo text rest old new → rest ≡ [] → Appends old new text
-all_gone text rest old new now e =
-    subst (λ (t : List ℕ). Appends old new t) (sym (now.is ∙ ap (λ l. now.written ++ l) e ∙ append-nil now.written)) now.appends
-
-pub some_gone : (text rest : List ℕ) (old new : Option (List ℕ)) → IsToGo text rest old new → WritesFirst text old new
-some_gone text rest old new now = record { written = now.written; rest = rest; is = now.is; appends = now.appends }
 
 -- ---- answers
 
@@ -103,7 +93,3 @@ module _ (W V : List (List ℕ) → Status → Type 0) (B C : List (List ℕ) �
   }
   ends_as whole begun old new (Err (f.CommandLine why)) now = absurd now
   ends_as whole begun old new (Err (f.Input fault)) now = absurd now
-
-  -- memory runs out before the first line
-  pub ends_unwritten : C [] → (old new : Option (List ℕ)) → new ≡ old → Ends V C IsThere old new (Err f.OutOfMemory)
-  ends_unwritten begun old new e = record { lines = []; begun = begun; appends = unwritten old new e }

@@ -1,11 +1,11 @@
 -- Why the program ends without an answer, the lines that say so, and the exit statuses, in the program's own format.
-use Rattle.std.specs.Prelude.{ℕ, if◌then◌else◌, List, [], ◌∷◌, ◌++◌, codes}
+use Rattle.std.specs.Prelude.{ℕ, if◌then◌else◌, List, [], ◌∷◌, ◌++◌, is_none, codes}
 use Rattle.std.specs.String.{string_bytes}
 use Rattle.split_cert.specs.ErrorNames.{error_name}
 use Rattle.sql_reader.specs.KindNames.{kind_name}
+use Rattle.sql_reader.specs.Reading.{told}
 use Rattle.sql_reader.specs.declared.error.ReadError.{ReadError}
 use Rattle.publisher_main.specs.Eval.BadRows.{counted}
-use Rattle.publisher_main.specs.Memory.{is_memory}
 use Rattle.publisher_main.specs.declared.failure.Failure.{Failure}
 use Rattle.publisher_main.specs.declared.failure.Failure.TheVariants as f
 use Rattle.publisher_main.specs.declared.failure.InputFault.{InputFault}
@@ -45,6 +45,6 @@ failure_lines (f.Input fault) = fault_line fault ∷ []
 failure_lines f.Output = []
 failure_lines f.OutOfMemory = codes "out of memory" ∷ []
 
--- a catalog is not read, or memory ran out
+-- a catalog is not read for the fault that the error tells; an error that tells none says that memory ran out
 abbrev pub failure_of_read : ReadError → Failure
-failure_of_read error = if is_memory error.kind then f.OutOfMemory else f.Input (i.Catalog error)
+failure_of_read error = if is_none (told error) then f.OutOfMemory else f.Input (i.Catalog error)

@@ -5,7 +5,6 @@ pub mod Failures
 pub mod InputView
 pub mod LinesView
 pub mod Make
-pub mod Memory
 pub mod Names
 pub mod Outcomes
 pub mod Output

@@ -28,7 +28,7 @@ StopsText text old new f.OutOfMemory = new ≡ old
 StopsText text old new (f.CommandLine why) = ⊥
 StopsText text old new (f.Input fault) = ⊥
 
--- `IsWhole` says of lines and a status that they are an answer, and `IsBegun` of lines that they are the first of an answer, of which others are missing.
+-- `IsWhole` says of lines and a status that they are an answer, and `IsBegun` of lines that they are the first of an answer and that others are missing.
 module _ (IsWhole : List (List ℕ) → Status → Type 0) (IsBegun : List (List ℕ) → Type 0) where
   -- the whole answer is written
   pub record WritesWhole (old new : Option (List ℕ)) (status : Status) : Type 0 where

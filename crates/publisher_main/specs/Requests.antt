@@ -21,7 +21,7 @@ IsAnswer (Eval table wanted) input lines status = evaluation.IsEvaluation wanted
 IsAnswer Check input lines status = checking.IsCheck input lines status
 IsAnswer Make input lines status = making.IsMaking input 0 lines status
 
--- the lines are the first of an answer, of which some are missing; before the first line nothing is known of the input
+-- the lines are the first of an answer, and some are missing; before the first line nothing is known of the input
 abbrev pub IsBegun : Request → List ℕ → List (List ℕ) → Type 0
 IsBegun (Eval table wanted) input lines = (lines ≡ []) ⊎ evaluation.IsBegunEvaluation wanted input table.now lines
 IsBegun Check input lines = lines ≡ []

@@ -28,7 +28,7 @@ pub enum Status {
 pub enum InputFault<'a> {
     /// The reader failed, or what it gave is too long or not UTF-8.
     Unread,
-    /// The input has not the parts that the subcommand takes.
+    /// The input does not have the parts that the subcommand takes.
     Parts,
     /// The part that has to be a catalog is none.
     Catalog(ReadError),

@@ -1,4 +1,4 @@
--- The certificates of lines, of which each is the text of one, or the first line that is not. The format is this project's own.
+-- The certificates that some lines are, one a line, or the first line that is none. The format is this project's own.
 use Rattle.std.specs.Prelude.{◌≡◌, ℕ, ◌+◌, List, ◌∷◌, ◌++◌, length, map, Ok, Err}
 use Rattle.split_cert.specs.Text.{certificate_of}
 use Rattle.split_cert.specs.Tree.{Tree}

@@ -7,15 +7,14 @@ use Rattle.filter_tree.specs.declared.table.Column.{Column}
 use Rattle.filter_tree.specs.declared.validity.RowFault.{RowFault}
 use Rattle.filter_tree.specs.declared.validity.RowFault.TheVariants as r
 use Rattle.sql_reader.specs.KindNames.{kind_name}
-use Rattle.sql_reader.specs.Reading.{Fault, IsFault, Tells}
+use Rattle.sql_reader.specs.Reading.{Fault, IsFault, Tells, told}
 use Rattle.sql_reader.specs.Rows.{row_of}
 use Rattle.sql_reader.specs.declared.error.ReadError.{ReadError}
-use Rattle.publisher_main.specs.Memory.{is_memory}
 use Rattle.publisher_main.specs.declared.eval.bad_row.BadRow.{BadRow}
 use Rattle.publisher_main.specs.declared.eval.bad_row.BadRow.TheVariants.{Unreadable, Invalid}
 
 abbrev pub is_out_of_memory : BadRow → Bool
-is_out_of_memory (Unreadable error) = is_memory error.kind
+is_out_of_memory (Unreadable error) = is_none (told error)
 is_out_of_memory (Invalid fault) = false
 
 -- a text is read as a row of a table with these columns, or why it is not

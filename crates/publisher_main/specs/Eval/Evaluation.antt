@@ -1,5 +1,5 @@
 -- What `eval` answers: the first part of its input is a catalog, and the second has rows of one of its tables, one a line.
-use Rattle.std.specs.Prelude.{◌≡◌, ℕ, false, if◌then◌else◌, List, [], ◌∷◌, ◌++◌, Option, Some, None, slice_get, Result, Ok, Err}
+use Rattle.std.specs.Prelude.{◌≡◌, ℕ, false, if◌then◌else◌, List, [], ◌∷◌, ◌++◌, Option, Some, None, slice_get, is_none, Result, Ok, Err}
 use Rattle.std.specs.List.{list_all}
 use Rattle.filter_tree.specs.Datum.{Datum}
 use Rattle.filter_tree.specs.Valid.{row_fault}
@@ -7,7 +7,7 @@ use Rattle.filter_tree.specs.declared.table.Column.{Column}
 use Rattle.filter_tree.specs.declared.table.Table.{Table}
 use Rattle.filter_tree.specs.declared.validity.RowFault.{RowFault}
 use Rattle.pub_reader.specs.CatalogView.{catalog_view}
-use Rattle.sql_reader.specs.Reading.{Fault, Tells}
+use Rattle.sql_reader.specs.Reading.{Fault, Tells, told as told_by}
 use Rattle.sql_reader.specs.Rows.{row_of}
 use Rattle.pub_reader.specs.Statements.{catalog_by}
 use Rattle.sql_reader.specs.Written.{as_filter}
@@ -18,7 +18,6 @@ use Rattle.publisher_main.specs.Eval.BadRows.{IsUnreadable, bad_line, is_answere
 use Rattle.publisher_main.specs.Eval.Carriers.{CarrierOf, carriers_of}
 use Rattle.publisher_main.specs.declared.eval.bad_row.BadRow.TheVariants.{Invalid}
 use Rattle.publisher_main.specs.Eval.Inserts.{insert_line}
-use Rattle.publisher_main.specs.Memory.{is_memory}
 use Rattle.publisher_main.specs.Parts.{Cut, two_parts, lines_of}
 use Rattle.publisher_main.specs.Eval.Tables.{table_of}
 use Rattle.publisher_main.specs.declared.arguments.RowOutput.{RowOutput}
@@ -101,12 +100,12 @@ pub record IsBegunEvaluation (wanted : RowOutput) (input word : List ℕ) (lines
 
 -- ---- why there is no answer
 
--- the input has two parts, and the first is no catalog, which want of memory does not tell
+-- the input has two parts, and the first is no catalog, for the fault that the error tells
 pub record IsBadCatalog (input : List ℕ) (error : ReadError) : Type 0 where
   pub cut : Cut
   pub parts : two_parts input ≡ Some cut
   pub tells : Tells error (catalog_by as_filter cut.part)
-  pub known : is_memory error.kind ≡ false
+  pub known : is_none (told_by error) ≡ false
 
 -- the input has two parts, and the first is a catalog that lacks the table
 pub record IsUnknown (input word : List ℕ) : Type 0 where

@@ -1,5 +1,5 @@
 -- What `make` answers: its input is a catalog, and for each of its tables, in their order, a line is written: a certificate of the table, or a row that shows that it is not sharded well, or that neither was found.
-use Rattle.std.specs.Prelude.{◌≡◌, ◌≢◌, ℕ, ◌+◌, Bool, true, false, ◌&&◌, if◌then◌else◌, List, [], ◌∷◌, ◌++◌, length, Option, None, Result, Ok, codes}
+use Rattle.std.specs.Prelude.{◌≡◌, ◌≢◌, ℕ, ◌+◌, Bool, true, false, ◌&&◌, if◌then◌else◌, List, [], ◌∷◌, ◌++◌, length, Option, None, is_none, Result, Ok, codes}
 use Rattle.std.specs.Io.KnownBytes.{Appends}
 use Rattle.std.specs.List.{join_by}
 use Rattle.cert_maker.specs.Answers.{IsAccepted, IsCounter}
@@ -11,10 +11,9 @@ use Rattle.pub_reader.specs.declared.catalog.Subscription.{Subscription}
 use Rattle.replica_identity.specs.Plans.{plan_of}
 use Rattle.split_cert.specs.Text.{spelling_of}
 use Rattle.split_cert.specs.Tree.{Tree}
-use Rattle.sql_reader.specs.Reading.{Tells}
+use Rattle.sql_reader.specs.Reading.{Tells, told}
 use Rattle.sql_reader.specs.Written.{as_filter}
 use Rattle.sql_reader.specs.WrittenRows.{row_text}
-use Rattle.publisher_main.specs.Memory.{is_memory}
 use Rattle.publisher_main.specs.Parts.{cut_of}
 use Rattle.publisher_main.specs.Names.{spaced, subscriber_name, table_name}
 use Rattle.publisher_main.specs.Output.{StopsText, Writes, ended}
@@ -26,14 +25,14 @@ use Rattle.publisher_main.specs.declared.failure.Status.TheVariants.{Done, Refus
 
 -- ---- what is found of a table
 
--- a certificate; a row and the subscribers to whom it passes; neither; or no certificate within the limits, and no row
+-- a certificate; a row and the subscribers that get it; neither; or no certificate within the limits, and no row
 pub data Finding : Type 0 where
   Certified : Tree → Finding
   Shown : List Datum → List ℕ → Finding
   Undecided : Finding
   PastLimits : Finding
 
--- The check accepts the certificate with the catalog's own plan; the row fits the table, passes to these subscribers, and they are not one. The others say nothing of the table.
+-- The check accepts the certificate with the catalog's own plan; the row fits the table and passes to exactly these subscribers, which are none or several. The others say nothing of the table.
 abbrev pub IsTrueOf : CatalogOf Expr → ℕ → Finding → Type 0
 IsTrueOf catalog number (Certified tree) = IsAccepted catalog (plan_of catalog) number tree
 IsTrueOf catalog number (Shown cells owners) = IsCounter catalog (plan_of catalog) number cells owners
@@ -104,7 +103,7 @@ pub record IsBegunMaking (input : List ℕ) (lines : List (List ℕ)) : Type 0 w
 abbrev pub IsFault : List ℕ → InputFault → Type 0
 IsFault input i.Unread = ⊥
 IsFault input i.Parts = cut_of input ≢ None
-IsFault input (i.Catalog error) = (cut_of input ≡ None) × Tells error (catalog_by as_filter input) × (is_memory error.kind ≡ false)
+IsFault input (i.Catalog error) = (cut_of input ≡ None) × Tells error (catalog_by as_filter input) × (is_none (told error) ≡ false)
 IsFault input (i.Table name) = ⊥
 IsFault input (i.Certificate number error) = ⊥
 

@@ -103,7 +103,7 @@ fn halves_are_checked(rt: HostRuntime) -> Result<(), Fail> {
     Ok(())
 }
 
-/// A table of which a row has one of three subscribers, by its region.
+/// A table whose rows go to three subscribers, by their region.
 pub const REGIONS: &str = "CREATE TABLE t (id integer, region text, PRIMARY KEY (id));
 ALTER TABLE t REPLICA IDENTITY FULL;
 CREATE PUBLICATION pa FOR TABLE t WHERE (region = 'eu');
@@ -114,7 +114,7 @@ CREATE SUBSCRIPTION s1 CONNECTION '' PUBLICATION pb;
 CREATE SUBSCRIPTION s2 CONNECTION '' PUBLICATION pc;
 ";
 
-/// Two publications of a table, of which one publishes too little.
+/// Two publications of a table. One of them publishes too little.
 const INSERTS: &str = "CREATE TABLE t (id integer, region text, PRIMARY KEY (id));
 CREATE PUBLICATION pa FOR TABLE t WHERE (region = 'eu') WITH (publish = 'insert');
 CREATE PUBLICATION pb FOR TABLE t WHERE (id >= 100);

@@ -33,28 +33,6 @@ impl BadRow {
     }
 }
 
-impl From<ReadError> for BadRow {
-    ghost use Rattle.std.specs.Prelude.{◌≡◌};
-    ghost use Rattle.publisher_main.specs.declared.eval.bad_row.BadRow.TheVariants.{Unreadable};
-
-    ghost from_gives = { λ error bad. bad ≡ Unreadable error };
-
-    fn from(error: ReadError) -> BadRow {
-        BadRow::Unreadable(error)
-    }
-}
-
-impl From<RowFault> for BadRow {
-    ghost use Rattle.std.specs.Prelude.{◌≡◌};
-    ghost use Rattle.publisher_main.specs.declared.eval.bad_row.BadRow.TheVariants.{Invalid};
-
-    ghost from_gives = { λ fault bad. bad ≡ Invalid fault };
-
-    fn from(fault: RowFault) -> BadRow {
-        BadRow::Invalid(fault)
-    }
-}
-
 impl fmt::Display for BadRow {
     ghost use Rattle.std.specs.Prelude.{Some};
     ghost use Rattle.publisher_main.specs.Eval.BadRows.{bad_line};
@@ -92,7 +70,7 @@ pub fn table_row(alloc: Global, table: &Table, text: &str) -> Result<Row, BadRow
     ensures reading { spec.IsReading table.now.columns text.now result }
     ensures fits { IfOk result (λ row. IsValid table.now.columns row) }
 {
-    let row = read_row(alloc, text)?;
-    valid(table, &row)?;
+    let row = read_row(alloc, text).map_err(BadRow::Unreadable)?;
+    valid(table, &row).map_err(BadRow::Invalid)?;
     Ok(row)
 }

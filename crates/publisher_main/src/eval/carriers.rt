@@ -25,7 +25,6 @@ fn carries_all(entries: &[Entry], table: usize) -> bool
         .any(|entry| entry.table == table && entry.filter.is_none())
 }
 
-/// The first entry for a table.
 fn entry_for(entries: &[Entry], table: usize) -> Option<&Entry>
     ensures { option_copied result ≡ find (spec.is_for table) entries.now }
 {

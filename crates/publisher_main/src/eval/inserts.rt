@@ -19,7 +19,6 @@ use std::alloc::{AllocError, Global};
 /// The OID of the first table of a catalog. The others follow in their order.
 const FIRST_OID: u32 = 16_384;
 
-/// Whether a publication carries the row.
 fn carries(carrier: Carrier<'_>, row: &Row) -> bool
     ensures { result ≡ spec.carries row.now (carrier_view carrier.entry) }
 {
@@ -29,7 +28,6 @@ fn carries(carrier: Carrier<'_>, row: &Row) -> bool
     )
 }
 
-/// Whether some publication carries the row.
 fn is_carried(carriers: &[Carrier<'_>], row: &Row) -> bool
     ensures { result ≡ spec.is_carried row.now (map carrier_view carriers.now) }
 {

@@ -56,7 +56,7 @@ fn counter_line(
     Ok(line)
 }
 
-/// The line that says this of the table of this number.
+/// The line that says these words of the table of this number.
 fn undecided_line(
     alloc: Global,
     catalog: &Catalog,
@@ -71,7 +71,7 @@ fn undecided_line(
     Ok(line)
 }
 
-/// The line of the table of this number, of which this was found.
+/// The line that says what was found of the table of this number.
 pub fn finding_line(
     alloc: Global,
     catalog: &Catalog,

@@ -1,4 +1,4 @@
-//! Tables of which a certificate is found, or a row that shows that there is none.
+//! Tables that have a certificate, and tables with a row that shows that they have none.
 
 use crate::check::tests::{ACCEPTED, REGIONS, check_of, halves};
 use crate::tests::output_of;
@@ -82,7 +82,7 @@ fn rows_show_what_is_wrong(rt: HostRuntime) -> Result<(), Fail> {
     Ok(())
 }
 
-/// Two tables of different schemas, of which no subscriber takes the second.
+/// Two tables of different schemas. No subscriber takes the second.
 const TWO: &str = "CREATE SCHEMA s;
 CREATE TABLE t (id integer PRIMARY KEY);
 CREATE TABLE s.\"T u\" (flag boolean PRIMARY KEY);

@@ -182,7 +182,7 @@ fn push_root(text: &mut String, left: &mut Vec<usize>, splits: usize) -> Result<
     Ok(())
 }
 
-/// A tree of so many splits, each of whose leaves says that no row comes to it.
+/// A tree of so many splits. Each of its leaves says that no row comes to it.
 fn empty_tree(alloc: Global, splits: usize) -> Result<String, AllocError> {
     let mut text = String::new(alloc);
     let mut left = Vec::new(alloc);
