@@ -41,6 +41,7 @@ says_wrong e.TooDeep h = record { wrong = w.TooDeep; is = refl }
 says_wrong (e.TooMany limit) h = record { wrong = w.TooMany limit; is = refl }
 says_wrong e.NoKey h = record { wrong = w.NoKey; is = refl }
 says_wrong e.TableTwice h = record { wrong = w.TableTwice; is = refl }
+says_wrong e.NullableIndex h = record { wrong = w.NullableIndex; is = refl }
 says_wrong e.OutOfMemory h = absurd cc
 
 module _ (wanted : RowOutput) (number : ℕ) (carriers : List CarrierOf) (columns : List Column) where
