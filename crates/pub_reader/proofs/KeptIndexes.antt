@@ -1,5 +1,5 @@
 -- Indexes and identities have columns that are there, and there are at most 8 indexes of a table.
-use Rattle.std.proofs.Common.{◌≡◌, ℕ, zero, suc, ◌+◌, ◌<◌, ◌≤◌, Bool, true, false, List, [], ◌∷◌, ◌++◌, All, length, refl, ap, subst, arith}
+use Rattle.std.proofs.Common.{◌≡◌, ℕ, zero, suc, ◌+◌, ◌<◌, Bool, true, false, List, [], ◌∷◌, ◌++◌, All, length, refl, ap, subst, arith}
 use Rattle.std.specs.Prelude.{nat_le, if◌then◌else◌, Option, Some, None, Ok, Err, slice_get}
 use Rattle.std.specs.Option.{is_some}
 use Rattle.std.specs.Str.{bytes_eq}
