@@ -254,13 +254,14 @@ fn a_text_shows_its_bytes(rt: HostRuntime) -> Result<(), Fail> {
 
 #[test]
 fn items_show_their_elements(rt: HostRuntime) -> Result<(), Fail> {
-    let items = Items::from_vec(vec![in rt.alloc(); 4, 5]?);
+    let mut items = Items::from_vec(vec![in rt.alloc(); 4, 5]?);
     assert_eq!(rt;
         (items.len(), items.is_empty(), items.get(1), items.get(2)),
         (2, false, Some(&5), None)
     );
     assert_eq!(rt; items.as_slice(), [4, 5].as_slice());
-    assert_eq!(rt; items.into_vec().as_slice(), [4, 5].as_slice());
+    items.push(6)?;
+    assert_eq!(rt; items.into_vec().as_slice(), [4, 5, 6].as_slice());
     Ok(())
 }
 

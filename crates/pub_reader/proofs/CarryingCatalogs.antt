@@ -19,7 +19,7 @@ use Rattle.pub_reader.specs.CatalogMeaning.{MeansAsWritten}
 use Rattle.pub_reader.specs.Catalogs.{EntryOf, PublicationOf, CatalogOf, entry_map, publication_map, catalog_map}
 use Rattle.pub_reader.specs.Drafts.{CoverageOf, DraftPublicationOf, DraftOf, no_draft, is_covered, whole_from, resolved_entries, resolved_publication, resolved, coverage_map, draft_publication_map, draft_map}
 use Rattle.pub_reader.specs.Statements.{created_by, created, create, statement_by, statement, ended_statement, statements, finished, catalog_by}
-use Rattle.pub_reader.proofs.CarryingDrafts.{verdict_map, create_schema-carried, create_table-carried, alter_table-carried, create_subscription-carried}
+use Rattle.pub_reader.proofs.CarryingDrafts.{verdict_map, create_schema-carried, create_table-carried, alter_table-carried, create_index-carried, create_subscription-carried}
 use Rattle.pub_reader.proofs.CarryingObjects.{create_publication-carried}
 
 -- ---- the end of the catalog
@@ -66,7 +66,7 @@ module _ {S T : Type 0} (from : Forms S) (to : Forms T) (h : S → T) (carries :
   created_by-carried (Some (i.Keyword k.Publication)) draft ts = create_publication-carried from to h carries draft (rest_of ts)
   created_by-carried (Some (i.Keyword k.Schema)) draft ts = create_schema-carried h draft (rest_of ts)
   created_by-carried (Some (i.Keyword k.Subscription)) draft ts = create_subscription-carried h draft (rest_of ts)
-  created_by-carried (Some (i.Keyword k.Unique)) draft ts = refl
+  created_by-carried (Some (i.Keyword k.Unique)) draft ts = create_index-carried h draft (rest_of ts)
   created_by-carried _ draft ts = refl
 
   create-carried : (draft : DraftOf S) (ts : Items) → create to (draft_map h draft) ts ≡ mapped (draft_map h) (create from draft ts)

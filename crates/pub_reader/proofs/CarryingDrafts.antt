@@ -15,9 +15,10 @@ use Rattle.sql_reader.specs.Names.{name}
 use Rattle.sql_reader.specs.Reading.{Verdict, with_rest, eat, expect, item_ahead}
 use Rattle.sql_reader.specs.Turns.{link}
 use Rattle.sql_reader.proofs.Carrying.{mapped, then-same, then-carried, repeat-carried, link-carried}
-use Rattle.pub_reader.specs.Catalogs.{EntryOf, entry_map}
+use Rattle.pub_reader.specs.Catalogs.{EntryOf, columns_at, indexes_at, entry_map}
 use Rattle.pub_reader.specs.Drafts.{CoverageOf, DraftPublicationOf, DraftOf, find_schema, find_publication, filter_on, filters_in, filters_on, coverage_map, draft_publication_map, draft_map}
 use Rattle.pub_reader.specs.Identities.{replica_identity, alter_table}
+use Rattle.pub_reader.specs.Indexes.{new_index, index_body, indexed_table, create_index}
 use Rattle.pub_reader.specs.Objects.{ObjectsOf, is_of, is_filtered, schema_by, schema_mentioned, table_mentioned, named_schema, current_schema, schema_object_by, schema_object, in_schema, taken_schema}
 use Rattle.pub_reader.specs.Publications.{new_publication, publication_name}
 use Rattle.pub_reader.specs.Schemas.{create_schema, new_schema}
@@ -73,7 +74,23 @@ alter_table-carried h draft ts =
     then-same (draft_map h) (expect (i.Keyword k.Table) ts2) _ _ (λ b ts3.
     then-same (draft_map h) (eat (i.Keyword k.Only) ts3) _ _ (λ c ts4.
     then-same (draft_map h) (table_number draft ts4) _ _ (λ number ts5.
-    then-same (draft_map h) (replica_identity ts5) _ _ (λ recorded ts6. refl)))))
+    then-same (draft_map h) (replica_identity (columns_at draft.tables number) (indexes_at draft.tables number) ts5) _ _ (λ recorded ts6. refl)))))
+
+indexed_table-same : {S T : Type 0} (h : S → T) (draft : DraftOf S) (called : PlacedName) (ts : Items) → indexed_table (draft_map h draft) called ts ≡ mapped same (indexed_table draft called ts)
+unfolding indexed_table table_number table_named table_in_schema
+indexed_table-same h draft called ts =
+    then-same same (expect (i.Keyword k.On) ts) _ _ (λ a ts2.
+    then-same same (eat (i.Keyword k.Only) ts2) _ _ (λ b ts3.
+    then-same same (table_number draft ts3) _ _ (λ number ts4.
+    then-same same (with_rest (new_index draft.tables number called) ts4) _ _ (λ n ts5. refl))))
+
+pub create_index-carried : {S T : Type 0} (h : S → T) (draft : DraftOf S) (ts : Items) → create_index (draft_map h draft) ts ≡ mapped (draft_map h) (create_index draft ts)
+unfolding create_index
+create_index-carried h draft ts =
+    then-same (draft_map h) (expect (i.Keyword k.Index) ts) _ _ (λ a ts2.
+    then-same (draft_map h) (name ts2) _ _ (λ called ts3.
+    then-carried same (draft_map h) (indexed_table draft called ts3) (indexed_table (draft_map h draft) called ts3) _ _ (indexed_table-same h draft called ts3) (λ number ts4.
+    then-same (draft_map h) (index_body (columns_at draft.tables number) ts4) _ _ (λ columns ts5. refl))))
 
 -- ---- subscriptions
 

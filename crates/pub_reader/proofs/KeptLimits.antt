@@ -1,17 +1,18 @@
 -- Each statement keeps the limits of a catalog.
-use Rattle.std.proofs.Common.{◌≡◌, ℕ, zero, suc, ◌<◌, ◌≤◌, List, [], ◌∷◌, ◌++◌, All, length, refl, ap, subst, arith}
+use Rattle.std.proofs.Common.{◌≡◌, ℕ, ◌<◌, ◌≤◌, List, [], ◌∷◌, ◌++◌, All, length, subst, arith}
 use Rattle.std.specs.Prelude.{nat_le, IfOk, Option, Some, Result, Ok, Err}
 use Rattle.std.specs.Option.{is_some}
 use Rattle.std.proofs.lemmas.List.{length_push, length-map}
-use Rattle.std.proofs.lemmas.List.Elements.{All-nil, All-cons, All-head, All-tail, All-push}
+use Rattle.std.proofs.lemmas.List.Elements.{All-nil, All-push}
 use Rattle.filter_tree.specs.declared.table.Identity.{Identity}
 use Rattle.filter_tree.specs.declared.table.Table.{Table}
+use Rattle.filter_tree.specs.declared.table.UniqueIndex.{UniqueIndex}
 use Rattle.sql_reader.specs.declared.word.Keyword.TheVariants as k
 use Rattle.sql_reader.specs.declared.item.Item.{Item}
 use Rattle.sql_reader.specs.declared.item.Item.TheVariants as i
 use Rattle.sql_reader.specs.declared.error.ReadError.{ReadError}
 use Rattle.sql_reader.specs.declared.name.PlacedName.{PlacedName}
-use Rattle.sql_reader.specs.Columns.{elements}
+use Rattle.sql_reader.specs.Columns.{Parts, elements}
 use Rattle.sql_reader.specs.Expressions.{Forms}
 use Rattle.sql_reader.specs.Items.{Items, items_of}
 use Rattle.sql_reader.specs.Names.{name}
@@ -22,54 +23,52 @@ use Rattle.sql_reader.proofs.Keeping.{Gives, then-gives, any-gives, repeat-gives
 use Rattle.sql_reader.proofs.Widths.{IsNarrow, room-gives, below, elements-gives}
 use Rattle.pub_reader.specs.declared.catalog.Catalog.{Catalog}
 use Rattle.pub_reader.specs.declared.table_name.NewName.{NewName}
-use Rattle.pub_reader.specs.CatalogLimits.{IsNarrowTable, IsLimited}
-use Rattle.pub_reader.specs.Catalogs.{CatalogOf, identified}
+use Rattle.pub_reader.specs.CatalogLimits.{IsIndexOf, IsIdentity, IsLimitedTable, IsLimited}
+use Rattle.pub_reader.specs.Catalogs.{CatalogOf, columns_at, indexes_at, identified, indexed}
 use Rattle.pub_reader.specs.CatalogView.{catalog_view}
-use Rattle.pub_reader.specs.Drafts.{DraftOf, no_draft, resolved, resolved_publication, find_table, find_publication, find_subscription}
+use Rattle.pub_reader.specs.Drafts.{DraftOf, no_draft, resolved, resolved_publication, find_relation, find_publication, find_subscription}
 use Rattle.pub_reader.specs.Identities.{replica_identity, alter_table}
+use Rattle.pub_reader.specs.Indexes.{index_body, indexed_table, create_index}
 use Rattle.pub_reader.specs.Publications.{new_publication, publication_name, for_clause, create_publication}
 use Rattle.pub_reader.specs.Publishing.{parameters_clause}
 use Rattle.pub_reader.specs.Schemas.{create_schema, new_schema}
 use Rattle.pub_reader.specs.Statements.{created_by, created, create, statement_by, statement, ended_statement, statements, finished, catalog_by}
 use Rattle.pub_reader.specs.Subscriptions.{new_subscription, subscription_name, subscription_body, create_subscription}
 use Rattle.pub_reader.specs.TableNames.{table_number, new_table, new_named, table_head, new_name}
-use Rattle.pub_reader.specs.Tables.{keyed, table_tail, table_body, create_table}
+use Rattle.pub_reader.specs.Tables.{keyed, table_of, table_tail, table_body, create_table}
+use Rattle.pub_reader.proofs.KeptIndexes.{HasRoom, length-identified, length-indexed, identified-limited, indexed-limited, replica_identity-gives, indexed_table-gives, index_body-gives}
 
 -- the limits, as a catalog keeps them while it is read
-abbrev AreNarrow : List Table → Type 0
-AreNarrow tables = (length tables ≤ 64) × All IsNarrowTable tables
+abbrev AreLimited : List Table → Type 0
+AreLimited tables = (length tables ≤ 64) × All IsLimitedTable tables
 
 abbrev Limited : {S : Type 0} → DraftOf S → Type 0
-Limited draft = AreNarrow draft.tables × ((length draft.publications ≤ 64) × (length draft.subscriptions ≤ 32))
+Limited draft = AreLimited draft.tables × ((length draft.publications ≤ 64) × (length draft.subscriptions ≤ 32))
 
 pushed : {A : Type 0} (most : ℕ) (xs : List A) (x : A) → length xs < most → length (xs ++ x ∷ []) ≤ most
 pushed most xs x room = omega (arith, length_push xs x)
 
 -- ---- tables
 
-length-identified : (tables : List Table) (number : ℕ) (identity : Identity) → length (identified tables number identity) ≡ length tables
-length-identified [] number identity = refl
-length-identified (table ∷ tables) zero identity = refl
-length-identified (table ∷ tables) (suc number) identity = ap suc (length-identified tables number identity)
+identified-within : (tables : List Table) (number : ℕ) (identity : Identity) → AreLimited tables → IsIdentity (columns_at tables number) (indexes_at tables number) identity
+    → AreLimited (identified tables number identity)
+identified-within tables number identity h is = (omega (arith, length-identified tables number identity, h.0), identified-limited tables number identity h.1 is)
 
-narrow-identified : (tables : List Table) (number : ℕ) (identity : Identity) → All IsNarrowTable tables → All IsNarrowTable (identified tables number identity)
-narrow-identified [] number identity h = h
-narrow-identified (table ∷ tables) zero identity h =
-    All-cons IsNarrowTable (record table { identity = identity }) tables (All-head IsNarrowTable table tables h) (All-tail IsNarrowTable table tables h)
-narrow-identified (table ∷ tables) (suc number) identity h =
-    All-cons IsNarrowTable table (identified tables number identity) (All-head IsNarrowTable table tables h)
-    (narrow-identified tables number identity (All-tail IsNarrowTable table tables h))
+indexed-within : (tables : List Table) (number : ℕ) (index : UniqueIndex) → AreLimited tables → HasRoom tables number → IsIndexOf (columns_at tables number) index
+    → AreLimited (indexed tables number index)
+indexed-within tables number index h room is = (omega (arith, length-indexed tables number index, h.0), indexed-limited tables number index h.1 room is)
 
-identified-narrow : (tables : List Table) (number : ℕ) (identity : Identity) → AreNarrow tables → AreNarrow (identified tables number identity)
-identified-narrow tables number identity h = (omega (arith, length-identified tables number identity, h.0), narrow-identified tables number identity h.1)
+-- a table of at most 100 columns, which has no index yet
+made : (called : NewName) (parts : Parts) → IsNarrow parts → IsLimitedTable (table_of called parts)
+made called parts narrow = record { columns = narrow; indexes = omega arith; indexed = All-nil (IsIndexOf parts.columns); identified = tt }
 
-pushed-narrow : (tables : List Table) (table : Table) → length tables < 64 → AreNarrow tables → IsNarrowTable table → AreNarrow (tables ++ table ∷ [])
-pushed-narrow tables table room h narrow = (pushed 64 tables table room, All-push IsNarrowTable tables table h.1 narrow)
+pushed-within : (tables : List Table) (table : Table) → length tables < 64 → AreLimited tables → IsLimitedTable table → AreLimited (tables ++ table ∷ [])
+pushed-within tables table room h is = (pushed 64 tables table room, All-push IsLimitedTable tables table h.1 is)
 
 new_table-gives : (tables : List Table) (called : NewName) (ts : Items) → Gives (λ (u : Unit {0}). length tables < 64) (with_rest (new_table tables called) ts)
 unfolding new_table
 new_table-gives tables called ts =
-    room-gives (is_some (find_table called.schema called.name.text tables)) (nat_le 64 (length tables)) (length tables) 64 _ _ ts (below 64 (length tables))
+    room-gives (is_some (find_relation called.schema called.name.text tables)) (nat_le 64 (length tables)) (length tables) 64 _ _ ts (below 64 (length tables))
 
 new_name-gives : {S : Type 0} (draft : DraftOf S) (ts : Items) → Gives (λ (called : NewName). length draft.tables < 64) (new_name draft ts)
 unfolding new_name
@@ -94,7 +93,7 @@ unfolding create_table
 create_table-gives draft ts h =
     then-gives (λ (called : NewName). length draft.tables < 64) Limited (new_name draft ts) _ (new_name-gives draft ts) (λ called ts2 room.
     then-gives IsNarrow Limited (table_body called.name ts2) _ (table_body-gives called.name ts2) (λ parts ts3 narrow.
-    (pushed-narrow draft.tables _ room h.0 narrow, h.1)))
+    (pushed-within draft.tables _ room h.0 (made called parts narrow), h.1)))
 
 alter_table-gives : {S : Type 0} (draft : DraftOf S) (ts : Items) → Limited draft → Gives Limited (alter_table draft ts)
 unfolding alter_table
@@ -103,7 +102,20 @@ alter_table-gives draft ts h =
     any-gives Limited (expect (i.Keyword k.Table) ts2) _ (λ b ts3.
     any-gives Limited (eat (i.Keyword k.Only) ts3) _ (λ c ts4.
     any-gives Limited (table_number draft ts4) _ (λ number ts5.
-    any-gives Limited (replica_identity ts5) _ (λ recorded ts6. (identified-narrow draft.tables number recorded h.0, h.1))))))
+    then-gives (IsIdentity (columns_at draft.tables number) (indexes_at draft.tables number)) Limited
+    (replica_identity (columns_at draft.tables number) (indexes_at draft.tables number) ts5) _
+    (replica_identity-gives (columns_at draft.tables number) (indexes_at draft.tables number) ts5) (λ recorded ts6 is.
+    (identified-within draft.tables number recorded h.0 is, h.1))))))
+
+create_index-gives : {S : Type 0} (draft : DraftOf S) (ts : Items) → Limited draft → Gives Limited (create_index draft ts)
+unfolding create_index
+create_index-gives draft ts h =
+    any-gives Limited (expect (i.Keyword k.Index) ts) _ (λ a ts2.
+    any-gives Limited (name ts2) _ (λ called ts3.
+    then-gives (HasRoom draft.tables) Limited (indexed_table draft called ts3) _ (indexed_table-gives draft called ts3) (λ number ts4 room.
+    then-gives (λ (numbers : List ℕ). All (λ n. n < length (columns_at draft.tables number)) numbers) Limited (index_body (columns_at draft.tables number) ts4) _
+    (index_body-gives (columns_at draft.tables number) ts4) (λ numbers ts5 is.
+    (indexed-within draft.tables number _ h.0 room is, h.1)))))
 
 -- ---- schemas, publications and subscriptions
 
@@ -157,7 +169,7 @@ module _ {S : Type 0} (forms : Forms S) where
   created_by-gives (Some (i.Keyword k.Publication)) draft ts h = create_publication-gives forms draft (rest_of ts) h
   created_by-gives (Some (i.Keyword k.Schema)) draft ts h = create_schema-gives draft (rest_of ts) h
   created_by-gives (Some (i.Keyword k.Subscription)) draft ts h = create_subscription-gives draft (rest_of ts) h
-  created_by-gives (Some (i.Keyword k.Unique)) draft ts h = tt
+  created_by-gives (Some (i.Keyword k.Unique)) draft ts h = create_index-gives draft (rest_of ts) h
   created_by-gives _ draft ts h = tt
 
   create-gives : (draft : DraftOf S) (ts : Items) → Limited draft → Gives Limited (create forms draft ts)
@@ -180,14 +192,14 @@ module _ {S : Type 0} (forms : Forms S) where
   unfolding statements
   statements-gives ts =
       repeat-gives Limited (each more_ahead (ended_statement forms)) (each-gives Limited more_ahead (ended_statement forms) ended_statement-gives) no_draft ts
-      ((omega arith, All-nil IsNarrowTable), (omega arith, omega arith))
+      ((omega arith, All-nil IsLimitedTable), (omega arith, omega arith))
 
 -- ---- the end of the catalog
 
 resolved-within : {S : Type 0} (draft : DraftOf S) → Limited draft → IsLimited (resolved draft)
 resolved-within draft h = record {
   tables = h.0.0;
-  columns = h.0.1;
+  each_table = h.0.1;
   publications = omega (arith, length-map draft.publications (resolved_publication draft.tables), h.1.0);
   subscriptions = h.1.1;
 }

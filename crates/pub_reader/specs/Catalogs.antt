@@ -1,9 +1,10 @@
 -- What a catalog has: tables, publications that carry them, whole or the rows of a filter, and subscriptions to publications: PostgreSQL 15, "Logical Replication", 31.1 Publication, 31.2 Subscription and 31.3 Row Filters.
-use Rattle.std.specs.Prelude.{ℕ, zero, suc, true, List, [], ◌∷◌, map, Option}
+use Rattle.std.specs.Prelude.{ℕ, zero, suc, true, List, [], ◌∷◌, ◌++◌, map, Option}
 use Rattle.std.specs.Option.{option_map}
 use Rattle.filter_tree.specs.declared.table.Column.{Column}
 use Rattle.filter_tree.specs.declared.table.Identity.{Identity}
 use Rattle.filter_tree.specs.declared.table.Table.{Table}
+use Rattle.filter_tree.specs.declared.table.UniqueIndex.{UniqueIndex}
 use Rattle.pub_reader.specs.declared.catalog.Operations.{Operations}
 use Rattle.pub_reader.specs.declared.catalog.Subscription.{Subscription}
 
@@ -27,17 +28,35 @@ pub record CatalogOf (S : Type 0) : Type 0 where
 abbrev pub every_operation : Operations
 every_operation = record { insert = true; update = true; delete = true; truncate = true }
 
--- the columns of the table of this number
+-- the schema of the table of this number
+abbrev pub schema_at : List Table → ℕ → List ℕ
+schema_at [] number = []
+schema_at (table ∷ tables) zero = table.schema
+schema_at (table ∷ tables) (suc number) = schema_at tables number
+
+-- its columns
 abbrev pub columns_at : List Table → ℕ → List Column
 columns_at [] number = []
 columns_at (table ∷ tables) zero = table.columns
 columns_at (table ∷ tables) (suc number) = columns_at tables number
+
+-- its unique indexes
+abbrev pub indexes_at : List Table → ℕ → List UniqueIndex
+indexes_at [] number = []
+indexes_at (table ∷ tables) zero = table.indexes
+indexes_at (table ∷ tables) (suc number) = indexes_at tables number
 
 -- the tables where that of this number has this identity
 abbrev pub identified : List Table → ℕ → Identity → List Table
 identified [] number identity = []
 identified (table ∷ tables) zero identity = record table { identity = identity } ∷ tables
 identified (table ∷ tables) (suc number) identity = table ∷ identified tables number identity
+
+-- the tables where that of this number has one unique index more
+abbrev pub indexed : List Table → ℕ → UniqueIndex → List Table
+indexed [] number index = []
+indexed (table ∷ tables) zero index = record table { indexes = table.indexes ++ index ∷ [] } ∷ tables
+indexed (table ∷ tables) (suc number) index = table ∷ indexed tables number index
 
 -- ---- the same catalog with other filters
 

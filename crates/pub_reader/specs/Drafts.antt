@@ -4,6 +4,7 @@ use Rattle.std.specs.List.{list_any}
 use Rattle.std.specs.Option.{is_some, option_map, option_to_list}
 use Rattle.std.specs.Str.{bytes_eq}
 use Rattle.filter_tree.specs.declared.table.Table.{Table}
+use Rattle.filter_tree.specs.declared.table.UniqueIndex.{UniqueIndex}
 use Rattle.filter_tree.specs.Expr.{Expr}
 use Rattle.pub_reader.specs.declared.catalog.Operations.{Operations}
 use Rattle.pub_reader.specs.declared.catalog.Subscription.{Subscription}
@@ -52,6 +53,17 @@ is_table schema text table = bytes_eq schema table.schema && bytes_eq text table
 
 abbrev pub find_table : List ℕ → List ℕ → List Table → Option ℕ
 find_table schema text tables = position (is_table schema text) tables
+
+abbrev pub find_index : List ℕ → List UniqueIndex → Option ℕ
+find_index text indexes = position (λ index. bytes_eq text index.name) indexes
+
+-- Tables and indexes of a schema share their names: whether the table, or an index of it, has this one.
+abbrev pub has_name : List ℕ → List ℕ → Table → Bool
+has_name schema text table = bytes_eq schema table.schema && (bytes_eq text table.name || is_some (find_index text table.indexes))
+
+-- the table that has this name in the schema, or an index of this name
+abbrev pub find_relation : List ℕ → List ℕ → List Table → Option ℕ
+find_relation schema text tables = position (has_name schema text) tables
 
 abbrev pub find_publication : {S : Type 0} → List ℕ → List (DraftPublicationOf S) → Option ℕ
 find_publication text publications = position (λ p. bytes_eq text p.name) publications

@@ -1,16 +1,20 @@
 -- ALTER TABLE .. REPLICA IDENTITY: PostgreSQL 15, SQL Commands, ALTER TABLE.
-use Rattle.std.specs.Prelude.{Option, Some}
+use Rattle.std.specs.Prelude.{ℕ, Bool, false, if◌then◌else◌, List, Option, Some, None, Ok, Err, slice_get}
+use Rattle.std.specs.List.{list_all}
+use Rattle.filter_tree.specs.declared.table.Column.{Column}
 use Rattle.filter_tree.specs.declared.table.Identity.{Identity}
-use Rattle.filter_tree.specs.declared.table.Identity.TheVariants.{Default, Full, Nothing}
+use Rattle.filter_tree.specs.declared.table.Identity.TheVariants.{Default, Index, Full, Nothing}
+use Rattle.filter_tree.specs.declared.table.UniqueIndex.{UniqueIndex}
 use Rattle.sql_reader.specs.declared.word.Keyword.TheVariants as k
 use Rattle.sql_reader.specs.declared.item.Item.{Item}
 use Rattle.sql_reader.specs.declared.item.Item.TheVariants as i
+use Rattle.sql_reader.specs.declared.name.PlacedName.{PlacedName}
 use Rattle.sql_reader.specs.declared.error.Omitted.TheVariants.{Clause}
-use Rattle.sql_reader.specs.declared.error.Later.TheVariants.{UsingIndex}
 use Rattle.sql_reader.specs.Wrong as w
-use Rattle.sql_reader.specs.Reading.{Rule, ◌>>=◌, ◌>>◌, pure, refuse, refuse_as, advance, eat, expect, item_ahead}
-use Rattle.pub_reader.specs.Catalogs.{identified}
-use Rattle.pub_reader.specs.Drafts.{DraftOf}
+use Rattle.sql_reader.specs.Names.{name}
+use Rattle.sql_reader.specs.Reading.{Rule, Verdict, fault, ◌>>=◌, ◌>>◌, pure, check, refuse, refuse_as, advance, eat, expect, item_ahead}
+use Rattle.pub_reader.specs.Catalogs.{columns_at, indexes_at, identified}
+use Rattle.pub_reader.specs.Drafts.{DraftOf, find_index}
 use Rattle.pub_reader.specs.TableNames.{table_number}
 
 -- another action is left out
@@ -23,18 +27,52 @@ action_by _ = refuse
 unfoldable pub action : Rule (Unit {0})
 action ts = action_by (item_ahead ts) ts
 
-abbrev pub identity_by : Option Item → Rule Identity
-identity_by (Some (i.Keyword k.Default)) = advance >> pure Default
-identity_by (Some (i.Keyword k.Full)) = advance >> pure Full
-identity_by (Some (i.Keyword k.Nothing)) = advance >> pure Nothing
-identity_by (Some (i.Keyword k.Using)) = refuse_as (w.NotYet UsingIndex)
-identity_by _ = refuse
+-- ---- by an index
 
-unfoldable pub identity : Rule Identity
-identity ts = identity_by (item_ahead ts) ts
+-- a column that is there and takes no null
+abbrev pub takes_no_null : Option Column → Bool
+takes_no_null None = false
+takes_no_null (Some column) = column.not_null
 
-unfoldable pub replica_identity : Rule Identity
-replica_identity = action >> expect (i.Keyword k.Identity) >> identity
+abbrev pub take_no_null : List Column → List ℕ → Bool
+take_no_null columns numbers = list_all (λ number. takes_no_null (slice_get columns number)) numbers
+
+-- an index that is there, and none of whose columns takes a null
+abbrev pub identifies : List Column → Option UniqueIndex → Bool
+identifies columns None = false
+identifies columns (Some index) = take_no_null columns index.columns
+
+-- the identity by the index of this number, which has to be there, and to identify rows
+abbrev pub by_index : List Column → List UniqueIndex → PlacedName → Option ℕ → Verdict Identity
+by_index columns indexes called None = Err (fault called.place w.UnknownName)
+by_index columns indexes called (Some number) =
+    if identifies columns (slice_get indexes number) then Ok (Index number) else Err (fault called.place w.NullableIndex)
+
+-- the identity by the index of this name, of a table that has these columns and indexes
+unfoldable pub index_named : List Column → List UniqueIndex → PlacedName → Verdict Identity
+index_named columns indexes called = by_index columns indexes called (find_index called.text indexes)
+
+unfoldable pub using_index : List Column → List UniqueIndex → Rule Identity
+using_index columns indexes = do
+  expect (i.Keyword k.Using)
+  expect (i.Keyword k.Index)
+  called ← name
+  check (index_named columns indexes called)
+
+-- ---- the identity of a table that has these columns and indexes
+
+abbrev pub identity_by : List Column → List UniqueIndex → Option Item → Rule Identity
+identity_by columns indexes (Some (i.Keyword k.Default)) = advance >> pure Default
+identity_by columns indexes (Some (i.Keyword k.Full)) = advance >> pure Full
+identity_by columns indexes (Some (i.Keyword k.Nothing)) = advance >> pure Nothing
+identity_by columns indexes (Some (i.Keyword k.Using)) = using_index columns indexes
+identity_by columns indexes _ = refuse
+
+unfoldable pub identity : List Column → List UniqueIndex → Rule Identity
+identity columns indexes ts = identity_by columns indexes (item_ahead ts) ts
+
+unfoldable pub replica_identity : List Column → List UniqueIndex → Rule Identity
+replica_identity columns indexes = action >> expect (i.Keyword k.Identity) >> identity columns indexes
 
 unfoldable pub alter_table : {S : Type 0} → DraftOf S → Rule (DraftOf S)
 alter_table draft = do
@@ -43,5 +81,5 @@ alter_table draft = do
   -- ONLY leaves out the tables that inherit from a table, of which there are none
   eat (i.Keyword k.Only)
   number ← table_number draft
-  recorded ← replica_identity
+  recorded ← replica_identity (columns_at draft.tables number) (indexes_at draft.tables number)
   pure (record draft { tables = identified draft.tables number recorded })

@@ -5,6 +5,7 @@ pub mod Catalogs
 pub mod DraftView
 pub mod Drafts
 pub mod Identities
+pub mod Indexes
 pub mod Objects
 pub mod Operations
 pub mod Publications

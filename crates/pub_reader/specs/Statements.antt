@@ -3,15 +3,14 @@ use Rattle.std.specs.Prelude.{ℕ, List, Option, Some, Ok, Err}
 use Rattle.sql_reader.specs.declared.word.Keyword.TheVariants as k
 use Rattle.sql_reader.specs.declared.item.Item.{Item}
 use Rattle.sql_reader.specs.declared.item.Item.TheVariants as i
-use Rattle.sql_reader.specs.declared.error.Later.TheVariants.{UniqueIndex}
-use Rattle.sql_reader.specs.Wrong as w
 use Rattle.sql_reader.specs.Expressions.{Forms}
 use Rattle.sql_reader.specs.Items.{items_of}
-use Rattle.sql_reader.specs.Reading.{Outcome, Rule, Verdict, ◌>>=◌, ◌>>◌, pure, refuse, refuse_as, advance, expect, item_ahead, more_ahead}
+use Rattle.sql_reader.specs.Reading.{Outcome, Rule, Verdict, ◌>>=◌, ◌>>◌, pure, refuse, advance, expect, item_ahead, more_ahead}
 use Rattle.sql_reader.specs.Turns.{each, repeat}
 use Rattle.pub_reader.specs.Catalogs.{CatalogOf}
 use Rattle.pub_reader.specs.Drafts.{DraftOf, no_draft, resolved}
 use Rattle.pub_reader.specs.Identities.{alter_table}
+use Rattle.pub_reader.specs.Indexes.{create_index}
 use Rattle.pub_reader.specs.Publications.{create_publication}
 use Rattle.pub_reader.specs.Schemas.{create_schema}
 use Rattle.pub_reader.specs.Subscriptions.{create_subscription}
@@ -23,7 +22,7 @@ module _ {S : Type 0} (forms : Forms S) where
   created_by (Some (i.Keyword k.Publication)) draft = advance >> create_publication forms draft
   created_by (Some (i.Keyword k.Schema)) draft = advance >> create_schema draft
   created_by (Some (i.Keyword k.Subscription)) draft = advance >> create_subscription draft
-  created_by (Some (i.Keyword k.Unique)) draft = refuse_as (w.NotYet UniqueIndex)
+  created_by (Some (i.Keyword k.Unique)) draft = advance >> create_index draft
   created_by _ draft = refuse
 
   unfoldable pub created : DraftOf S → Rule (DraftOf S)

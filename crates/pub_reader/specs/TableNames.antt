@@ -12,7 +12,7 @@ use Rattle.sql_reader.specs.Names.{name}
 use Rattle.sql_reader.specs.Reading.{Rule, Verdict, fault, ◌>>=◌, ◌>>◌, pure, check, look, expect, is_ahead, item_ahead}
 use Rattle.sql_reader.specs.Columns.{left_out}
 use Rattle.pub_reader.specs.declared.table_name.NewName.{NewName}
-use Rattle.pub_reader.specs.Drafts.{DraftOf, public_schema, find_table}
+use Rattle.pub_reader.specs.Drafts.{DraftOf, public_schema, find_table, find_relation}
 use Rattle.pub_reader.specs.Schemas.{fresh, known, known_schema}
 
 -- ---- a table that was made before
@@ -40,9 +40,9 @@ table_number draft = name >>= table_named draft
 
 -- ---- a new table
 
--- a new table has a name that is new in its schema, and there are at most 64
+-- a new table has a name that no table and no index of its schema has, and there are at most 64
 unfoldable pub new_table : List Table → NewName → Verdict (Unit {0})
-new_table tables called = fresh called.name (find_table called.schema called.name.text tables) (nat_le 64 (length tables)) Tables
+new_table tables called = fresh called.name (find_relation called.schema called.name.text tables) (nat_le 64 (length tables)) Tables
 
 unfoldable pub new_in_schema : List (List ℕ) → PlacedName → Rule NewName
 new_in_schema schemas schema = name_in_schema schemas schema >>= (λ called. pure (record { schema = schema.text; name = called }))

@@ -1,6 +1,7 @@
 //! A catalog while it is read: what was made so far, and the names by which it is found.
 
-ghost use Rattle.std.specs.Prelude.{◌≡◌, map};
+ghost use Rattle.std.specs.Prelude.{◌≡◌, ◌<◌, length, map, IfSome};
+ghost use Rattle.pub_reader.specs.Drafts as spec;
 
 use crate::catalog::{Catalog, Operations, Publication, Subscription};
 use crate::coverage::Coverage;
@@ -8,12 +9,14 @@ use crate::filters::add_filters;
 use crate::names::{Names, check_new, known_number};
 use crate::resolution::resolved;
 use crate::table_name::NewName;
-use filter_tree::{Column, Filter, Identity, Table, Text};
+use filter_tree::{Column, Filter, Identity, Table, Text, UniqueIndex};
 use sql_reader::{ErrorKind, Limit, PlacedName, ReadError};
 use std::alloc::{AllocError, Global};
 
-/// How many tables, publications and subscriptions a catalog may have.
+/// How many tables, unique indexes of a table, publications and subscriptions a catalog may have.
 const MAX_TABLES: usize = 64;
+
+const MAX_INDEXES: usize = 8;
 
 const MAX_PUBLICATIONS: usize = 64;
 
@@ -28,6 +31,22 @@ pub struct DraftPublication {
     pub name: Text,
     pub publishes: Operations,
     pub coverage: Coverage,
+}
+
+/// The number of the index of a name.
+pub fn find_index(indexes: &[UniqueIndex], name: &str) -> Option<usize>
+    ensures value { result ≡ spec.find_index name.now indexes.now }
+    ensures within { IfSome result (λ n. n < length indexes.now) }
+{
+    indexes.iter().position(|index| name == index.name.as_str())
+}
+
+/// Whether a table, or an index of it, has this name in this schema.
+fn has_name(table: &Table, schema: &str, name: &str) -> bool
+    ensures { result ≡ spec.has_name schema.now name.now table.now }
+{
+    schema == table.schema.as_str()
+        && (name == table.name.as_str() || find_index(table.indexes.as_slice(), name).is_some())
 }
 
 /// The schemas, tables, publications and subscriptions made so far, with their names.
@@ -47,10 +66,11 @@ impl Draft {
     ghost use Rattle.std.specs.Prelude.{◌≡◌, ◌<◌, ◌∷◌, ◌++◌, [], length, map, IfOk, IfSome, None, OnOk};
     ghost use Rattle.filter_tree.specs.Shape.{expr_view};
     ghost use Rattle.sql_reader.specs.Reading.{Answers};
-    ghost use Rattle.pub_reader.specs.Catalogs.{columns_at, identified};
+    ghost use Rattle.pub_reader.specs.Catalogs.{schema_at, columns_at, indexes_at, identified, indexed};
     ghost use Rattle.pub_reader.specs.CatalogView.{catalog_view};
     ghost use Rattle.pub_reader.specs.Drafts as spec;
     ghost use Rattle.pub_reader.specs.DraftView.{draft_view, draft_publication_view};
+    ghost use Rattle.pub_reader.specs.Indexes.{new_index};
     ghost use Rattle.pub_reader.specs.Publications.{new_publication};
     ghost use Rattle.pub_reader.specs.Schemas.{known, new_schema, known_schema};
     ghost use Rattle.pub_reader.specs.Subscriptions.{new_subscription};
@@ -111,6 +131,15 @@ impl Draft {
             && name == table.name.as_str())
     }
 
+    /// The number of the table that has a name in a schema, or an index of the name: they share their names.
+    fn find_relation(&self, schema: &str, name: &str) -> Option<usize>
+        ensures { result ≡ spec.find_relation schema.now name.now (draft_view self.now).tables }
+    {
+        self.tables
+            .iter()
+            .position(|table| has_name(table, schema, name))
+    }
+
     /// The number of the publication of a name.
     fn find_publication(&self, name: &str) -> Option<usize>
         ensures { result ≡ spec.find_publication name.now (draft_view self.now).publications }
@@ -125,17 +154,33 @@ impl Draft {
         self.subscription_names.find(name)
     }
 
-    /// Refuses a table whose name is taken in its schema, or that is one too many.
+    /// Refuses a table whose name a table or an index of its schema has, or that is one too many.
     #[tactic(auto, unfolding(crate::specs::TableNames::new_table))]
     pub fn new_table(&self, name: &NewName) -> Result<(), ReadError>
         ensures { Answers (λ u. u) (new_table (draft_view self.now).tables name.now) result }
     {
-        let found = self.find_table(name.schema.as_str(), name.name.text.as_str());
+        let found = self.find_relation(name.schema.as_str(), name.name.text.as_str());
         check_new(
             &name.name,
             found,
             self.tables.len() >= MAX_TABLES,
             Limit::Tables,
+        )
+    }
+
+    /// Refuses an index of the table of this number whose name a table or an index of the table's schema has, or that is
+    /// one too many.
+    #[tactic(auto, unfolding(crate::specs::Indexes::new_index))]
+    pub fn new_index(&self, number: usize, name: &PlacedName) -> Result<(), ReadError>
+        requires { number < length (draft_view self.now).tables }
+        ensures { Answers (λ u. u) (new_index (draft_view self.now).tables number name.now) result }
+    {
+        let found = self.find_relation(self.schema(number), name.text.as_str());
+        check_new(
+            name,
+            found,
+            self.indexes(number).len() >= MAX_INDEXES,
+            Limit::Indexes,
         )
     }
 
@@ -185,6 +230,15 @@ impl Draft {
         known_number(name, self.find_publication(name.text.as_str()))
     }
 
+    /// The schema of a table.
+    #[tactic(auto, using(crate::proofs::TableLemmas::table_numbers))]
+    fn schema(&self, number: usize) -> &str
+        requires { number < length (draft_view self.now).tables }
+        ensures { result.now ≡ schema_at (draft_view self.now).tables number }
+    {
+        self.tables[number].schema.as_str()
+    }
+
     /// The columns of a table.
     #[tactic(auto, using(crate::proofs::TableLemmas::table_numbers))]
     pub fn columns(&self, number: usize) -> &[Column]
@@ -192,6 +246,15 @@ impl Draft {
         ensures { result.now ≡ columns_at (draft_view self.now).tables number }
     {
         self.tables[number].columns.as_slice()
+    }
+
+    /// The unique indexes of a table.
+    #[tactic(auto, using(crate::proofs::TableLemmas::table_numbers))]
+    pub fn indexes(&self, number: usize) -> &[UniqueIndex]
+        requires { number < length (draft_view self.now).tables }
+        ensures { result.now ≡ indexes_at (draft_view self.now).tables number }
+    {
+        self.tables[number].indexes.as_slice()
     }
 
     /// The filters on a table.
@@ -256,6 +319,16 @@ impl Draft {
         ensures { draft_view self.new ≡ record (draft_view self.old) { tables = identified (draft_view self.old).tables number identity } }
     {
         self.tables[number].identity = identity;
+    }
+
+    /// Gives a table one more unique index.
+    #[tactic(auto, using(crate::proofs::TableLemmas::table_numbers))]
+    pub fn add_index(&mut self, number: usize, index: UniqueIndex) -> Result<(), AllocError>
+        requires { number < length (draft_view self.old).tables }
+        ensures { OnOk result (draft_view self.new ≡ record (draft_view self.old) { tables = indexed (draft_view self.old).tables number index }) }
+    {
+        self.tables[number].indexes.push(index)?;
+        Ok(())
     }
 
     /// The catalog, once it is read: what the publications cover is resolved.

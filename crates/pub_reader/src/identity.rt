@@ -1,16 +1,17 @@
 //! ALTER TABLE .. REPLICA IDENTITY.
 
-ghost use Rattle.std.specs.Prelude.{◌<◌, ◌≤◌, OnOk};
+ghost use Rattle.std.specs.Prelude.{◌≡◌, ◌<◌, ◌≤◌, OnOk, slice_get};
 ghost use Rattle.sql_reader.specs.Ahead.{to_read};
 ghost use Rattle.sql_reader.specs.Items.{size};
-ghost use Rattle.sql_reader.specs.Reading.{Reads};
+ghost use Rattle.sql_reader.specs.Reading.{Reads, Answers};
 ghost use Rattle.pub_reader.specs.DraftView.{draft_view};
 ghost use Rattle.pub_reader.specs.Identities as spec;
 
-use crate::draft::Draft;
+use crate::draft::{Draft, find_index};
+use crate::names::known_number;
 use crate::table_name::table_number;
-use filter_tree::Identity;
-use sql_reader::{ErrorKind, Item, Keyword, Later, Omitted, ReadError, Reader};
+use filter_tree::{Column, Identity, UniqueIndex};
+use sql_reader::{ErrorKind, Item, Keyword, Omitted, PlacedName, ReadError, Reader, read_name};
 use std::alloc::Global;
 
 /// Takes the word REPLICA.
@@ -30,10 +31,78 @@ fn action(r: &mut Reader<'_>) -> Result<(), ReadError>
     }
 }
 
-/// Takes DEFAULT, FULL or NOTHING.
+/// Whether a column is there and takes no null.
+fn takes_no_null(columns: &[Column], number: usize) -> bool
+    ensures { result ≡ spec.takes_no_null (slice_get columns.now number) }
+{
+    match columns.get(number) {
+        Some(column) => column.not_null,
+        None => false,
+    }
+}
+
+/// Whether each of these columns is there and takes no null.
+fn take_no_null(columns: &[Column], numbers: &[usize]) -> bool
+    ensures { result ≡ spec.take_no_null columns.now numbers.now }
+{
+    numbers.iter().all(|number| takes_no_null(columns, *number))
+}
+
+/// Whether the index of this number is there, and none of its columns takes a null.
+fn identifies(columns: &[Column], indexes: &[UniqueIndex], number: usize) -> bool
+    ensures { result ≡ spec.identifies columns.now (slice_get indexes.now number) }
+{
+    match indexes.get(number) {
+        None => false,
+        Some(index) => take_no_null(columns, index.columns.as_slice()),
+    }
+}
+
+/// The identity by the index of a name.
+#[tactic(auto, unfolding(crate::specs::Identities::index_named))]
+fn index_named(
+    columns: &[Column],
+    indexes: &[UniqueIndex],
+    name: &PlacedName,
+) -> Result<Identity, ReadError>
+    ensures { Answers (λ identity. identity) (spec.index_named columns.now indexes.now name.now) result }
+{
+    let number = known_number(name, find_index(indexes, name.text.as_str()))?;
+    if !identifies(columns, indexes, number) {
+        return Err(ReadError {
+            place: name.place,
+            kind: ErrorKind::NullableIndex,
+        });
+    }
+    Ok(Identity::Index(number))
+}
+
+/// Takes USING INDEX and the name of an index.
+#[tactic(auto, unfolding(crate::specs::Identities::using_index))]
+fn using_index(
+    r: &mut Reader<'_>,
+    alloc: Global,
+    columns: &[Column],
+    indexes: &[UniqueIndex],
+) -> Result<Identity, ReadError>
+    ensures reads { Reads (λ identity. identity) (spec.using_index columns.now indexes.now (to_read r.old)) result (to_read r.new) }
+    ensures fewer { OnOk result (size (to_read r.new) < size (to_read r.old)) }
+{
+    r.expect(Item::Keyword(Keyword::Using), "USING INDEX")?;
+    r.expect(Item::Keyword(Keyword::Index), "INDEX")?;
+    let name = read_name(r, alloc, "the name of an index")?;
+    Ok(index_named(columns, indexes, &name)?)
+}
+
+/// Takes DEFAULT, FULL, NOTHING or USING INDEX with the name of an index.
 #[tactic(auto, using(sql_reader::proofs::Ahead::rest_is_no_more), unfolding(crate::specs::Identities::identity))]
-fn identity(r: &mut Reader<'_>) -> Result<Identity, ReadError>
-    ensures reads { Reads (λ identity. identity) (spec.identity (to_read r.old)) result (to_read r.new) }
+fn identity(
+    r: &mut Reader<'_>,
+    alloc: Global,
+    columns: &[Column],
+    indexes: &[UniqueIndex],
+) -> Result<Identity, ReadError>
+    ensures reads { Reads (λ identity. identity) (spec.identity columns.now indexes.now (to_read r.old)) result (to_read r.new) }
     ensures fewer { OnOk result (size (to_read r.new) ≤ size (to_read r.old)) }
 {
     match r.item() {
@@ -49,20 +118,25 @@ fn identity(r: &mut Reader<'_>) -> Result<Identity, ReadError>
             r.advance();
             Ok(Identity::Nothing)
         }
-        Some(Item::Keyword(Keyword::Using)) => Err(r.refused(ErrorKind::NotYet(Later::UsingIndex))),
-        _ => Err(r.refusal("DEFAULT, FULL or NOTHING")),
+        Some(Item::Keyword(Keyword::Using)) => Ok(using_index(r, alloc, columns, indexes)?),
+        _ => Err(r.refusal("DEFAULT, FULL, NOTHING or USING INDEX")),
     }
 }
 
 /// Takes REPLICA IDENTITY and the identity.
 #[tactic(auto, unfolding(crate::specs::Identities::replica_identity))]
-fn replica_identity(r: &mut Reader<'_>) -> Result<Identity, ReadError>
-    ensures reads { Reads (λ identity. identity) (spec.replica_identity (to_read r.old)) result (to_read r.new) }
+fn replica_identity(
+    r: &mut Reader<'_>,
+    alloc: Global,
+    columns: &[Column],
+    indexes: &[UniqueIndex],
+) -> Result<Identity, ReadError>
+    ensures reads { Reads (λ identity. identity) (spec.replica_identity columns.now indexes.now (to_read r.old)) result (to_read r.new) }
     ensures fewer { OnOk result (size (to_read r.new) < size (to_read r.old)) }
 {
     action(r)?;
     r.expect(Item::Keyword(Keyword::Identity), "IDENTITY")?;
-    identity(r)
+    identity(r, alloc, columns, indexes)
 }
 
 /// Takes ALTER TABLE, and gives the table its replica identity.
@@ -75,7 +149,7 @@ pub fn alter_table(r: &mut Reader<'_>, alloc: Global, draft: &mut Draft) -> Resu
     r.expect(Item::Keyword(Keyword::Table), "TABLE")?;
     r.eat(Item::Keyword(Keyword::Only));
     let number = table_number(r, alloc, draft)?;
-    let recorded = replica_identity(r)?;
+    let recorded = replica_identity(r, alloc, draft.columns(number), draft.indexes(number))?;
     draft.identify(number, recorded);
     Ok(())
 }

@@ -8,6 +8,7 @@ mod draft;
 mod filter_clause;
 mod filters;
 mod identity;
+mod index;
 mod names;
 mod object;
 mod parameter;

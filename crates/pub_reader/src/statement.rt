@@ -14,11 +14,12 @@ ghost use Rattle.pub_reader.specs.Statements as spec;
 use crate::catalog::Catalog;
 use crate::draft::Draft;
 use crate::identity::alter_table;
+use crate::index::create_index;
 use crate::publication::create_publication;
 use crate::schema::create_schema;
 use crate::subscription::create_subscription;
 use crate::table::create_table;
-use sql_reader::{ErrorKind, Item, Keyword, Later, ReadError, Reader};
+use sql_reader::{Item, Keyword, ReadError, Reader};
 use std::alloc::Global;
 
 /// Takes what is made, after CREATE.
@@ -44,10 +45,11 @@ fn created(r: &mut Reader<'_>, alloc: Global, draft: &mut Draft) -> Result<(), R
             r.advance();
             create_subscription(r, alloc, draft)
         }
-        Some(Item::Keyword(Keyword::Unique)) => Err(r.refused(ErrorKind::NotYet(
-            Later::UniqueIndex,
-        ))),
-        _ => Err(r.refusal("SCHEMA, TABLE, PUBLICATION or SUBSCRIPTION")),
+        Some(Item::Keyword(Keyword::Unique)) => {
+            r.advance();
+            create_index(r, alloc, draft)
+        }
+        _ => Err(r.refusal("SCHEMA, TABLE, UNIQUE INDEX, PUBLICATION or SUBSCRIPTION")),
     }
 }
 
@@ -96,10 +98,11 @@ fn statements(r: &mut Reader<'_>, alloc: Global, draft: &mut Draft) -> Result<()
     Ok(())
 }
 
-/// Reads a catalog: CREATE SCHEMA, CREATE TABLE, ALTER TABLE .. REPLICA IDENTITY, CREATE PUBLICATION and CREATE
-/// SUBSCRIPTION, each ended by `;`. A publication's entries are the tables that it names, and then each table that it
-/// carries whole by FOR ALL TABLES or TABLES IN SCHEMA, wherever in the text the table is made. There are at most 64
-/// tables of at most 100 columns, 64 publications and 32 subscriptions.
+/// Reads a catalog: CREATE SCHEMA, CREATE TABLE, CREATE UNIQUE INDEX, ALTER TABLE .. REPLICA IDENTITY, CREATE PUBLICATION
+/// and CREATE SUBSCRIPTION, each ended by `;`. A publication's entries are the tables that it names, and then each table
+/// that it carries whole by FOR ALL TABLES or TABLES IN SCHEMA, wherever in the text the table is made. There are at most
+/// 64 tables of at most 100 columns and 8 unique indexes, 64 publications and 32 subscriptions. An identity by an index
+/// names one of the table's, none of whose columns takes a null.
 ///
 /// # Errors
 ///

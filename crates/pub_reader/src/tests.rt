@@ -1,4 +1,6 @@
 mod catalog_cases;
+mod index_cases;
+mod indexes;
 mod largest;
 mod parameter_cases;
 mod publication_cases;

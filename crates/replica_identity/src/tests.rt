@@ -1,7 +1,7 @@
 mod identities;
 
 use crate::{Plan, Share, covered, identity_columns, plan};
-use filter_tree::{Filter, Row};
+use filter_tree::{Filter, Identity, Row};
 use pub_reader::{Catalog, ReadError, read_catalog, read_row};
 use std::alloc::{AllocError, Global};
 use std::test::Fail;
@@ -103,6 +103,35 @@ fn identities_have_their_columns(rt: HostRuntime) -> Result<(), Fail> {
             [0, 1, 2, 3].map(|column| covered(table, column)),
             coverage,
             "of table {number}"
+        );
+    }
+    Ok(())
+}
+
+#[test]
+fn an_identity_by_an_index_has_the_columns_of_the_index(rt: HostRuntime) -> Result<(), Fail> {
+    let alloc = rt.alloc();
+    let mut catalog = read_catalog(
+        alloc,
+        "CREATE TABLE u (id integer PRIMARY KEY, code text NOT NULL, part integer NOT NULL);
+CREATE UNIQUE INDEX i ON u (id);CREATE UNIQUE INDEX j ON u (part, code);
+ALTER TABLE u REPLICA IDENTITY USING INDEX j;",
+    )?;
+    let table = catalog.tables.first_mut().ok_or("a table")?;
+    let cases: [(Identity, &[usize], [bool; 4]); 3] = [
+        (Identity::Index(1), &[2, 1], [false, true, true, false]),
+        (Identity::Index(0), &[0], [true, false, false, false]),
+        (Identity::Index(2), &[], [false, false, false, false]),
+    ];
+    assert_eq!(rt; table.identity, Identity::Index(1));
+    for (identity, columns, coverage) in cases {
+        table.identity = identity;
+        let found = identity_columns(alloc, table)?;
+        assert_eq!(rt; found.as_slice(), columns, "of {identity:?}");
+        assert_eq!(rt;
+            [0, 1, 2, 3].map(|column| covered(table, column)),
+            coverage,
+            "of {identity:?}"
         );
     }
     Ok(())

@@ -56,6 +56,7 @@ early_free_keyword word =
     if str_eq_ignore_ascii_case word (codes "identity") then Some k.Identity else
     if str_eq_ignore_ascii_case word (codes "if") then Some k.If else
     if str_eq_ignore_ascii_case word (codes "ilike") then Some k.Ilike else
+    if str_eq_ignore_ascii_case word (codes "index") then Some k.Index else
     if str_eq_ignore_ascii_case word (codes "inherits") then Some k.Inherits else
     if str_eq_ignore_ascii_case word (codes "key") then Some k.Key else
     None
@@ -95,6 +96,7 @@ is_reserved k.Full = false
 is_reserved k.Identity = false
 is_reserved k.If = false
 is_reserved k.Ilike = false
+is_reserved k.Index = false
 is_reserved k.Inherits = false
 is_reserved k.Key = false
 is_reserved k.Like = false

@@ -26,6 +26,7 @@ pub data Wrong : Type 0 where
   TooMany : Limit → Wrong
   NoKey : Wrong
   TableTwice : Wrong
+  NullableIndex : Wrong
 
 -- what an error says is wrong: want of memory says nothing of the text
 abbrev pub wrong_of : ErrorKind → Option Wrong
@@ -45,6 +46,7 @@ wrong_of (e.TooMany limit) = Some (TooMany limit)
 wrong_of e.NoKey = Some NoKey
 wrong_of e.TableTwice = Some TableTwice
 wrong_of e.OutOfMemory = None
+wrong_of e.NullableIndex = Some NullableIndex
 
 -- what is wrong where a token is faulty
 abbrev pub wrong_token : FaultKind → Wrong

@@ -47,6 +47,8 @@ pub enum ErrorKind {
     TableTwice,
     #[error("out of memory")]
     OutOfMemory,
+    #[error("a column of this index may be null, so that it identifies no row")]
+    NullableIndex,
 }
 
 /// Forms that are not read yet.
@@ -116,6 +118,8 @@ pub enum Limit {
     LiteralBytes,
     #[error("steps (100,000)")]
     Steps,
+    #[error("unique indexes of a table (8)")]
+    Indexes,
 }
 
 impl ErrorKind {
@@ -143,6 +147,7 @@ impl ErrorKind {
             ErrorKind::NoKey => "NoKey",
             ErrorKind::TableTwice => "TableTwice",
             ErrorKind::OutOfMemory => "OutOfMemory",
+            ErrorKind::NullableIndex => "NullableIndex",
         }
     }
 }

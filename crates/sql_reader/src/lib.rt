@@ -27,6 +27,7 @@ mod truth_test;
 mod word;
 mod written_row;
 
+pub use column::{FoundColumn, known_column};
 pub use column_rule::left_out_clause;
 pub use element::{TableParts, read_elements};
 pub use error::{ErrorKind, Later, Limit, Omitted, ReadError};

@@ -44,6 +44,7 @@ pub enum Keyword {
     Identity,
     If,
     Ilike,
+    Index,
     Inherits,
     Key,
     Like,
@@ -90,6 +91,7 @@ pub fn is_reserved(keyword: Keyword) -> bool
         | Keyword::Identity
         | Keyword::If
         | Keyword::Ilike
+        | Keyword::Index
         | Keyword::Inherits
         | Keyword::Key
         | Keyword::Like
@@ -206,6 +208,8 @@ fn early_free_keyword(word: &str) -> Option<Keyword>
         Some(Keyword::If)
     } else if same_word(word, "ilike") {
         Some(Keyword::Ilike)
+    } else if same_word(word, "index") {
+        Some(Keyword::Index)
     } else if same_word(word, "inherits") {
         Some(Keyword::Inherits)
     } else if same_word(word, "key") {

@@ -1,6 +1,7 @@
 //! The largest catalog. There is memory for it, so that it is not refused for want of it.
 
 use crate::{Publication, read_catalog};
+use filter_tree::Identity;
 use std::alloc::{AllocError, Global};
 use std::test::Fail;
 
@@ -9,7 +10,7 @@ fn name(alloc: Global, letter: &str, number: usize) -> Result<String, AllocError
     format!(in alloc; "{}{number:03}", letter.repeat(alloc, 60)?)
 }
 
-/// A table of 100 columns, which are all in its key.
+/// A table of 100 columns, which are all in its key, and in each of its 8 indexes.
 fn table(alloc: Global, number: usize) -> Result<String, AllocError> {
     let mut columns = String::from_str(alloc, "id integer, region text")?;
     let mut key = String::from_str(alloc, "id, region")?;
@@ -22,7 +23,22 @@ fn table(alloc: Global, number: usize) -> Result<String, AllocError> {
     }
     let schema = name(alloc, "s", number)?;
     let called = name(alloc, "t", number)?;
-    format!(in alloc; "CREATE TABLE {schema}.{called} ({columns}, PRIMARY KEY ({key}));\n")
+    let mut text = format!(in alloc;
+        "CREATE TABLE {schema}.{called} ({columns}, PRIMARY KEY ({key}));\n"
+    )?;
+    for index in 0..8 {
+        let piece = format!(in alloc;
+            "CREATE UNIQUE INDEX {} ON {schema}.{called} ({key});\n",
+            name(alloc, "i", index)?
+        )?;
+        text.push_str(piece.as_str())?;
+    }
+    let piece = format!(in alloc;
+        "ALTER TABLE {schema}.{called} REPLICA IDENTITY USING INDEX {};\n",
+        name(alloc, "i", 7)?
+    )?;
+    text.push_str(piece.as_str())?;
+    Ok(text)
 }
 
 /// A filter for each publication and table. The one of the last publication on the first table has a text of 65,535 bytes,
@@ -123,6 +139,12 @@ fn reads_the_largest_catalog(rt: HostRuntime) -> Result<(), Fail> {
     for table in &catalog.tables {
         assert_eq!(rt; table.columns.len(), 100);
         assert_eq!(rt; table.key.len(), 100);
+        assert_eq!(rt; table.indexes.len(), 8);
+        for index in table.indexes.as_slice() {
+            assert_eq!(rt; index.name.len(), 63);
+            assert_eq!(rt; index.columns.len(), 100);
+        }
+        assert_eq!(rt; table.identity, Identity::Index(7));
     }
     assert_eq!(rt; catalog.publications.len(), 64);
     for (number, publication) in catalog.publications.iter().enumerate() {

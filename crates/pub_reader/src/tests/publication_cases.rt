@@ -31,8 +31,8 @@ pub const AFTER_TABLES: &[Case] = &[
     ),
     (
         "ALTER TABLE t REPLICA IDENTITY USING INDEX i;",
-        "NotYet(UsingIndex)",
-        31,
+        "UnknownName",
+        43,
     ),
     ("CREATE PUBLICATION p;", "ok", 0),
     ("CREATE PUBLICATION p TABLE t;", "Expected", 21),

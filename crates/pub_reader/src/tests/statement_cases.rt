@@ -17,7 +17,7 @@ pub const STATEMENTS: &[Case] = &[
     ("CREATE SCHEMA \"table\";", "ok", 0),
     ("CREATE SCHEMA 's';", "Expected", 14),
     ("CREATE SCHEMA s \0", "BadToken", 16),
-    ("CREATE UNIQUE INDEX i ON t (id);", "NotYet(UniqueIndex)", 7),
+    ("CREATE UNIQUE INDEX i ON t (id);", "UnknownName", 25),
     ("CREATE VIEW v;", "Expected", 7),
     ("ALTER SCHEMA s;", "Expected", 6),
     ("DROP TABLE t;", "Expected", 0),

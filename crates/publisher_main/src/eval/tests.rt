@@ -92,7 +92,7 @@ fn rows_are_answered(rt: HostRuntime) -> Result<(), Fail> {
             3,
         ),
         row_case("t", "CREATE UNIQUE", "", "input\n", 3),
-        row_case("t", "CREATE UNIQUE INDEX\n", "", "catalog 7 NotYet\n", 3),
+        row_case("t", "CREATE UNIQUE INDEX\n", "", "catalog 20 Expected\n", 3),
     ];
     for c in cases {
         let (catalog, rows, word) = (c.catalog, c.rows, c.word);
