@@ -108,30 +108,40 @@ fn identities_have_their_columns(rt: HostRuntime) -> Result<(), Fail> {
     Ok(())
 }
 
+const INDEXED: &str =
+    "CREATE TABLE u (id integer PRIMARY KEY, code text NOT NULL, part integer NOT NULL);
+CREATE UNIQUE INDEX i ON u (id);CREATE UNIQUE INDEX j ON u (part, code);
+ALTER TABLE u REPLICA IDENTITY USING INDEX j;";
+
+/// A catalog whose table has two indexes, and this identity.
+fn identified_by(alloc: Global, identity: Identity) -> Result<Catalog, ReadError> {
+    let mut catalog = read_catalog(alloc, INDEXED)?;
+    if let Some(table) = catalog.tables.first_mut() {
+        table.identity = identity;
+    }
+    Ok(catalog)
+}
+
 #[test]
 fn an_identity_by_an_index_has_the_columns_of_the_index(rt: HostRuntime) -> Result<(), Fail> {
     let alloc = rt.alloc();
-    let mut catalog = read_catalog(
-        alloc,
-        "CREATE TABLE u (id integer PRIMARY KEY, code text NOT NULL, part integer NOT NULL);
-CREATE UNIQUE INDEX i ON u (id);CREATE UNIQUE INDEX j ON u (part, code);
-ALTER TABLE u REPLICA IDENTITY USING INDEX j;",
-    )?;
-    let table = catalog.tables.first_mut().ok_or("a table")?;
+    let catalog = read_catalog(alloc, INDEXED)?;
+    let table = catalog.tables.first().ok_or("a table")?;
+    assert_eq!(rt; table.identity, Identity::Index(1));
     let cases: [(Identity, &[usize], [bool; 4]); 3] = [
         (Identity::Index(1), &[2, 1], [false, true, true, false]),
         (Identity::Index(0), &[0], [true, false, false, false]),
         (Identity::Index(2), &[], [false, false, false, false]),
     ];
-    assert_eq!(rt; table.identity, Identity::Index(1));
     for (identity, columns, coverage) in cases {
-        table.identity = identity;
+        let catalog = identified_by(alloc, identity)?;
+        let table = catalog.tables.first().ok_or("a table")?;
         let found = identity_columns(alloc, table)?;
-        assert_eq!(rt; found.as_slice(), columns, "of {identity:?}");
+        assert_eq!(rt; found.as_slice(), columns, "by {identity:?}");
         assert_eq!(rt;
             [0, 1, 2, 3].map(|column| covered(table, column)),
             coverage,
-            "of {identity:?}"
+            "by {identity:?}"
         );
     }
     Ok(())

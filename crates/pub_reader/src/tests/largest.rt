@@ -10,6 +10,20 @@ fn name(alloc: Global, letter: &str, number: usize) -> Result<String, AllocError
     format!(in alloc; "{}{number:03}", letter.repeat(alloc, 60)?)
 }
 
+/// 8 indexes of a table, each of these columns, of which the last identifies its rows.
+fn indexes(alloc: Global, schema: &str, table: &str, columns: &str) -> Result<String, AllocError> {
+    let mut text = String::new(alloc);
+    for number in 0..8 {
+        let called = name(alloc, "i", number)?;
+        let piece = format!(in alloc;
+            "CREATE UNIQUE INDEX {called} ON {schema}.{table} ({columns});\n"
+        )?;
+        text.push_str(piece.as_str())?;
+    }
+    let last = name(alloc, "i", 7)?;
+    format!(in alloc; "{text}ALTER TABLE {schema}.{table} REPLICA IDENTITY USING INDEX {last};\n")
+}
+
 /// A table of 100 columns, which are all in its key, and in each of its 8 indexes.
 fn table(alloc: Global, number: usize) -> Result<String, AllocError> {
     let mut columns = String::from_str(alloc, "id integer, region text")?;
@@ -23,22 +37,10 @@ fn table(alloc: Global, number: usize) -> Result<String, AllocError> {
     }
     let schema = name(alloc, "s", number)?;
     let called = name(alloc, "t", number)?;
-    let mut text = format!(in alloc;
-        "CREATE TABLE {schema}.{called} ({columns}, PRIMARY KEY ({key}));\n"
-    )?;
-    for index in 0..8 {
-        let piece = format!(in alloc;
-            "CREATE UNIQUE INDEX {} ON {schema}.{called} ({key});\n",
-            name(alloc, "i", index)?
-        )?;
-        text.push_str(piece.as_str())?;
-    }
-    let piece = format!(in alloc;
-        "ALTER TABLE {schema}.{called} REPLICA IDENTITY USING INDEX {};\n",
-        name(alloc, "i", 7)?
-    )?;
-    text.push_str(piece.as_str())?;
-    Ok(text)
+    format!(in alloc;
+        "CREATE TABLE {schema}.{called} ({columns}, PRIMARY KEY ({key}));\n{}",
+        indexes(alloc, schema.as_str(), called.as_str(), key.as_str())?
+    )
 }
 
 /// A filter for each publication and table. The one of the last publication on the first table has a text of 65,535 bytes,
