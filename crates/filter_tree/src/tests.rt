@@ -1,4 +1,5 @@
 mod limits;
+mod order;
 mod validity;
 
 use crate::{

@@ -1,0 +1,126 @@
+//! The order of values and rows, by which ordered maps keep them.
+
+ghost use Rattle.std.specs.Prelude.{◌≡◌, refl};
+ghost use Rattle.std.specs.Cmp.{IsTotalOrder};
+ghost use Rattle.std.specs.Cmp.Rules.{comparing};
+ghost use Rattle.std.specs.FinMap.{IsAntisymmetric};
+ghost use Rattle.std.specs.Ordering.{on, eq_by_cmp, as_partial_cmp};
+ghost use Rattle.std.proofs.Common.{rules};
+ghost use Rattle.filter_tree.specs.Order.{rank_of, datum_cmp, cells_cmp, OrdersValues, TiesSameRows};
+ghost use Rattle.filter_tree.specs.Values.{datum_view};
+
+use crate::value::{Row, Value};
+use std::alloc::Allocator;
+use std::cmp::Ordering;
+
+impl<A: Allocator> PartialEq for Value<A> {
+    ghost eq = { on (λ value. datum_view value) (eq_by_cmp datum_cmp) };
+
+    ghost laws = { Prim.search (comparing, rules) depth 9 };
+
+    fn eq(&self, other: &Value<A>) -> bool {
+        self.cmp(other).is_eq()
+    }
+}
+
+impl<A: Allocator> Eq for Value<A> {
+    ghost laws = { Prim.search (comparing, rules) depth 9 };
+}
+
+impl<A: Allocator> PartialOrd for Value<A> {
+    ghost partial_cmp = { as_partial_cmp (on (λ value. datum_view value) datum_cmp) };
+
+    ghost laws = { Prim.search (comparing, rules) depth 9 };
+
+    fn partial_cmp(&self, other: &Value<A>) -> Option<Ordering> {
+        Some(self.cmp(other))
+    }
+}
+
+/// Null first, numbers by their size, FALSE before TRUE, texts byte by byte. Values of two kinds, which no column has, are
+/// in the order numbers, truth values, texts.
+///
+/// PostgreSQL 15, 7.5 Sorting Rows (NULLS FIRST), 9.2 Comparison Functions and Operators, 24.2.2 Collations ("C").
+impl<A: Allocator> Ord for Value<A> {
+    ghost cmp = { on (λ value. datum_view value) datum_cmp };
+
+    ghost total = { Prim.search (comparing, rules) depth 9 };
+
+    ghost matches_partial_cmp = { λ x y. refl };
+
+    ghost matches_eq = { λ x y. refl };
+
+    fn cmp(&self, other: &Value<A>) -> Ordering {
+        let kinds = rank(self).cmp(&rank(other));
+        match (self, other) {
+            (Value::Int(number), Value::Int(other_number)) => number.cmp(other_number),
+            (Value::Bool(truth), Value::Bool(other_truth)) => truth.cmp(other_truth),
+            (Value::Text(text), Value::Text(other_text)) => text.as_str().cmp(other_text.as_str()),
+            (Value::Null | Value::Int(_) | Value::Bool(_) | Value::Text(_), _) => kinds,
+        }
+    }
+}
+
+/// The place of the value's kind in the order, null first.
+fn rank<A: Allocator>(value: &Value<A>) -> u8
+    ensures { result ≡ rank_of (datum_view value.now) }
+{
+    match value {
+        Value::Null => 0,
+        Value::Int(_) => 1,
+        Value::Bool(_) => 2,
+        Value::Text(_) => 3,
+    }
+}
+
+impl<A: Allocator> PartialEq for Row<A> {
+    ghost eq = { eq_by_cmp cells_cmp };
+
+    ghost laws = { Prim.search (comparing, rules) depth 9 };
+
+    fn eq(&self, other: &Row<A>) -> bool {
+        self.cmp(other).is_eq()
+    }
+}
+
+impl<A: Allocator> Eq for Row<A> {
+    ghost laws = { Prim.search (comparing, rules) depth 9 };
+}
+
+impl<A: Allocator> PartialOrd for Row<A> {
+    ghost partial_cmp = { as_partial_cmp cells_cmp };
+
+    ghost laws = { Prim.search (comparing, rules) depth 9 };
+
+    fn partial_cmp(&self, other: &Row<A>) -> Option<Ordering> {
+        Some(self.cmp(other))
+    }
+}
+
+/// By the first column in which the rows differ. A row that another one begins with comes before that one.
+///
+/// PostgreSQL 15, 7.5 Sorting Rows.
+impl<A: Allocator> Ord for Row<A> {
+    ghost cmp = { cells_cmp };
+
+    ghost total = { Prim.search (comparing, rules) depth 9 };
+
+    ghost matches_partial_cmp = { λ x y. refl };
+
+    ghost matches_eq = { λ x y. refl };
+
+    fn cmp(&self, other: &Row<A>) -> Ordering {
+        self.values().cmp(other.values())
+    }
+}
+
+/// A law, and no code, of the order of rows: it is total (`total`), so that an ordered map may have rows as its keys; what
+/// it ties is equal (`equal`), and it ties exactly the same rows (`ties`); and two values are in the order that PostgreSQL
+/// gives those of a column (`values`).
+#[tactic(auto, using(crate::proofs::OrderLemmas::cells_total, crate::proofs::OrderLemmas::cells_tie, crate::proofs::OrderLemmas::ties_same_rows, crate::proofs::OrderLemmas::orders_values))]
+pub fn rows_are_ordered()
+    ensures total { IsTotalOrder cells_cmp }
+    ensures equal { IsAntisymmetric cells_cmp }
+    ensures ties { TiesSameRows }
+    ensures values { OrdersValues }
+{}
