@@ -1,5 +1,6 @@
 pub mod JoiningLemmas
 pub mod NumberLemmas
+pub mod PartLemmas
 pub mod PassingLemmas
 pub mod PlanLemmas
 pub mod SettingLemmas

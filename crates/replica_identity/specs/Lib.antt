@@ -1,8 +1,11 @@
+pub mod ChangeView
 pub mod Identities
 pub mod Joining
+pub mod Parts
 pub mod Passes
 pub mod PlanView
 pub mod Plans
 pub mod Setting
 pub mod SettingLaws
 pub mod Shares
+pub mod Transforms

@@ -27,7 +27,7 @@ fn copied(alloc: Global, numbers: &[usize]) -> Result<Vec<usize>, AllocError>
 }
 
 /// The columns of a table's unique index of this number; none where there is no such index.
-fn index_columns(table: &Table, number: usize) -> &[usize]
+pub(crate) fn index_columns(table: &Table, number: usize) -> &[usize]
     ensures { result.now ≡ spec.index_columns (slice_get table.now.indexes number) }
 {
     match table.indexes.get(number) {

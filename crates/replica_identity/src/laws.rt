@@ -1,5 +1,6 @@
 //! Laws of the setting that a catalog and its plan make.
 
+ghost use Rattle.replica_identity.specs.Parts.{RecordsParts};
 ghost use Rattle.replica_identity.specs.SettingLaws.{SettingHasTables, RowsHaveKeys, ColumnsIdentify};
 
 /// A law, and no code, of the setting of a catalog and its plan. A table that is there is known, a row's fault in it is
@@ -13,4 +14,11 @@ pub fn catalogs_make_settings()
     ensures tables { SettingHasTables }
     ensures keys { RowsHaveKeys }
     ensures identities { ColumnsIdentify }
+{}
+
+/// A law, and no code, of what is recorded of old rows. In the setting of a catalog and its plan it is, for each table that
+/// is there, what `old_part` gives.
+#[tactic(auto, using(crate::proofs::PartLemmas::records_parts))]
+pub fn settings_record_parts()
+    ensures parts { RecordsParts }
 {}

@@ -1,16 +1,22 @@
 //! What each subscriber takes of each table of a catalog, and what a table's replica identity records of an old row.
 #![tactic(auto)]
 
+mod change;
 mod identity;
 mod laws;
+mod part;
 mod planning;
 mod share;
 mod shares;
 #[cfg(test)]
 mod tests;
+mod transforms;
 
+pub use change::{Change, OldPart};
 pub use identity::{covered, identity_columns, tells_rows_apart};
-pub use laws::catalogs_make_settings;
+pub use laws::{catalogs_make_settings, settings_record_parts};
+pub use part::old_part;
 pub use planning::plan;
 pub use share::Share;
 pub use shares::Plan;
+pub use transforms::{Out, carries, transform};

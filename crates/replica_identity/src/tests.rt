@@ -1,3 +1,4 @@
+mod changes;
 mod identities;
 
 use crate::{Plan, Share, covered, identity_columns, plan};

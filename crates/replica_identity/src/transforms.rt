@@ -1,0 +1,94 @@
+//! What a subscriber gets of a change.
+
+ghost use Rattle.std.specs.Prelude.{◌≡◌};
+ghost use Rattle.std.specs.List.{list_any};
+ghost use Rattle.std.specs.Option.{option_map};
+ghost use Rattle.table_changes.specs.Outs as spec;
+ghost use Rattle.replica_identity.specs.ChangeView.{part_view, change_view, out_view};
+ghost use Rattle.replica_identity.specs.PlanView.{plan_view};
+ghost use Rattle.replica_identity.specs.Transforms.{takes_any, out_for};
+
+use crate::change::{Change, OldPart};
+use crate::share::Share;
+use crate::shares::Plan;
+use filter_tree::Row;
+
+/// What a subscriber gets of a change, with the change's own rows and tables. The table is the change's; `Truncate` has all
+/// tables of the change, of which the subscriber may take nothing of some.
+#[derive(Clone, Copy, Debug, PartialEq, Eq)]
+pub enum Out<'a> {
+    Insert(&'a Row),
+    Update(&'a OldPart, &'a Row),
+    Delete(&'a OldPart),
+    Truncate(&'a [usize]),
+}
+
+/// Whether a subscriber takes anything of a table, by their numbers from 0 in the catalog. Of tables and subscribers that
+/// the catalog lacks it takes nothing.
+///
+/// PostgreSQL 15, "Logical Replication", 31.2 Subscription.
+pub fn carries(plan: &Plan, subscriber: usize, table: usize) -> bool
+    ensures { result ≡ takes_any (plan_view plan.now) subscriber table }
+{
+    !matches!(plan.share(subscriber, table), Share::Nothing)
+}
+
+/// Whether it takes anything of one of these tables.
+fn carries_any(plan: &Plan, subscriber: usize, tables: &[usize]) -> bool
+    ensures { result ≡ list_any (takes_any (plan_view plan.now) subscriber) tables.now }
+{
+    for table in tables {
+        if carries(plan, subscriber, *table) {
+            return true;
+        }
+    }
+    false
+}
+
+/// The row of which it is asked whether the old row passed: its part, and where nothing is recorded the new row.
+fn asked<'a>(old: &'a OldPart, new: &'a Row) -> &'a Row
+    ensures { result.now ≡ spec.asked (part_view old.now) new.now }
+{
+    match old {
+        OldPart::None => new,
+        OldPart::Key(part) => part,
+        OldPart::Full(row) => row,
+    }
+}
+
+/// What a subscriber gets of a change, by its share of the change's table: an INSERT if the new row passes, a DELETE if
+/// the recorded part of the old row does. Of an UPDATE it gets an INSERT if the new row alone passes, a DELETE if the old
+/// row alone does, and nothing if neither does; where nothing is recorded of the old row, it passes if the new one does. A
+/// TRUNCATE is had whatever the filters, where the subscriber takes anything of one of its tables. Nothing is copied.
+///
+/// PostgreSQL 15, "Logical Replication", 31.3.1 Row Filter Rules and 31.3.3 UPDATE Transformations.
+pub fn transform<'a>(plan: &Plan, subscriber: usize, change: &'a Change) -> Option<Out<'a>>
+    ensures { option_map out_view result ≡ out_for (plan_view plan.now) subscriber (change_view change.now) }
+{
+    match change {
+        Change::Insert { table, new } => {
+            let passes = plan.share(subscriber, *table).takes(new);
+            if passes { Some(Out::Insert(new)) } else { None }
+        }
+        Change::Update { table, old, new } => {
+            let share = plan.share(subscriber, *table);
+            match (share.takes(asked(old, new)), share.takes(new)) {
+                (false, false) => None,
+                (false, true) => Some(Out::Insert(new)),
+                (true, false) => Some(Out::Delete(old)),
+                (true, true) => Some(Out::Update(old, new)),
+            }
+        }
+        Change::Delete { table, old } => match old {
+            OldPart::None => None,
+            OldPart::Key(row) | OldPart::Full(row) => {
+                let passes = plan.share(subscriber, *table).takes(row);
+                if passes { Some(Out::Delete(old)) } else { None }
+            }
+        },
+        Change::Truncate { tables } => {
+            let is_carried = carries_any(plan, subscriber, tables.as_slice());
+            if is_carried { Some(Out::Truncate(tables.as_slice())) } else { None }
+        }
+    }
+}
