@@ -138,6 +138,32 @@ CREATE SUBSCRIPTION s0 CONNECTION '' PUBLICATION pa;
 CREATE SUBSCRIPTION s1 CONNECTION '' PUBLICATION pb;
 ";
 
+/// Halves of a table whose rows are identified by a unique index, by the index's column.
+const INDEXED: &str = "CREATE TABLE u (id integer, code text NOT NULL, note text, PRIMARY KEY (id));
+CREATE UNIQUE INDEX u_code ON u (code);
+ALTER TABLE u REPLICA IDENTITY USING INDEX u_code;
+CREATE PUBLICATION pa FOR TABLE u WHERE (code = 'a');
+CREATE PUBLICATION pb FOR TABLE u WHERE (code <> 'a');
+CREATE SUBSCRIPTION s0 CONNECTION '' PUBLICATION pa;
+CREATE SUBSCRIPTION s1 CONNECTION '' PUBLICATION pb;
+";
+
+/// The same, but that one half is by a column outside the index.
+const BESIDE: &str = "CREATE TABLE u (id integer, code text NOT NULL, note text, PRIMARY KEY (id));
+CREATE UNIQUE INDEX u_code ON u (code);
+ALTER TABLE u REPLICA IDENTITY USING INDEX u_code;
+CREATE PUBLICATION pa FOR TABLE u WHERE (id < 5);
+CREATE PUBLICATION pb FOR TABLE u WHERE (code <> 'a');
+CREATE SUBSCRIPTION s0 CONNECTION '' PUBLICATION pa;
+CREATE SUBSCRIPTION s1 CONNECTION '' PUBLICATION pb;
+";
+
+/// The index's column may be null.
+const NULLABLE: &str = "CREATE TABLE u (id integer, code text, note text, PRIMARY KEY (id));
+CREATE UNIQUE INDEX u_code ON u (code);
+ALTER TABLE u REPLICA IDENTITY USING INDEX u_code;
+";
+
 /// Halves of a table whose old rows are not recorded.
 const NOTHING: &str = "CREATE TABLE t (id integer, region text, PRIMARY KEY (id));
 ALTER TABLE t REPLICA IDENTITY NOTHING;
@@ -151,12 +177,15 @@ CREATE SUBSCRIPTION s1 CONNECTION '' PUBLICATION pb;
 fn catalogs_are_checked(rt: HostRuntime) -> Result<(), Fail> {
     let regions =
         "s 0 s 1 e 0 s 2 e 0 o 0 n 2 e 0 s 1 s 2 e 0 o 1 n 2 e 0 e 0 s 1 e 0 e 0 s 2 o 2 e 0 n 2\n";
-    let cases: [(&str, &str, Expected); 13] = [
+    let cases: [(&str, &str, Expected); 16] = [
         (REGIONS, regions, ACCEPTED),
         (INSERTS, C, (1, "refused PublishMissing pa update\n")),
         (INSERTS, "", (1, "refused PublishMissing pa update\n")),
         (KEEPS, C, (1, "refused PublishMissing pa truncate\n")),
         (OUTSIDE, C, (1, "refused NotCovered pa public.t region\n")),
+        (INDEXED, C, ACCEPTED),
+        (BESIDE, C, (1, "refused NotCovered pa public.u id\n")),
+        (NULLABLE, C, (3, "catalog 152 NullableIndex\n")),
         (NOTHING, C, (1, "refused NoIdentity public.t\n")),
         (NOTHING, "o\n", (3, "certificate 1 Ended\n")),
         ("", "", ACCEPTED),
