@@ -28,7 +28,7 @@ owners_pass catalog plan number cells own within first (subscription ∷ subscri
     cc
 
 pub right_answer : (catalog : CatalogOf Expr) (plan : PlanOf) (number : ℕ) (table : Table) (made : Made) → slice_get catalog.tables number ≡ Some table → IsRight table (table_shares plan number 0 catalog.subscriptions) made → IsAnswer catalog plan number made
-right_answer catalog plan number table (Cert cert) there right = record { cert = record { table = table; there = there; limits = right.cert.limits; accepted = λ any. accepted_anyhow 0 any table (table_shares plan number 0 catalog.subscriptions) (tree_view cert) right.cert.accepted }; counter = tt }
+right_answer catalog plan number table (Cert cert) there right = record { cert = record { table = table; there = there; limits = right.cert.limits; accepted = λ test tells any. accepted_anyhow test 0 any table (table_shares plan number 0 catalog.subscriptions) (tree_view cert) (right.cert.accepted test tells) }; counter = tt }
 right_answer catalog plan number table (Counter cells owners) there right =
     let passing : plan ≡ plan_of catalog → owners.items ≡ owners_of catalog number cells = λ own. right.counter.all ∙ owners_pass catalog plan number cells (takes_what_passes catalog plan own) (slice_get_within catalog.tables number table there) 0 catalog.subscriptions in
     record { cert = tt; counter = record { table = table; there = there; valid = right.counter.valid; passing = passing; not_one = right.counter.not_one } }

@@ -7,7 +7,7 @@ use Rattle.filter_tree.specs.declared.filter.Term.{Term}
 use Rattle.filter_tree.specs.declared.table.Table.{Table}
 use Rattle.filter_tree.specs.declared.tri.Tri.TheVariants.{True, False, Null}
 use Rattle.replica_identity.specs.Shares.{ShareOf}
-use Rattle.shard_checker.specs.Emptiness.{is_empty}
+use Rattle.shard_checker.specs.Emptiness.{Test}
 use Rattle.shard_checker.specs.Facts.{is_never_null}
 use Rattle.shard_checker.specs.Numbering.{numbered_atoms, numbered_terms}
 use Rattle.shard_checker.specs.Owners.{must_take, second_owner}
@@ -42,9 +42,9 @@ owner_none number subject path node owner (Some share) h =
     if_none (must_take share path) (others_refusal subject path node owner) (others_refusal (renumbered number subject) path node owner) (NotOwner subject.table node) (NotOwner number node)
     (second_none number subject node (second_owner owner 0 subject.shares path)) h
 
-empty_none : (number : ℕ) (subject : Subject) (path : Path) (node : ℕ) (found : Option Term) → empty_refusal subject path node found ≡ None → empty_refusal (renumbered number subject) path node found ≡ None
-empty_none number subject path node None h = absurd cc
-empty_none number subject path node (Some term) h = if_none (is_empty subject.columns term path) None None (NotEmpty subject.table node) (NotEmpty number node) (λ e. e) h
+empty_none : (is_empty : Test) (number : ℕ) (subject : Subject) (path : Path) (node : ℕ) (found : Option Term) → empty_refusal is_empty subject path node found ≡ None → empty_refusal is_empty (renumbered number subject) path node found ≡ None
+empty_none is_empty number subject path node None h = absurd cc
+empty_none is_empty number subject path node (Some term) h = if_none (is_empty subject.columns term path) None None (NotEmpty subject.table node) (NotEmpty number node) (λ e. e) h
 
 never_null_none : (number : ℕ) (subject : Subject) (path : Path) (node : ℕ) (found : Option AtomOf) → never_null_refusal subject path node found ≡ None → never_null_refusal (renumbered number subject) path node found ≡ None
 never_null_none number subject path node None h = absurd cc
@@ -68,23 +68,23 @@ split_none number subject path node (Some atom) a b c d e f one two three h =
     three_none (a (path ++ (atom, True) ∷ [])) (b (path ++ (atom, False) ∷ [])) (c (path ++ (atom, Null) ∷ [])) (d (path ++ (atom, True) ∷ [])) (e (path ++ (atom, False) ∷ [])) (f (path ++ (atom, Null) ∷ []))
     (one (path ++ (atom, True) ∷ [])) (two (path ++ (atom, False) ∷ [])) (three (path ++ (atom, Null) ∷ [])) h
 
-none_renumbered : (number : ℕ) (subject : Subject) (tree : Tree) (path : Path) (node : ℕ) → refusal subject tree path node ≡ None → refusal (renumbered number subject) tree path node ≡ None
-none_renumbered number subject (Split index if_true if_false if_null) path node h =
+none_renumbered : (is_empty : Test) (number : ℕ) (subject : Subject) (tree : Tree) (path : Path) (node : ℕ) → refusal is_empty subject tree path node ≡ None → refusal is_empty (renumbered number subject) tree path node ≡ None
+none_renumbered is_empty number subject (Split index if_true if_false if_null) path node h =
     split_none number subject path node (slice_get subject.atoms index)
-    (λ longer. refusal subject if_true longer (later node 1))
-    (λ longer. refusal subject if_false longer (later (later node 1) (nodes if_true)))
-    (λ longer. refusal subject if_null longer (later (later (later node 1) (nodes if_true)) (nodes if_false)))
-    (λ longer. refusal (renumbered number subject) if_true longer (later node 1))
-    (λ longer. refusal (renumbered number subject) if_false longer (later (later node 1) (nodes if_true)))
-    (λ longer. refusal (renumbered number subject) if_null longer (later (later (later node 1) (nodes if_true)) (nodes if_false)))
-    (λ longer. none_renumbered number subject if_true longer (later node 1))
-    (λ longer. none_renumbered number subject if_false longer (later (later node 1) (nodes if_true)))
-    (λ longer. none_renumbered number subject if_null longer (later (later (later node 1) (nodes if_true)) (nodes if_false)))
+    (λ longer. refusal is_empty subject if_true longer (later node 1))
+    (λ longer. refusal is_empty subject if_false longer (later (later node 1) (nodes if_true)))
+    (λ longer. refusal is_empty subject if_null longer (later (later (later node 1) (nodes if_true)) (nodes if_false)))
+    (λ longer. refusal is_empty (renumbered number subject) if_true longer (later node 1))
+    (λ longer. refusal is_empty (renumbered number subject) if_false longer (later (later node 1) (nodes if_true)))
+    (λ longer. refusal is_empty (renumbered number subject) if_null longer (later (later (later node 1) (nodes if_true)) (nodes if_false)))
+    (λ longer. none_renumbered is_empty number subject if_true longer (later node 1))
+    (λ longer. none_renumbered is_empty number subject if_false longer (later (later node 1) (nodes if_true)))
+    (λ longer. none_renumbered is_empty number subject if_null longer (later (later (later node 1) (nodes if_true)) (nodes if_false)))
     h
-none_renumbered number subject (Owner subscriber) path node h = owner_none number subject path node subscriber (slice_get subject.shares subscriber) h
-none_renumbered number subject (Empty term) path node h = empty_none number subject path node (slice_get subject.terms term) h
-none_renumbered number subject (NeverNull index) path node h = never_null_none number subject path node (slice_get subject.atoms index) h
+none_renumbered is_empty number subject (Owner subscriber) path node h = owner_none number subject path node subscriber (slice_get subject.shares subscriber) h
+none_renumbered is_empty number subject (Empty term) path node h = empty_none is_empty number subject path node (slice_get subject.terms term) h
+none_renumbered is_empty number subject (NeverNull index) path node h = never_null_none number subject path node (slice_get subject.atoms index) h
 
-pub accepted_anyhow : (one other : ℕ) (table : Table) (shares : List ShareOf) (tree : Tree) → first_refusal one table shares tree ≡ None → first_refusal other table shares tree ≡ None
-accepted_anyhow one other table shares tree h =
-    none_renumbered other (numbered_subject one table.columns shares (numbered_atoms shares) (numbered_terms shares)) tree [] 0 h
+pub accepted_anyhow : (test : Test) (one other : ℕ) (table : Table) (shares : List ShareOf) (tree : Tree) → first_refusal test one table shares tree ≡ None → first_refusal test other table shares tree ≡ None
+accepted_anyhow test one other table shares tree h =
+    none_renumbered test other (numbered_subject one table.columns shares (numbered_atoms shares) (numbered_terms shares)) tree [] 0 h

@@ -9,6 +9,7 @@ use Rattle.pub_reader.specs.declared.catalog.Subscription.{Subscription}
 use Rattle.replica_identity.specs.Passes.{passes}
 use Rattle.replica_identity.specs.Plans.{PlanOf, plan_of}
 use Rattle.shard_checker.specs.CatalogRefusal.{table_shares}
+use Rattle.shard_checker.specs.Emptiness.{Test, IsEmptiness}
 use Rattle.shard_checker.specs.Refusal.{first_refusal}
 use Rattle.split_cert.specs.Tree.{Tree, IsWithinLimits}
 use Rattle.split_cert.specs.Where.{tree_view}
@@ -36,7 +37,7 @@ pub record IsAccepted (catalog : CatalogOf Expr) (plan : PlanOf) (number : ℕ) 
   pub table : Table
   pub there : slice_get catalog.tables number ≡ Some table
   pub limits : IsWithinLimits tree
-  pub accepted : (any : ℕ) → first_refusal any table (table_shares plan number 0 catalog.subscriptions) tree ≡ None
+  pub accepted : (test : Test) → IsEmptiness test → (any : ℕ) → first_refusal test any table (table_shares plan number 0 catalog.subscriptions) tree ≡ None
 
 -- the numbers of subscribers, who begin at this number
 abbrev pub numbers_from : ℕ → List Subscription → List ℕ

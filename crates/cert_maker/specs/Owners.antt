@@ -4,6 +4,7 @@ use Rattle.filter_tree.specs.Datum.{Datum}
 use Rattle.filter_tree.specs.Valid.{IsValid}
 use Rattle.filter_tree.specs.declared.table.Table.{Table}
 use Rattle.replica_identity.specs.Shares.{ShareOf, takes}
+use Rattle.shard_checker.specs.Emptiness.{Test, IsEmptiness}
 use Rattle.shard_checker.specs.Refusal.{first_refusal}
 use Rattle.split_cert.specs.Tree.{Tree, IsWithinLimits}
 use Rattle.cert_maker.specs.Answers.{IfCert, IfCounter}
@@ -23,7 +24,7 @@ pub record IsCounterOf (table : Table) (shares : List ShareOf) (cells : List Dat
 -- the certificate is within the limits on those that are read, and the check accepts it
 pub record IsCertOf (table : Table) (shares : List ShareOf) (tree : Tree) : Type 0 where
   pub limits : IsWithinLimits tree
-  pub accepted : first_refusal 0 table shares tree ≡ None
+  pub accepted : (test : Test) → IsEmptiness test → first_refusal test 0 table shares tree ≡ None
 
 -- what the answer says of the table with these shares is so
 pub record IsRight (table : Table) (shares : List ShareOf) (made : Made) : Type 0 where

@@ -14,7 +14,7 @@ use Rattle.sql_reader.specs.Written.{as_filter}
 use Rattle.publisher_main.proofs.Faults.{out_of_memory}
 use Rattle.publisher_main.proofs.Writing.{text_of-one}
 use Rattle.publisher_main.specs.Check.Certificates.{AreCertificates}
-use Rattle.publisher_main.specs.Check.Checking.{IsCheck, first_refusal}
+use Rattle.publisher_main.specs.Check.Checking.{IsCheck, IsFirstRefusal}
 use Rattle.publisher_main.specs.Check.Refusals.{refused_line}
 use Rattle.publisher_main.specs.Output.{StopsText, WritesFirst, ended}
 use Rattle.publisher_main.specs.Parts.{Cut, lines_of, two_parts}
@@ -43,14 +43,14 @@ line_ends input line status old new (Err f.Output) is same appends stops = recor
 }
 
 module _ (input : List ℕ) (cut : Cut) (catalog : CatalogOf Expr) (trees : List Tree) (parts : two_parts input ≡ Some cut) (reads : catalog_by as_filter cut.part ≡ Ok catalog) (certificates : AreCertificates (lines_of cut.rest) trees) where
-  pub accepted : (old new : Option (List ℕ)) (result : Result Status Failure) → IsSound catalog → first_refusal catalog trees ≡ None → IfOk result (λ s. s ≡ Done)
+  pub accepted : (old new : Option (List ℕ)) (result : Result Status Failure) → IsSound catalog → IsFirstRefusal catalog trees None → IfOk result (λ s. s ≡ Done)
       → OnOk result (Appends old new (ended (codes "accepted"))) → IfErr result (StopsText (ended (codes "accepted")) old new) → EndsRequest Check input old new result
   accepted old new result sound unrefused same appends stops =
       line_ends input (codes "accepted") Done old new result
       (record { cut = cut; catalog = catalog; trees = trees; parts = parts; reads = reads; certificates = certificates; verdict = record { sound = sound; unrefused = unrefused; are = refl } })
       same appends stops
 
-  pub refused : (error : CheckError) (old new : Option (List ℕ)) (result : Result Status Failure) → first_refusal catalog trees ≡ Some error → ShardingIsWrong catalog (plan_of catalog) trees error → IfOk result (λ s. s ≡ Refused)
+  pub refused : (error : CheckError) (old new : Option (List ℕ)) (result : Result Status Failure) → IsFirstRefusal catalog trees (Some error) → ShardingIsWrong catalog (plan_of catalog) trees error → IfOk result (λ s. s ≡ Refused)
       → OnOk result (Appends old new (ended (refused_line catalog error))) → IfErr result (StopsText (ended (refused_line catalog error)) old new) → EndsRequest Check input old new result
   refused error old new result refusal wrong same appends stops =
       line_ends input (refused_line catalog error) Refused old new result

@@ -38,8 +38,7 @@ fn refusal_of(
     certs: &[Cert],
 ) -> Result<Option<CheckError>, AllocError>
     ensures sound { IfOk result (λ refusal. refusal ≡ None → IsSound (catalog_view catalog)) }
-    ensures first { IfOk result (λ refusal. spec.first_refusal (catalog_view catalog) (map tree_view certs.now) ≡
-        refusal) }
+    ensures first { IfOk result (spec.IsFirstRefusal (catalog_view catalog) (map tree_view certs.now)) }
     ensures wrong { IfOk result (λ refusal. IfSome refusal (ShardingIsWrong (catalog_view catalog)
         (plan_of (catalog_view catalog)) (map tree_view certs.now))) }
 {

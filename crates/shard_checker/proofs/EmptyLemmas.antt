@@ -12,9 +12,9 @@ use Rattle.filter_tree.specs.declared.tri.Tri.{Tri}
 use Rattle.filter_tree.specs.declared.tri.Tri.TheVariants.{True, False, Null}
 use Rattle.filter_tree.proofs.SameLemmas.{same_term_is}
 use Rattle.shard_checker.specs.Domain.{kind_at}
-use Rattle.shard_checker.specs.Emptiness.{IsLeft, HasValue, is_empty, EmptyHasNoValue, OthersHaveValue}
+use Rattle.shard_checker.specs.Emptiness.{IsLeft, HasValue, IsEmptiness, CanBeTold}
 use Rattle.shard_checker.specs.Facts.{says_present, is_declared, is_null, is_found_present, is_present, leaves, may_be}
-use Rattle.shard_checker.specs.Trying.{has_value}
+use Rattle.shard_checker.specs.Trying.{has_value, is_empty}
 use Rattle.shard_checker.proofs.ExistingLemmas.{value_exists}
 use Rattle.shard_checker.proofs.RangeLemmas.{some_member}
 use Rattle.shard_checker.proofs.Testing.{by_test, two_true, both_false, clash, number_itself}
@@ -86,15 +86,16 @@ left_not_empty columns term path (Known constant) left =
 pub has_not_empty : (columns : List Column) (term : Term) (path : Path) → HasValue columns term path → is_empty columns term path ≡ false
 has_not_empty columns term path has = left_not_empty columns term path has.value has.left
 
--- ---- the laws
+-- ---- the law
 
-pub empty_is_by_values : EmptyHasNoValue
-empty_is_by_values columns term path = (
-  (λ empty has. clash (is_empty columns term path) empty (has_not_empty columns term path has)),
-  (λ none. by_test (is_empty columns term path) (λ empty. empty) (λ rest. absurd (none (not_empty_has columns term path rest)))),
-)
+pub told_by_values : IsEmptiness is_empty
+told_by_values = record {
+  empty = λ columns term path. (
+    (λ empty has. clash (is_empty columns term path) empty (has_not_empty columns term path has)),
+    (λ none. by_test (is_empty columns term path) (λ empty. empty) (λ rest. absurd (none (not_empty_has columns term path rest)))),
+  );
+  others = λ columns term path. (not_empty_has columns term path, has_not_empty columns term path);
+}
 
-pub others_are_by_values : OthersHaveValue
-others_are_by_values columns term path = (not_empty_has columns term path, has_not_empty columns term path)
-
-pub ruleset emptiness = (empty_is_by_values, others_are_by_values)
+pub can_be_told : CanBeTold
+can_be_told = record { test = is_empty; tells = told_by_values }

@@ -1,3 +1,4 @@
+pub mod AnyTest
 pub mod CountingLemmas
 pub mod EmptyLemmas
 pub mod ExistingLemmas

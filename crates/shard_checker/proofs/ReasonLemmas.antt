@@ -16,15 +16,16 @@ use Rattle.replica_identity.specs.Identities.{is_covered}
 use Rattle.replica_identity.specs.Plans.{PlanOf}
 use Rattle.replica_identity.specs.Shares.{ShareOf}
 use Rattle.split_cert.specs.Tree.{Tree, Split, Owner, Empty, NeverNull, nodes}
-use Rattle.shard_checker.specs.CatalogRefusal.{missing_operation, missing_by, publication_refusal, publishing_refusal, table_refusal, identity_refusal, column_refusal, filter_refusal, entry_refusal, entries_refusal, taken_refusal, covering_refusal, table_shares, certificates_refusal, count_refusal, catalog_refusal, sharding_refusal}
+use Rattle.shard_checker.specs.CatalogRefusal.{missing_operation, missing_by, publication_refusal, publishing_refusal, table_refusal, identity_refusal, column_refusal, carried_refusal, entry_refusal, entries_refusal, taken_refusal, covering_refusal, table_shares, certificates_refusal, count_refusal, catalog_refusal, sharding_refusal}
 use Rattle.shard_checker.specs.CatalogTruth.{has_operation, NamesUncovered, HasWrongCertificate, ShardingIsWrong}
 use Rattle.shard_checker.specs.Refusal.{Subject, later, first_of, first_refusal}
-use Rattle.shard_checker.specs.Sound.{is_taken, covers}
+use Rattle.shard_checker.specs.Sound.{is_taken}
+use Rattle.shard_checker.specs.Trying.{is_empty}
 use Rattle.shard_checker.specs.Truth.{EmptyIsWrong, NeverNullIsWrong, OwnerIsWrong, SplitIsWrong, IsWrong}
 use Rattle.shard_checker.specs.declared.error.CheckError.{CheckError}
-use Rattle.shard_checker.specs.declared.error.CheckError.TheVariants.{PublishMissing, NoIdentity, NotCovered, CertCount, BadIndex, NotEmpty, MayBeNull, NotOwner, SecondOwner, OutOfMemory}
+use Rattle.shard_checker.specs.declared.error.CheckError.TheVariants.{PublishMissing, NoIdentity, UnknownTable, NotCovered, CertCount, BadIndex, NotEmpty, MayBeNull, NotOwner, SecondOwner, OutOfMemory}
 use Rattle.shard_checker.specs.declared.error.Operation.{Operation}
-use Rattle.shard_checker.specs.declared.error.Operation.TheVariants.{Insert, Update, Delete}
+use Rattle.shard_checker.specs.declared.error.Operation.TheVariants.{Insert, Update, Delete, Truncate}
 use Rattle.shard_checker.proofs.Testing.{clash, at_zero, zero_more, at_next}
 use Rattle.shard_checker.proofs.TruthLemmas.{same_some, failed, certificate_wrong}
 
@@ -46,22 +47,26 @@ contains_later xs first x h = (suc h.0, omega (arith, h.1), h.2)
 
 -- ---- what is published
 
-missing_in : (insert update delete : Bool) (operation : Operation) → (if insert then (if update then (if delete then None else Some Delete) else Some Update) else Some Insert) ≡ Some operation
-    → ((operation ≡ Insert) × (insert ≡ false)) ⊎ (((operation ≡ Update) × (update ≡ false)) ⊎ ((operation ≡ Delete) × (delete ≡ false)))
-missing_in true true true operation h = absurd cc
-missing_in true true false operation h = inr (inr (cc, refl))
-missing_in true false delete operation h = inr (inl (cc, refl))
-missing_in false update delete operation h = inl (cc, refl)
+missing_in : (insert update delete truncate : Bool) (operation : Operation)
+    → (if insert then (if update then (if delete then (if truncate then None else Some Truncate) else Some Delete) else Some Update) else Some Insert) ≡ Some operation
+    → ((operation ≡ Insert) × (insert ≡ false)) ⊎ (((operation ≡ Update) × (update ≡ false)) ⊎ (((operation ≡ Delete) × (delete ≡ false)) ⊎ ((operation ≡ Truncate) × (truncate ≡ false))))
+missing_in true true true true operation h = absurd cc
+missing_in true true true false operation h = inr (inr (inr (cc, refl)))
+missing_in true true false truncate operation h = inr (inr (inl (cc, refl)))
+missing_in true false delete truncate operation h = inr (inl (cc, refl))
+missing_in false update delete truncate operation h = inl (cc, refl)
 
 missing_named : (publishes : Operations) (operation : Operation)
-    → ((operation ≡ Insert) × (publishes.insert ≡ false)) ⊎ (((operation ≡ Update) × (publishes.update ≡ false)) ⊎ ((operation ≡ Delete) × (publishes.delete ≡ false)))
+    → ((operation ≡ Insert) × (publishes.insert ≡ false)) ⊎ (((operation ≡ Update) × (publishes.update ≡ false))
+    ⊎ (((operation ≡ Delete) × (publishes.delete ≡ false)) ⊎ ((operation ≡ Truncate) × (publishes.truncate ≡ false))))
     → has_operation publishes operation ≡ false
 missing_named publishes operation (inl h) = ap (has_operation publishes) h.0 ∙ h.1
 missing_named publishes operation (inr (inl h)) = ap (has_operation publishes) h.0 ∙ h.1
-missing_named publishes operation (inr (inr h)) = ap (has_operation publishes) h.0 ∙ h.1
+missing_named publishes operation (inr (inr (inl h))) = ap (has_operation publishes) h.0 ∙ h.1
+missing_named publishes operation (inr (inr (inr h))) = ap (has_operation publishes) h.0 ∙ h.1
 
 missing_is : (publishes : Operations) (operation : Operation) → missing_operation publishes ≡ Some operation → has_operation publishes operation ≡ false
-missing_is publishes operation h = missing_named publishes operation (missing_in publishes.insert publishes.update publishes.delete operation h)
+missing_is publishes operation h = missing_named publishes operation (missing_in publishes.insert publishes.update publishes.delete publishes.truncate operation h)
 
 -- a publication of a list whose first has this number
 record IsUnpublished (subscriptions : List Subscription) (number : ℕ) (publications : List (PublicationOf Expr)) (error : CheckError) : Type 0 where
@@ -127,107 +132,103 @@ unrecorded number (table ∷ tables) error h =
     (λ there. let rest = unrecorded (number + 1) tables error there in
     record { place = suc rest.place; is = rest.is ∙ ap NoIdentity (sym (at_next number rest.place)); table = rest.table; there = rest.there; nothing = rest.nothing })
 
--- ---- which columns filters name
+-- ---- which tables are carried, and which columns filters name
 
-record IsUncovered (publication table : ℕ) (found : Option Table) (columns : List ℕ) (error : CheckError) : Type 0 where
+record IsUncovered (publication number : ℕ) (table : Table) (columns : List ℕ) (error : CheckError) : Type 0 where
   column : ℕ
-  is : error ≡ NotCovered publication table column
+  is : error ≡ NotCovered publication number column
   names : Contains columns column
-  lacks : covers found column ≡ false
+  lacks : is_covered table column ≡ false
 
 column_failed : (b : Bool) (rest : Option CheckError) (one error : CheckError) → (if b then rest else Some one) ≡ Some error → ((b ≡ false) × (error ≡ one)) ⊎ (rest ≡ Some error)
 column_failed true rest one error h = inr h
 column_failed false rest one error h = inl (refl, same_some one error h)
 
-uncovered_from : (publication table : ℕ) (found : Option Table) (column : ℕ) (columns : List ℕ) (error : CheckError)
-    → (column_refusal publication table found columns ≡ Some error → IsUncovered publication table found columns error)
-    → ((covers found column ≡ false) × (error ≡ NotCovered publication table column)) ⊎ (column_refusal publication table found columns ≡ Some error)
-    → IsUncovered publication table found (column ∷ columns) error
-uncovered_from publication table found column columns error later (inl h) = record { column = column; is = h.1; names = contains_first columns column; lacks = h.0 }
-uncovered_from publication table found column columns error later (inr h) =
+uncovered_from : (publication number : ℕ) (table : Table) (column : ℕ) (columns : List ℕ) (error : CheckError)
+    → (column_refusal publication number table columns ≡ Some error → IsUncovered publication number table columns error)
+    → ((is_covered table column ≡ false) × (error ≡ NotCovered publication number column)) ⊎ (column_refusal publication number table columns ≡ Some error)
+    → IsUncovered publication number table (column ∷ columns) error
+uncovered_from publication number table column columns error later (inl h) = record { column = column; is = h.1; names = contains_first columns column; lacks = h.0 }
+uncovered_from publication number table column columns error later (inr h) =
     let rest = later h in record { column = rest.column; is = rest.is; names = contains_later columns column rest.column rest.names; lacks = rest.lacks }
 
-uncovered : (publication table : ℕ) (found : Option Table) (columns : List ℕ) (error : CheckError) → column_refusal publication table found columns ≡ Some error
-    → IsUncovered publication table found columns error
-uncovered publication table found [] error h = absurd cc
-uncovered publication table found (column ∷ columns) error h =
-    uncovered_from publication table found column columns error (λ rest. uncovered publication table found columns error rest)
-    (column_failed (covers found column) (column_refusal publication table found columns) (NotCovered publication table column) error h)
+uncovered : (publication number : ℕ) (table : Table) (columns : List ℕ) (error : CheckError) → column_refusal publication number table columns ≡ Some error
+    → IsUncovered publication number table columns error
+uncovered publication number table [] error h = absurd cc
+uncovered publication number table (column ∷ columns) error h =
+    uncovered_from publication number table column columns error (λ rest. uncovered publication number table columns error rest)
+    (column_failed (is_covered table column) (column_refusal publication number table columns) (NotCovered publication number column) error h)
 
--- a column that isn't covered is of a table that is there
-record IsLacking (found : Option Table) (column : ℕ) : Type 0 where
-  table : Table
-  there : found ≡ Some table
-  lacks : is_covered table column ≡ false
+-- an entry carries a table that isn't there
+record IsOfUnknown (tables : List Table) (publication : ℕ) (entry : EntryOf Expr) (error : CheckError) : Type 0 where
+  is : error ≡ UnknownTable publication entry.table
+  unknown : slice_get tables entry.table ≡ None
 
-lacking : (found : Option Table) (column : ℕ) → covers found column ≡ false → IsLacking found column
-lacking None column h = absurd cc
-lacking (Some table) column h = record { table = table; there = refl; lacks = h }
-
--- an entry of a list whose filter names a column that isn't covered
-record HasUncoveredEntry (tables : List Table) (publication : ℕ) (entries : List (EntryOf Expr)) (error : CheckError) : Type 0 where
-  table : ℕ
+-- an entry has a filter that names a column that isn't covered
+record HasUncoveredColumn (tables : List Table) (publication : ℕ) (entry : EntryOf Expr) (error : CheckError) : Type 0 where
   column : ℕ
-  is : error ≡ NotCovered publication table column
-  entry : EntryOf Expr
-  has_entry : Contains entries entry
-  uncovered_by : NamesUncovered tables entry table column
+  is : error ≡ NotCovered publication entry.table column
+  uncovered_by : NamesUncovered tables entry entry.table column
 
-entry_uncovered : (tables : List Table) (publication : ℕ) (entry : EntryOf Expr) (entries : List (EntryOf Expr)) (error : CheckError) (filter : Option Expr) → entry.filter ≡ filter
-    → filter_refusal publication entry.table (slice_get tables entry.table) filter ≡ Some error → HasUncoveredEntry tables publication (entry ∷ entries) error
-entry_uncovered tables publication entry entries error None e h = absurd cc
-entry_uncovered tables publication entry entries error (Some filter) e h =
-    let found = uncovered publication entry.table (slice_get tables entry.table) (distinct_columns filter) error h in
-    let lack = lacking (slice_get tables entry.table) found.column found.lacks in
-    record {
-      table = entry.table;
+abbrev EntryIsWrong : List Table → ℕ → EntryOf Expr → CheckError → Type 0
+EntryIsWrong tables publication entry error = IsOfUnknown tables publication entry error ⊎ HasUncoveredColumn tables publication entry error
+
+entry_wrong : (tables : List Table) (publication : ℕ) (entry : EntryOf Expr) (error : CheckError) (found : Option Table) (filter : Option Expr)
+    → slice_get tables entry.table ≡ found → entry.filter ≡ filter → carried_refusal publication entry.table found filter ≡ Some error → EntryIsWrong tables publication entry error
+entry_wrong tables publication entry error None filter there e h = inl (record { is = same_some (UnknownTable publication entry.table) error h; unknown = there })
+entry_wrong tables publication entry error (Some table) None there e h = absurd cc
+entry_wrong tables publication entry error (Some table) (Some filter) there e h =
+    let found = uncovered publication entry.table table (distinct_columns filter) error h in
+    inr (record {
       column = found.column;
       is = found.is;
-      entry = entry;
-      has_entry = contains_first entries entry;
-      uncovered_by = record { of_table = refl; filter = filter; filters = e; names = found.names; table = lack.table; there = lack.there; lacks = lack.lacks };
-    }
-
-entries_uncovered : (tables : List Table) (publication : ℕ) (entries : List (EntryOf Expr)) (error : CheckError) → entries_refusal tables publication entries ≡ Some error
-    → HasUncoveredEntry tables publication entries error
-entries_uncovered tables publication [] error h = absurd cc
-entries_uncovered tables publication (entry ∷ entries) error h =
-    by_first (entry_refusal tables publication entry) (entries_refusal tables publication entries) error h
-    (λ here. entry_uncovered tables publication entry entries error entry.filter refl here)
-    (λ there. let rest = entries_uncovered tables publication entries error there in record {
-      table = rest.table;
-      column = rest.column;
-      is = rest.is;
-      entry = rest.entry;
-      has_entry = contains_later entries entry rest.entry rest.has_entry;
-      uncovered_by = rest.uncovered_by;
+      uncovered_by = record { of_table = refl; filter = filter; filters = e; names = found.names; table = table; there = there; lacks = found.lacks };
     })
 
-record HasUncoveredPublication (tables : List Table) (subscriptions : List Subscription) (number : ℕ) (publications : List (PublicationOf Expr)) (error : CheckError) : Type 0 where
+-- an entry of a list is wrong
+record HasWrongEntry (tables : List Table) (publication : ℕ) (entries : List (EntryOf Expr)) (error : CheckError) : Type 0 where
+  entry : EntryOf Expr
+  has_entry : Contains entries entry
+  wrong : EntryIsWrong tables publication entry error
+
+entries_wrong : (tables : List Table) (publication : ℕ) (entries : List (EntryOf Expr)) (error : CheckError) → entries_refusal tables publication entries ≡ Some error
+    → HasWrongEntry tables publication entries error
+entries_wrong tables publication [] error h = absurd cc
+entries_wrong tables publication (entry ∷ entries) error h =
+    by_first (entry_refusal tables publication entry) (entries_refusal tables publication entries) error h
+    (λ here. record {
+      entry = entry;
+      has_entry = contains_first entries entry;
+      wrong = entry_wrong tables publication entry error (slice_get tables entry.table) entry.filter refl refl here;
+    })
+    (λ there. let rest = entries_wrong tables publication entries error there in
+    record { entry = rest.entry; has_entry = contains_later entries entry rest.entry rest.has_entry; wrong = rest.wrong })
+
+record HasWrongPublication (tables : List Table) (subscriptions : List Subscription) (number : ℕ) (publications : List (PublicationOf Expr)) (error : CheckError) : Type 0 where
   place : ℕ
   publication : PublicationOf Expr
   there : slice_get publications place ≡ Some publication
   taken : is_taken subscriptions (number + place) ≡ true
-  uncovered_entry : HasUncoveredEntry tables (number + place) publication.entries error
+  wrong_entry : HasWrongEntry tables (number + place) publication.entries error
 
-publications_uncovered : (tables : List Table) (subscriptions : List Subscription) (number : ℕ) (publications : List (PublicationOf Expr)) (error : CheckError)
-    → covering_refusal tables subscriptions number publications ≡ Some error → HasUncoveredPublication tables subscriptions number publications error
-publications_uncovered tables subscriptions number [] error h = absurd cc
-publications_uncovered tables subscriptions number (publication ∷ publications) error h =
+publications_wrong : (tables : List Table) (subscriptions : List Subscription) (number : ℕ) (publications : List (PublicationOf Expr)) (error : CheckError)
+    → covering_refusal tables subscriptions number publications ≡ Some error → HasWrongPublication tables subscriptions number publications error
+publications_wrong tables subscriptions number [] error h = absurd cc
+publications_wrong tables subscriptions number (publication ∷ publications) error h =
     by_first (taken_refusal tables subscriptions number publication.entries) (covering_refusal tables subscriptions (number + 1) publications) error h
     (λ here. let both = under_test (is_taken subscriptions number) (entries_refusal tables number publication.entries) error here in record {
       place = 0;
       publication = publication;
       there = refl;
       taken = subst (λ n. is_taken subscriptions n ≡ true) (sym (at_zero number)) both.0;
-      uncovered_entry = subst (λ n. HasUncoveredEntry tables n publication.entries error) (sym (at_zero number)) (entries_uncovered tables number publication.entries error both.1);
+      wrong_entry = subst (λ n. HasWrongEntry tables n publication.entries error) (sym (at_zero number)) (entries_wrong tables number publication.entries error both.1);
     })
-    (λ there. let rest = publications_uncovered tables subscriptions (number + 1) publications error there in record {
+    (λ there. let rest = publications_wrong tables subscriptions (number + 1) publications error there in record {
       place = suc rest.place;
       publication = rest.publication;
       there = rest.there;
       taken = subst (λ n. is_taken subscriptions n ≡ true) (sym (at_next number rest.place)) rest.taken;
-      uncovered_entry = subst (λ n. HasUncoveredEntry tables n rest.publication.entries error) (sym (at_next number rest.place)) rest.uncovered_entry;
+      wrong_entry = subst (λ n. HasWrongEntry tables n rest.publication.entries error) (sym (at_next number rest.place)) rest.wrong_entry;
     })
 
 -- ---- certificates
@@ -238,21 +239,21 @@ record HasRefusedCertificate (plan : PlanOf) (subscriptions : List Subscription)
   there : slice_get tables place ≡ Some table
   tree : Tree
   given : slice_get trees place ≡ Some tree
-  refused : first_refusal (number + place) table (table_shares plan (number + place) 0 subscriptions) tree ≡ Some error
+  refused : first_refusal is_empty (number + place) table (table_shares plan (number + place) 0 subscriptions) tree ≡ Some error
 
 refused_certificate : (plan : PlanOf) (subscriptions : List Subscription) (number : ℕ) (tables : List Table) (trees : List Tree) (error : CheckError)
-    → certificates_refusal plan subscriptions number tables trees ≡ Some error → HasRefusedCertificate plan subscriptions number tables trees error
+    → certificates_refusal is_empty plan subscriptions number tables trees ≡ Some error → HasRefusedCertificate plan subscriptions number tables trees error
 refused_certificate plan subscriptions number [] trees error h = absurd cc
 refused_certificate plan subscriptions number (table ∷ tables) [] error h = absurd cc
 refused_certificate plan subscriptions number (table ∷ tables) (tree ∷ trees) error h =
-    by_first (first_refusal number table (table_shares plan number 0 subscriptions) tree) (certificates_refusal plan subscriptions (number + 1) tables trees) error h
+    by_first (first_refusal is_empty number table (table_shares plan number 0 subscriptions) tree) (certificates_refusal is_empty plan subscriptions (number + 1) tables trees) error h
     (λ here. record {
       place = 0;
       table = table;
       there = refl;
       tree = tree;
       given = refl;
-      refused = subst (λ n. first_refusal n table (table_shares plan n 0 subscriptions) tree ≡ Some error) (sym (at_zero number)) here;
+      refused = subst (λ n. first_refusal is_empty n table (table_shares plan n 0 subscriptions) tree ≡ Some error) (sym (at_zero number)) here;
     })
     (λ there. let rest = refused_certificate plan subscriptions (number + 1) tables trees error there in record {
       place = suc rest.place;
@@ -260,7 +261,7 @@ refused_certificate plan subscriptions number (table ∷ tables) (tree ∷ trees
       there = rest.there;
       tree = rest.tree;
       given = rest.given;
-      refused = subst (λ n. first_refusal n rest.table (table_shares plan n 0 subscriptions) rest.tree ≡ Some error) (sym (at_next number rest.place)) rest.refused;
+      refused = subst (λ n. first_refusal is_empty n rest.table (table_shares plan n 0 subscriptions) rest.tree ≡ Some error) (sym (at_next number rest.place)) rest.refused;
     })
 
 -- the error names a node of the certificate of the table of this number
@@ -317,6 +318,7 @@ wrong_by_table catalog plan trees number (NotOwner table node) names h = subst (
 wrong_by_table catalog plan trees number (SecondOwner table node subscriber) names h = subst (λ n. HasWrongCertificate catalog plan trees n (SecondOwner table node subscriber)) names h
 wrong_by_table catalog plan trees number (PublishMissing publication operation) names h = absurd names
 wrong_by_table catalog plan trees number (NoIdentity table) names h = absurd names
+wrong_by_table catalog plan trees number (UnknownTable publication table) names h = absurd names
 wrong_by_table catalog plan trees number (NotCovered publication table column) names h = absurd names
 wrong_by_table catalog plan trees number CertCount names h = absurd names
 wrong_by_table catalog plan trees number OutOfMemory names h = absurd names
@@ -341,20 +343,24 @@ identity_wrong catalog plan trees error h =
     let is : error ≡ NoIdentity found.place = found.is ∙ ap NoIdentity (zero_more found.place) in
     subst (ShardingIsWrong catalog plan trees) (sym is) (record { table = found.table; there = found.there; nothing = found.nothing })
 
+-- the publication of this number is taken, and an entry of it is wrong
+entry_is_wrong : (catalog : CatalogOf Expr) (plan : PlanOf) (trees : List Tree) (error : CheckError) (number : ℕ) (publication : PublicationOf Expr)
+    → slice_get catalog.publications number ≡ Some publication → is_taken catalog.subscriptions number ≡ true → (entry : EntryOf Expr) → Contains publication.entries entry
+    → EntryIsWrong catalog.tables number entry error → ShardingIsWrong catalog plan trees error
+entry_is_wrong catalog plan trees error number publication there taken entry has_entry (inl wrong) =
+    subst (ShardingIsWrong catalog plan trees) (sym wrong.is)
+    (record { publication = publication; there = there; taken = taken; entry = entry; has_entry = has_entry; of_table = refl; unknown = wrong.unknown })
+entry_is_wrong catalog plan trees error number publication there taken entry has_entry (inr wrong) =
+    subst (ShardingIsWrong catalog plan trees) (sym wrong.is)
+    (record { publication = publication; there = there; taken = taken; entry = entry; has_entry = has_entry; uncovered = wrong.uncovered_by })
+
 covering_wrong : (catalog : CatalogOf Expr) (plan : PlanOf) (trees : List Tree) (error : CheckError) → covering_refusal catalog.tables catalog.subscriptions 0 catalog.publications ≡ Some error
     → ShardingIsWrong catalog plan trees error
 covering_wrong catalog plan trees error h =
-    let found = publications_uncovered catalog.tables catalog.subscriptions 0 catalog.publications error h in
-    let entry = found.uncovered_entry in
-    let is : error ≡ NotCovered found.place entry.table entry.column = entry.is ∙ ap (λ n. NotCovered n entry.table entry.column) (zero_more found.place) in
-    subst (ShardingIsWrong catalog plan trees) (sym is) (record {
-      publication = found.publication;
-      there = found.there;
-      taken = subst (λ n. is_taken catalog.subscriptions n ≡ true) (zero_more found.place) found.taken;
-      entry = entry.entry;
-      has_entry = entry.has_entry;
-      uncovered = entry.uncovered_by;
-    })
+    let found = publications_wrong catalog.tables catalog.subscriptions 0 catalog.publications error h in
+    let entry = found.wrong_entry in
+    entry_is_wrong catalog plan trees error found.place found.publication found.there (subst (λ n. is_taken catalog.subscriptions n ≡ true) (zero_more found.place) found.taken)
+    entry.entry entry.has_entry (subst (λ n. EntryIsWrong catalog.tables n entry.entry error) (zero_more found.place) entry.wrong)
 
 count_wrong : (catalog : CatalogOf Expr) (plan : PlanOf) (trees : List Tree) (error : CheckError) → count_refusal (length catalog.tables) (length trees) ≡ Some error
     → ShardingIsWrong catalog plan trees error
@@ -363,26 +369,26 @@ count_wrong catalog plan trees error h =
     subst (ShardingIsWrong catalog plan trees) (sym both.1)
     (λ same. clash (length trees == length catalog.tables) ((unsigned_Decides (length trees) (length catalog.tables)).1 same) both.0)
 
-certificates_wrong : (catalog : CatalogOf Expr) (plan : PlanOf) (trees : List Tree) (error : CheckError) → certificates_refusal plan catalog.subscriptions 0 catalog.tables trees ≡ Some error
+certificates_wrong : (catalog : CatalogOf Expr) (plan : PlanOf) (trees : List Tree) (error : CheckError) → certificates_refusal is_empty plan catalog.subscriptions 0 catalog.tables trees ≡ Some error
     → ShardingIsWrong catalog plan trees error
 certificates_wrong catalog plan trees error h =
     let found = refused_certificate plan catalog.subscriptions 0 catalog.tables trees error h in
     let shares = table_shares plan found.place 0 catalog.subscriptions in
-    let refused : first_refusal found.place found.table shares found.tree ≡ Some error =
-    subst (λ n. first_refusal n found.table (table_shares plan n 0 catalog.subscriptions) found.tree ≡ Some error) (zero_more found.place) found.refused in
+    let refused : first_refusal is_empty found.place found.table shares found.tree ≡ Some error =
+    subst (λ n. first_refusal is_empty n found.table (table_shares plan n 0 catalog.subscriptions) found.tree ≡ Some error) (zero_more found.place) found.refused in
     let wrong = certificate_wrong found.place found.table shares found.tree error refused in
     wrong_by_table catalog plan trees found.place error (names_node _ found.tree [] 0 error wrong)
     (record { table = found.table; there = found.there; tree = found.tree; given = found.given; wrong = wrong })
 
-pub sharding_wrong : (catalog : CatalogOf Expr) (plan : PlanOf) (trees : List Tree) (error : CheckError) → sharding_refusal catalog plan trees ≡ Some error → ShardingIsWrong catalog plan trees error
+pub sharding_wrong : (catalog : CatalogOf Expr) (plan : PlanOf) (trees : List Tree) (error : CheckError) → sharding_refusal is_empty catalog plan trees ≡ Some error → ShardingIsWrong catalog plan trees error
 sharding_wrong catalog plan trees error h =
-    by_first (catalog_refusal catalog) (first_of (count_refusal (length catalog.tables) (length trees)) (certificates_refusal plan catalog.subscriptions 0 catalog.tables trees)) error h
+    by_first (catalog_refusal catalog) (first_of (count_refusal (length catalog.tables) (length trees)) (certificates_refusal is_empty plan catalog.subscriptions 0 catalog.tables trees)) error h
     (λ of_catalog. by_first (publishing_refusal catalog.subscriptions 0 catalog.publications)
     (first_of (identity_refusal 0 catalog.tables) (covering_refusal catalog.tables catalog.subscriptions 0 catalog.publications)) error of_catalog
     (λ publishing. publishing_wrong catalog plan trees error publishing)
     (λ rest. by_first (identity_refusal 0 catalog.tables) (covering_refusal catalog.tables catalog.subscriptions 0 catalog.publications) error rest
     (λ identity. identity_wrong catalog plan trees error identity)
     (λ covering. covering_wrong catalog plan trees error covering)))
-    (λ of_certificates. by_first (count_refusal (length catalog.tables) (length trees)) (certificates_refusal plan catalog.subscriptions 0 catalog.tables trees) error of_certificates
+    (λ of_certificates. by_first (count_refusal (length catalog.tables) (length trees)) (certificates_refusal is_empty plan catalog.subscriptions 0 catalog.tables trees) error of_certificates
     (λ count. count_wrong catalog plan trees error count)
     (λ certificates. certificates_wrong catalog plan trees error certificates))

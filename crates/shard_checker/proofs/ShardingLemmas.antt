@@ -12,20 +12,22 @@ use Rattle.filter_tree.specs.declared.table.Table.{Table}
 use Rattle.pub_reader.specs.Catalogs.{CatalogOf, PublicationOf, EntryOf}
 use Rattle.pub_reader.specs.declared.catalog.Operations.{Operations}
 use Rattle.pub_reader.specs.declared.catalog.Subscription.{Subscription}
+use Rattle.replica_identity.specs.Identities.{is_covered}
 use Rattle.replica_identity.specs.Passes.{listed_by, carries, passes}
 use Rattle.replica_identity.specs.Plans.{PlanOf, TakesWhatPasses, share_at, plan_of}
 use Rattle.replica_identity.specs.Shares as s
 use Rattle.replica_identity.proofs.PassingLemmas.{takes_what_passes}
 use Rattle.split_cert.specs.Tree.{Tree}
-use Rattle.shard_checker.specs.CatalogRefusal.{missing_operation, missing_by, publication_refusal, publishing_refusal, table_refusal, identity_refusal, column_refusal, filter_refusal, entry_refusal, entries_refusal, taken_refusal, covering_refusal, table_shares, certificates_refusal, count_refusal, catalog_refusal, sharding_refusal}
+use Rattle.shard_checker.specs.CatalogRefusal.{missing_operation, missing_by, publication_refusal, publishing_refusal, table_refusal, identity_refusal, column_refusal, carried_refusal, entry_refusal, entries_refusal, taken_refusal, covering_refusal, table_shares, certificates_refusal, count_refusal, catalog_refusal, sharding_refusal}
 use Rattle.shard_checker.specs.Owners.{share_in, HasOneOwner}
 use Rattle.shard_checker.specs.Refusal.{first_of, first_refusal}
 use Rattle.shard_checker.specs.Rows.{IsTyped}
-use Rattle.shard_checker.specs.Sound.{is_taken, RowHasOneOwner, PublishesChanges, covers, is_covered_by, entry_is_covered, IsSound}
+use Rattle.shard_checker.specs.Sound.{is_taken, RowHasOneOwner, PublishesChanges, is_covered_by, entry_is_covered, IsSound}
+use Rattle.shard_checker.specs.Trying.{is_empty}
 use Rattle.shard_checker.specs.declared.error.CheckError.{CheckError}
 use Rattle.shard_checker.specs.declared.error.CheckError.TheVariants.{NotCovered, CertCount}
 use Rattle.shard_checker.specs.declared.error.Operation.{Operation}
-use Rattle.shard_checker.specs.declared.error.Operation.TheVariants.{Insert, Update, Delete}
+use Rattle.shard_checker.specs.declared.error.Operation.TheVariants.{Insert, Update, Delete, Truncate}
 use Rattle.shard_checker.proofs.SoundLemmas.{certificate_sound}
 use Rattle.shard_checker.proofs.Testing.{two_true, same_number, at_zero, zero_more, at_next}
 
@@ -35,12 +37,14 @@ none_first (Some error) next h = absurd cc
 
 -- ---- what is published
 
-all_published : (insert update delete : Bool) → (if insert then (if update then (if delete then None else Some Delete) else Some Update) else Some Insert) ≡ None
-    → (insert ≡ true) × (update ≡ true) × (delete ≡ true)
-all_published true true true h = (refl, refl, refl)
-all_published true true false h = absurd cc
-all_published true false delete h = absurd cc
-all_published false update delete h = absurd cc
+all_published : (insert update delete truncate : Bool)
+    → (if insert then (if update then (if delete then (if truncate then None else Some Truncate) else Some Delete) else Some Update) else Some Insert) ≡ None
+    → (insert ≡ true) × (update ≡ true) × (delete ≡ true) × (truncate ≡ true)
+all_published true true true true h = (refl, refl, refl, refl)
+all_published true true true false h = absurd cc
+all_published true true false truncate h = absurd cc
+all_published true false delete truncate h = absurd cc
+all_published false update delete truncate h = absurd cc
 
 none_missing : (number : ℕ) (missing : Option Operation) → missing_by number missing ≡ None → missing ≡ None
 none_missing number None h = refl
@@ -50,8 +54,8 @@ publishes_changes : (subscriptions : List Subscription) (number : ℕ) (publishe
     → is_taken subscriptions number ≡ true → PublishesChanges publishes
 publishes_changes subscriptions number publishes h taken =
     let missing : missing_by number (missing_operation publishes) ≡ None = rw taken at h in
-    let all = all_published publishes.insert publishes.update publishes.delete (none_missing number (missing_operation publishes) missing) in
-    record { inserts = all.0; updates = all.1; deletes = all.2 }
+    let all = all_published publishes.insert publishes.update publishes.delete publishes.truncate (none_missing number (missing_operation publishes) missing) in
+    record { inserts = all.0; updates = all.1; deletes = all.2; truncates = all.3 }
 
 all_publish : (subscriptions : List Subscription) (number : ℕ) (publications : List (PublicationOf Expr)) → publishing_refusal subscriptions number publications ≡ None
     → (k : ℕ) → is_taken subscriptions (number + k) ≡ true → IfSome (slice_get publications k) (λ publication. PublishesChanges publication.publishes)
@@ -83,22 +87,23 @@ covered_first : (b : Bool) (later : Option CheckError) (error : CheckError) → 
 covered_first true later error h = (refl, h)
 covered_first false later error h = absurd cc
 
-columns_covered : (publication table : ℕ) (found : Option Table) (columns : List ℕ) → column_refusal publication table found columns ≡ None → list_all (covers found) columns ≡ true
-columns_covered publication table found [] h = refl
-columns_covered publication table found (column ∷ columns) h =
-    let both = covered_first (covers found column) (column_refusal publication table found columns) (NotCovered publication table column) h in
-    two_true (covers found column) (list_all (covers found) columns) both.0 (columns_covered publication table found columns both.1)
+columns_covered : (publication number : ℕ) (table : Table) (columns : List ℕ) → column_refusal publication number table columns ≡ None → list_all (is_covered table) columns ≡ true
+columns_covered publication number table [] h = refl
+columns_covered publication number table (column ∷ columns) h =
+    let both = covered_first (is_covered table column) (column_refusal publication number table columns) (NotCovered publication number column) h in
+    two_true (is_covered table column) (list_all (is_covered table) columns) both.0 (columns_covered publication number table columns both.1)
 
-filter_covered : (publication table : ℕ) (found : Option Table) (filter : Option Expr) → filter_refusal publication table found filter ≡ None → is_covered_by found filter ≡ true
-filter_covered publication table found None h = refl
-filter_covered publication table found (Some filter) h = columns_covered publication table found (distinct_columns filter) h
+carried_covered : (publication number : ℕ) (found : Option Table) (filter : Option Expr) → carried_refusal publication number found filter ≡ None → is_covered_by found filter ≡ true
+carried_covered publication number None filter h = absurd cc
+carried_covered publication number (Some table) None h = refl
+carried_covered publication number (Some table) (Some filter) h = columns_covered publication number table (distinct_columns filter) h
 
 entries_covered : (tables : List Table) (publication : ℕ) (entries : List (EntryOf Expr)) → entries_refusal tables publication entries ≡ None → list_all (entry_is_covered tables) entries ≡ true
 entries_covered tables publication [] h = refl
 entries_covered tables publication (entry ∷ entries) h =
     let both = none_first (entry_refusal tables publication entry) (entries_refusal tables publication entries) h in
     two_true (entry_is_covered tables entry) (list_all (entry_is_covered tables) entries)
-    (filter_covered publication entry.table (slice_get tables entry.table) entry.filter both.0) (entries_covered tables publication entries both.1)
+    (carried_covered publication entry.table (slice_get tables entry.table) entry.filter both.0) (entries_covered tables publication entries both.1)
 
 taken_covered : (tables : List Table) (subscriptions : List Subscription) (number : ℕ) (entries : List (EntryOf Expr)) → taken_refusal tables subscriptions number entries ≡ None
     → is_taken subscriptions number ≡ true → list_all (entry_is_covered tables) entries ≡ true
@@ -121,15 +126,15 @@ abbrev HasOwners : (ℕ → List s.ShareOf) → ℕ → Table → Type 0
 HasOwners shares number table = (cells : List Datum) → IsTyped table.columns cells → HasOneOwner (shares number) cells
 
 all_owned : (plan : PlanOf) (subscriptions : List Subscription) (number : ℕ) (tables : List Table) (trees : List Tree) → length trees ≡ length tables
-    → certificates_refusal plan subscriptions number tables trees ≡ None
+    → certificates_refusal is_empty plan subscriptions number tables trees ≡ None
     → (k : ℕ) → IfSome (slice_get tables k) (HasOwners (λ n. table_shares plan n 0 subscriptions) (number + k))
 all_owned plan subscriptions number [] trees same h k = tt
 all_owned plan subscriptions number (table ∷ tables) [] same h k = absurd (omega arith)
 all_owned plan subscriptions number (table ∷ tables) (tree ∷ trees) same h zero =
-    let both = none_first (first_refusal number table (table_shares plan number 0 subscriptions) tree) (certificates_refusal plan subscriptions (number + 1) tables trees) h in
+    let both = none_first (first_refusal is_empty number table (table_shares plan number 0 subscriptions) tree) (certificates_refusal is_empty plan subscriptions (number + 1) tables trees) h in
     subst (λ n. HasOwners (λ m. table_shares plan m 0 subscriptions) n table) (sym (at_zero number)) (certificate_sound number table (table_shares plan number 0 subscriptions) tree both.0)
 all_owned plan subscriptions number (table ∷ tables) (tree ∷ trees) same h (suc k) =
-    let both = none_first (first_refusal number table (table_shares plan number 0 subscriptions) tree) (certificates_refusal plan subscriptions (number + 1) tables trees) h in
+    let both = none_first (first_refusal is_empty number table (table_shares plan number 0 subscriptions) tree) (certificates_refusal is_empty plan subscriptions (number + 1) tables trees) h in
     subst (λ n. IfSome (slice_get tables k) (HasOwners (λ m. table_shares plan m 0 subscriptions) n)) (sym (at_next number k)) (all_owned plan subscriptions (number + 1) tables trees (omega arith) both.1 k)
 
 -- the share of a subscriber who is there
@@ -176,10 +181,10 @@ counted : (b : Bool) (error : CheckError) → (if b then None else Some error) �
 counted true error h = refl
 counted false error h = absurd cc
 
-pub sharding_sound : (catalog : CatalogOf Expr) (plan : PlanOf) (trees : List Tree) → sharding_refusal catalog plan trees ≡ None → plan ≡ plan_of catalog → IsSound catalog
+pub sharding_sound : (catalog : CatalogOf Expr) (plan : PlanOf) (trees : List Tree) → sharding_refusal is_empty catalog plan trees ≡ None → plan ≡ plan_of catalog → IsSound catalog
 sharding_sound catalog plan trees h own =
-    let all = none_first (catalog_refusal catalog) (first_of (count_refusal (length catalog.tables) (length trees)) (certificates_refusal plan catalog.subscriptions 0 catalog.tables trees)) h in
-    let certificates = none_first (count_refusal (length catalog.tables) (length trees)) (certificates_refusal plan catalog.subscriptions 0 catalog.tables trees) all.1 in
+    let all = none_first (catalog_refusal catalog) (first_of (count_refusal (length catalog.tables) (length trees)) (certificates_refusal is_empty plan catalog.subscriptions 0 catalog.tables trees)) h in
+    let certificates = none_first (count_refusal (length catalog.tables) (length trees)) (certificates_refusal is_empty plan catalog.subscriptions 0 catalog.tables trees) all.1 in
     let publishing = none_first (publishing_refusal catalog.subscriptions 0 catalog.publications)
     (first_of (identity_refusal 0 catalog.tables) (covering_refusal catalog.tables catalog.subscriptions 0 catalog.publications)) all.0 in
     let rest = none_first (identity_refusal 0 catalog.tables) (covering_refusal catalog.tables catalog.subscriptions 0 catalog.publications) publishing.1 in

@@ -18,12 +18,11 @@ use Rattle.filter_tree.proofs.SameLemmas.{both_true}
 use Rattle.replica_identity.specs.Shares.{ShareOf, Nothing, Everything, Where, takes, is_true}
 use Rattle.split_cert.specs.Tree.{Tree, Split, Owner, Empty, NeverNull, nodes}
 use Rattle.shard_checker.specs.Domain.{kind_at}
-use Rattle.shard_checker.specs.Emptiness.{is_empty}
 use Rattle.shard_checker.specs.Facts.{is_null, is_present, is_never_null}
 use Rattle.shard_checker.specs.Owners.{share_in, HasOneOwner, is_surely_true, must_take, may_take, is_second, second_owner}
 use Rattle.shard_checker.specs.Refusal.{Subject, subject_of, first_refusal, later, second_refusal, owner_refusal, empty_refusal, never_null_refusal, first_of, split_refusal, refusal, IsSound}
 use Rattle.shard_checker.specs.Rows.{IsTyped}
-use Rattle.shard_checker.specs.Trying.{has_value}
+use Rattle.shard_checker.specs.Trying.{has_value, is_empty}
 use Rattle.shard_checker.specs.declared.error.CheckError.{CheckError}
 use Rattle.shard_checker.specs.declared.error.CheckError.TheVariants.{NotEmpty, MayBeNull, NotOwner}
 use Rattle.shard_checker.proofs.FactLemmas.{null_is, missing_term, present_is, never_null_is, value_left, all_left}
@@ -64,7 +63,7 @@ passed : (b : Bool) (error : CheckError) → (if b then None else Some error) �
 passed true error h = refl
 passed false error h = absurd cc
 
-empty_sound : (subject : Subject) (path : Path) (node : ℕ) (found : Option Term) → empty_refusal subject path node found ≡ None → IsSound subject.columns subject.shares path
+empty_sound : (subject : Subject) (path : Path) (node : ℕ) (found : Option Term) → empty_refusal is_empty subject path node found ≡ None → IsSound subject.columns subject.shares path
 empty_sound subject path node None h = absurd cc
 empty_sound subject path node (Some term) h = record {
   one_owner = λ cells valid agrees. absurd (empty_is subject.columns cells term path valid agrees (passed (is_empty subject.columns term path) (NotEmpty subject.table node) h));
@@ -179,12 +178,12 @@ split_sound subject path node (Some atom) if_true if_false if_null at_true at_fa
           cells (atom_meaning atom cells) valid agrees refl;
     }
 
-pub refusal_sound : (subject : Subject) (tree : Tree) (path : Path) (node : ℕ) → refusal subject tree path node ≡ None → IsSound subject.columns subject.shares path
+pub refusal_sound : (subject : Subject) (tree : Tree) (path : Path) (node : ℕ) → refusal is_empty subject tree path node ≡ None → IsSound subject.columns subject.shares path
 refusal_sound subject (Split index if_true if_false if_null) path node h =
     split_sound subject path node (slice_get subject.atoms index)
-    (λ longer. refusal subject if_true longer (later node 1))
-    (λ longer. refusal subject if_false longer (later (later node 1) (nodes if_true)))
-    (λ longer. refusal subject if_null longer (later (later (later node 1) (nodes if_true)) (nodes if_false)))
+    (λ longer. refusal is_empty subject if_true longer (later node 1))
+    (λ longer. refusal is_empty subject if_false longer (later (later node 1) (nodes if_true)))
+    (λ longer. refusal is_empty subject if_null longer (later (later (later node 1) (nodes if_true)) (nodes if_false)))
     (λ longer. refusal_sound subject if_true longer (later node 1))
     (λ longer. refusal_sound subject if_false longer (later (later node 1) (nodes if_true)))
     (λ longer. refusal_sound subject if_null longer (later (later (later node 1) (nodes if_true)) (nodes if_false)))
@@ -194,6 +193,6 @@ refusal_sound subject (Empty term) path node h = empty_sound subject path node (
 refusal_sound subject (NeverNull index) path node h = never_null_sound subject path node (slice_get subject.atoms index) h
 
 -- a certificate without a refusal
-pub certificate_sound : (number : ℕ) (table : Table) (shares : List ShareOf) (tree : Tree) → first_refusal number table shares tree ≡ None
+pub certificate_sound : (number : ℕ) (table : Table) (shares : List ShareOf) (tree : Tree) → first_refusal is_empty number table shares tree ≡ None
     → (cells : List Datum) → IsTyped table.columns cells → HasOneOwner shares cells
 certificate_sound number table shares tree h cells valid = (refusal_sound (subject_of number table.columns shares) tree [] 0 h).one_owner cells valid tt

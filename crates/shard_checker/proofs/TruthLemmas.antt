@@ -10,10 +10,10 @@ use Rattle.filter_tree.specs.declared.tri.Tri.TheVariants.{True, False, Null}
 use Rattle.filter_tree.proofs.SameLemmas.{both_true}
 use Rattle.replica_identity.specs.Shares.{ShareOf}
 use Rattle.split_cert.specs.Tree.{Tree, Split, Owner, Empty, NeverNull, nodes}
-use Rattle.shard_checker.specs.Emptiness.{is_empty}
 use Rattle.shard_checker.specs.Facts.{is_never_null}
 use Rattle.shard_checker.specs.Owners.{share_in, must_take, may_take, is_second, second_owner}
 use Rattle.shard_checker.specs.Refusal.{Subject, subject_of, later, second_refusal, others_refusal, owner_refusal, empty_refusal, never_null_refusal, first_of, split_refusal, refusal, first_refusal}
+use Rattle.shard_checker.specs.Trying.{is_empty}
 use Rattle.shard_checker.specs.Truth.{IsLeastOther, HasSecond, EmptyIsWrong, NeverNullIsWrong, OwnerIsWrong, SplitIsWrong, IsWrong, CertificateIsWrong}
 use Rattle.shard_checker.specs.declared.error.CheckError.{CheckError}
 use Rattle.shard_checker.specs.declared.error.CheckError.TheVariants.{BadIndex, NotEmpty, MayBeNull, NotOwner, SecondOwner}
@@ -29,7 +29,7 @@ pub failed : (b : Bool) (one error : CheckError) → (if b then None else Some o
 failed true one error h = absurd cc
 failed false one error h = (refl, same_some one error h)
 
-empty_wrong : (subject : Subject) (path : Path) (node : ℕ) (found : Option Term) (error : CheckError) → empty_refusal subject path node found ≡ Some error → EmptyIsWrong subject path node found error
+empty_wrong : (subject : Subject) (path : Path) (node : ℕ) (found : Option Term) (error : CheckError) → empty_refusal is_empty subject path node found ≡ Some error → EmptyIsWrong subject path node found error
 empty_wrong subject path node None error h = same_some (BadIndex subject.table node) error h
 empty_wrong subject path node (Some term) error h =
     let both = failed (is_empty subject.columns term path) (NotEmpty subject.table node) error h in
@@ -146,12 +146,12 @@ split_wrong subject path node (Some atom) error if_true if_false if_null true_wr
     (at_true (path ++ (atom, True) ∷ [])) (at_false (path ++ (atom, False) ∷ [])) (at_null (path ++ (atom, Null) ∷ []))
     (first_some (if_true (path ++ (atom, True) ∷ [])) (first_of (if_false (path ++ (atom, False) ∷ [])) (if_null (path ++ (atom, Null) ∷ []))) error h)
 
-refusal_true : (subject : Subject) (tree : Tree) (path : Path) (node : ℕ) (error : CheckError) → refusal subject tree path node ≡ Some error → IsWrong subject tree path node error
+refusal_true : (subject : Subject) (tree : Tree) (path : Path) (node : ℕ) (error : CheckError) → refusal is_empty subject tree path node ≡ Some error → IsWrong subject tree path node error
 refusal_true subject (Split index if_true if_false if_null) path node error h =
     split_wrong subject path node (slice_get subject.atoms index) error
-    (λ longer. refusal subject if_true longer (later node 1))
-    (λ longer. refusal subject if_false longer (later (later node 1) (nodes if_true)))
-    (λ longer. refusal subject if_null longer (later (later (later node 1) (nodes if_true)) (nodes if_false)))
+    (λ longer. refusal is_empty subject if_true longer (later node 1))
+    (λ longer. refusal is_empty subject if_false longer (later (later node 1) (nodes if_true)))
+    (λ longer. refusal is_empty subject if_null longer (later (later (later node 1) (nodes if_true)) (nodes if_false)))
     (λ longer. IsWrong subject if_true longer (later node 1) error)
     (λ longer. IsWrong subject if_false longer (later (later node 1) (nodes if_true)) error)
     (λ longer. IsWrong subject if_null longer (later (later (later node 1) (nodes if_true)) (nodes if_false)) error)
@@ -163,6 +163,6 @@ refusal_true subject (Owner subscriber) path node error h = owner_wrong subject 
 refusal_true subject (Empty term) path node error h = empty_wrong subject path node (slice_get subject.terms term) error h
 refusal_true subject (NeverNull index) path node error h = never_null_wrong subject path node (slice_get subject.atoms index) error h
 
-pub certificate_wrong : (number : ℕ) (table : Table) (shares : List ShareOf) (tree : Tree) (error : CheckError) → first_refusal number table shares tree ≡ Some error
+pub certificate_wrong : (number : ℕ) (table : Table) (shares : List ShareOf) (tree : Tree) (error : CheckError) → first_refusal is_empty number table shares tree ≡ Some error
     → CertificateIsWrong number table shares tree error
 certificate_wrong number table shares tree error h = refusal_true (subject_of number table.columns shares) tree [] 0 error h

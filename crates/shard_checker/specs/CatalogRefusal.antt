@@ -1,4 +1,4 @@
--- Why a sharding is refused, of several reasons the first: a publication that is taken and doesn't publish an operation, a table that records no old row, a filter that names a column outside the replica identity, too few or too many certificates, and then the certificates, table by table. PostgreSQL 15, "Logical Replication", 31.1 Publication.
+-- Why a sharding is refused, of several reasons the first: a publication that is taken and doesn't publish an operation, a table that records no old row, a publication that is taken and carries a table that isn't there or has a filter that names a column outside the replica identity, too few or too many certificates, and then the certificates, table by table. PostgreSQL 15, "Logical Replication", 31.1 Publication.
 use Rattle.std.specs.Prelude.{ℕ, ◌+◌, ◌==◌, if◌then◌else◌, List, [], ◌∷◌, length, Option, Some, None, slice_get}
 use Rattle.filter_tree.specs.Expr.{Expr}
 use Rattle.filter_tree.specs.Lists.{distinct_columns}
@@ -8,22 +8,26 @@ use Rattle.filter_tree.specs.declared.table.Table.{Table}
 use Rattle.pub_reader.specs.Catalogs.{CatalogOf, PublicationOf, EntryOf}
 use Rattle.pub_reader.specs.declared.catalog.Operations.{Operations}
 use Rattle.pub_reader.specs.declared.catalog.Subscription.{Subscription}
+use Rattle.replica_identity.specs.Identities.{is_covered}
 use Rattle.replica_identity.specs.Plans.{PlanOf, share_at}
 use Rattle.replica_identity.specs.Shares.{ShareOf}
 use Rattle.split_cert.specs.Tree.{Tree}
+use Rattle.shard_checker.specs.Emptiness.{Test}
 use Rattle.shard_checker.specs.Refusal.{first_of, first_refusal}
-use Rattle.shard_checker.specs.Sound.{is_taken, covers}
+use Rattle.shard_checker.specs.Sound.{is_taken}
 use Rattle.shard_checker.specs.declared.error.CheckError.{CheckError}
-use Rattle.shard_checker.specs.declared.error.CheckError.TheVariants.{PublishMissing, NoIdentity, NotCovered, CertCount}
+use Rattle.shard_checker.specs.declared.error.CheckError.TheVariants.{PublishMissing, NoIdentity, UnknownTable, NotCovered, CertCount}
 use Rattle.shard_checker.specs.declared.error.Operation.{Operation}
-use Rattle.shard_checker.specs.declared.error.Operation.TheVariants.{Insert, Update, Delete}
+use Rattle.shard_checker.specs.declared.error.Operation.TheVariants.{Insert, Update, Delete, Truncate}
 
 -- ---- what is published
 
--- the first of insert, update and delete that isn't published
+-- the first of insert, update, delete and truncate that isn't published
 abbrev pub missing_operation : Operations → Option Operation
 missing_operation publishes =
-    if publishes.insert then (if publishes.update then (if publishes.delete then None else Some Delete) else Some Update) else Some Insert
+    if publishes.insert
+    then (if publishes.update then (if publishes.delete then (if publishes.truncate then None else Some Truncate) else Some Delete) else Some Update)
+    else Some Insert
 
 abbrev pub missing_by : ℕ → Option Operation → Option CheckError
 missing_by number None = None
@@ -50,20 +54,25 @@ abbrev pub identity_refusal : ℕ → List Table → Option CheckError
 identity_refusal number [] = None
 identity_refusal number (table ∷ tables) = first_of (table_refusal number table.identity) (identity_refusal (number + 1) tables)
 
--- ---- which columns filters name
+-- ---- which tables are carried, and which columns filters name
 
--- the first of these columns that the replica identity lacks
-abbrev pub column_refusal : ℕ → ℕ → Option Table → List ℕ → Option CheckError
-column_refusal publication table found [] = None
-column_refusal publication table found (column ∷ columns) =
-    if covers found column then column_refusal publication table found columns else Some (NotCovered publication table column)
+-- the first of these columns that the replica identity of the table, which has this number, lacks
+abbrev pub column_refusal : ℕ → ℕ → Table → List ℕ → Option CheckError
+column_refusal publication number table [] = None
+column_refusal publication number table (column ∷ columns) =
+    if is_covered table column then column_refusal publication number table columns else Some (NotCovered publication number column)
 
-abbrev pub filter_refusal : ℕ → ℕ → Option Table → Option Expr → Option CheckError
-filter_refusal publication table found None = None
-filter_refusal publication table found (Some filter) = column_refusal publication table found (distinct_columns filter)
+abbrev pub filter_refusal : ℕ → ℕ → Table → Option Expr → Option CheckError
+filter_refusal publication number table None = None
+filter_refusal publication number table (Some filter) = column_refusal publication number table (distinct_columns filter)
+
+-- of the table of this number, if it is there
+abbrev pub carried_refusal : ℕ → ℕ → Option Table → Option Expr → Option CheckError
+carried_refusal publication number None filter = Some (UnknownTable publication number)
+carried_refusal publication number (Some table) filter = filter_refusal publication number table filter
 
 abbrev pub entry_refusal : List Table → ℕ → EntryOf Expr → Option CheckError
-entry_refusal tables publication entry = filter_refusal publication entry.table (slice_get tables entry.table) entry.filter
+entry_refusal tables publication entry = carried_refusal publication entry.table (slice_get tables entry.table) entry.filter
 
 abbrev pub entries_refusal : List Table → ℕ → List (EntryOf Expr) → Option CheckError
 entries_refusal tables publication [] = None
@@ -78,7 +87,7 @@ covering_refusal tables subscriptions number [] = None
 covering_refusal tables subscriptions number (publication ∷ publications) =
     first_of (taken_refusal tables subscriptions number publication.entries) (covering_refusal tables subscriptions (number + 1) publications)
 
--- ---- certificates
+-- ---- certificates, where a test tells which terms have no value
 
 -- the shares of a table that subscribers take, who begin at this number
 abbrev pub table_shares : PlanOf → ℕ → ℕ → List Subscription → List ShareOf
@@ -86,14 +95,14 @@ table_shares plan table number [] = []
 table_shares plan table number (subscription ∷ subscriptions) = share_at plan number table ∷ table_shares plan table (number + 1) subscriptions
 
 -- of the certificate of the table of this number
-abbrev pub certificate_refusal : PlanOf → List Subscription → ℕ → Table → Tree → Option CheckError
-certificate_refusal plan subscriptions number table tree = first_refusal number table (table_shares plan number 0 subscriptions) tree
+abbrev pub certificate_refusal : Test → PlanOf → List Subscription → ℕ → Table → Tree → Option CheckError
+certificate_refusal is_empty plan subscriptions number table tree = first_refusal is_empty number table (table_shares plan number 0 subscriptions) tree
 
 -- of the certificates of the tables that begin at this number
-abbrev pub certificates_refusal : PlanOf → List Subscription → ℕ → List Table → List Tree → Option CheckError
-certificates_refusal plan subscriptions number (table ∷ tables) (tree ∷ trees) =
-    first_of (certificate_refusal plan subscriptions number table tree) (certificates_refusal plan subscriptions (number + 1) tables trees)
-certificates_refusal plan subscriptions number tables trees = None
+abbrev pub certificates_refusal : Test → PlanOf → List Subscription → ℕ → List Table → List Tree → Option CheckError
+certificates_refusal is_empty plan subscriptions number (table ∷ tables) (tree ∷ trees) =
+    first_of (certificate_refusal is_empty plan subscriptions number table tree) (certificates_refusal is_empty plan subscriptions (number + 1) tables trees)
+certificates_refusal is_empty plan subscriptions number tables trees = None
 
 abbrev pub count_refusal : ℕ → ℕ → Option CheckError
 count_refusal tables certificates = if certificates == tables then None else Some CertCount
@@ -109,7 +118,7 @@ catalog_refusal catalog =
     first_of (publishing_refusal catalog.subscriptions 0 catalog.publications)
     (first_of (identity_refusal 0 catalog.tables) (covering_refusal catalog.tables catalog.subscriptions 0 catalog.publications))
 
-abbrev pub sharding_refusal : CatalogOf Expr → PlanOf → List Tree → Option CheckError
-sharding_refusal catalog plan trees =
+abbrev pub sharding_refusal : Test → CatalogOf Expr → PlanOf → List Tree → Option CheckError
+sharding_refusal is_empty catalog plan trees =
     first_of (catalog_refusal catalog)
-    (first_of (count_refusal (length catalog.tables) (length trees)) (certificates_refusal plan catalog.subscriptions 0 catalog.tables trees))
+    (first_of (count_refusal (length catalog.tables) (length trees)) (certificates_refusal is_empty plan catalog.subscriptions 0 catalog.tables trees))

@@ -1,5 +1,5 @@
 -- What the first refusal of a sharding says of the publication, the table, the column or the certificate that it names: PostgreSQL 15, "Logical Replication", 31.1 Publication.
-use Rattle.std.specs.Prelude.{◌≡◌, ◌≢◌, ℕ, Bool, true, false, List, length, Contains, Some, slice_get}
+use Rattle.std.specs.Prelude.{◌≡◌, ◌≢◌, ℕ, Bool, true, false, List, length, Contains, Some, None, slice_get}
 use Rattle.filter_tree.specs.Expr.{Expr}
 use Rattle.filter_tree.specs.Lists.{distinct_columns}
 use Rattle.filter_tree.specs.declared.table.Identity.TheVariants.{Nothing}
@@ -13,14 +13,15 @@ use Rattle.shard_checker.specs.CatalogRefusal.{table_shares}
 use Rattle.shard_checker.specs.Sound.{is_taken}
 use Rattle.shard_checker.specs.Truth.{CertificateIsWrong}
 use Rattle.shard_checker.specs.declared.error.CheckError.{CheckError}
-use Rattle.shard_checker.specs.declared.error.CheckError.TheVariants.{PublishMissing, NoIdentity, NotCovered, CertCount, BadIndex, NotEmpty, MayBeNull, NotOwner, SecondOwner, OutOfMemory}
+use Rattle.shard_checker.specs.declared.error.CheckError.TheVariants.{PublishMissing, NoIdentity, UnknownTable, NotCovered, CertCount, BadIndex, NotEmpty, MayBeNull, NotOwner, SecondOwner, OutOfMemory}
 use Rattle.shard_checker.specs.declared.error.Operation.{Operation}
-use Rattle.shard_checker.specs.declared.error.Operation.TheVariants.{Insert, Update, Delete}
+use Rattle.shard_checker.specs.declared.error.Operation.TheVariants.{Insert, Update, Delete, Truncate}
 
 abbrev pub has_operation : Operations → Operation → Bool
 has_operation publishes Insert = publishes.insert
 has_operation publishes Update = publishes.update
 has_operation publishes Delete = publishes.delete
+has_operation publishes Truncate = publishes.truncate
 
 -- the publication of this number is taken, and doesn't publish the operation
 pub record DoesNotPublish (catalog : CatalogOf Expr) (number : ℕ) (operation : Operation) : Type 0 where
@@ -34,6 +35,16 @@ pub record RecordsNothing (catalog : CatalogOf Expr) (number : ℕ) : Type 0 whe
   pub table : Table
   pub there : slice_get catalog.tables number ≡ Some table
   pub nothing : table.identity ≡ Nothing
+
+-- the publication of this number is taken, and carries a table of a number that no table has
+pub record CarriesUnknown (catalog : CatalogOf Expr) (number table : ℕ) : Type 0 where
+  pub publication : PublicationOf Expr
+  pub there : slice_get catalog.publications number ≡ Some publication
+  pub taken : is_taken catalog.subscriptions number ≡ true
+  pub entry : EntryOf Expr
+  pub has_entry : Contains publication.entries entry
+  pub of_table : entry.table ≡ table
+  pub unknown : slice_get catalog.tables table ≡ None
 
 -- the filter of an entry for the table of this number, which is there, names the column, and the table's replica identity lacks it
 pub record NamesUncovered (tables : List Table) (entry : EntryOf Expr) (number column : ℕ) : Type 0 where
@@ -66,6 +77,7 @@ pub record HasWrongCertificate (catalog : CatalogOf Expr) (plan : PlanOf) (trees
 abbrev pub ShardingIsWrong : CatalogOf Expr → PlanOf → List Tree → CheckError → Type 0
 ShardingIsWrong catalog plan trees (PublishMissing publication operation) = DoesNotPublish catalog publication operation
 ShardingIsWrong catalog plan trees (NoIdentity table) = RecordsNothing catalog table
+ShardingIsWrong catalog plan trees (UnknownTable publication table) = CarriesUnknown catalog publication table
 ShardingIsWrong catalog plan trees (NotCovered publication table column) = HasUncovered catalog publication table column
 ShardingIsWrong catalog plan trees CertCount = length trees ≢ length catalog.tables
 ShardingIsWrong catalog plan trees (BadIndex table node) = HasWrongCertificate catalog plan trees table (BadIndex table node)

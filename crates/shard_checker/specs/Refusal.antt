@@ -9,7 +9,7 @@ use Rattle.filter_tree.specs.declared.table.Table.{Table}
 use Rattle.filter_tree.specs.declared.tri.Tri.TheVariants.{True, False, Null}
 use Rattle.replica_identity.specs.Shares.{ShareOf}
 use Rattle.split_cert.specs.Tree.{Tree, Split, Owner, Empty, NeverNull, nodes}
-use Rattle.shard_checker.specs.Emptiness.{is_empty}
+use Rattle.shard_checker.specs.Emptiness.{Test}
 use Rattle.shard_checker.specs.Facts.{is_never_null}
 use Rattle.shard_checker.specs.Numbering.{numbered_atoms, numbered_terms}
 use Rattle.shard_checker.specs.Owners.{HasOneOwner, must_take, second_owner}
@@ -51,10 +51,10 @@ owner_refusal subject path node owner None = Some (BadIndex subject.table node)
 owner_refusal subject path node owner (Some share) =
     if must_take share path then others_refusal subject path node owner else Some (NotOwner subject.table node)
 
--- no value is left to the term
-abbrev pub empty_refusal : Subject → Path → ℕ → Option Term → Option CheckError
-empty_refusal subject path node None = Some (BadIndex subject.table node)
-empty_refusal subject path node (Some term) = if is_empty subject.columns term path then None else Some (NotEmpty subject.table node)
+-- no value is left to the term, as a test tells
+abbrev pub empty_refusal : Test → Subject → Path → ℕ → Option Term → Option CheckError
+empty_refusal is_empty subject path node None = Some (BadIndex subject.table node)
+empty_refusal is_empty subject path node (Some term) = if is_empty subject.columns term path then None else Some (NotEmpty subject.table node)
 
 abbrev pub never_null_refusal : Subject → Path → ℕ → Option AtomOf → Option CheckError
 never_null_refusal subject path node None = Some (BadIndex subject.table node)
@@ -72,31 +72,31 @@ split_refusal subject path node None if_true if_false if_null = Some (BadIndex s
 split_refusal subject path node (Some atom) if_true if_false if_null =
     first_of (if_true (path ++ (atom, True) ∷ [])) (first_of (if_false (path ++ (atom, False) ∷ [])) (if_null (path ++ (atom, Null) ∷ [])))
 
--- the first refusal in a tree at the end of a path, whose first node has this number
-abbrev pub refusal : Subject → Tree → Path → ℕ → Option CheckError
-refusal subject (Split index if_true if_false if_null) path node =
+-- the first refusal in a tree at the end of a path, whose first node has this number, where a test tells which terms have no value
+abbrev pub refusal : Test → Subject → Tree → Path → ℕ → Option CheckError
+refusal is_empty subject (Split index if_true if_false if_null) path node =
     split_refusal subject path node (slice_get subject.atoms index)
-    (λ longer. refusal subject if_true longer (later node 1))
-    (λ longer. refusal subject if_false longer (later (later node 1) (nodes if_true)))
-    (λ longer. refusal subject if_null longer (later (later (later node 1) (nodes if_true)) (nodes if_false)))
-refusal subject (Owner subscriber) path node = owner_refusal subject path node subscriber (slice_get subject.shares subscriber)
-refusal subject (Empty term) path node = empty_refusal subject path node (slice_get subject.terms term)
-refusal subject (NeverNull index) path node = never_null_refusal subject path node (slice_get subject.atoms index)
+    (λ longer. refusal is_empty subject if_true longer (later node 1))
+    (λ longer. refusal is_empty subject if_false longer (later (later node 1) (nodes if_true)))
+    (λ longer. refusal is_empty subject if_null longer (later (later (later node 1) (nodes if_true)) (nodes if_false)))
+refusal is_empty subject (Owner subscriber) path node = owner_refusal subject path node subscriber (slice_get subject.shares subscriber)
+refusal is_empty subject (Empty term) path node = empty_refusal is_empty subject path node (slice_get subject.terms term)
+refusal is_empty subject (NeverNull index) path node = never_null_refusal subject path node (slice_get subject.atoms index)
 
 -- the first refusal in the branches of a split by this atom, the first of which begins with the node of this number
-abbrev pub branches_refusal : Subject → Path → ℕ → AtomOf → Tree → Tree → Tree → Option CheckError
-branches_refusal subject path node atom if_true if_false if_null =
-    first_of (refusal subject if_true (path ++ (atom, True) ∷ []) node)
-    (first_of (refusal subject if_false (path ++ (atom, False) ∷ []) (later node (nodes if_true)))
-    (refusal subject if_null (path ++ (atom, Null) ∷ []) (later (later node (nodes if_true)) (nodes if_false))))
+abbrev pub branches_refusal : Test → Subject → Path → ℕ → AtomOf → Tree → Tree → Tree → Option CheckError
+branches_refusal is_empty subject path node atom if_true if_false if_null =
+    first_of (refusal is_empty subject if_true (path ++ (atom, True) ∷ []) node)
+    (first_of (refusal is_empty subject if_false (path ++ (atom, False) ∷ []) (later node (nodes if_true)))
+    (refusal is_empty subject if_null (path ++ (atom, Null) ∷ []) (later (later node (nodes if_true)) (nodes if_false))))
 
 -- the number of the node after three trees, the first of which begins with the node of this number
 abbrev pub after_branches : ℕ → Tree → Tree → Tree → ℕ
 after_branches node if_true if_false if_null = later (later (later node (nodes if_true)) (nodes if_false)) (nodes if_null)
 
 -- the first refusal in the certificate of the table of this number
-abbrev pub first_refusal : ℕ → Table → List ShareOf → Tree → Option CheckError
-first_refusal number table shares tree = refusal (subject_of number table.columns shares) tree [] 0
+abbrev pub first_refusal : Test → ℕ → Table → List ShareOf → Tree → Option CheckError
+first_refusal is_empty number table shares tree = refusal is_empty (subject_of number table.columns shares) tree [] 0
 
 -- each row that may stand in the columns and agrees with the path has one owner
 pub record IsSound (columns : List Column) (shares : List ShareOf) (path : Path) : Type 0 where

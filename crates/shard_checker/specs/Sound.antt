@@ -1,5 +1,5 @@
 -- When the sharding of a catalog is sound: each row that may stand in its table passes to exactly one subscriber, and what is taken publishes the operations and names the columns by which rows move between subscribers. PostgreSQL 15, "Logical Replication", 31.1 Publication and 31.3 Row Filters.
-use Rattle.std.specs.Prelude.{◌≡◌, ◌≢◌, ℕ, ◌==◌, Bool, true, List, Option, Some, None, IfSome, slice_get}
+use Rattle.std.specs.Prelude.{◌≡◌, ◌≢◌, ℕ, ◌==◌, Bool, true, false, List, Option, Some, None, IfSome, slice_get}
 use Rattle.std.specs.List.{list_any, list_all}
 use Rattle.filter_tree.specs.Datum.{Datum}
 use Rattle.filter_tree.specs.Expr.{Expr}
@@ -30,16 +30,13 @@ pub record PublishesChanges (publishes : Operations) : Type 0 where
   pub inserts : publishes.insert ≡ true
   pub updates : publishes.update ≡ true
   pub deletes : publishes.delete ≡ true
+  pub truncates : publishes.truncate ≡ true
 
--- the table's replica identity has the column; of a table that isn't there it lacks none, since no row stands in it
-abbrev pub covers : Option Table → ℕ → Bool
-covers None column = true
-covers (Some table) column = is_covered table column
-
--- a filter names only columns of the replica identity
+-- a table is there, and a filter, if any, names only columns of its replica identity
 abbrev pub is_covered_by : Option Table → Option Expr → Bool
-is_covered_by found None = true
-is_covered_by found (Some filter) = list_all (covers found) (distinct_columns filter)
+is_covered_by None filter = false
+is_covered_by (Some table) None = true
+is_covered_by (Some table) (Some filter) = list_all (is_covered table) (distinct_columns filter)
 
 abbrev pub entry_is_covered : List Table → EntryOf Expr → Bool
 entry_is_covered tables entry = is_covered_by (slice_get tables entry.table) entry.filter
@@ -48,9 +45,9 @@ entry_is_covered tables entry = is_covered_by (slice_get tables entry.table) ent
 pub record IsSound (catalog : CatalogOf Expr) : Type 0 where
   -- each row that may stand in a table passes to exactly one subscriber
   pub one_owner : (number : ℕ) → IfSome (slice_get catalog.tables number) (λ table. (cells : List Datum) → IsTyped table.columns cells → RowHasOneOwner catalog number cells)
-  -- each publication that is taken publishes insert, update and delete
+  -- each publication that is taken publishes insert, update, delete and truncate
   pub publishes : (number : ℕ) → is_taken catalog.subscriptions number ≡ true → IfSome (slice_get catalog.publications number) (λ publication. PublishesChanges publication.publishes)
-  -- and its filters name only columns of the tables' replica identities
+  -- and carries only tables that are there, by filters that name only columns of their replica identities
   pub covered : (number : ℕ) → is_taken catalog.subscriptions number ≡ true → IfSome (slice_get catalog.publications number) (λ publication. list_all (entry_is_covered catalog.tables) publication.entries ≡ true)
   -- no table's replica identity is NOTHING
   pub identified : (number : ℕ) → IfSome (slice_get catalog.tables number) (λ table. table.identity ≢ Nothing)

@@ -1,10 +1,11 @@
--- Which values are tried to decide whether one is left to a term whose column isn't null: the least number of its range, the numbers that comparisons name and those after them, and the texts that comparisons name and one that none does. What the decision means is in `Emptiness`. Certificates are this project's own, and restate no section of PostgreSQL's documentation.
-use Rattle.std.specs.Prelude.{ℤ, pos, ◌+ℤ◌, int_le, Bool, true, false, ◌&&◌, ◌||◌, Option, Some, None}
+-- How the code tells whether a value is left to a term, which no public contract speaks of: it tries the least number of the term's range, the numbers that comparisons name and those after them, and the texts that comparisons name and one that none does. `Emptiness` defines what it tells. Certificates are this project's own, and restate no section of PostgreSQL's documentation.
+use Rattle.std.specs.Prelude.{ℤ, pos, ◌+ℤ◌, int_le, Bool, true, false, not, ◌&&◌, ◌||◌, List, Option, Some, None}
 use Rattle.std.specs.Borrow.{Bor}
 use Rattle.std.specs.List.{list_any}
 use Rattle.std.specs.Option.{option_map}
 use Rattle.filter_tree.specs.Datum.{Constant, Number, Truth, Bytes}
 use Rattle.filter_tree.specs.Expr.{AtomOf, Cmp, IsNull}
+use Rattle.filter_tree.specs.Lists.{column_of}
 use Rattle.filter_tree.specs.Paths.{Path}
 use Rattle.filter_tree.specs.Same.{same_term}
 use Rattle.filter_tree.specs.Values.{constant_view}
@@ -12,8 +13,9 @@ use Rattle.filter_tree.specs.declared.value.Literal.{Literal}
 use Rattle.filter_tree.specs.declared.filter.Term.{Term}
 use Rattle.filter_tree.specs.declared.table.ColType.{ColType}
 use Rattle.filter_tree.specs.declared.table.ColType.TheVariants.{SmallInt, Integer, BigInt, Boolean, Text}
-use Rattle.shard_checker.specs.Domain.{range_of}
-use Rattle.shard_checker.specs.Facts.{may_be}
+use Rattle.filter_tree.specs.declared.table.Column.{Column}
+use Rattle.shard_checker.specs.Domain.{kind_at, range_of}
+use Rattle.shard_checker.specs.Facts.{is_null, is_present, may_be}
 use Rattle.shard_checker.specs.declared.domain.Range.{Range}
 
 abbrev pub a_number : ℤ → Option Constant
@@ -66,3 +68,8 @@ has_value Integer term path = has_number (range_of Integer term) term path
 has_value BigInt term path = has_number (range_of BigInt term) term path
 has_value Boolean term path = may_be term path (Some (Truth true)) || may_be term path (Some (Truth false))
 has_value Text term path = has_text term path
+
+-- no value is left: the column would have to be null and not null, or none of the values that are tried is left
+abbrev pub is_empty : List Column → Term → Path → Bool
+is_empty columns term path =
+    (is_null (column_of term) path && is_present columns (column_of term) path) || not (has_value (kind_at columns (column_of term)) term path)

@@ -1,11 +1,11 @@
-//! What replica identities record, and which columns the filters of the publications that are taken name.
+//! What replica identities record, and which tables and columns the publications that are taken name.
 
-ghost use Rattle.std.specs.Prelude.{◌≡◌, ◌≢◌, IfErr, Some, map, slice_get};
+ghost use Rattle.std.specs.Prelude.{◌≢◌, IfErr, Some, map};
+ghost use Rattle.std.specs.Option.{option_map};
 ghost use Rattle.filter_tree.specs.Shape.{expr_view};
 ghost use Rattle.pub_reader.specs.CatalogView.{entry_view, publication_view};
 ghost use Rattle.shard_checker.specs.CatalogRefusal as spec;
 ghost use Rattle.shard_checker.specs.Checks.{Checks, Finds};
-ghost use Rattle.shard_checker.specs.Sound as sound;
 
 use crate::error::CheckError;
 use crate::publishing::is_taken;
@@ -35,30 +35,20 @@ pub fn check_identities(tables: &[Table]) -> Result<(), CheckError>
     Ok(())
 }
 
-/// Whether the replica identity of the table of this number has the column; of a table that isn't there it lacks none.
-fn covers(tables: &[Table], table: usize, column: usize) -> bool
-    ensures { result ≡ sound.covers (slice_get tables.now table) column }
-{
-    match tables.get(table) {
-        None => true,
-        Some(table) => covered(table, column),
-    }
-}
-
-/// Checks that the replica identity of the table has the columns.
+/// Checks that the replica identity of the table, which has this number, has the columns.
 fn check_columns(
-    tables: &[Table],
     publication: usize,
-    table: usize,
+    number: usize,
+    table: &Table,
     columns: &[usize],
 ) -> Result<(), CheckError>
-    ensures { Finds (spec.column_refusal publication table (slice_get tables.now table) columns.now) result }
+    ensures { Finds (spec.column_refusal publication number table.now columns.now) result }
 {
     for column in columns {
-        if !covers(tables, table, *column) {
+        if !covered(table, *column) {
             return Err(CheckError::NotCovered {
                 publication,
-                table,
+                table: number,
                 column: *column,
             });
         }
@@ -68,16 +58,37 @@ fn check_columns(
 
 fn check_filter(
     alloc: Global,
-    tables: &[Table],
     publication: usize,
-    table: usize,
+    number: usize,
+    table: &Table,
     filter: &Filter,
 ) -> Result<(), CheckError>
-    ensures { Checks
-        (spec.filter_refusal publication table (slice_get tables.now table) (Some (expr_view filter.now))) result }
+    ensures { Checks (spec.filter_refusal publication number table.now (Some (expr_view filter.now))) result }
 {
     let columns = columns_of(alloc, filter)?;
-    check_columns(tables, publication, table, &columns)
+    check_columns(publication, number, table, &columns)
+}
+
+/// Checks that the table of an entry is there, and that its replica identity has the columns that the filter names.
+fn check_carried(
+    alloc: Global,
+    publication: usize,
+    number: usize,
+    table: Option<&Table>,
+    filter: Option<&Filter>,
+) -> Result<(), CheckError>
+    ensures { Checks
+        (spec.carried_refusal publication number (option_map (λ t. t.now) table.entry)
+        (option_map (λ f. expr_view f.now) filter.entry)) result }
+{
+    match (table, filter) {
+        (None, _) => Err(CheckError::UnknownTable {
+            publication,
+            table: number,
+        }),
+        (Some(_), None) => Ok(()),
+        (Some(table), Some(filter)) => check_filter(alloc, publication, number, table, filter),
+    }
 }
 
 fn check_entry(
@@ -88,10 +99,13 @@ fn check_entry(
 ) -> Result<(), CheckError>
     ensures { Checks (spec.entry_refusal tables.now publication (entry_view entry.now)) result }
 {
-    match &entry.filter {
-        None => Ok(()),
-        Some(filter) => check_filter(alloc, tables, publication, entry.table, filter),
-    }
+    check_carried(
+        alloc,
+        publication,
+        entry.table,
+        tables.get(entry.table),
+        entry.filter.as_ref(),
+    )
 }
 
 fn check_entries(
@@ -125,7 +139,8 @@ fn check_taken(
     }
 }
 
-/// Checks that the filters of each publication that is taken name only columns of the tables' replica identities.
+/// Checks that each publication that is taken carries only tables that are there, and that its filters name only columns
+/// of their replica identities.
 pub fn check_covering(
     alloc: Global,
     tables: &[Table],

@@ -12,6 +12,8 @@ pub enum Operation {
     Update,
     #[error("delete")]
     Delete,
+    #[error("truncate")]
+    Truncate,
 }
 
 /// Why a sharding is refused. Publications, tables, columns and subscribers are named by their numbers in the catalog,
@@ -28,6 +30,13 @@ pub enum CheckError {
     /// The table's replica identity is NOTHING.
     #[error("table {table} has the replica identity NOTHING")]
     NoIdentity {
+        table: usize,
+    },
+    /// A subscription takes the publication, which carries a table that isn't there. No catalog that `read_catalog` gives
+    /// has one.
+    #[error("publication {publication} carries table {table}, which is not in the catalog")]
+    UnknownTable {
+        publication: usize,
         table: usize,
     },
     /// A subscription takes the publication, whose filter of the table names a column outside the replica identity.

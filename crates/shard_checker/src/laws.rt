@@ -1,10 +1,8 @@
-ghost use Rattle.shard_checker.specs.Emptiness.{EmptyHasNoValue, OthersHaveValue};
+ghost use Rattle.shard_checker.specs.Emptiness.{CanBeTold};
 
-/// A law, and no code, of what makes a node `Empty` right: a term is empty exactly if no value is left to it by what is
-/// known on the path, null among them (`empty`), and otherwise one is (`others`). So the values that are tried to decide
-/// it speak for all.
-#[tactic(auto, using(crate::proofs::EmptyLemmas::emptiness))]
-pub fn no_value_is_left_to_an_empty_term()
-    ensures empty { EmptyHasNoValue }
-    ensures others { OthersHaveValue }
+/// A law, and no code, of what makes a node `Empty` right: there is a test that holds exactly of the terms to which no
+/// value is left by what is known on the path, null among them. `check` and `check_one` answer as each such test has it.
+#[tactic(auto, using(crate::proofs::EmptyLemmas::can_be_told))]
+pub fn emptiness_can_be_told()
+    ensures { CanBeTold }
 {}

@@ -23,7 +23,7 @@ mod walk;
 pub use checked::Checked;
 pub use domain::{Range, kind_at, range_of};
 pub use error::{CheckError, Operation};
-pub use laws::no_value_is_left_to_an_empty_term;
+pub use laws::emptiness_can_be_told;
 pub use numbering::{numbered_atoms, numbered_terms};
 pub use one_table::check_one;
 pub use sharding::{check, shares_in};

@@ -4,9 +4,9 @@ ghost use Rattle.std.specs.Prelude.{◌≡◌};
 ghost use Rattle.filter_tree.specs.Paths.{path_view};
 ghost use Rattle.split_cert.specs.Tree.{Owner, Empty, NeverNull};
 ghost use Rattle.shard_checker.specs.Checks.{Finds};
-ghost use Rattle.shard_checker.specs.Emptiness as emptiness;
 ghost use Rattle.shard_checker.specs.Refusal as spec;
 ghost use Rattle.shard_checker.specs.SubjectView.{subject_view};
+ghost use Rattle.shard_checker.specs.Trying as trying;
 
 use crate::domain::kind_at;
 use crate::error::CheckError;
@@ -20,7 +20,7 @@ use std::alloc::Allocator;
 /// Whether no value is left to the term at the end of the path: its column would have to be null and not null, or none
 /// of the values that are tried is left.
 fn is_empty<A: Allocator>(columns: &[Column], term: Term, path: &[(&Atom<A>, Tri)]) -> bool
-    ensures { result ≡ emptiness.is_empty columns.now term (path_view path.now) }
+    ensures { result ≡ trying.is_empty columns.now term (path_view path.now) }
 {
     let column = term.column();
     (is_null(column, path) && is_present(columns, column, path))
@@ -34,7 +34,8 @@ pub fn check_empty<A: Allocator>(
     node: usize,
     number: u32,
 ) -> Result<(), CheckError>
-    ensures { Finds (spec.refusal (subject_view subject.now) (Empty number) (path_view path.now) node) result }
+    ensures { Finds
+        (spec.refusal trying.is_empty (subject_view subject.now) (Empty number) (path_view path.now) node) result }
 {
     let table = subject.table;
     match term_at(subject.terms, number) {
@@ -52,7 +53,7 @@ pub fn check_never_null<A: Allocator>(
     number: u32,
 ) -> Result<(), CheckError>
     ensures { Finds
-        (spec.refusal (subject_view subject.now) (NeverNull number) (path_view path.now) node) result }
+        (spec.refusal trying.is_empty (subject_view subject.now) (NeverNull number) (path_view path.now) node) result }
 {
     let table = subject.table;
     match atom_at(subject.atoms, number) {
@@ -88,7 +89,8 @@ pub fn check_owner<A: Allocator>(
     node: usize,
     number: u32,
 ) -> Result<(), CheckError>
-    ensures { Finds (spec.refusal (subject_view subject.now) (Owner number) (path_view path.now) node) result }
+    ensures { Finds
+        (spec.refusal trying.is_empty (subject_view subject.now) (Owner number) (path_view path.now) node) result }
 {
     let table = subject.table;
     match share_at(subject.shares, number) {

@@ -4,10 +4,12 @@ ghost use Rattle.std.specs.Prelude.{List, [], OnOk};
 ghost use Rattle.filter_tree.specs.Datum.{Datum};
 ghost use Rattle.split_cert.specs.Where.{tree_view};
 ghost use Rattle.shard_checker.specs.Checks.{Checks, IfRefused};
+ghost use Rattle.shard_checker.specs.Emptiness.{IsEmptiness, Test};
 ghost use Rattle.shard_checker.specs.Owners.{shares_view, HasOneOwner};
 ghost use Rattle.shard_checker.specs.Refusal as spec;
 ghost use Rattle.shard_checker.specs.Rows.{IsTyped};
 ghost use Rattle.shard_checker.specs.SubjectView.{subject_view};
+ghost use Rattle.shard_checker.specs.Trying.{is_empty};
 ghost use Rattle.shard_checker.specs.Truth.{CertificateIsWrong};
 
 use crate::error::CheckError;
@@ -25,7 +27,7 @@ fn check_subject<'a, A: Allocator, B: Allocator>(
     subject: &Subject<'a, A>,
     cert: &Cert<B>,
 ) -> Result<(), CheckError>
-    ensures { Checks (spec.refusal (subject_view subject.now) (tree_view cert.now) [] 0) result }
+    ensures { Checks (spec.refusal is_empty (subject_view subject.now) (tree_view cert.now) [] 0) result }
 {
     let mut path = Vec::new(alloc);
     let mut node = 0;
@@ -40,7 +42,8 @@ pub fn check_table<A: Allocator, B: Allocator>(
     shares: &[&Share<A>],
     cert: &Cert<B>,
 ) -> Result<(), CheckError>
-    ensures { Checks (spec.first_refusal number table.now (shares_view shares.now) (tree_view cert.now)) result }
+    ensures { Checks
+        (spec.first_refusal is_empty number table.now (shares_view shares.now) (tree_view cert.now)) result }
 {
     let atoms = numbered_atoms(alloc, shares)?;
     let terms = numbered_terms(alloc, shares)?;
@@ -70,7 +73,8 @@ pub fn check_one<A: Allocator, B: Allocator>(
 ) -> Result<(), CheckError>
     ensures sound { OnOk result
         ((cells : List Datum) → IsTyped table.now.columns cells → HasOneOwner (shares_view shares.now) cells) }
-    ensures exact { Checks (spec.first_refusal 0 table.now (shares_view shares.now) (tree_view cert.now)) result }
+    ensures exact { (test : Test) → IsEmptiness test →
+        Checks (spec.first_refusal test 0 table.now (shares_view shares.now) (tree_view cert.now)) result }
     ensures wrong { IfRefused result (CertificateIsWrong 0 table.now (shares_view shares.now) (tree_view cert.now)) }
 {
     check_table(alloc, 0, table, shares, cert)

@@ -28,7 +28,7 @@ pub fn is_taken(subscriptions: &[Subscription], publication: usize) -> bool
     false
 }
 
-/// The first of insert, update and delete that isn't published.
+/// The first of insert, update, delete and truncate that isn't published.
 fn missing_operation(publishes: Operations) -> Option<Operation>
     ensures { result ≡ spec.missing_operation publishes }
 {
@@ -38,6 +38,8 @@ fn missing_operation(publishes: Operations) -> Option<Operation>
         Some(Operation::Update)
     } else if !publishes.delete {
         Some(Operation::Delete)
+    } else if !publishes.truncate {
+        Some(Operation::Truncate)
     } else {
         None
     }
@@ -71,7 +73,7 @@ fn check_publication(
     }
 }
 
-/// Checks that each publication that is taken publishes insert, update and delete.
+/// Checks that each publication that is taken publishes insert, update, delete and truncate.
 pub fn check_publishing(
     subscriptions: &[Subscription],
     publications: &[Publication],

@@ -11,8 +11,10 @@ ghost use Rattle.shard_checker.specs.CatalogRefusal as spec;
 ghost use Rattle.shard_checker.specs.CatalogTruth.{ShardingIsWrong};
 ghost use Rattle.shard_checker.specs.Checks.{Checks, Finds, IfRefused, NeedsMemoryOnlyIf};
 ghost use Rattle.shard_checker.specs.CheckedView.{checked_of, checked_view};
+ghost use Rattle.shard_checker.specs.Emptiness.{IsEmptiness, Test};
 ghost use Rattle.shard_checker.specs.Owners.{shares_view};
 ghost use Rattle.shard_checker.specs.Sound.{IsSound};
+ghost use Rattle.shard_checker.specs.Trying.{is_empty};
 
 use crate::checked::Checked;
 use crate::covering::{check_covering, check_identities};
@@ -52,7 +54,8 @@ fn check_certificate<A: Allocator>(
     cert: &Cert<A>,
 ) -> Result<(), CheckError>
     ensures { Checks
-        (spec.certificate_refusal (plan_view plan.now) subscriptions.now number table.now (tree_view cert.now)) result }
+        (spec.certificate_refusal is_empty (plan_view plan.now) subscriptions.now number table.now (tree_view cert.now))
+        result }
 {
     let shares = shares_in(alloc, plan, number, subscriptions)?;
     check_table(alloc, number, table, &shares, cert)
@@ -68,7 +71,8 @@ fn check_certificates<A: Allocator>(
 ) -> Result<(), CheckError>
     requires { length certs.now ≡ length tables.now }
     ensures { Checks
-        (spec.certificates_refusal (plan_view plan.now) subscriptions.now 0 tables.now (map tree_view certs.now)) result }
+        (spec.certificates_refusal is_empty (plan_view plan.now) subscriptions.now 0 tables.now
+        (map tree_view certs.now)) result }
 {
     for (number, table) in tables.iter().enumerate() {
         check_certificate(alloc, plan, subscriptions, number, table, &certs[number])?;
@@ -109,7 +113,8 @@ fn check_sharding<A: Allocator>(
     certs: &[Cert<A>],
 ) -> Result<(), CheckError>
     ensures exact { Checks
-        (spec.sharding_refusal (catalog_view catalog.now) (plan_view plan.now) (map tree_view certs.now)) result }
+        (spec.sharding_refusal is_empty (catalog_view catalog.now) (plan_view plan.now) (map tree_view certs.now))
+        result }
     ensures memory { NeedsMemoryOnlyIf (spec.declared_refusal (catalog_view catalog.now) ≡ None) result }
 {
     check_catalog(alloc, catalog)?;
@@ -121,17 +126,18 @@ fn check_sharding<A: Allocator>(
 
 /// Checks that the sharding of the catalog is sound: that each row that may stand in its table, with texts of any length,
 /// passes to exactly one subscriber, as the certificates of the tables, in their order, say it does; that each publication
-/// that a subscription takes publishes insert, update and delete, and its filters name only columns of the tables' replica
-/// identities; and that no replica identity is NOTHING. The plan is the catalog's own.
+/// that a subscription takes publishes insert, update, delete and truncate, and carries only tables that are there, by
+/// filters that name only columns of their replica identities; and that no replica identity is NOTHING. The plan is the
+/// catalog's own.
 ///
 /// In the setting of a catalog that is accepted and its plan a row's replica identity tells to whom the row passes
 /// (`covered`), commands that are accepted leave no two rows of a table with one identity (`apart`), and each row that
 /// fits its table passes to exactly one subscriber (`divided`). A `Checked` keeps that.
 ///
 /// The error is the first of these: an operation that a publication which is taken doesn't publish, by publications; a
-/// table whose replica identity is NOTHING; a column that a filter names and the replica identity lacks, by publications
-/// that are taken, their entries, and columns in the order of first appearance; another number of certificates than of
-/// tables; and then that of the first certificate, as `check_one` has it, with the table's number. `OutOfMemory` may stand
+/// table whose replica identity is NOTHING; a table that isn't there, or a column that a filter names and the replica
+/// identity lacks, by publications that are taken, their entries, and columns in the order of first appearance; another
+/// number of certificates than of tables; and then that of the first certificate, as `check_one` has it, with the table's number. `OutOfMemory` may stand
 /// in place of these, but of none of the first two sorts (`memory`). What an error says of what it names is so (`wrong`).
 /// With an error the catalog and the plan are dropped.
 ///
@@ -149,10 +155,11 @@ pub fn check<A: Allocator>(
     ensures apart { OnOk result (KeepsApart (setting_of (catalog_view catalog) (plan_view plan))) }
     ensures divided { OnOk result (Sound (setting_of (catalog_view catalog) (plan_view plan))) }
     ensures kept { IfOk result (λ checked. checked_view checked ≡ checked_of catalog plan) }
-    ensures exact { Checks
-        (spec.sharding_refusal (catalog_view catalog) (plan_view plan) (map tree_view certs.now)) result }
+    ensures exact { (test : Test) → IsEmptiness test → Checks
+        (spec.sharding_refusal test (catalog_view catalog) (plan_view plan) (map tree_view certs.now)) result }
     ensures memory { NeedsMemoryOnlyIf (spec.declared_refusal (catalog_view catalog) ≡ None) result }
-    ensures wrong { IfRefused result (ShardingIsWrong (catalog_view catalog) (plan_view plan) (map tree_view certs.now)) }
+    ensures wrong { IfRefused result
+        (ShardingIsWrong (catalog_view catalog) (plan_view plan) (map tree_view certs.now)) }
 {
     check_sharding(alloc, &catalog, &plan, certs)?;
     Ok(Checked::new(catalog, plan))

@@ -8,6 +8,7 @@ ghost use Rattle.split_cert.specs.Where.{tree_view};
 ghost use Rattle.shard_checker.specs.Checks.{Checks};
 ghost use Rattle.shard_checker.specs.Refusal as spec;
 ghost use Rattle.shard_checker.specs.SubjectView.{subject_view};
+ghost use Rattle.shard_checker.specs.Trying.{is_empty};
 
 use crate::error::CheckError;
 use crate::nodes::{check_empty, check_never_null, check_owner};
@@ -48,7 +49,7 @@ fn check_branch<'a, A: Allocator, B: Allocator>(
     ensures kept { OnOk result (path.new.items ≡ path.old.items) }
     ensures counted { OnOk result (node.new ≡ spec.later node.old (nodes (tree_view branch.now))) }
     ensures exact { let longer = path_view path.old.items ++ (atom_view atom.now, value) ∷ [] in
-        Checks (spec.refusal (subject_view subject.now) (tree_view branch.now) longer node.old) result }
+        Checks (spec.refusal is_empty (subject_view subject.now) (tree_view branch.now) longer node.old) result }
 {
     extend(path, atom, value)?;
     check_tree(subject, path, node, branch)?;
@@ -70,10 +71,11 @@ fn check_branches<'a, A: Allocator, B: Allocator>(
 ) -> Result<(), CheckError>
     ensures kept { OnOk result (path.new.items ≡ path.old.items) }
     ensures counted { OnOk result
-        (node.new ≡ spec.after_branches node.old (tree_view if_true.now) (tree_view if_false.now) (tree_view if_null.now)) }
+        (node.new ≡ spec.after_branches node.old (tree_view if_true.now) (tree_view if_false.now)
+        (tree_view if_null.now)) }
     ensures exact { Checks
-        (spec.branches_refusal (subject_view subject.now) (path_view path.old.items) node.old (atom_view atom.now)
-        (tree_view if_true.now) (tree_view if_false.now) (tree_view if_null.now))
+        (spec.branches_refusal is_empty (subject_view subject.now) (path_view path.old.items) node.old
+        (atom_view atom.now) (tree_view if_true.now) (tree_view if_false.now) (tree_view if_null.now))
         result }
 {
     check_branch(subject, path, node, atom, Tri::True, if_true)?;
@@ -95,7 +97,8 @@ pub fn check_tree<'a, A: Allocator, B: Allocator>(
     ensures kept { OnOk result (path.new.items ≡ path.old.items) }
     ensures counted { OnOk result (node.new ≡ spec.later node.old (nodes (tree_view tree.now))) }
     ensures exact { Checks
-        (spec.refusal (subject_view subject.now) (tree_view tree.now) (path_view path.old.items) node.old) result }
+        (spec.refusal is_empty (subject_view subject.now) (tree_view tree.now) (path_view path.old.items) node.old)
+        result }
 {
     let here = *node;
     *node = next(here);

@@ -7,6 +7,7 @@ use Rattle.sql_reader.specs.Written.{as_filter}
 use Rattle.replica_identity.specs.Plans.{plan_of}
 use Rattle.shard_checker.specs.CatalogRefusal.{sharding_refusal}
 use Rattle.shard_checker.specs.CatalogTruth.{ShardingIsWrong}
+use Rattle.shard_checker.specs.Emptiness.{Test, IsEmptiness}
 use Rattle.shard_checker.specs.Sound.{IsSound}
 use Rattle.shard_checker.specs.declared.error.CheckError.{CheckError}
 use Rattle.split_cert.specs.Tree.{Tree}
@@ -20,22 +21,22 @@ use Rattle.publisher_main.specs.declared.failure.InputFault.TheVariants as i
 use Rattle.publisher_main.specs.declared.failure.Status.{Status}
 use Rattle.publisher_main.specs.declared.failure.Status.TheVariants.{Done, Refused}
 
--- the first reason to refuse the sharding of a catalog with these certificates, by the catalog's own plan
-abbrev pub first_refusal : CatalogOf Expr → List Tree → Option CheckError
-first_refusal catalog trees = sharding_refusal catalog (plan_of catalog) trees
+-- this is the first reason to refuse the sharding of a catalog with these certificates, by the catalog's own plan; none where there is no reason
+abbrev pub IsFirstRefusal : CatalogOf Expr → List Tree → Option CheckError → Type 0
+IsFirstRefusal catalog trees refusal = (test : Test) → IsEmptiness test → sharding_refusal test catalog (plan_of catalog) trees ≡ refusal
 
 -- ---- what is answered
 
 -- there is no reason to refuse the sharding, it is sound, and the line is `accepted`
 pub record IsAccepted (catalog : CatalogOf Expr) (trees : List Tree) (lines : List (List ℕ)) : Type 0 where
   pub sound : IsSound catalog
-  pub unrefused : first_refusal catalog trees ≡ None
+  pub unrefused : IsFirstRefusal catalog trees None
   pub are : lines ≡ codes "accepted" ∷ []
 
 -- there is a first reason, what it says of what it names is so, and the line is its line over the catalog
 pub record IsRefused (catalog : CatalogOf Expr) (trees : List Tree) (lines : List (List ℕ)) : Type 0 where
   pub error : CheckError
-  pub refusal : first_refusal catalog trees ≡ Some error
+  pub refusal : IsFirstRefusal catalog trees (Some error)
   pub wrong : ShardingIsWrong catalog (plan_of catalog) trees error
   pub are : lines ≡ refused_line catalog error ∷ []
 

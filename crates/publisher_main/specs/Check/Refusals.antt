@@ -16,10 +16,12 @@ abbrev pub operation_word : Operation → List ℕ
 operation_word o.Insert = codes "insert"
 operation_word o.Update = codes "update"
 operation_word o.Delete = codes "delete"
+operation_word o.Truncate = codes "truncate"
 
 abbrev pub refusal_name : CheckError → List ℕ
 refusal_name (e.PublishMissing publication operation) = codes "PublishMissing"
 refusal_name (e.NoIdentity table) = codes "NoIdentity"
+refusal_name (e.UnknownTable publication table) = codes "UnknownTable"
 refusal_name (e.NotCovered publication table column) = codes "NotCovered"
 refusal_name e.CertCount = codes "CertCount"
 refusal_name (e.BadIndex table node) = codes "BadIndex"
@@ -36,6 +38,7 @@ node_words tables table node = table_name tables table ∷ decimal node ∷ []
 abbrev pub arguments_of : CatalogOf Expr → CheckError → List (List ℕ)
 arguments_of catalog (e.PublishMissing publication operation) = publication_name catalog.publications publication ∷ operation_word operation ∷ []
 arguments_of catalog (e.NoIdentity table) = table_name catalog.tables table ∷ []
+arguments_of catalog (e.UnknownTable publication table) = publication_name catalog.publications publication ∷ table_name catalog.tables table ∷ []
 arguments_of catalog (e.NotCovered publication table column) =
     publication_name catalog.publications publication ∷ table_name catalog.tables table ∷ column_name catalog.tables table column ∷ []
 arguments_of catalog e.CertCount = []

@@ -19,6 +19,7 @@ fn operation_word(operation: Operation) -> &'static str
         Operation::Insert => "insert",
         Operation::Update => "update",
         Operation::Delete => "delete",
+        Operation::Truncate => "truncate",
     }
 }
 
@@ -29,6 +30,7 @@ fn refusal_name(error: CheckError) -> &'static str
     match error {
         CheckError::PublishMissing { .. } => "PublishMissing",
         CheckError::NoIdentity { .. } => "NoIdentity",
+        CheckError::UnknownTable { .. } => "UnknownTable",
         CheckError::NotCovered { .. } => "NotCovered",
         CheckError::CertCount => "CertCount",
         CheckError::BadIndex { .. } => "BadIndex",
@@ -70,6 +72,10 @@ fn push_arguments(line: &mut String, catalog: &Catalog, error: CheckError) -> Re
             push_word(line, operation_word(operation))
         }
         CheckError::NoIdentity { table } => push_table(line, tables, table),
+        CheckError::UnknownTable { publication, table } => {
+            push_word(line, publication_name(publications, publication))?;
+            push_table(line, tables, table)
+        }
         CheckError::NotCovered {
             publication,
             table,

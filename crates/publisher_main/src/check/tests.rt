@@ -122,7 +122,15 @@ CREATE SUBSCRIPTION s0 CONNECTION '' PUBLICATION pa;
 CREATE SUBSCRIPTION s1 CONNECTION '' PUBLICATION pb;
 ";
 
-/// The same, but that it publishes all, and names a column outside the primary key.
+/// Halves of a table, of which one leaves out truncate.
+const KEEPS: &str = "CREATE TABLE t (id integer PRIMARY KEY);
+CREATE PUBLICATION pa FOR TABLE t WHERE (id < 100) WITH (publish = 'insert, update, delete');
+CREATE PUBLICATION pb FOR TABLE t WHERE (id >= 100);
+CREATE SUBSCRIPTION s0 CONNECTION '' PUBLICATION pa;
+CREATE SUBSCRIPTION s1 CONNECTION '' PUBLICATION pb;
+";
+
+/// As `INSERTS`, but that it publishes all, and names a column outside the primary key.
 const OUTSIDE: &str = "CREATE TABLE t (id integer, region text, PRIMARY KEY (id));
 CREATE PUBLICATION pa FOR TABLE t WHERE (region = 'eu');
 CREATE PUBLICATION pb FOR TABLE t WHERE (id >= 100);
@@ -143,10 +151,11 @@ CREATE SUBSCRIPTION s1 CONNECTION '' PUBLICATION pb;
 fn catalogs_are_checked(rt: HostRuntime) -> Result<(), Fail> {
     let regions =
         "s 0 s 1 e 0 s 2 e 0 o 0 n 2 e 0 s 1 s 2 e 0 o 1 n 2 e 0 e 0 s 1 e 0 e 0 s 2 o 2 e 0 n 2\n";
-    let cases: [(&str, &str, Expected); 12] = [
+    let cases: [(&str, &str, Expected); 13] = [
         (REGIONS, regions, ACCEPTED),
         (INSERTS, C, (1, "refused PublishMissing pa update\n")),
         (INSERTS, "", (1, "refused PublishMissing pa update\n")),
+        (KEEPS, C, (1, "refused PublishMissing pa truncate\n")),
         (OUTSIDE, C, (1, "refused NotCovered pa public.t region\n")),
         (NOTHING, C, (1, "refused NoIdentity public.t\n")),
         (NOTHING, "o\n", (3, "certificate 1 Ended\n")),

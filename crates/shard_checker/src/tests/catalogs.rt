@@ -11,13 +11,13 @@ use split_cert::Cert;
 use std::alloc::{AllocError, Global};
 use std::test::Fail;
 
-/// All operations but truncate, up to one.
-fn operations(insert: bool, update: bool, delete: bool) -> Operations {
+/// The first operations, so many, in the order insert, update, delete, truncate.
+fn operations(count: usize) -> Operations {
     Operations {
-        insert,
-        update,
-        delete,
-        truncate: false,
+        insert: count > 0,
+        update: count > 1,
+        delete: count > 2,
+        truncate: count > 3,
     }
 }
 
@@ -53,8 +53,8 @@ fn catalog(
     publishes: Operations,
     filter: Filter,
 ) -> Result<Catalog, AllocError> {
-    let whole = operations(true, true, true);
-    let none = operations(false, false, false);
+    let whole = operations(4);
+    let none = operations(0);
     let rest = text(alloc, REGION, Op::Eq, "us")?;
     let first = publication(alloc, "pa", publishes, filter)?;
     let second = publication(alloc, "pb", whole, number(ID, Op::Ge, 100))?;
@@ -117,7 +117,7 @@ fn rows_of_a_checked_catalog_have_one_subscriber(rt: HostRuntime) -> Result<(), 
     let catalog = catalog(
         alloc,
         Identity::Default,
-        operations(true, true, true),
+        operations(4),
         low(),
     )?;
     let plan = plan(alloc, &catalog)?;
@@ -135,7 +135,7 @@ fn rows_of_a_checked_catalog_have_one_subscriber(rt: HostRuntime) -> Result<(), 
 fn a_sound_sharding_is_accepted(rt: HostRuntime) -> Result<(), Fail> {
     let alloc = rt.alloc();
     for identity in [Identity::Default, Identity::Full] {
-        let catalog = catalog(alloc, identity, operations(true, true, true), low())?;
+        let catalog = catalog(alloc, identity, operations(4), low())?;
         let plan = plan(alloc, &catalog)?;
         let certs = vec![in alloc; by_halves(alloc)?]?;
         let checked = check(alloc, catalog, plan, &certs)?;
@@ -154,13 +154,14 @@ fn a_sound_sharding_is_accepted(rt: HostRuntime) -> Result<(), Fail> {
 #[test]
 fn publications_that_are_taken_publish_changes(rt: HostRuntime) -> Result<(), Fail> {
     let alloc = rt.alloc();
-    let cases = [
-        ((false, false, false), Operation::Insert),
-        ((true, false, false), Operation::Update),
-        ((true, true, false), Operation::Delete),
+    let missing = [
+        Operation::Insert,
+        Operation::Update,
+        Operation::Delete,
+        Operation::Truncate,
     ];
-    for ((insert, update, delete), operation) in cases {
-        let publishes = operations(insert, update, delete);
+    for (count, operation) in missing.into_iter().enumerate() {
+        let publishes = operations(count);
         let filter = text(alloc, REGION, Op::Eq, "eu")?;
         let catalog = catalog(alloc, Identity::Nothing, publishes, filter)?;
         let missing = CheckError::PublishMissing {
@@ -189,30 +190,33 @@ fn filters_name_identity_columns(rt: HostRuntime) -> Result<(), Fail> {
     ];
     for (identity, expected) in cases {
         let filter = text(alloc, REGION, Op::Eq, "eu")?;
-        let catalog = catalog(alloc, identity, operations(true, true, true), filter)?;
+        let catalog = catalog(alloc, identity, operations(4), filter)?;
         assert_eq!(rt; refusal(alloc, catalog, &[])?, Some(expected));
     }
     Ok(())
 }
 
-/// No row stands in a table that isn't there, so no column of it has to be recorded.
 #[test]
-fn a_table_that_is_not_there_lacks_no_column(rt: HostRuntime) -> Result<(), Fail> {
+fn a_table_that_is_not_there_is_refused(rt: HostRuntime) -> Result<(), Fail> {
     let alloc = rt.alloc();
     let mut catalog = catalog(
         alloc,
         Identity::Default,
-        operations(true, true, true),
+        operations(4),
         low(),
     )?;
     if let Some(first) = catalog.publications.get_mut(0) {
         first.entries.push(Entry {
             table: 7,
-            filter: Some(text(alloc, REGION, Op::Eq, "eu")?),
+            filter: None,
         })?;
     }
     let certs = vec![in alloc; by_halves(alloc)?]?;
-    assert_eq!(rt; refusal(alloc, catalog, &certs)?, None);
+    let unknown = CheckError::UnknownTable {
+        publication: 0,
+        table: 7,
+    };
+    assert_eq!(rt; refusal(alloc, catalog, &certs)?, Some(unknown));
     Ok(())
 }
 
@@ -230,7 +234,7 @@ fn certificates_are_counted_and_checked(rt: HostRuntime) -> Result<(), Fail> {
         (two, CheckError::CertCount),
     ];
     for (certs, expected) in &cases {
-        let catalog = catalog(alloc, Identity::Full, operations(true, true, true), low())?;
+        let catalog = catalog(alloc, Identity::Full, operations(4), low())?;
         assert_eq!(rt; refusal(alloc, catalog, certs)?, Some(*expected));
     }
     Ok(())

@@ -67,8 +67,8 @@ fn subscription(alloc: Global, number: usize) -> Result<Subscription, AllocError
 }
 
 /// 64 tables, each with a publication, and 32 subscriptions, each of which takes two of these; the last table has this
-/// identity, and its publication publishes deletes or not.
-fn catalog(alloc: Global, last: Identity, deletes: bool) -> Result<Catalog, AllocError> {
+/// identity, and its publication publishes truncates or not.
+fn catalog(alloc: Global, last: Identity, truncates: bool) -> Result<Catalog, AllocError> {
     let mut tables = Vec::new(alloc);
     let mut publications = Vec::new(alloc);
     let mut subscriptions = Vec::new(alloc);
@@ -78,8 +78,8 @@ fn catalog(alloc: Global, last: Identity, deletes: bool) -> Result<Catalog, Allo
         let publishes = Operations {
             insert: true,
             update: true,
-            delete: deletes || !is_last,
-            truncate: false,
+            delete: true,
+            truncate: truncates || !is_last,
         };
         tables.push(wide_table(alloc, number, identity)?)?;
         publications.push(publication(alloc, number, publishes)?)?;
@@ -128,7 +128,7 @@ fn the_last_of_a_catalog_at_the_limits_is_refused(rt: HostRuntime) -> Result<(),
     let alloc = rt.alloc();
     let missing = CheckError::PublishMissing {
         publication: 63,
-        operation: Operation::Delete,
+        operation: Operation::Truncate,
     };
     let uncovered = CheckError::NotCovered {
         publication: 63,
@@ -147,8 +147,8 @@ fn the_last_of_a_catalog_at_the_limits_is_refused(rt: HostRuntime) -> Result<(),
         (Identity::Default, true, 31, uncovered),
         (Identity::Full, true, 0, second),
     ];
-    for (identity, deletes, owner, expected) in cases {
-        let catalog = catalog(alloc, identity, deletes)?;
+    for (identity, truncates, owner, expected) in cases {
+        let catalog = catalog(alloc, identity, truncates)?;
         let plan = plan(alloc, &catalog)?;
         assert_eq!(rt;
             check(alloc, catalog, plan, &certs(alloc, owner)?).err(),

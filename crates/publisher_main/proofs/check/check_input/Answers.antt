@@ -1,14 +1,15 @@
-use Rattle.std.proofs.Common.{rules, ◌≡◌, ◌∙◌, List, Some, None, OnOk, IfErr, ap, map, sym, subst}
+use Rattle.std.proofs.Common.{rules, ◌≡◌, List, Option, Some, None, OnOk, IfErr, ap, map, sym, subst}
 use Rattle.std.specs.Io.KnownBytes.{Appends}
 use Rattle.filter_tree.specs.Expr.{Expr}
 use Rattle.pub_reader.specs.CatalogView.{catalog_view}
 use Rattle.pub_reader.specs.Catalogs.{CatalogOf}
 use Rattle.replica_identity.specs.Plans.{plan_of}
 use Rattle.shard_checker.specs.CatalogTruth.{ShardingIsWrong}
+use Rattle.shard_checker.specs.declared.error.CheckError.{CheckError}
 use Rattle.split_cert.specs.Tree.{Tree}
 use Rattle.split_cert.specs.Where.{tree_view}
 use Rattle.publisher_main.proofs.Verdicts.{accepted, refused}
-use Rattle.publisher_main.specs.Check.Checking.{first_refusal}
+use Rattle.publisher_main.specs.Check.Checking.{IsFirstRefusal}
 use Rattle.publisher_main.specs.Check.Refusals.{refused_line}
 use Rattle.publisher_main.specs.Output.{StopsText, ended}
 use Rattle.publisher_main.specs.Parts.{Cut, two_parts}
@@ -21,7 +22,9 @@ returns-in-None g c =
     let catalog = catalog_view c.in_ok-catalog.catalog in
     let trees = map tree_view c.in_ok-certs.certs.items in
     let same : trees ≡ map tree_view c.as_slice.result.now = ap (map tree_view) (sym c.as_slice.ensures.value) in
-    let unrefused : first_refusal catalog trees ≡ None = ap (first_refusal catalog) same ∙ c.in_ok-refusal_of.ensures.first ∙ c.in-None.is in
+    let listed = map tree_view c.as_slice.result.now in
+    let first : IsFirstRefusal catalog listed None = subst (λ (found : Option CheckError). IsFirstRefusal catalog listed found) c.in-None.is c.in_ok-refusal_of.ensures.first in
+    let unrefused : IsFirstRefusal catalog trees None = subst (λ (ts : List Tree). IsFirstRefusal catalog ts None) (sym same) first in
     accepted c.args.input.now cut catalog trees parts c.in_ok-catalog.ensures.catalog c.in_ok-certs.ensures.ok (g.W.Write.contents c.args.writer.now) (g.W.Write.contents c.write_accepted.new.writer) c.write_accepted.result
     (c.in_ok-refusal_of.ensures.sound c.in-None.is) unrefused c.write_accepted.ensures.status c.write_accepted.ensures.written c.write_accepted.ensures.stopped
 
@@ -37,7 +40,9 @@ returns g c =
     let again : catalog_view c.in_ok-catalog-in-Some.catalog ≡ catalog = cc (c.in_ok-catalog.ensures.catalog, c.in_ok-catalog-in-Some.ensures.catalog) in
     let trees = map tree_view c.in_ok-certs.certs.items in
     let same : trees ≡ map tree_view c.as_slice.result.now = ap (map tree_view) (sym c.as_slice.ensures.value) in
-    let first : first_refusal catalog trees ≡ Some refusal = ap (first_refusal catalog) same ∙ c.in_ok-refusal_of.ensures.first ∙ c.in-Some.is in
+    let listed = map tree_view c.as_slice.result.now in
+    let of_listed : IsFirstRefusal catalog listed (Some refusal) = subst (λ (found : Option CheckError). IsFirstRefusal catalog listed found) c.in-Some.is c.in_ok-refusal_of.ensures.first in
+    let first : IsFirstRefusal catalog trees (Some refusal) = subst (λ (ts : List Tree). IsFirstRefusal catalog ts (Some refusal)) (sym same) of_listed in
     let told = rw c.in-Some.is at c.in_ok-refusal_of.ensures.wrong in
     let wrong : ShardingIsWrong catalog (plan_of catalog) trees refusal = subst (λ (ts : List Tree). ShardingIsWrong catalog (plan_of catalog) ts refusal) (sym same) told in
     refused c.args.input.now cut catalog trees parts c.in_ok-catalog.ensures.catalog c.in_ok-certs.ensures.ok refusal old new result first wrong c.write_refused.ensures.status
