@@ -1,17 +1,12 @@
 -- What is asked where clap answers with an error.
-use Rattle.std.proofs.Common.{◌≡◌, ℕ, inl, inr, ◌⊎◌, List, Option, Some, None, arith, refl, sym, ap, subst, ◌∙◌, codes, slice_index}
-use Rattle.std.specs.Prelude.{Result, Ok, Err, IfOk, IfErr, option_map}
-use Rattle.std.specs.Box.{box_value}
-use Rattle.clap.specs.Words.{IsAmong, Row, Text, fault_of, first_of, found_of, rows_of, subcommand_name_of, subcommand_rows_of}
+use Rattle.std.proofs.Common.{◌≡◌, inl, inr, ◌⊎◌, List, sym, subst, ◌∙◌}
+use Rattle.std.specs.Prelude.{Result, Ok, Err, IfOk, IfErr}
+use Rattle.clap.specs.Words.{IsAmong, Text, fault_of}
 use Rattle.clap.specs.declared.error.kind.ErrorKind.{ErrorKind}
 use Rattle.clap.specs.declared.error.kind.ErrorKind.TheVariants as kind
-use Rattle.clap.specs.declared.parser.matches.ArgMatches.{ArgMatches}
-use Rattle.clap.specs.declared.parser.matches.ArgMatches.TheViews.{out-ArgMatches, out-SubCommand}
-use Rattle.publisher_main.specs.CommandLine.{AsksHelp, IsAsking, IsEval, IsFaulty, IsHelp, IsHelpKind, IsOfError, IsOfWords, IsTaken, pgshard}
+use Rattle.publisher_main.specs.CommandLine.{AsksHelp, IsAsking, IsFaulty, IsHelp, IsHelpKind, IsOfError, IsOfWords, pgshard}
 use Rattle.publisher_main.specs.declared.arguments.Asked.{Asked}
 use Rattle.publisher_main.specs.declared.arguments.Asked.TheVariants.{Help, Answer}
-use Rattle.publisher_main.specs.declared.arguments.Request.{Request}
-use Rattle.publisher_main.specs.declared.arguments.Request.TheVariants.{Eval, Check, Make}
 use Rattle.publisher_main.specs.declared.failure.Failure.{Failure}
 use Rattle.publisher_main.specs.declared.failure.Failure.TheVariants as f
 

@@ -4,7 +4,6 @@ use crate::failure::{Failure, Status};
 use crate::input::Input;
 use crate::program::{report, run};
 use crate::tests::{BASE, output_of};
-use std::alloc::Global;
 use std::io;
 use std::io::{ErrorKind, Read, Write};
 use std::test::Fail;
@@ -149,28 +148,24 @@ fn reads_have_a_limit(rt: HostRuntime) -> Result<(), Fail> {
     Ok(())
 }
 
-/// A writer that takes so many writes, and fails at so many after those.
+/// A writer that takes so many writes, and then fails.
 #[derive(Drop)]
-struct Breaking {
+struct Full {
     taken: Vec<u8>,
-    good: usize,
-    failures: usize,
+    left: usize,
     flushes: bool,
-    flushed: bool,
 }
 
-impl Write for Breaking {
+impl Write for Full {
     fn write(&mut self, bytes: &[u8]) -> io::Result<usize> {
-        if self.good == 0 && self.failures > 0 {
-            self.failures -= 1;
+        if self.left == 0 {
             return Err(io::Error::from(ErrorKind::Other));
         }
-        self.good = self.good.saturating_sub(1);
+        self.left -= 1;
         self.taken.write(bytes)
     }
 
     fn flush(&mut self) -> io::Result<()> {
-        self.flushed = true;
         if self.flushes {
             return Ok(());
         }
@@ -178,24 +173,45 @@ impl Write for Breaking {
     }
 }
 
-fn breaking_after(alloc: Global, good: usize, failures: usize, flushes: bool) -> Breaking {
-    Breaking {
-        taken: Vec::new(alloc),
-        good,
-        failures,
-        flushes,
-        flushed: false,
+/// A writer whose first write fails, and which then works.
+#[derive(Drop)]
+struct Recovering {
+    taken: Vec<u8>,
+    failed: bool,
+    flushed: bool,
+}
+
+impl Write for Recovering {
+    fn write(&mut self, bytes: &[u8]) -> io::Result<usize> {
+        if !self.failed {
+            self.failed = true;
+            return Err(io::Error::from(ErrorKind::Other));
+        }
+        self.taken.write(bytes)
+    }
+
+    fn flush(&mut self) -> io::Result<()> {
+        self.flushed = true;
+        Ok(())
     }
 }
 
 #[test]
-fn nothing_is_written_after_a_failed_write(rt: HostRuntime) -> Result<(), Fail> {
+fn nothing_is_written_behind_a_failed_write(rt: HostRuntime) -> Result<(), Fail> {
     let input = format!(in rt.alloc(); "{BASE}%%\n(7, 'eu')\n(100, NULL)\n")?;
     for word in ["t", "u"] {
-        let mut writer = breaking_after(rt.alloc(), 0, 1, true);
+        let mut writer = Recovering {
+            taken: Vec::new(rt.alloc()),
+            failed: false,
+            flushed: false,
+        };
         let words = ["pgshard", "eval", word];
-        let input = Input::new(input.as_bytes());
-        let status = run(rt.alloc(), words.as_slice(), input, &mut writer);
+        let status = run(
+            rt.alloc(),
+            words.as_slice(),
+            Input::new(input.as_bytes()),
+            &mut writer,
+        );
         assert_eq!(rt; status, 4, "{word}");
         assert!(rt; writer.taken.is_empty() && !writer.flushed, "{word}");
     }
@@ -214,16 +230,24 @@ fn a_failing_writer_stops_a_check(rt: HostRuntime) -> Result<(), Fail> {
         (refused, 1, false, 4, "refused CertCount\n"),
         (refused, 1, true, 1, "refused CertCount\n"),
     ];
-    for (text, good, flushes, expected_status, expected) in cases {
-        let mut writer = breaking_after(rt.alloc(), good, usize::MAX, flushes);
+    for (input, left, flushes, expected_status, expected) in cases {
+        let mut writer = Full {
+            taken: Vec::new(rt.alloc()),
+            left,
+            flushes,
+        };
         let words = ["pgshard", "check"];
-        let input = Input::new(text.as_bytes());
-        let status = run(rt.alloc(), words.as_slice(), input, &mut writer);
-        assert_eq!(rt; status, expected_status, "{text} after {good}");
+        let status = run(
+            rt.alloc(),
+            words.as_slice(),
+            Input::new(input.as_bytes()),
+            &mut writer,
+        );
+        assert_eq!(rt; status, expected_status, "{input} after {left}");
         assert_eq!(rt;
             writer.taken.as_slice(),
             expected.as_bytes(),
-            "{text} after {good}"
+            "{input} after {left}"
         );
     }
     Ok(())
@@ -288,8 +312,12 @@ fn the_first_bytes_are_written(rt: HostRuntime) -> Result<(), Fail> {
             ready: true,
         };
         let words = ["pgshard", "eval", "t"];
-        let input = Input::new(input.as_bytes());
-        let status = run(rt.alloc(), words.as_slice(), input, &mut writer);
+        let status = run(
+            rt.alloc(),
+            words.as_slice(),
+            Input::new(input.as_bytes()),
+            &mut writer,
+        );
         let whole = room >= expected.len();
         assert_eq!(rt; status, if whole { 0 } else { 4 }, "{room}");
         let count = room.min(expected.len());
@@ -325,16 +353,24 @@ fn a_failing_writer_is_an_output_fault(rt: HostRuntime) -> Result<(), Fail> {
         ),
         ("u", 0, true, 4, ""),
     ];
-    for (word, good, flushes, expected_status, expected) in cases {
-        let mut writer = breaking_after(rt.alloc(), good, usize::MAX, flushes);
+    for (word, left, flushes, expected_status, expected) in cases {
+        let mut writer = Full {
+            taken: Vec::new(rt.alloc()),
+            left,
+            flushes,
+        };
         let words = ["pgshard", "eval", word];
-        let input = Input::new(input.as_bytes());
-        let status = run(rt.alloc(), words.as_slice(), input, &mut writer);
-        assert_eq!(rt; status, expected_status, "{word} after {good}");
+        let status = run(
+            rt.alloc(),
+            words.as_slice(),
+            Input::new(input.as_bytes()),
+            &mut writer,
+        );
+        assert_eq!(rt; status, expected_status, "{word} after {left}");
         assert_eq!(rt;
             writer.taken.as_slice(),
             expected.as_bytes(),
-            "{word} after {good}"
+            "{word} after {left}"
         );
     }
     Ok(())
