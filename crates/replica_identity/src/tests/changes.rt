@@ -333,46 +333,41 @@ CREATE SUBSCRIPTION s0 CONNECTION '' PUBLICATION pa;
 CREATE SUBSCRIPTION s1 CONNECTION '' PUBLICATION pb;
 ";
 
-/// A row is added to the first shard, goes to the second one, and comes back.
+/// The change of a row of the table into another one.
+fn update(alloc: Global, table: &Table, old: &str, new: &str) -> Result<Change, Fail> {
+    let old = row(alloc, old)?;
+    let new = row(alloc, new)?;
+    Ok(Change::Update {
+        table: 0,
+        old: old_part(alloc, table, &old, Some(&new))?,
+        new,
+    })
+}
+
+/// A row goes from the first shard to the second one, and comes back.
 #[test]
 fn a_row_goes_to_another_shard_and_comes_back(rt: HostRuntime) -> Result<(), Fail> {
     let alloc = rt.alloc();
     let catalog = read_catalog(alloc, TWO_SHARDS)?;
     let plan = plan(alloc, &catalog)?;
     let table = catalog.tables.get(0).expect(&rt, "a table");
-    let low = row(alloc, "(7, 'eu')")?;
-    let high = row(alloc, "(150, 'eu')")?;
-    let was_low = OldPart::Full(copy_row(alloc, &low)?);
-    let was_high = OldPart::Full(copy_row(alloc, &high)?);
-    let added = Change::Insert {
-        table: 0,
-        new: copy_row(alloc, &low)?,
-    };
-    let goes = Change::Update {
-        table: 0,
-        old: old_part(alloc, table, &low, Some(&high))?,
-        new: copy_row(alloc, &high)?,
-    };
-    let comes = Change::Update {
-        table: 0,
-        old: old_part(alloc, table, &high, Some(&low))?,
-        new: copy_row(alloc, &low)?,
-    };
     let cases = [
-        (&added, Some(Out::Insert(&low)), None),
-        (&goes, Some(Out::Delete(&was_low)), Some(Out::Insert(&high))),
-        (
-            &comes,
-            Some(Out::Insert(&low)),
-            Some(Out::Delete(&was_high)),
-        ),
+        ("(7, 'eu')", "(150, 'eu')", 0, 1),
+        ("(150, 'eu')", "(7, 'eu')", 1, 0),
     ];
-    for (change, first, second) in cases {
-        assert_eq!(rt; transform(&plan, 0, change), first);
-        assert_eq!(rt; transform(&plan, 1, change), second);
-        let copy = change.copy(alloc)?;
-        assert_eq!(rt; &copy, change);
-        assert_eq!(rt; transform(&plan, 0, &copy), first);
+    for (old, new, left, entered) in cases {
+        let change = update(alloc, table, old, new)?;
+        let old_row = OldPart::Full(row(alloc, old)?);
+        let new_row = row(alloc, new)?;
+        assert_eq!(rt;
+            transform(&plan, left, &change),
+            Some(Out::Delete(&old_row))
+        );
+        assert_eq!(rt;
+            transform(&plan, entered, &change),
+            Some(Out::Insert(&new_row))
+        );
+        assert_eq!(rt; change.copy(alloc)?, change);
     }
     Ok(())
 }
