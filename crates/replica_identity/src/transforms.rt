@@ -88,7 +88,11 @@ pub fn transform<'a>(plan: &Plan, subscriber: usize, change: &'a Change) -> Opti
         },
         Change::Truncate { tables } => {
             let is_carried = carries_any(plan, subscriber, tables.as_slice());
-            if is_carried { Some(Out::Truncate(tables.as_slice())) } else { None }
+            if is_carried {
+                Some(Out::Truncate(tables.as_slice()))
+            } else {
+                None
+            }
         }
     }
 }

@@ -18,7 +18,9 @@ CREATE SUBSCRIPTION s CONNECTION '' PUBLICATION p;
 ";
 
 const BY_ID: usize = 0;
+
 const BY_NOTE: usize = 1;
+
 const BY_CODE: usize = 2;
 
 /// A table of so many columns, with this key and a unique index of these columns.
@@ -81,31 +83,160 @@ enum Side {
 type Case = (Identity, usize, &'static str, &'static str, Recorded, Side);
 
 const KEY_OF_7: Recorded = Recorded::Key("(7, NULL, NULL)");
+
 const KEY_OF_150: Recorded = Recorded::Key("(150, NULL, NULL)");
+
 const CODE_A: Recorded = Recorded::Key("(NULL, 'a', NULL)");
+
 const CODE_C: Recorded = Recorded::Key("(NULL, 'c', NULL)");
 
 /// Worked out from the rules by hand: which columns change, what the identity records of the old row, and whether that and
 /// the new row pass.
 const UPDATES: [Case; 18] = [
-    (Identity::Default, BY_ID, "(7, 'a', 'x')", "(7, 'b', NULL)", Recorded::Nothing, Side::Both),
-    (Identity::Default, BY_ID, "(150, 'a', 'x')", "(150, 'b', 'x')", Recorded::Nothing, Side::Neither),
-    (Identity::Default, BY_ID, "(7, 'a', 'x')", "(8, 'a', 'x')", KEY_OF_7, Side::Both),
-    (Identity::Default, BY_ID, "(7, 'a', 'x')", "(150, 'a', 'x')", KEY_OF_7, Side::Old),
-    (Identity::Default, BY_ID, "(150, 'a', 'x')", "(7, 'a', 'x')", KEY_OF_150, Side::New),
-    (Identity::Default, BY_ID, "(150, 'a', 'x')", "(160, 'a', 'x')", KEY_OF_150, Side::Neither),
-    (Identity::Full, BY_NOTE, "(7, 'a', 'x')", "(7, 'a', 'x')", Recorded::Whole, Side::Both),
-    (Identity::Full, BY_NOTE, "(7, 'a', 'x')", "(8, 'b', 'x')", Recorded::Whole, Side::Both),
-    (Identity::Full, BY_NOTE, "(7, 'a', 'x')", "(7, 'a', 'y')", Recorded::Whole, Side::Old),
-    (Identity::Full, BY_NOTE, "(7, 'a', NULL)", "(7, 'a', 'x')", Recorded::Whole, Side::New),
-    (Identity::Full, BY_NOTE, "(7, 'a', 'y')", "(7, 'a', NULL)", Recorded::Whole, Side::Neither),
-    (Identity::Index(0), BY_CODE, "(7, 'a', 'x')", "(8, 'a', 'y')", Recorded::Nothing, Side::Both),
-    (Identity::Index(0), BY_CODE, "(7, 'c', 'x')", "(8, 'c', 'y')", Recorded::Nothing, Side::Neither),
-    (Identity::Index(0), BY_CODE, "(7, 'a', 'x')", "(7, 'b', 'x')", CODE_A, Side::Both),
-    (Identity::Index(0), BY_CODE, "(7, 'a', 'x')", "(7, 'c', 'x')", CODE_A, Side::Old),
-    (Identity::Index(0), BY_CODE, "(7, 'c', 'x')", "(7, 'a', 'x')", CODE_C, Side::New),
-    (Identity::Index(0), BY_CODE, "(7, 'c', 'x')", "(7, 'd', 'x')", CODE_C, Side::Neither),
-    (Identity::Nothing, BY_ID, "(7, 'a', 'x')", "(8, 'a', 'x')", Recorded::Nothing, Side::Both),
+    (
+        Identity::Default,
+        BY_ID,
+        "(7, 'a', 'x')",
+        "(7, 'b', NULL)",
+        Recorded::Nothing,
+        Side::Both,
+    ),
+    (
+        Identity::Default,
+        BY_ID,
+        "(150, 'a', 'x')",
+        "(150, 'b', 'x')",
+        Recorded::Nothing,
+        Side::Neither,
+    ),
+    (
+        Identity::Default,
+        BY_ID,
+        "(7, 'a', 'x')",
+        "(8, 'a', 'x')",
+        KEY_OF_7,
+        Side::Both,
+    ),
+    (
+        Identity::Default,
+        BY_ID,
+        "(7, 'a', 'x')",
+        "(150, 'a', 'x')",
+        KEY_OF_7,
+        Side::Old,
+    ),
+    (
+        Identity::Default,
+        BY_ID,
+        "(150, 'a', 'x')",
+        "(7, 'a', 'x')",
+        KEY_OF_150,
+        Side::New,
+    ),
+    (
+        Identity::Default,
+        BY_ID,
+        "(150, 'a', 'x')",
+        "(160, 'a', 'x')",
+        KEY_OF_150,
+        Side::Neither,
+    ),
+    (
+        Identity::Full,
+        BY_NOTE,
+        "(7, 'a', 'x')",
+        "(7, 'a', 'x')",
+        Recorded::Whole,
+        Side::Both,
+    ),
+    (
+        Identity::Full,
+        BY_NOTE,
+        "(7, 'a', 'x')",
+        "(8, 'b', 'x')",
+        Recorded::Whole,
+        Side::Both,
+    ),
+    (
+        Identity::Full,
+        BY_NOTE,
+        "(7, 'a', 'x')",
+        "(7, 'a', 'y')",
+        Recorded::Whole,
+        Side::Old,
+    ),
+    (
+        Identity::Full,
+        BY_NOTE,
+        "(7, 'a', NULL)",
+        "(7, 'a', 'x')",
+        Recorded::Whole,
+        Side::New,
+    ),
+    (
+        Identity::Full,
+        BY_NOTE,
+        "(7, 'a', 'y')",
+        "(7, 'a', NULL)",
+        Recorded::Whole,
+        Side::Neither,
+    ),
+    (
+        Identity::Index(0),
+        BY_CODE,
+        "(7, 'a', 'x')",
+        "(8, 'a', 'y')",
+        Recorded::Nothing,
+        Side::Both,
+    ),
+    (
+        Identity::Index(0),
+        BY_CODE,
+        "(7, 'c', 'x')",
+        "(8, 'c', 'y')",
+        Recorded::Nothing,
+        Side::Neither,
+    ),
+    (
+        Identity::Index(0),
+        BY_CODE,
+        "(7, 'a', 'x')",
+        "(7, 'b', 'x')",
+        CODE_A,
+        Side::Both,
+    ),
+    (
+        Identity::Index(0),
+        BY_CODE,
+        "(7, 'a', 'x')",
+        "(7, 'c', 'x')",
+        CODE_A,
+        Side::Old,
+    ),
+    (
+        Identity::Index(0),
+        BY_CODE,
+        "(7, 'c', 'x')",
+        "(7, 'a', 'x')",
+        CODE_C,
+        Side::New,
+    ),
+    (
+        Identity::Index(0),
+        BY_CODE,
+        "(7, 'c', 'x')",
+        "(7, 'd', 'x')",
+        CODE_C,
+        Side::Neither,
+    ),
+    (
+        Identity::Nothing,
+        BY_ID,
+        "(7, 'a', 'x')",
+        "(8, 'a', 'x')",
+        Recorded::Nothing,
+        Side::Both,
+    ),
 ];
 
 #[test]
@@ -129,7 +260,11 @@ fn updates_are_turned_by_what_passes(rt: HostRuntime) -> Result<(), Fail> {
             Side::Old => Some(Out::Delete(&wanted)),
             Side::Both => Some(Out::Update(&wanted, &new_row)),
         };
-        assert_eq!(rt; transform(&plan, 0, &change), out, "{old} to {new} by {identity:?}");
+        assert_eq!(rt;
+            transform(&plan, 0, &change),
+            out,
+            "{old} to {new} by {identity:?}"
+        );
     }
     Ok(())
 }
@@ -140,12 +275,36 @@ fn rows_go_where_what_is_recorded_passes(rt: HostRuntime) -> Result<(), Fail> {
     let plan = plan(alloc, &read_catalog(alloc, SHARES)?)?;
     let cases = [
         (Identity::Default, BY_ID, "(7, 'a', 'x')", KEY_OF_7, true),
-        (Identity::Default, BY_ID, "(150, 'a', 'x')", KEY_OF_150, false),
-        (Identity::Full, BY_NOTE, "(7, 'a', 'x')", Recorded::Whole, true),
-        (Identity::Full, BY_NOTE, "(7, 'a', 'y')", Recorded::Whole, false),
+        (
+            Identity::Default,
+            BY_ID,
+            "(150, 'a', 'x')",
+            KEY_OF_150,
+            false,
+        ),
+        (
+            Identity::Full,
+            BY_NOTE,
+            "(7, 'a', 'x')",
+            Recorded::Whole,
+            true,
+        ),
+        (
+            Identity::Full,
+            BY_NOTE,
+            "(7, 'a', 'y')",
+            Recorded::Whole,
+            false,
+        ),
         (Identity::Index(0), BY_CODE, "(7, 'a', 'x')", CODE_A, true),
         (Identity::Index(0), BY_CODE, "(7, 'c', 'x')", CODE_C, false),
-        (Identity::Nothing, BY_ID, "(7, 'a', 'x')", Recorded::Nothing, false),
+        (
+            Identity::Nothing,
+            BY_ID,
+            "(7, 'a', 'x')",
+            Recorded::Nothing,
+            false,
+        ),
     ];
     for (identity, number, old, recorded, passes) in cases {
         let table = table(alloc, 3, &[0], &[1], identity)?;
@@ -156,7 +315,11 @@ fn rows_go_where_what_is_recorded_passes(rt: HostRuntime) -> Result<(), Fail> {
             table: number,
             old: found,
         };
-        let out = if passes { Some(Out::Delete(&wanted)) } else { None };
+        let out = if passes {
+            Some(Out::Delete(&wanted))
+        } else {
+            None
+        };
         assert_eq!(rt; transform(&plan, 0, &change), out, "{old} by {identity:?}");
     }
     Ok(())
@@ -170,42 +333,41 @@ CREATE SUBSCRIPTION s0 CONNECTION '' PUBLICATION pa;
 CREATE SUBSCRIPTION s1 CONNECTION '' PUBLICATION pb;
 ";
 
-/// A row is added to the first shard, goes to the second one, and comes back.
+/// The change of a row of the table into another one.
+fn update(alloc: Global, table: &Table, old: &str, new: &str) -> Result<Change, Fail> {
+    let old = row(alloc, old)?;
+    let new = row(alloc, new)?;
+    Ok(Change::Update {
+        table: 0,
+        old: old_part(alloc, table, &old, Some(&new))?,
+        new,
+    })
+}
+
+/// A row goes from the first shard to the second one, and comes back.
 #[test]
 fn a_row_goes_to_another_shard_and_comes_back(rt: HostRuntime) -> Result<(), Fail> {
     let alloc = rt.alloc();
     let catalog = read_catalog(alloc, TWO_SHARDS)?;
     let plan = plan(alloc, &catalog)?;
     let table = catalog.tables.get(0).expect(&rt, "a table");
-    let low = row(alloc, "(7, 'eu')")?;
-    let high = row(alloc, "(150, 'eu')")?;
-    let was_low = OldPart::Full(copy_row(alloc, &low)?);
-    let was_high = OldPart::Full(copy_row(alloc, &high)?);
-    let added = Change::Insert {
-        table: 0,
-        new: copy_row(alloc, &low)?,
-    };
-    let goes = Change::Update {
-        table: 0,
-        old: old_part(alloc, table, &low, Some(&high))?,
-        new: copy_row(alloc, &high)?,
-    };
-    let comes = Change::Update {
-        table: 0,
-        old: old_part(alloc, table, &high, Some(&low))?,
-        new: copy_row(alloc, &low)?,
-    };
     let cases = [
-        (&added, Some(Out::Insert(&low)), None),
-        (&goes, Some(Out::Delete(&was_low)), Some(Out::Insert(&high))),
-        (&comes, Some(Out::Insert(&low)), Some(Out::Delete(&was_high))),
+        ("(7, 'eu')", "(150, 'eu')", 0, 1),
+        ("(150, 'eu')", "(7, 'eu')", 1, 0),
     ];
-    for (change, first, second) in cases {
-        assert_eq!(rt; transform(&plan, 0, change), first);
-        assert_eq!(rt; transform(&plan, 1, change), second);
-        let copy = change.copy(alloc)?;
-        assert_eq!(rt; &copy, change);
-        assert_eq!(rt; transform(&plan, 0, &copy), first);
+    for (old, new, left, entered) in cases {
+        let change = update(alloc, table, old, new)?;
+        let old_row = OldPart::Full(row(alloc, old)?);
+        let new_row = row(alloc, new)?;
+        assert_eq!(rt;
+            transform(&plan, left, &change),
+            Some(Out::Delete(&old_row))
+        );
+        assert_eq!(rt;
+            transform(&plan, entered, &change),
+            Some(Out::Insert(&new_row))
+        );
+        assert_eq!(rt; change.copy(alloc)?, change);
     }
     Ok(())
 }
@@ -237,8 +399,16 @@ fn tables_are_emptied_whatever_the_filters(rt: HostRuntime) -> Result<(), Fail> 
             tables: Vec::from_slice(alloc, tables)?,
         };
         for (subscriber, takes) in takers.iter().enumerate() {
-            let out = if *takes { Some(Out::Truncate(tables)) } else { None };
-            assert_eq!(rt; transform(&plan, subscriber, &change), out, "{tables:?} for {subscriber}");
+            let out = if *takes {
+                Some(Out::Truncate(tables))
+            } else {
+                None
+            };
+            assert_eq!(rt;
+                transform(&plan, subscriber, &change),
+                out,
+                "{tables:?} for {subscriber}"
+            );
         }
         assert_eq!(rt; change.copy(alloc)?, change);
     }
@@ -264,8 +434,14 @@ fn rows_of_100_columns_and_the_longest_texts_are_recorded(rt: HostRuntime) -> Re
     let old = wide_row(alloc, &number, "")?;
     let new = wide_row(alloc, &number, "b")?;
     let cases = [
-        (Identity::Default, OldPart::Key(wide_row(alloc, &number, "")?)),
-        (Identity::Index(0), OldPart::Key(wide_row(alloc, &Value::Null, "")?)),
+        (
+            Identity::Default,
+            OldPart::Key(wide_row(alloc, &number, "")?),
+        ),
+        (
+            Identity::Index(0),
+            OldPart::Key(wide_row(alloc, &Value::Null, "")?),
+        ),
         (Identity::Full, OldPart::Full(wide_row(alloc, &number, "")?)),
     ];
     for (identity, wanted) in cases {
