@@ -114,12 +114,7 @@ fn row(alloc: Global, id: i64) -> Result<Row, AllocError> {
 #[test]
 fn rows_of_a_checked_catalog_have_one_subscriber(rt: HostRuntime) -> Result<(), Fail> {
     let alloc = rt.alloc();
-    let catalog = catalog(
-        alloc,
-        Identity::Default,
-        operations(4),
-        low(),
-    )?;
+    let catalog = catalog(alloc, Identity::Default, operations(4), low())?;
     let plan = plan(alloc, &catalog)?;
     let certs = vec![in alloc; by_halves(alloc)?]?;
     let checked = check(alloc, catalog, plan, &certs)?;
@@ -209,12 +204,7 @@ fn filters_name_identity_columns(rt: HostRuntime) -> Result<(), Fail> {
 #[test]
 fn a_table_that_is_not_there_is_refused(rt: HostRuntime) -> Result<(), Fail> {
     let alloc = rt.alloc();
-    let mut catalog = catalog(
-        alloc,
-        Identity::Default,
-        operations(4),
-        low(),
-    )?;
+    let mut catalog = catalog(alloc, Identity::Default, operations(4), low())?;
     if let Some(first) = catalog.publications.get_mut(0) {
         first.entries.push(Entry {
             table: 7,
