@@ -1,6 +1,6 @@
 -- All tests that hold exactly of the terms to which no value is left lead to the same refusals.
 use Rattle.std.proofs.Common.{◌≡◌, ℕ, ◌+◌, Bool, true, false, List, [], ◌∷◌, ◌++◌, length, refl, sym, ◌∙◌, ap, subst}
-use Rattle.std.specs.Prelude.{Option, Some, None, if◌then◌else◌, slice_get}
+use Rattle.std.specs.Prelude.{Option, Some, None, Result, if◌then◌else◌, slice_get}
 use Rattle.filter_tree.specs.Expr.{Expr, AtomOf}
 use Rattle.filter_tree.specs.Paths.{Path}
 use Rattle.filter_tree.specs.declared.filter.Term.{Term}
@@ -13,6 +13,7 @@ use Rattle.replica_identity.specs.Plans.{PlanOf}
 use Rattle.replica_identity.specs.Shares.{ShareOf}
 use Rattle.split_cert.specs.Tree.{Tree, Split, Owner, Empty, NeverNull, nodes}
 use Rattle.shard_checker.specs.CatalogRefusal.{certificate_refusal, certificates_refusal, catalog_refusal, count_refusal, sharding_refusal}
+use Rattle.shard_checker.specs.Checks.{Checks}
 use Rattle.shard_checker.specs.Emptiness.{Test, IsEmptiness}
 use Rattle.shard_checker.specs.Refusal.{Subject, subject_of, later, first_of, empty_refusal, split_refusal, refusal, first_refusal}
 use Rattle.shard_checker.specs.Trying.{is_empty}
@@ -91,3 +92,7 @@ none_by_any catalog plan trees h test tells = sym (sharding_by_any test tells ca
 pub some_by_any : (catalog : CatalogOf Expr) (plan : PlanOf) (trees : List Tree) (error : CheckError) → sharding_refusal is_empty catalog plan trees ≡ Some error
     → (test : Test) → IsEmptiness test → sharding_refusal test catalog plan trees ≡ Some error
 some_by_any catalog plan trees error h test tells = sym (sharding_by_any test tells catalog plan trees) ∙ h
+
+pub checks_by_any : (number : ℕ) (table : Table) (shares : List ShareOf) (tree : Tree) (result : Result (Unit {0}) CheckError) → Checks (first_refusal is_empty number table shares tree) result
+    → (test : Test) → IsEmptiness test → Checks (first_refusal test number table shares tree) result
+checks_by_any number table shares tree result h test tells = subst (λ (refusal : Option CheckError). Checks refusal result) (first_by_any test tells number table shares tree) h

@@ -64,7 +64,7 @@ pub fn check_table<A: Allocator, B: Allocator>(
 ///
 /// Atoms and terms are numbered from 0 in the order in which the shares' filters have them first, share by share, and
 /// `IS NULL` of a column is an appearance of that column. Subscribers are the shares' numbers.
-#[tactic(auto, using(crate::proofs::SoundLemmas::certificate_sound, crate::proofs::TruthLemmas::certificate_wrong))]
+#[tactic(auto, using(crate::proofs::SoundLemmas::certificate_sound, crate::proofs::TruthLemmas::certificate_wrong, crate::proofs::AnyTest::checks_by_any))]
 pub fn check_one<A: Allocator, B: Allocator>(
     alloc: Global,
     table: &Table,
