@@ -51,7 +51,8 @@ pub enum ErrorKind {
     NullableIndex,
 }
 
-/// Forms that are not read yet.
+/// Forms that are not read yet. No reader answers the last three: TRUNCATE is a command of scripts, and unique indexes are
+/// read.
 #[derive(Clone, Copy, Debug, PartialEq, Eq, Error)]
 pub enum Later {
     #[error("IN")]
