@@ -84,7 +84,8 @@ impl Coverage {
     /// mention has a filter.
     #[tactic(auto, unfolding(crate::specs::Objects::table_mentioned))]
     pub fn add_table(&mut self, place: usize, entry: Entry) -> Result<(), ReadError>
-        ensures { Answers (λ _. coverage_view self.new) (spec.table_mentioned (coverage_view self.old) place (entry_view entry)) result }
+        ensures { Answers (λ _. coverage_view self.new)
+            (spec.table_mentioned (coverage_view self.old) place (entry_view entry)) result }
     {
         if !self.has_table(entry.table) {
             self.entries.push(entry)?;

@@ -117,7 +117,8 @@ impl Draft {
 
     /// Adds a schema.
     pub fn add_schema(&mut self, name: Text) -> Result<(), AllocError>
-        ensures { OnOk result (draft_view self.new ≡ record (draft_view self.old) { schemas = spec.with_name (draft_view self.old).schemas name }) }
+        ensures { OnOk result (draft_view self.new ≡ record (draft_view self.old)
+            { schemas = spec.with_name (draft_view self.old).schemas name }) }
     {
         self.schemas.add(name.into_string())
     }
@@ -225,7 +226,8 @@ impl Draft {
 
     /// The number of a publication that was made before.
     pub fn known_publication(&self, name: &PlacedName) -> Result<usize, ReadError>
-        ensures { Answers (λ n. n) (known name.now (spec.find_publication name.now.text (draft_view self.now).publications)) result }
+        ensures { Answers (λ n. n)
+            (known name.now (spec.find_publication name.now.text (draft_view self.now).publications)) result }
     {
         known_number(name, self.find_publication(name.text.as_str()))
     }
@@ -259,7 +261,8 @@ impl Draft {
 
     /// The filters on a table.
     pub fn filters(&self, alloc: Global, number: usize) -> Result<Vec<&Filter>, AllocError>
-        ensures { IfOk result (λ filters. map (λ f. expr_view f.now) filters.items ≡ spec.filters_on (λ f. f) number (draft_view self.now).publications) }
+        ensures { IfOk result (λ filters. map (λ f. expr_view f.now) filters.items
+            ≡ spec.filters_on (λ f. f) number (draft_view self.now).publications) }
     {
         let mut filters = Vec::new(alloc);
         for publication in &self.publications {
@@ -274,7 +277,8 @@ impl Draft {
 
     /// Adds a table.
     pub fn add_table(&mut self, table: Table) -> Result<(), AllocError>
-        ensures { OnOk result (draft_view self.new ≡ record (draft_view self.old) { tables = (draft_view self.old).tables ++ table ∷ [] }) }
+        ensures { OnOk result (draft_view self.new ≡ record (draft_view self.old)
+            { tables = (draft_view self.old).tables ++ table ∷ [] }) }
     {
         self.tables.push(table)?;
         Ok(())
@@ -287,7 +291,8 @@ impl Draft {
         publication: DraftPublication,
     ) -> Result<(), AllocError>
         requires { spec.find_publication publication.name (draft_view self.old).publications ≡ None }
-        ensures { OnOk result (draft_view self.new ≡ record (draft_view self.old) { publications = (draft_view self.old).publications ++ draft_publication_view publication ∷ [] }) }
+        ensures { OnOk result (draft_view self.new ≡ record (draft_view self.old)
+            { publications = (draft_view self.old).publications ++ draft_publication_view publication ∷ [] }) }
     {
         let name = String::from_str(alloc, publication.name.as_str())?;
         self.publications.try_reserve(1)?;
@@ -303,7 +308,8 @@ impl Draft {
         subscription: Subscription,
     ) -> Result<(), AllocError>
         requires { spec.find_subscription subscription.name (draft_view self.old).subscriptions ≡ None }
-        ensures { OnOk result (draft_view self.new ≡ record (draft_view self.old) { subscriptions = (draft_view self.old).subscriptions ++ subscription ∷ [] }) }
+        ensures { OnOk result (draft_view self.new ≡ record (draft_view self.old)
+            { subscriptions = (draft_view self.old).subscriptions ++ subscription ∷ [] }) }
     {
         let name = String::from_str(alloc, subscription.name.as_str())?;
         self.subscriptions.try_reserve(1)?;
@@ -316,7 +322,8 @@ impl Draft {
     #[tactic(auto, using(crate::proofs::TableLemmas::table_numbers))]
     pub fn identify(&mut self, number: usize, identity: Identity)
         requires { number < length (draft_view self.old).tables }
-        ensures { draft_view self.new ≡ record (draft_view self.old) { tables = identified (draft_view self.old).tables number identity } }
+        ensures { draft_view self.new ≡ record (draft_view self.old)
+            { tables = identified (draft_view self.old).tables number identity } }
     {
         self.tables[number].identity = identity;
     }
@@ -325,7 +332,8 @@ impl Draft {
     #[tactic(auto, using(crate::proofs::TableLemmas::table_numbers))]
     pub fn add_index(&mut self, number: usize, index: UniqueIndex) -> Result<(), AllocError>
         requires { number < length (draft_view self.old).tables }
-        ensures { OnOk result (draft_view self.new ≡ record (draft_view self.old) { tables = indexed (draft_view self.old).tables number index }) }
+        ensures { OnOk result (draft_view self.new ≡ record (draft_view self.old)
+            { tables = indexed (draft_view self.old).tables number index }) }
     {
         self.tables[number].indexes.push(index)?;
         Ok(())

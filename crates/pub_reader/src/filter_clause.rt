@@ -1,11 +1,10 @@
 //! The WHERE clause of a table in a publication.
 
-ghost use Rattle.std.specs.Prelude.{◌<◌, ◌≤◌, ◌∷◌, ◌++◌, [], OnOk, length, map};
+ghost use Rattle.std.specs.Prelude.{◌<◌, ◌∷◌, ◌++◌, [], length, map};
 ghost use Rattle.std.specs.Option.{option_map};
 ghost use Rattle.filter_tree.specs.Shape.{expr_view};
-ghost use Rattle.sql_reader.specs.Ahead.{to_read};
-ghost use Rattle.sql_reader.specs.Items.{size};
-ghost use Rattle.sql_reader.specs.Reading.{Reads, Answers};
+ghost use Rattle.sql_reader.specs.Reading.{Answers};
+ghost use Rattle.sql_reader.specs.Taking.{Takes, TakesSome};
 ghost use Rattle.sql_reader.specs.Written.{as_filter};
 ghost use Rattle.pub_reader.specs.Drafts.{filters_in, filters_on};
 ghost use Rattle.pub_reader.specs.DraftView.{coverage_view, draft_view};
@@ -41,7 +40,8 @@ fn within_limits(
     place: usize,
     filter: &Filter,
 ) -> Result<(), ReadError>
-    ensures { Answers (λ u. u) (spec.limited place ((filters_on (λ f. f) number (draft_view draft.now).publications ++ filters_in (λ f. f) number (coverage_view coverage.now).entries) ++ expr_view filter.now ∷ [])) result }
+    ensures { Answers (λ u. u) (spec.limited place ((filters_on (λ f. f) number (draft_view draft.now).publications
+        ++ filters_in (λ f. f) number (coverage_view coverage.now).entries) ++ expr_view filter.now ∷ [])) result }
 {
     let mut filters = draft.filters(alloc, number)?;
     add_filters(&mut filters, coverage.entries.as_slice(), number)?;
@@ -60,8 +60,9 @@ fn ended(
     place: usize,
     filter: Filter,
 ) -> Result<Option<Filter>, ReadError>
-    ensures reads { Reads (λ filter. option_map expr_view filter) (spec.ended as_filter (draft_view draft.now) (coverage_view coverage.now) number place (expr_view filter) (to_read r.old)) result (to_read r.new) }
-    ensures fewer { OnOk result (size (to_read r.new) < size (to_read r.old)) }
+    ensures { TakesSome (λ filter. option_map expr_view filter)
+        (spec.ended as_filter (draft_view draft.now) (coverage_view coverage.now) number place (expr_view filter))
+        r.old result r.new }
 {
     r.expect(Item::Close, "AND, OR or `)`")?;
     within_limits(alloc, draft, coverage, number, place, &filter)?;
@@ -78,8 +79,8 @@ fn where_clause(
     number: usize,
 ) -> Result<Option<Filter>, ReadError>
     requires { number < length (draft_view draft.now).tables }
-    ensures reads { Reads (λ filter. option_map expr_view filter) (spec.where_clause as_filter (draft_view draft.now) (coverage_view coverage.now) number (to_read r.old)) result (to_read r.new) }
-    ensures fewer { OnOk result (size (to_read r.new) < size (to_read r.old)) }
+    ensures { TakesSome (λ filter. option_map expr_view filter)
+        (spec.where_clause as_filter (draft_view draft.now) (coverage_view coverage.now) number) r.old result r.new }
 {
     let place = r.expect(Item::Keyword(Keyword::Where), "WHERE")?;
     r.expect(Item::Open, "`(`")?;
@@ -97,8 +98,8 @@ pub fn filter_clause(
     number: usize,
 ) -> Result<Option<Filter>, ReadError>
     requires { number < length (draft_view draft.now).tables }
-    ensures reads { Reads (λ filter. option_map expr_view filter) (spec.filter_clause as_filter (draft_view draft.now) (coverage_view coverage.now) number (to_read r.old)) result (to_read r.new) }
-    ensures fewer { OnOk result (size (to_read r.new) ≤ size (to_read r.old)) }
+    ensures { Takes (λ filter. option_map expr_view filter)
+        (spec.filter_clause as_filter (draft_view draft.now) (coverage_view coverage.now) number) r.old result r.new }
 {
     r.look()?;
     match r.item() {

@@ -15,7 +15,9 @@ fn add_filter<'a>(
     entry: &'a Entry,
     number: usize,
 ) -> Result<(), AllocError>
-    ensures { OnOk result (map (λ f. expr_view f.now) filters.new.items ≡ map (λ f. expr_view f.now) filters.old.items ++ spec.filter_on (λ f. f) number (entry_view entry.now)) }
+    ensures { OnOk result
+        (map (λ f. expr_view f.now) filters.new.items ≡ map (λ f. expr_view f.now) filters.old.items
+        ++ spec.filter_on (λ f. f) number (entry_view entry.now)) }
 {
     if entry.table != number {
         return Ok(());
@@ -32,7 +34,9 @@ pub fn add_filters<'a>(
     entries: &'a [Entry],
     number: usize,
 ) -> Result<(), AllocError>
-    ensures { OnOk result (map (λ f. expr_view f.now) filters.new.items ≡ map (λ f. expr_view f.now) filters.old.items ++ spec.filters_in (λ f. f) number (map entry_view entries.now)) }
+    ensures { OnOk result
+        (map (λ f. expr_view f.now) filters.new.items ≡ map (λ f. expr_view f.now) filters.old.items
+        ++ spec.filters_in (λ f. f) number (map entry_view entries.now)) }
 {
     for entry in entries {
         add_filter(filters, entry, number)?;

@@ -1,11 +1,10 @@
 //! ALTER TABLE .. REPLICA IDENTITY.
 
-ghost use Rattle.std.specs.Prelude.{◌≡◌, ◌<◌, ◌≤◌, OnOk, slice_get};
-ghost use Rattle.sql_reader.specs.Ahead.{to_read};
-ghost use Rattle.sql_reader.specs.Items.{size};
-ghost use Rattle.sql_reader.specs.Reading.{Reads, Answers};
+ghost use Rattle.std.specs.Prelude.{◌≡◌, ◌<◌, slice_get};
+ghost use Rattle.sql_reader.specs.Reading.{Answers};
 ghost use Rattle.pub_reader.specs.DraftView.{draft_view};
 ghost use Rattle.pub_reader.specs.Identities as spec;
+ghost use Rattle.sql_reader.specs.Taking.{Takes, TakesSome};
 
 use crate::draft::{Draft, find_index};
 use crate::names::known_number;
@@ -17,8 +16,7 @@ use std::alloc::Global;
 /// Takes the word REPLICA.
 #[tactic(auto, using(sql_reader::proofs::Ahead::rest_of_some_is_fewer), unfolding(crate::specs::Identities::action))]
 fn action(r: &mut Reader<'_>) -> Result<(), ReadError>
-    ensures reads { Reads (λ u. u) (spec.action (to_read r.old)) result (to_read r.new) }
-    ensures fewer { OnOk result (size (to_read r.new) < size (to_read r.old)) }
+    ensures { TakesSome (λ u. u) spec.action r.old result r.new }
 {
     match r.item() {
         Some(Item::Keyword(Keyword::Replica)) => {
@@ -85,8 +83,7 @@ fn using_index(
     columns: &[Column],
     indexes: &[UniqueIndex],
 ) -> Result<Identity, ReadError>
-    ensures reads { Reads (λ identity. identity) (spec.using_index columns.now indexes.now (to_read r.old)) result (to_read r.new) }
-    ensures fewer { OnOk result (size (to_read r.new) < size (to_read r.old)) }
+    ensures { TakesSome (λ identity. identity) (spec.using_index columns.now indexes.now) r.old result r.new }
 {
     r.expect(Item::Keyword(Keyword::Using), "USING INDEX")?;
     r.expect(Item::Keyword(Keyword::Index), "INDEX")?;
@@ -102,8 +99,7 @@ fn identity(
     columns: &[Column],
     indexes: &[UniqueIndex],
 ) -> Result<Identity, ReadError>
-    ensures reads { Reads (λ identity. identity) (spec.identity columns.now indexes.now (to_read r.old)) result (to_read r.new) }
-    ensures fewer { OnOk result (size (to_read r.new) ≤ size (to_read r.old)) }
+    ensures { Takes (λ identity. identity) (spec.identity columns.now indexes.now) r.old result r.new }
 {
     match r.item() {
         Some(Item::Keyword(Keyword::Default)) => {
@@ -131,8 +127,7 @@ fn replica_identity(
     columns: &[Column],
     indexes: &[UniqueIndex],
 ) -> Result<Identity, ReadError>
-    ensures reads { Reads (λ identity. identity) (spec.replica_identity columns.now indexes.now (to_read r.old)) result (to_read r.new) }
-    ensures fewer { OnOk result (size (to_read r.new) < size (to_read r.old)) }
+    ensures { TakesSome (λ identity. identity) (spec.replica_identity columns.now indexes.now) r.old result r.new }
 {
     action(r)?;
     r.expect(Item::Keyword(Keyword::Identity), "IDENTITY")?;
@@ -142,8 +137,7 @@ fn replica_identity(
 /// Takes ALTER TABLE, and gives the table its replica identity.
 #[tactic(auto, unfolding(crate::specs::Identities::alter_table))]
 pub fn alter_table(r: &mut Reader<'_>, alloc: Global, draft: &mut Draft) -> Result<(), ReadError>
-    ensures reads { Reads (λ _. draft_view draft.new) (spec.alter_table (draft_view draft.old) (to_read r.old)) result (to_read r.new) }
-    ensures fewer { OnOk result (size (to_read r.new) < size (to_read r.old)) }
+    ensures { TakesSome (λ _. draft_view draft.new) (spec.alter_table (draft_view draft.old)) r.old result r.new }
 {
     r.expect(Item::Keyword(Keyword::Alter), "ALTER")?;
     r.expect(Item::Keyword(Keyword::Table), "TABLE")?;

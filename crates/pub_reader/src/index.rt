@@ -1,11 +1,11 @@
 //! CREATE UNIQUE INDEX.
 
-ghost use Rattle.std.specs.Prelude.{◌<◌, ◌≤◌, IfOk, OnOk, length};
+ghost use Rattle.std.specs.Prelude.{◌<◌, IfOk, length};
 ghost use Rattle.sql_reader.specs.Ahead.{to_read};
-ghost use Rattle.sql_reader.specs.Items.{size};
 ghost use Rattle.sql_reader.specs.Reading.{Reads, Answers};
 ghost use Rattle.pub_reader.specs.DraftView.{draft_view};
 ghost use Rattle.pub_reader.specs.Indexes as spec;
+ghost use Rattle.sql_reader.specs.Taking.{Takes, TakesSome};
 
 use crate::draft::Draft;
 use crate::table_name::table_number;
@@ -33,8 +33,7 @@ fn known_method(name: &PlacedName) -> Result<(), ReadError>
 /// Takes USING and the name of the method.
 #[tactic(auto, unfolding(crate::specs::Indexes::named_method))]
 fn named_method(r: &mut Reader<'_>, alloc: Global) -> Result<(), ReadError>
-    ensures reads { Reads (λ u. u) (spec.named_method (to_read r.old)) result (to_read r.new) }
-    ensures fewer { OnOk result (size (to_read r.new) < size (to_read r.old)) }
+    ensures { TakesSome (λ u. u) spec.named_method r.old result r.new }
 {
     r.expect(Item::Keyword(Keyword::Using), "USING")?;
     let name = read_name(r, alloc, "btree")?;
@@ -45,8 +44,7 @@ fn named_method(r: &mut Reader<'_>, alloc: Global) -> Result<(), ReadError>
 /// Takes USING and the name of the method, if they are ahead.
 #[tactic(auto, unfolding(crate::specs::Indexes::method))]
 fn method(r: &mut Reader<'_>, alloc: Global) -> Result<(), ReadError>
-    ensures reads { Reads (λ u. u) (spec.method (to_read r.old)) result (to_read r.new) }
-    ensures fewer { OnOk result (size (to_read r.new) ≤ size (to_read r.old)) }
+    ensures { Takes (λ u. u) spec.method r.old result r.new }
 {
     match r.item() {
         Some(Item::Keyword(Keyword::Using)) => named_method(r, alloc),
@@ -76,8 +74,7 @@ fn index_column(
     columns: &[Column],
     numbers: &mut Vec<usize>,
 ) -> Result<(), ReadError>
-    ensures reads { Reads (λ _. numbers.new.items) (spec.index_column columns.now numbers.old.items (to_read r.old)) result (to_read r.new) }
-    ensures fewer { OnOk result (size (to_read r.new) < size (to_read r.old)) }
+    ensures { TakesSome (λ _. numbers.new.items) (spec.index_column columns.now numbers.old.items) r.old result r.new }
 {
     let name = read_name(r, alloc, "a column of the index")?;
     let column = known_column(columns, &name)?;
@@ -93,8 +90,7 @@ fn index_columns(
     alloc: Global,
     columns: &[Column],
 ) -> Result<Vec<usize>, ReadError>
-    ensures reads { Reads (λ numbers. numbers.items) (spec.index_columns columns.now (to_read r.old)) result (to_read r.new) }
-    ensures fewer { OnOk result (size (to_read r.new) < size (to_read r.old)) }
+    ensures { TakesSome (λ numbers. numbers.items) (spec.index_columns columns.now) r.old result r.new }
 {
     let mut numbers = Vec::new(alloc);
     index_column(r, alloc, columns, &mut numbers)?;
@@ -124,8 +120,7 @@ fn index_body(
     alloc: Global,
     columns: &[Column],
 ) -> Result<Vec<usize>, ReadError>
-    ensures reads { Reads (λ numbers. numbers.items) (spec.index_body columns.now (to_read r.old)) result (to_read r.new) }
-    ensures fewer { OnOk result (size (to_read r.new) < size (to_read r.old)) }
+    ensures { TakesSome (λ numbers. numbers.items) (spec.index_body columns.now) r.old result r.new }
 {
     method(r, alloc)?;
     r.expect(Item::Open, "`(`")?;
@@ -143,8 +138,7 @@ fn indexed_table(
     draft: &Draft,
     name: &PlacedName,
 ) -> Result<usize, ReadError>
-    ensures reads { Reads (λ number. number) (spec.indexed_table (draft_view draft.now) name.now (to_read r.old)) result (to_read r.new) }
-    ensures fewer { OnOk result (size (to_read r.new) < size (to_read r.old)) }
+    ensures { TakesSome (λ number. number) (spec.indexed_table (draft_view draft.now) name.now) r.old result r.new }
     ensures within { IfOk result (λ number. number < length (draft_view draft.now).tables) }
 {
     r.expect(Item::Keyword(Keyword::On), "ON")?;
@@ -157,8 +151,7 @@ fn indexed_table(
 /// Takes what follows CREATE UNIQUE, and makes the index.
 #[tactic(auto, unfolding(crate::specs::Indexes::create_index))]
 pub fn create_index(r: &mut Reader<'_>, alloc: Global, draft: &mut Draft) -> Result<(), ReadError>
-    ensures reads { Reads (λ _. draft_view draft.new) (spec.create_index (draft_view draft.old) (to_read r.old)) result (to_read r.new) }
-    ensures fewer { OnOk result (size (to_read r.new) < size (to_read r.old)) }
+    ensures { TakesSome (λ _. draft_view draft.new) (spec.create_index (draft_view draft.old)) r.old result r.new }
 {
     r.expect(Item::Keyword(Keyword::Index), "INDEX")?;
     let name = read_name(r, alloc, "the name of an index")?;

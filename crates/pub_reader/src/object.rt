@@ -1,9 +1,9 @@
 //! What a publication is made for: tables, with the filters of their rows, and schemas.
 
-ghost use Rattle.std.specs.Prelude.{◌≡◌, ◌<◌, ◌≤◌, OnOk};
+ghost use Rattle.std.specs.Prelude.{◌≡◌, ◌<◌};
 ghost use Rattle.sql_reader.specs.Ahead.{to_read};
-ghost use Rattle.sql_reader.specs.Items.{size};
 ghost use Rattle.sql_reader.specs.Reading.{Reads, Answers};
+ghost use Rattle.sql_reader.specs.Taking.{Takes, TakesSome};
 ghost use Rattle.sql_reader.specs.Written.{as_filter};
 ghost use Rattle.pub_reader.specs.Drafts.{nothing_covered};
 ghost use Rattle.pub_reader.specs.DraftView.{coverage_view, draft_view, objects_view};
@@ -22,7 +22,8 @@ use std::alloc::Global;
 /// Adds a schema that was made before.
 #[tactic(auto, unfolding(crate::specs::Objects::schema_mentioned, crate::specs::Schemas::known_schema))]
 fn mention_schema(draft: &Draft, coverage: &mut Coverage, name: PlacedName) -> Result<(), ReadError>
-    ensures { Answers (λ _. coverage_view coverage.new) (spec.schema_mentioned (draft_view draft.now) (coverage_view coverage.old) name) result }
+    ensures { Answers (λ _. coverage_view coverage.new)
+        (spec.schema_mentioned (draft_view draft.now) (coverage_view coverage.old) name) result }
 {
     draft.known_schema(&name)?;
     coverage.add_schema(name.text)?;
@@ -37,8 +38,8 @@ fn named_schema(
     draft: &Draft,
     coverage: &mut Coverage,
 ) -> Result<ObjectKind, ReadError>
-    ensures reads { Reads (λ kind. objects_view kind coverage.new) (spec.named_schema (draft_view draft.now) (coverage_view coverage.old) (to_read r.old)) result (to_read r.new) }
-    ensures fewer { OnOk result (size (to_read r.new) < size (to_read r.old)) }
+    ensures { TakesSome (λ kind. objects_view kind coverage.new)
+        (spec.named_schema (draft_view draft.now) (coverage_view coverage.old)) r.old result r.new }
 {
     let name = read_name(r, alloc, "the name of a schema")?;
     mention_schema(draft, coverage, name)?;
@@ -52,8 +53,8 @@ fn current_schema(
     alloc: Global,
     coverage: &mut Coverage,
 ) -> Result<ObjectKind, ReadError>
-    ensures reads { Reads (λ kind. objects_view kind coverage.new) (spec.current_schema (coverage_view coverage.old) (to_read r.old)) result (to_read r.new) }
-    ensures fewer { OnOk result (size (to_read r.new) < size (to_read r.old)) }
+    ensures { TakesSome (λ kind. objects_view kind coverage.new) (spec.current_schema (coverage_view coverage.old))
+        r.old result r.new }
 {
     r.expect(Item::Keyword(Keyword::CurrentSchema), "CURRENT_SCHEMA")?;
     let schema = Text::from_str(alloc, PUBLIC)?;
@@ -69,8 +70,8 @@ fn schema_object(
     draft: &Draft,
     coverage: &mut Coverage,
 ) -> Result<ObjectKind, ReadError>
-    ensures reads { Reads (λ kind. objects_view kind coverage.new) (spec.schema_object (draft_view draft.now) (coverage_view coverage.old) (to_read r.old)) result (to_read r.new) }
-    ensures fewer { OnOk result (size (to_read r.new) < size (to_read r.old)) }
+    ensures { TakesSome (λ kind. objects_view kind coverage.new)
+        (spec.schema_object (draft_view draft.now) (coverage_view coverage.old)) r.old result r.new }
 {
     match r.item() {
         Some(Item::Keyword(Keyword::CurrentSchema)) => current_schema(r, alloc, coverage),
@@ -86,8 +87,8 @@ fn in_schema(
     draft: &Draft,
     coverage: &mut Coverage,
 ) -> Result<ObjectKind, ReadError>
-    ensures reads { Reads (λ kind. objects_view kind coverage.new) (spec.in_schema (draft_view draft.now) (coverage_view coverage.old) (to_read r.old)) result (to_read r.new) }
-    ensures fewer { OnOk result (size (to_read r.new) < size (to_read r.old)) }
+    ensures { TakesSome (λ kind. objects_view kind coverage.new)
+        (spec.in_schema (draft_view draft.now) (coverage_view coverage.old)) r.old result r.new }
 {
     r.expect(Item::Keyword(Keyword::In), "IN SCHEMA")?;
     r.expect(Item::Keyword(Keyword::Schema), "SCHEMA")?;
@@ -102,7 +103,9 @@ fn taken_schema(
     coverage: &mut Coverage,
     name: PlacedName,
 ) -> Result<ObjectKind, ReadError>
-    ensures { Reads (λ kind. objects_view kind coverage.new) (spec.taken_schema (draft_view draft.now) (coverage_view coverage.old) name (to_read r.now)) result (to_read r.now) }
+    ensures { Reads (λ kind. objects_view kind coverage.new)
+        (spec.taken_schema (draft_view draft.now) (coverage_view coverage.old) name (to_read r.now))
+        result (to_read r.now) }
 {
     mention_schema(draft, coverage, name)?;
     Ok(ObjectKind::Schema)
@@ -117,8 +120,8 @@ fn taken_table(
     coverage: &mut Coverage,
     name: &PlacedName,
 ) -> Result<ObjectKind, ReadError>
-    ensures reads { Reads (λ kind. objects_view kind coverage.new) (spec.taken_table as_filter (draft_view draft.now) (coverage_view coverage.old) name.now (to_read r.old)) result (to_read r.new) }
-    ensures fewer { OnOk result (size (to_read r.new) ≤ size (to_read r.old)) }
+    ensures { Takes (λ kind. objects_view kind coverage.new)
+        (spec.taken_table as_filter (draft_view draft.now) (coverage_view coverage.old) name.now) r.old result r.new }
 {
     let number = table_named(r, alloc, draft, name)?;
     r.eat(Item::Operator(Operator::Star));
@@ -141,8 +144,8 @@ fn table_object(
     draft: &Draft,
     coverage: &mut Coverage,
 ) -> Result<ObjectKind, ReadError>
-    ensures reads { Reads (λ kind. objects_view kind coverage.new) (spec.table_object as_filter (draft_view draft.now) (coverage_view coverage.old) (to_read r.old)) result (to_read r.new) }
-    ensures fewer { OnOk result (size (to_read r.new) < size (to_read r.old)) }
+    ensures { TakesSome (λ kind. objects_view kind coverage.new)
+        (spec.table_object as_filter (draft_view draft.now) (coverage_view coverage.old)) r.old result r.new }
 {
     r.eat(Item::Keyword(Keyword::Only));
     let name = read_name(r, alloc, "the name of a table")?;
@@ -158,8 +161,8 @@ fn taken_object(
     coverage: &mut Coverage,
     name: PlacedName,
 ) -> Result<ObjectKind, ReadError>
-    ensures reads { Reads (λ kind. objects_view kind coverage.new) (spec.taken_by as_filter kind (draft_view draft.now) (coverage_view coverage.old) name (to_read r.old)) result (to_read r.new) }
-    ensures fewer { OnOk result (size (to_read r.new) ≤ size (to_read r.old)) }
+    ensures { Takes (λ kind. objects_view kind coverage.new)
+        (spec.taken_by as_filter kind (draft_view draft.now) (coverage_view coverage.old) name) r.old result r.new }
 {
     match kind {
         ObjectKind::Table => taken_table(r, alloc, draft, coverage, &name),
@@ -177,8 +180,8 @@ fn after_tables(
     coverage: &mut Coverage,
     name: PlacedName,
 ) -> Result<ObjectKind, ReadError>
-    ensures reads { Reads (λ kind. objects_view kind coverage.new) (spec.after_tables as_filter (draft_view draft.now) (objects_view kind coverage.old) name (to_read r.old)) result (to_read r.new) }
-    ensures fewer { OnOk result (size (to_read r.new) ≤ size (to_read r.old)) }
+    ensures { Takes (λ kind. objects_view kind coverage.new)
+        (spec.after_tables as_filter (draft_view draft.now) (objects_view kind coverage.old) name) r.old result r.new }
 {
     r.look()?;
     match r.item() {
@@ -196,8 +199,8 @@ fn tables_object(
     kind: ObjectKind,
     coverage: &mut Coverage,
 ) -> Result<ObjectKind, ReadError>
-    ensures reads { Reads (λ kind. objects_view kind coverage.new) (spec.tables_object as_filter (draft_view draft.now) (objects_view kind coverage.old) (to_read r.old)) result (to_read r.new) }
-    ensures fewer { OnOk result (size (to_read r.new) < size (to_read r.old)) }
+    ensures { TakesSome (λ kind. objects_view kind coverage.new)
+        (spec.tables_object as_filter (draft_view draft.now) (objects_view kind coverage.old)) r.old result r.new }
 {
     let name = read_name(r, alloc, "TABLES")?;
     Ok(after_tables(r, alloc, draft, kind, coverage, name)?)
@@ -211,8 +214,8 @@ fn object_of(
     kind: ObjectKind,
     coverage: &mut Coverage,
 ) -> Result<ObjectKind, ReadError>
-    ensures reads { Reads (λ kind. objects_view kind coverage.new) (spec.object_of as_filter kind (draft_view draft.now) (coverage_view coverage.old) (to_read r.old)) result (to_read r.new) }
-    ensures fewer { OnOk result (size (to_read r.new) < size (to_read r.old)) }
+    ensures { TakesSome (λ kind. objects_view kind coverage.new)
+        (spec.object_of as_filter kind (draft_view draft.now) (coverage_view coverage.old)) r.old result r.new }
 {
     match kind {
         ObjectKind::Table => table_object(r, alloc, draft, coverage),
@@ -229,8 +232,8 @@ fn object(
     kind: ObjectKind,
     coverage: &mut Coverage,
 ) -> Result<ObjectKind, ReadError>
-    ensures reads { Reads (λ kind. objects_view kind coverage.new) (spec.object as_filter (draft_view draft.now) (objects_view kind coverage.old) (to_read r.old)) result (to_read r.new) }
-    ensures fewer { OnOk result (size (to_read r.new) < size (to_read r.old)) }
+    ensures { TakesSome (λ kind. objects_view kind coverage.new)
+        (spec.object as_filter (draft_view draft.now) (objects_view kind coverage.old)) r.old result r.new }
 {
     match r.item() {
         Some(Item::Keyword(Keyword::Table)) => {
@@ -250,8 +253,8 @@ fn first_object(
     draft: &Draft,
     coverage: &mut Coverage,
 ) -> Result<ObjectKind, ReadError>
-    ensures reads { Reads (λ kind. objects_view kind coverage.new) (spec.first_object as_filter (draft_view draft.now) (coverage_view coverage.old) (to_read r.old)) result (to_read r.new) }
-    ensures fewer { OnOk result (size (to_read r.new) < size (to_read r.old)) }
+    ensures { TakesSome (λ kind. objects_view kind coverage.new)
+        (spec.first_object as_filter (draft_view draft.now) (coverage_view coverage.old)) r.old result r.new }
 {
     match r.item() {
         Some(Item::Keyword(Keyword::Table)) => {
@@ -275,8 +278,8 @@ pub fn objects(
     coverage: &mut Coverage,
 ) -> Result<ObjectKind, ReadError>
     requires { coverage_view coverage.old ≡ nothing_covered }
-    ensures reads { Reads (λ kind. objects_view kind coverage.new) (spec.objects as_filter (draft_view draft.now) (to_read r.old)) result (to_read r.new) }
-    ensures fewer { OnOk result (size (to_read r.new) < size (to_read r.old)) }
+    ensures { TakesSome (λ kind. objects_view kind coverage.new) (spec.objects as_filter (draft_view draft.now))
+        r.old result r.new }
 {
     let mut kind = first_object(r, alloc, draft, coverage)?;
     while r.next_is(Item::Comma)? {

@@ -1,11 +1,11 @@
 //! The parameters of a publication.
 
-ghost use Rattle.std.specs.Prelude.{◌≡◌, ◌<◌, ◌≤◌, IsSome, OnOk};
+ghost use Rattle.std.specs.Prelude.{◌≡◌, ◌<◌, IsSome};
 ghost use Rattle.sql_reader.specs.Ahead.{to_read};
-ghost use Rattle.sql_reader.specs.Items.{size};
-ghost use Rattle.sql_reader.specs.Reading.{Reads, item_ahead, written_ahead};
+ghost use Rattle.sql_reader.specs.Reading.{item_ahead, written_ahead};
 ghost use Rattle.pub_reader.specs.Operations.{operations as operations_of};
 ghost use Rattle.pub_reader.specs.Publishing as spec;
+ghost use Rattle.sql_reader.specs.Taking.{Takes, TakesSome};
 
 use crate::catalog::Operations;
 use crate::publish::operations;
@@ -35,8 +35,8 @@ const NONE_GIVEN: Given = Given {
 #[tactic(auto, using(sql_reader::proofs::Ahead::rest_is_no_more))]
 fn operations_taken(r: &mut Reader<'_>) -> Result<Operations, ReadError>
     requires { IsSome (item_ahead (to_read r.old)) }
-    ensures reads { Reads (λ listed. listed) (spec.operations_taken (operations_of (written_ahead (to_read r.old))) (to_read r.old)) result (to_read r.new) }
-    ensures fewer { OnOk result (size (to_read r.new) ≤ size (to_read r.old)) }
+    ensures { Takes (λ listed. listed) (spec.operations_taken (operations_of (written_ahead (to_read r.old))))
+        r.old result r.new }
 {
     match operations(r.written().as_bytes()) {
         Some(listed) => {
@@ -50,8 +50,7 @@ fn operations_taken(r: &mut Reader<'_>) -> Result<Operations, ReadError>
 /// Takes the value of `publish`, a string or a word.
 #[tactic(auto, unfolding(crate::specs::Publishing::operations_value))]
 fn operations_value(r: &mut Reader<'_>) -> Result<Operations, ReadError>
-    ensures reads { Reads (λ listed. listed) (spec.operations_value (to_read r.old)) result (to_read r.new) }
-    ensures fewer { OnOk result (size (to_read r.new) ≤ size (to_read r.old)) }
+    ensures { Takes (λ listed. listed) spec.operations_value r.old result r.new }
 {
     match r.item() {
         Some(Item::Text) => operations_taken(r),
@@ -64,8 +63,7 @@ fn operations_value(r: &mut Reader<'_>) -> Result<Operations, ReadError>
 /// Takes `publish` and its value.
 #[tactic(auto, using(sql_reader::proofs::Ahead::rest_is_no_more), unfolding(crate::specs::Publishing::publish))]
 fn publish(r: &mut Reader<'_>, given: Given) -> Result<Given, ReadError>
-    ensures reads { Reads (λ given. given) (spec.publish given (to_read r.old)) result (to_read r.new) }
-    ensures fewer { OnOk result (size (to_read r.new) < size (to_read r.old)) }
+    ensures { TakesSome (λ given. given) (spec.publish given) r.old result r.new }
 {
     r.advance();
     r.expect(Item::Operator(Operator::Equal), "`=`")?;
@@ -89,8 +87,7 @@ fn is_boolean(word: &str) -> bool
 /// Takes the value ahead, if it is a truth value.
 #[tactic(auto, using(sql_reader::proofs::Ahead::rest_is_no_more))]
 fn boolean_taken(r: &mut Reader<'_>, is_boolean: bool) -> Result<(), ReadError>
-    ensures reads { Reads (λ u. u) (spec.boolean_taken is_boolean (to_read r.old)) result (to_read r.new) }
-    ensures fewer { OnOk result (size (to_read r.new) ≤ size (to_read r.old)) }
+    ensures { Takes (λ u. u) (spec.boolean_taken is_boolean) r.old result r.new }
 {
     if !is_boolean {
         return Err(r.refused(ErrorKind::TypeClash));
@@ -102,8 +99,7 @@ fn boolean_taken(r: &mut Reader<'_>, is_boolean: bool) -> Result<(), ReadError>
 /// Takes the value of `publish_via_partition_root`.
 #[tactic(auto, unfolding(crate::specs::Publishing::boolean_value))]
 fn boolean_value(r: &mut Reader<'_>) -> Result<(), ReadError>
-    ensures reads { Reads (λ u. u) (spec.boolean_value (to_read r.old)) result (to_read r.new) }
-    ensures fewer { OnOk result (size (to_read r.new) ≤ size (to_read r.old)) }
+    ensures { Takes (λ u. u) spec.boolean_value r.old result r.new }
 {
     match r.item() {
         Some(Item::Number(number)) => boolean_taken(r, number == 0 || number == 1),
@@ -117,8 +113,7 @@ fn boolean_value(r: &mut Reader<'_>) -> Result<(), ReadError>
 /// Takes `=` and the value of `publish_via_partition_root`.
 #[tactic(auto, unfolding(crate::specs::Publishing::given_boolean))]
 fn given_boolean(r: &mut Reader<'_>) -> Result<(), ReadError>
-    ensures reads { Reads (λ u. u) (spec.given_boolean (to_read r.old)) result (to_read r.new) }
-    ensures fewer { OnOk result (size (to_read r.new) ≤ size (to_read r.old)) }
+    ensures { Takes (λ u. u) spec.given_boolean r.old result r.new }
 {
     r.expect(Item::Operator(Operator::Equal), "`=`")?;
     boolean_value(r)
@@ -127,8 +122,7 @@ fn given_boolean(r: &mut Reader<'_>) -> Result<(), ReadError>
 /// Takes the value of `publish_via_partition_root`, if there is one.
 #[tactic(auto, unfolding(crate::specs::Publishing::boolean_or_none))]
 fn boolean_or_none(r: &mut Reader<'_>) -> Result<(), ReadError>
-    ensures reads { Reads (λ u. u) (spec.boolean_or_none (to_read r.old)) result (to_read r.new) }
-    ensures fewer { OnOk result (size (to_read r.new) ≤ size (to_read r.old)) }
+    ensures { Takes (λ u. u) spec.boolean_or_none r.old result r.new }
 {
     r.look()?;
     if r.is(Item::Operator(Operator::Equal)) {
@@ -141,8 +135,7 @@ fn boolean_or_none(r: &mut Reader<'_>) -> Result<(), ReadError>
 #[tactic(auto, using(sql_reader::proofs::Ahead::rest_of_some_is_fewer), unfolding(crate::specs::Publishing::partition_root))]
 fn partition_root(r: &mut Reader<'_>, given: Given) -> Result<Given, ReadError>
     requires { IsSome (item_ahead (to_read r.old)) }
-    ensures reads { Reads (λ given. given) (spec.partition_root given (to_read r.old)) result (to_read r.new) }
-    ensures fewer { OnOk result (size (to_read r.new) < size (to_read r.old)) }
+    ensures { TakesSome (λ given. given) (spec.partition_root given) r.old result r.new }
 {
     r.advance();
     boolean_or_none(r)?;
@@ -183,8 +176,7 @@ fn parameter_given(
     given: Given,
 ) -> Result<Given, ReadError>
     requires { IsSome (item_ahead (to_read r.old)) }
-    ensures reads { Reads (λ given. given) (spec.parameter_given parameter given (to_read r.old)) result (to_read r.new) }
-    ensures fewer { OnOk result (size (to_read r.new) < size (to_read r.old)) }
+    ensures { TakesSome (λ given. given) (spec.parameter_given parameter given) r.old result r.new }
 {
     match parameter {
         Some(Parameter::Publish) => {
@@ -208,8 +200,7 @@ fn parameter_given(
 /// Takes a parameter.
 #[tactic(auto, unfolding(crate::specs::Publishing::one_parameter))]
 fn one_parameter(r: &mut Reader<'_>, given: Given) -> Result<Given, ReadError>
-    ensures reads { Reads (λ given. given) (spec.one_parameter given (to_read r.old)) result (to_read r.new) }
-    ensures fewer { OnOk result (size (to_read r.new) < size (to_read r.old)) }
+    ensures { TakesSome (λ given. given) (spec.one_parameter given) r.old result r.new }
 {
     if !is_name_ahead(r) {
         return Err(r.refusal("a parameter"));
@@ -220,8 +211,7 @@ fn one_parameter(r: &mut Reader<'_>, given: Given) -> Result<Given, ReadError>
 /// Takes parameters, which commas part.
 #[tactic(auto, using(sql_reader::proofs::Turning::chains), unfolding(crate::specs::Publishing::parameters))]
 fn parameters(r: &mut Reader<'_>) -> Result<Given, ReadError>
-    ensures reads { Reads (λ given. given) (spec.parameters (to_read r.old)) result (to_read r.new) }
-    ensures fewer { OnOk result (size (to_read r.new) < size (to_read r.old)) }
+    ensures { TakesSome (λ given. given) spec.parameters r.old result r.new }
 {
     let mut given = one_parameter(r, NONE_GIVEN)?;
     while r.next_is(Item::Comma)? {
@@ -234,8 +224,7 @@ fn parameters(r: &mut Reader<'_>) -> Result<Given, ReadError>
 /// Takes `WITH ( parameter , .. )`.
 #[tactic(auto, unfolding(crate::specs::Publishing::parameter_list))]
 fn parameter_list(r: &mut Reader<'_>) -> Result<Given, ReadError>
-    ensures reads { Reads (λ given. given) (spec.parameter_list (to_read r.old)) result (to_read r.new) }
-    ensures fewer { OnOk result (size (to_read r.new) < size (to_read r.old)) }
+    ensures { TakesSome (λ given. given) spec.parameter_list r.old result r.new }
 {
     r.expect(Item::Keyword(Keyword::With), "WITH")?;
     r.expect(Item::Open, "`(`")?;
@@ -247,8 +236,7 @@ fn parameter_list(r: &mut Reader<'_>) -> Result<Given, ReadError>
 /// Takes the parameters, if there are any.
 #[tactic(auto, unfolding(crate::specs::Publishing::parameters_clause))]
 pub fn parameters_clause(r: &mut Reader<'_>) -> Result<Given, ReadError>
-    ensures reads { Reads (λ given. given) (spec.parameters_clause (to_read r.old)) result (to_read r.new) }
-    ensures fewer { OnOk result (size (to_read r.new) ≤ size (to_read r.old)) }
+    ensures { Takes (λ given. given) spec.parameters_clause r.old result r.new }
 {
     match r.item() {
         Some(Item::Keyword(Keyword::With)) => parameter_list(r),

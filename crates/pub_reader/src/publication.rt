@@ -1,9 +1,7 @@
 //! CREATE PUBLICATION.
 
-ghost use Rattle.std.specs.Prelude.{◌≡◌, ◌<◌, ◌≤◌, IfOk, None, OnOk};
-ghost use Rattle.sql_reader.specs.Ahead.{to_read};
-ghost use Rattle.sql_reader.specs.Items.{size};
-ghost use Rattle.sql_reader.specs.Reading.{Reads};
+ghost use Rattle.std.specs.Prelude.{◌≡◌, ◌<◌, IfOk, None, OnOk};
+ghost use Rattle.sql_reader.specs.Taking.{Takes, TakesSome};
 ghost use Rattle.sql_reader.specs.Written.{as_filter};
 ghost use Rattle.pub_reader.specs.Drafts.{find_publication};
 ghost use Rattle.pub_reader.specs.DraftView.{coverage_view, draft_view};
@@ -32,8 +30,7 @@ fn publication_name(
     alloc: Global,
     draft: &Draft,
 ) -> Result<PlacedName, ReadError>
-    ensures reads { Reads (λ name. name) (spec.publication_name (draft_view draft.now) (to_read r.old)) result (to_read r.new) }
-    ensures fewer { OnOk result (size (to_read r.new) < size (to_read r.old)) }
+    ensures { TakesSome (λ name. name) (spec.publication_name (draft_view draft.now)) r.old result r.new }
     ensures free { IfOk result (λ name. find_publication name.text (draft_view draft.now).publications ≡ None) }
 {
     let name = read_name(r, alloc, "the name of a publication")?;
@@ -44,8 +41,7 @@ fn publication_name(
 /// Takes ALL TABLES.
 #[tactic(auto, unfolding(crate::specs::Publications::all_tables))]
 fn all_tables(r: &mut Reader<'_>, alloc: Global) -> Result<Coverage, ReadError>
-    ensures reads { Reads (λ coverage. coverage_view coverage) (spec.all_tables (to_read r.old)) result (to_read r.new) }
-    ensures fewer { OnOk result (size (to_read r.new) < size (to_read r.old)) }
+    ensures { TakesSome (λ coverage. coverage_view coverage) spec.all_tables r.old result r.new }
 {
     r.expect(Item::Keyword(Keyword::All), "ALL TABLES")?;
     r.expect(Item::Keyword(Keyword::Tables), "TABLES")?;
@@ -57,8 +53,8 @@ fn all_tables(r: &mut Reader<'_>, alloc: Global) -> Result<Coverage, ReadError>
 /// Takes tables and schemas.
 #[tactic(auto, unfolding(crate::specs::Publications::listed_objects))]
 fn listed_objects(r: &mut Reader<'_>, alloc: Global, draft: &Draft) -> Result<Coverage, ReadError>
-    ensures reads { Reads (λ coverage. coverage_view coverage) (spec.listed_objects as_filter (draft_view draft.now) (to_read r.old)) result (to_read r.new) }
-    ensures fewer { OnOk result (size (to_read r.new) < size (to_read r.old)) }
+    ensures { TakesSome (λ coverage. coverage_view coverage) (spec.listed_objects as_filter (draft_view draft.now))
+        r.old result r.new }
 {
     let mut coverage = Coverage::new(alloc);
     objects(r, alloc, draft, &mut coverage)?;
@@ -68,8 +64,8 @@ fn listed_objects(r: &mut Reader<'_>, alloc: Global, draft: &Draft) -> Result<Co
 /// Takes what the publication is for, after FOR.
 #[tactic(auto, unfolding(crate::specs::Publications::scope))]
 fn scope(r: &mut Reader<'_>, alloc: Global, draft: &Draft) -> Result<Coverage, ReadError>
-    ensures reads { Reads (λ coverage. coverage_view coverage) (spec.scope as_filter (draft_view draft.now) (to_read r.old)) result (to_read r.new) }
-    ensures fewer { OnOk result (size (to_read r.new) < size (to_read r.old)) }
+    ensures { TakesSome (λ coverage. coverage_view coverage) (spec.scope as_filter (draft_view draft.now))
+        r.old result r.new }
 {
     match r.item() {
         Some(Item::Keyword(Keyword::All)) => all_tables(r, alloc),
@@ -80,8 +76,8 @@ fn scope(r: &mut Reader<'_>, alloc: Global, draft: &Draft) -> Result<Coverage, R
 /// Takes FOR and what the publication is for; without FOR it has no tables.
 #[tactic(auto, using(sql_reader::proofs::Ahead::rest_is_no_more), unfolding(crate::specs::Publications::for_clause))]
 fn for_clause(r: &mut Reader<'_>, alloc: Global, draft: &Draft) -> Result<Coverage, ReadError>
-    ensures reads { Reads (λ coverage. coverage_view coverage) (spec.for_clause as_filter (draft_view draft.now) (to_read r.old)) result (to_read r.new) }
-    ensures fewer { OnOk result (size (to_read r.new) ≤ size (to_read r.old)) }
+    ensures { Takes (λ coverage. coverage_view coverage) (spec.for_clause as_filter (draft_view draft.now))
+        r.old result r.new }
 {
     match r.item() {
         Some(Item::Keyword(Keyword::For)) => {
@@ -101,7 +97,8 @@ fn add_publication(
     given: Given,
 ) -> Result<(), AllocError>
     requires { find_publication name.text (draft_view draft.old).publications ≡ None }
-    ensures { OnOk result (draft_view draft.new ≡ spec.with_publication (draft_view draft.old) name (coverage_view coverage) given) }
+    ensures { OnOk result
+        (draft_view draft.new ≡ spec.with_publication (draft_view draft.old) name (coverage_view coverage) given) }
 {
     let publication = DraftPublication {
         name: name.text,
@@ -118,8 +115,8 @@ pub fn create_publication(
     alloc: Global,
     draft: &mut Draft,
 ) -> Result<(), ReadError>
-    ensures reads { Reads (λ _. draft_view draft.new) (spec.create_publication as_filter (draft_view draft.old) (to_read r.old)) result (to_read r.new) }
-    ensures fewer { OnOk result (size (to_read r.new) < size (to_read r.old)) }
+    ensures { TakesSome (λ _. draft_view draft.new) (spec.create_publication as_filter (draft_view draft.old))
+        r.old result r.new }
 {
     let name = publication_name(r, alloc, draft)?;
     let coverage = for_clause(r, alloc, draft)?;

@@ -13,7 +13,8 @@ use std::alloc::{AllocError, Global};
 
 /// The entries of a publication: the tables that it names, and then each table that it carries whole.
 fn resolved_entries(tables: &[Table], coverage: Coverage) -> Result<Vec<Entry>, AllocError>
-    ensures { IfOk result (λ entries. map entry_view entries.items ≡ spec.resolved_entries tables.now (coverage_view coverage)) }
+    ensures { IfOk result
+        (λ entries. map entry_view entries.items ≡ spec.resolved_entries tables.now (coverage_view coverage)) }
 {
     let mut coverage = coverage;
     for (number, table) in tables.iter().enumerate() {
@@ -36,7 +37,8 @@ fn resolved_publication(
     tables: &[Table],
     publication: DraftPublication,
 ) -> Result<Publication, AllocError>
-    ensures { IfOk result (λ made. publication_view made ≡ spec.resolved_publication tables.now (draft_publication_view publication)) }
+    ensures { IfOk result
+        (λ made. publication_view made ≡ spec.resolved_publication tables.now (draft_publication_view publication)) }
 {
     let DraftPublication {
         name,
@@ -57,7 +59,9 @@ pub fn resolved(
     tables: &[Table],
     publications: Vec<DraftPublication>,
 ) -> Result<Vec<Publication>, AllocError>
-    ensures { IfOk result (λ made. map publication_view made.items ≡ map (spec.resolved_publication tables.now) (map draft_publication_view publications.items)) }
+    ensures { IfOk result
+        (λ made. map publication_view made.items ≡ map (spec.resolved_publication tables.now)
+        (map draft_publication_view publications.items)) }
 {
     let mut made = Vec::new(alloc);
     for publication in publications {

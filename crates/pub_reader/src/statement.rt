@@ -1,9 +1,9 @@
 //! The statements of a catalog.
 
-ghost use Rattle.std.specs.Prelude.{◌<◌, ◌≤◌, IfOk, OnOk};
+ghost use Rattle.std.specs.Prelude.{◌<◌, IfOk};
 ghost use Rattle.sql_reader.specs.Ahead.{to_read};
-ghost use Rattle.sql_reader.specs.Items.{size};
 ghost use Rattle.sql_reader.specs.Reading.{Reads, Answers};
+ghost use Rattle.sql_reader.specs.Taking.{Takes, TakesSome};
 ghost use Rattle.sql_reader.specs.Written.{as_filter, as_written};
 ghost use Rattle.pub_reader.specs.CatalogLimits.{IsLimited};
 ghost use Rattle.pub_reader.specs.CatalogMeaning.{MeansAsWritten};
@@ -25,8 +25,7 @@ use std::alloc::Global;
 /// Takes what is made, after CREATE.
 #[tactic(auto, using(sql_reader::proofs::Ahead::rest_is_no_more), unfolding(crate::specs::Statements::created))]
 fn created(r: &mut Reader<'_>, alloc: Global, draft: &mut Draft) -> Result<(), ReadError>
-    ensures reads { Reads (λ _. draft_view draft.new) (spec.created as_filter (draft_view draft.old) (to_read r.old)) result (to_read r.new) }
-    ensures fewer { OnOk result (size (to_read r.new) < size (to_read r.old)) }
+    ensures { TakesSome (λ _. draft_view draft.new) (spec.created as_filter (draft_view draft.old)) r.old result r.new }
 {
     match r.item() {
         Some(Item::Keyword(Keyword::Table)) => {
@@ -55,8 +54,7 @@ fn created(r: &mut Reader<'_>, alloc: Global, draft: &mut Draft) -> Result<(), R
 
 #[tactic(auto, unfolding(crate::specs::Statements::create))]
 fn create(r: &mut Reader<'_>, alloc: Global, draft: &mut Draft) -> Result<(), ReadError>
-    ensures reads { Reads (λ _. draft_view draft.new) (spec.create as_filter (draft_view draft.old) (to_read r.old)) result (to_read r.new) }
-    ensures fewer { OnOk result (size (to_read r.new) < size (to_read r.old)) }
+    ensures { TakesSome (λ _. draft_view draft.new) (spec.create as_filter (draft_view draft.old)) r.old result r.new }
 {
     r.expect(Item::Keyword(Keyword::Create), "CREATE")?;
     created(r, alloc, draft)
@@ -65,8 +63,7 @@ fn create(r: &mut Reader<'_>, alloc: Global, draft: &mut Draft) -> Result<(), Re
 /// Takes a statement, which may be empty, up to its semicolon.
 #[tactic(auto, unfolding(crate::specs::Statements::statement))]
 fn statement(r: &mut Reader<'_>, alloc: Global, draft: &mut Draft) -> Result<(), ReadError>
-    ensures reads { Reads (λ _. draft_view draft.new) (spec.statement as_filter (draft_view draft.old) (to_read r.old)) result (to_read r.new) }
-    ensures fewer { OnOk result (size (to_read r.new) ≤ size (to_read r.old)) }
+    ensures { Takes (λ _. draft_view draft.new) (spec.statement as_filter (draft_view draft.old)) r.old result r.new }
 {
     match r.item() {
         Some(Item::Keyword(Keyword::Create)) => create(r, alloc, draft),
@@ -79,8 +76,8 @@ fn statement(r: &mut Reader<'_>, alloc: Global, draft: &mut Draft) -> Result<(),
 /// Takes a statement and its semicolon.
 #[tactic(auto, unfolding(crate::specs::Statements::ended_statement))]
 fn ended_statement(r: &mut Reader<'_>, alloc: Global, draft: &mut Draft) -> Result<(), ReadError>
-    ensures reads { Reads (λ _. draft_view draft.new) (spec.ended_statement as_filter (draft_view draft.old) (to_read r.old)) result (to_read r.new) }
-    ensures fewer { OnOk result (size (to_read r.new) < size (to_read r.old)) }
+    ensures { TakesSome (λ _. draft_view draft.new) (spec.ended_statement as_filter (draft_view draft.old))
+        r.old result r.new }
 {
     statement(r, alloc, draft)?;
     r.expect(Item::Semicolon, "`;`")?;
@@ -90,7 +87,8 @@ fn ended_statement(r: &mut Reader<'_>, alloc: Global, draft: &mut Draft) -> Resu
 /// Takes statements to the end of a text.
 #[tactic(auto, using(sql_reader::proofs::Turning::turns), unfolding(crate::specs::Statements::statements))]
 fn statements(r: &mut Reader<'_>, alloc: Global, draft: &mut Draft) -> Result<(), ReadError>
-    ensures { Reads (λ _. draft_view draft.new) (spec.statements as_filter (draft_view draft.old) (to_read r.old)) result (to_read r.new) }
+    ensures { Reads (λ _. draft_view draft.new) (spec.statements as_filter (draft_view draft.old) (to_read r.old))
+        result (to_read r.new) }
 {
     while r.more_ahead()? {
         ended_statement(r, alloc, draft)?;
@@ -110,7 +108,8 @@ fn statements(r: &mut Reader<'_>, alloc: Global, draft: &mut Draft) -> Result<()
 #[tactic(auto, using(crate::proofs::CarryingCatalogs::means_as_written))]
 pub fn read_catalog(alloc: Global, text: &str) -> Result<Catalog, ReadError>
     ensures catalog { Answers catalog_view (spec.catalog_by as_filter text.now) result }
-    ensures written { IfOk result (λ catalog. MeansAsWritten (spec.catalog_by as_written text.now) (catalog_view catalog)) }
+    ensures written { IfOk result
+        (λ catalog. MeansAsWritten (spec.catalog_by as_written text.now) (catalog_view catalog)) }
     ensures limits { IfOk result (λ catalog. IsLimited (catalog_view catalog)) }
 {
     whole_catalog(alloc, text)

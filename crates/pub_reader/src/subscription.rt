@@ -1,12 +1,12 @@
 //! CREATE SUBSCRIPTION.
 
-ghost use Rattle.std.specs.Prelude.{◌≡◌, ◌<◌, IfOk, None, OnOk};
+ghost use Rattle.std.specs.Prelude.{◌≡◌, ◌<◌, IfOk, None};
 ghost use Rattle.sql_reader.specs.Ahead.{to_read};
-ghost use Rattle.sql_reader.specs.Items.{size};
 ghost use Rattle.sql_reader.specs.Reading.{Reads, Answers};
 ghost use Rattle.pub_reader.specs.Drafts.{find_subscription};
 ghost use Rattle.pub_reader.specs.DraftView.{draft_view};
 ghost use Rattle.pub_reader.specs.Subscriptions as spec;
+ghost use Rattle.sql_reader.specs.Taking.{Takes, TakesSome};
 
 use crate::catalog::Subscription;
 use crate::draft::Draft;
@@ -21,8 +21,7 @@ fn subscription_name(
     alloc: Global,
     draft: &Draft,
 ) -> Result<PlacedName, ReadError>
-    ensures reads { Reads (λ name. name) (spec.subscription_name (draft_view draft.now) (to_read r.old)) result (to_read r.new) }
-    ensures fewer { OnOk result (size (to_read r.new) < size (to_read r.old)) }
+    ensures { TakesSome (λ name. name) (spec.subscription_name (draft_view draft.now)) r.old result r.new }
     ensures free { IfOk result (λ name. find_subscription name.text (draft_view draft.now).subscriptions ≡ None) }
 {
     let name = read_name(r, alloc, "the name of a subscription")?;
@@ -53,8 +52,8 @@ fn one_publication(
     draft: &Draft,
     numbers: &mut Vec<usize>,
 ) -> Result<(), ReadError>
-    ensures reads { Reads (λ _. numbers.new.items) (spec.one_publication (draft_view draft.now) numbers.old.items (to_read r.old)) result (to_read r.new) }
-    ensures fewer { OnOk result (size (to_read r.new) < size (to_read r.old)) }
+    ensures { TakesSome (λ _. numbers.new.items) (spec.one_publication (draft_view draft.now) numbers.old.items)
+        r.old result r.new }
 {
     let name = read_name(r, alloc, "the name of a publication")?;
     let number = subscribed(draft, numbers.as_slice(), &name)?;
@@ -69,8 +68,7 @@ fn publication_list(
     alloc: Global,
     draft: &Draft,
 ) -> Result<Vec<usize>, ReadError>
-    ensures reads { Reads (λ numbers. numbers.items) (spec.publication_list (draft_view draft.now) (to_read r.old)) result (to_read r.new) }
-    ensures fewer { OnOk result (size (to_read r.new) < size (to_read r.old)) }
+    ensures { TakesSome (λ numbers. numbers.items) (spec.publication_list (draft_view draft.now)) r.old result r.new }
 {
     let mut numbers = Vec::new(alloc);
     one_publication(r, alloc, draft, &mut numbers)?;
@@ -99,8 +97,7 @@ fn subscription_body(
     alloc: Global,
     draft: &Draft,
 ) -> Result<Vec<usize>, ReadError>
-    ensures reads { Reads (λ numbers. numbers.items) (spec.subscription_body (draft_view draft.now) (to_read r.old)) result (to_read r.new) }
-    ensures fewer { OnOk result (size (to_read r.new) < size (to_read r.old)) }
+    ensures { TakesSome (λ numbers. numbers.items) (spec.subscription_body (draft_view draft.now)) r.old result r.new }
 {
     r.expect(Item::Keyword(Keyword::Connection), "CONNECTION")?;
     r.expect(Item::Text, "a string")?;
@@ -117,8 +114,8 @@ pub fn create_subscription(
     alloc: Global,
     draft: &mut Draft,
 ) -> Result<(), ReadError>
-    ensures reads { Reads (λ _. draft_view draft.new) (spec.create_subscription (draft_view draft.old) (to_read r.old)) result (to_read r.new) }
-    ensures fewer { OnOk result (size (to_read r.new) < size (to_read r.old)) }
+    ensures { TakesSome (λ _. draft_view draft.new) (spec.create_subscription (draft_view draft.old))
+        r.old result r.new }
 {
     let name = subscription_name(r, alloc, draft)?;
     let numbers = subscription_body(r, alloc, draft)?;

@@ -1,12 +1,12 @@
 //! CREATE TABLE.
 
-ghost use Rattle.std.specs.Prelude.{◌≡◌, ◌<◌, OnOk};
+ghost use Rattle.std.specs.Prelude.{◌≡◌, ◌<◌};
 ghost use Rattle.sql_reader.specs.Ahead.{to_read};
-ghost use Rattle.sql_reader.specs.Items.{size};
 ghost use Rattle.sql_reader.specs.Reading.{Reads, Answers};
 ghost use Rattle.sql_reader.specs.PartsView.{parts_view};
 ghost use Rattle.pub_reader.specs.DraftView.{draft_view};
 ghost use Rattle.pub_reader.specs.Tables as spec;
+ghost use Rattle.sql_reader.specs.Taking.{Takes, TakesSome};
 
 use crate::draft::Draft;
 use crate::table_name::{NewName, new_name};
@@ -62,8 +62,7 @@ fn table_of(alloc: Global, name: NewName, parts: TableParts) -> Table
 /// Takes what follows the name of a new table.
 #[tactic(auto, unfolding(crate::specs::Tables::table_body))]
 fn table_body(r: &mut Reader<'_>, alloc: Global, name: &PlacedName) -> Result<TableParts, ReadError>
-    ensures reads { Reads parts_view (spec.table_body name.now (to_read r.old)) result (to_read r.new) }
-    ensures fewer { OnOk result (size (to_read r.new) < size (to_read r.old)) }
+    ensures { TakesSome parts_view (spec.table_body name.now) r.old result r.new }
 {
     r.expect(Item::Open, "`(`")?;
     let parts = read_elements(r, alloc)?;
@@ -76,8 +75,7 @@ fn table_body(r: &mut Reader<'_>, alloc: Global, name: &PlacedName) -> Result<Ta
 /// Takes what follows CREATE TABLE, and makes the table.
 #[tactic(auto, unfolding(crate::specs::Tables::create_table))]
 pub fn create_table(r: &mut Reader<'_>, alloc: Global, draft: &mut Draft) -> Result<(), ReadError>
-    ensures reads { Reads (λ _. draft_view draft.new) (spec.create_table (draft_view draft.old) (to_read r.old)) result (to_read r.new) }
-    ensures fewer { OnOk result (size (to_read r.new) < size (to_read r.old)) }
+    ensures { TakesSome (λ _. draft_view draft.new) (spec.create_table (draft_view draft.old)) r.old result r.new }
 {
     let name = new_name(r, alloc, draft)?;
     let parts = table_body(r, alloc, &name.name)?;

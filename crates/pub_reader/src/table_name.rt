@@ -1,11 +1,11 @@
 //! The names of tables, with their schemas.
 
-ghost use Rattle.std.specs.Prelude.{◌<◌, ◌≤◌, IfOk, OnOk, length};
+ghost use Rattle.std.specs.Prelude.{◌<◌, IfOk, length};
 ghost use Rattle.sql_reader.specs.Ahead.{to_read};
-ghost use Rattle.sql_reader.specs.Items.{size};
 ghost use Rattle.sql_reader.specs.Reading.{Reads};
 ghost use Rattle.pub_reader.specs.DraftView.{draft_view};
 ghost use Rattle.pub_reader.specs.TableNames as spec;
+ghost use Rattle.sql_reader.specs.Taking.{Takes, TakesSome};
 
 use crate::draft::{Draft, PUBLIC};
 use filter_tree::Text;
@@ -29,8 +29,8 @@ fn name_in_schema(
     draft: &Draft,
     schema: &PlacedName,
 ) -> Result<PlacedName, ReadError>
-    ensures reads { Reads (λ name. name) (spec.name_in_schema (draft_view draft.now).schemas schema.now (to_read r.old)) result (to_read r.new) }
-    ensures fewer { OnOk result (size (to_read r.new) < size (to_read r.old)) }
+    ensures { TakesSome (λ name. name) (spec.name_in_schema (draft_view draft.now).schemas schema.now)
+        r.old result r.new }
 {
     draft.known_schema(schema)?;
     r.expect(Item::Dot, "`.`")?;
@@ -45,8 +45,7 @@ fn table_in_schema(
     draft: &Draft,
     schema: &PlacedName,
 ) -> Result<usize, ReadError>
-    ensures reads { Reads (λ number. number) (spec.table_in_schema (draft_view draft.now) schema.now (to_read r.old)) result (to_read r.new) }
-    ensures fewer { OnOk result (size (to_read r.new) < size (to_read r.old)) }
+    ensures { TakesSome (λ number. number) (spec.table_in_schema (draft_view draft.now) schema.now) r.old result r.new }
     ensures within { IfOk result (λ number. number < length (draft_view draft.now).tables) }
 {
     let name = name_in_schema(r, alloc, draft, schema)?;
@@ -61,8 +60,7 @@ pub fn table_named(
     draft: &Draft,
     name: &PlacedName,
 ) -> Result<usize, ReadError>
-    ensures reads { Reads (λ number. number) (spec.table_named (draft_view draft.now) name.now (to_read r.old)) result (to_read r.new) }
-    ensures fewer { OnOk result (size (to_read r.new) ≤ size (to_read r.old)) }
+    ensures { Takes (λ number. number) (spec.table_named (draft_view draft.now) name.now) r.old result r.new }
     ensures within { IfOk result (λ number. number < length (draft_view draft.now).tables) }
 {
     r.look()?;
@@ -75,8 +73,7 @@ pub fn table_named(
 /// Takes the name of a table that was made before, and tells its number.
 #[tactic(auto, unfolding(crate::specs::TableNames::table_number))]
 pub fn table_number(r: &mut Reader<'_>, alloc: Global, draft: &Draft) -> Result<usize, ReadError>
-    ensures reads { Reads (λ number. number) (spec.table_number (draft_view draft.now) (to_read r.old)) result (to_read r.new) }
-    ensures fewer { OnOk result (size (to_read r.new) < size (to_read r.old)) }
+    ensures { TakesSome (λ number. number) (spec.table_number (draft_view draft.now)) r.old result r.new }
     ensures within { IfOk result (λ number. number < length (draft_view draft.now).tables) }
 {
     let name = read_name(r, alloc, "the name of a table")?;
@@ -91,8 +88,7 @@ fn new_in_schema(
     draft: &Draft,
     schema: PlacedName,
 ) -> Result<NewName, ReadError>
-    ensures reads { Reads (λ name. name) (spec.new_in_schema (draft_view draft.now).schemas schema (to_read r.old)) result (to_read r.new) }
-    ensures fewer { OnOk result (size (to_read r.new) < size (to_read r.old)) }
+    ensures { TakesSome (λ name. name) (spec.new_in_schema (draft_view draft.now).schemas schema) r.old result r.new }
 {
     let name = name_in_schema(r, alloc, draft, &schema)?;
     Ok(NewName {
@@ -110,8 +106,7 @@ fn new_named(
     is_if: bool,
     name: PlacedName,
 ) -> Result<NewName, ReadError>
-    ensures reads { Reads (λ name. name) (spec.new_named (draft_view draft.now).schemas is_if name (to_read r.old)) result (to_read r.new) }
-    ensures fewer { OnOk result (size (to_read r.new) ≤ size (to_read r.old)) }
+    ensures { Takes (λ name. name) (spec.new_named (draft_view draft.now).schemas is_if name) r.old result r.new }
 {
     r.look()?;
     match (is_if, r.item()) {
@@ -141,8 +136,7 @@ fn table_head(r: &Reader<'_>) -> Result<(), ReadError>
 /// Takes the name of a new table.
 #[tactic(auto, unfolding(crate::specs::TableNames::new_name))]
 pub fn new_name(r: &mut Reader<'_>, alloc: Global, draft: &Draft) -> Result<NewName, ReadError>
-    ensures reads { Reads (λ name. name) (spec.new_name (draft_view draft.now) (to_read r.old)) result (to_read r.new) }
-    ensures fewer { OnOk result (size (to_read r.new) < size (to_read r.old)) }
+    ensures { TakesSome (λ name. name) (spec.new_name (draft_view draft.now)) r.old result r.new }
 {
     let is_if = r.is(Item::Keyword(Keyword::If));
     let first = read_name(r, alloc, "the name of a table")?;

@@ -68,7 +68,8 @@ fn key_part(
     old: &Row,
     new: Option<&Row>,
 ) -> Result<OldPart, AllocError>
-    ensures { IfOk result (λ part. part_view part ≡ spec.key_part columns.now old.now (option_map (λ row. row.now) new.entry)) }
+    ensures { IfOk result
+        (λ part. part_view part ≡ spec.key_part columns.now old.now (option_map (λ row. row.now) new.entry)) }
 {
     match new {
         None => Ok(OldPart::Key(blanked(alloc, columns, old)?)),
@@ -94,7 +95,8 @@ pub fn old_part(
     old: &Row,
     new: Option<&Row>,
 ) -> Result<OldPart, AllocError>
-    ensures { IfOk result (λ part. part_view part ≡ spec.part_in table.now old.now (option_map (λ row. row.now) new.entry)) }
+    ensures { IfOk result
+        (λ part. part_view part ≡ spec.part_in table.now old.now (option_map (λ row. row.now) new.entry)) }
 {
     match table.identity {
         Identity::Default => key_part(alloc, table.key.as_slice(), old, new),

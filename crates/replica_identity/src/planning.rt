@@ -25,7 +25,8 @@ fn join_to(alloc: Global, share: &mut Share, entry: &Entry) -> Result<(), AllocE
 /// Joins an entry to the share of its table, if the table is there.
 #[tactic(auto, using(crate::proofs::PlanLemmas::joins))]
 fn join(alloc: Global, shares: &mut Vec<Share>, entry: &Entry) -> Result<(), AllocError>
-    ensures { OnOk result (map share_view shares.new.items ≡ joined_at (map share_view shares.old.items) (entry_view entry.now)) }
+    ensures { OnOk result
+        (map share_view shares.new.items ≡ joined_at (map share_view shares.old.items) (entry_view entry.now)) }
 {
     if entry.table >= shares.len() {
         return Ok(());
@@ -36,7 +37,9 @@ fn join(alloc: Global, shares: &mut Vec<Share>, entry: &Entry) -> Result<(), All
 
 /// Joins entries to the shares of their tables.
 fn join_entries(alloc: Global, shares: &mut Vec<Share>, entries: &[Entry]) -> Result<(), AllocError>
-    ensures { OnOk result (map share_view shares.new.items ≡ fold joined_at (map share_view shares.old.items) (map entry_view entries.now)) }
+    ensures { OnOk result
+        (map share_view shares.new.items ≡ fold joined_at (map share_view shares.old.items)
+        (map entry_view entries.now)) }
 {
     for entry in entries {
         join(alloc, shares, entry)?;
@@ -51,7 +54,9 @@ fn join_publication(
     publications: &[Publication],
     number: usize,
 ) -> Result<(), AllocError>
-    ensures { OnOk result (map share_view shares.new.items ≡ fold joined_at (map share_view shares.old.items) (spec.entries_at (map publication_view publications.now) number)) }
+    ensures { OnOk result
+        (map share_view shares.new.items ≡ fold joined_at (map share_view shares.old.items)
+        (spec.entries_at (map publication_view publications.now) number)) }
 {
     match publications.get(number) {
         None => Ok(()),
@@ -66,7 +71,9 @@ fn join_publications(
     publications: &[Publication],
     numbers: &[usize],
 ) -> Result<(), AllocError>
-    ensures { OnOk result (map share_view shares.new.items ≡ fold joined_at (map share_view shares.old.items) (spec.entries_listed (map publication_view publications.now) numbers.now)) }
+    ensures { OnOk result
+        (map share_view shares.new.items ≡ fold joined_at (map share_view shares.old.items)
+        (spec.entries_listed (map publication_view publications.now) numbers.now)) }
 {
     for number in numbers {
         join_publication(alloc, shares, publications, *number)?;
@@ -92,7 +99,8 @@ fn shares_for(
     catalog: &Catalog,
     subscription: &Subscription,
 ) -> Result<Vec<Share>, AllocError>
-    ensures { IfOk result (λ shares. map share_view shares.items ≡ spec.shares_for (catalog_view catalog.now) subscription.now) }
+    ensures { IfOk result
+        (λ shares. map share_view shares.items ≡ spec.shares_for (catalog_view catalog.now) subscription.now) }
 {
     let tables = catalog.tables.as_slice();
     let mut shares = no_shares(alloc, tables.len())?;
@@ -108,7 +116,8 @@ fn shares_for(
 
 /// The shares of each subscriber.
 fn all_shares(alloc: Global, catalog: &Catalog) -> Result<Vec<Vec<Share>>, AllocError>
-    ensures { IfOk result (λ all. map (λ shares. map share_view shares.items) all.items ≡ spec.plan_of (catalog_view catalog.now)) }
+    ensures { IfOk result
+        (λ all. map (λ shares. map share_view shares.items) all.items ≡ spec.plan_of (catalog_view catalog.now)) }
 {
     let mut all = Vec::new(alloc);
     for subscription in &catalog.subscriptions {

@@ -60,7 +60,9 @@ fn first_filter(alloc: Global, filter: &Filter) -> Result<Share, AllocError>
 
 /// What is taken where a publication more carries the table: whole, or the rows of a filter.
 pub fn joined(alloc: Global, share: Share, more: Option<&Filter>) -> Result<Share, AllocError>
-    ensures { IfOk result (λ joined. share_view joined ≡ joined_of (share_view share) (option_map (λ filter. expr_view filter.now) more.entry)) }
+    ensures { IfOk result
+        (λ joined. share_view joined ≡ joined_of (share_view share)
+        (option_map (λ filter. expr_view filter.now) more.entry)) }
 {
     match (share, more) {
         (Share::Everything, _) => Ok(Share::Everything),

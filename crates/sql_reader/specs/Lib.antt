@@ -2,6 +2,7 @@ pub mod Ahead
 pub mod Columns
 pub mod Counting
 pub mod Expressions
+pub mod Filters
 pub mod Items
 pub mod Keywords
 pub mod KindNames
@@ -14,6 +15,7 @@ pub mod Operands
 pub mod PartsView
 pub mod Reading
 pub mod Rows
+pub mod Taking
 pub mod Turns
 pub mod Written
 pub mod WrittenRows

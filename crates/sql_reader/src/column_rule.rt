@@ -1,11 +1,11 @@
 //! The type and the constraints of a column.
 
-ghost use Rattle.std.specs.Prelude.{◌≡◌, ◌<◌, ◌≤◌, IsSome, OnOk};
+ghost use Rattle.std.specs.Prelude.{◌≡◌, ◌<◌, IsSome};
 ghost use Rattle.sql_reader.specs.Ahead.{to_read};
-ghost use Rattle.sql_reader.specs.Items.{size};
-ghost use Rattle.sql_reader.specs.Reading.{Reads, Answers, IsFault, item_ahead, written_ahead};
+ghost use Rattle.sql_reader.specs.Reading.{Answers, IsFault, item_ahead, written_ahead};
 ghost use Rattle.sql_reader.specs.Columns as spec;
 ghost use Rattle.sql_reader.specs.Columns.{left_out_at};
+ghost use Rattle.sql_reader.specs.Taking.{Takes, TakesSome};
 
 use crate::error::{ErrorKind, Omitted, ReadError};
 use crate::item::Item;
@@ -54,8 +54,7 @@ fn type_ahead(r: &Reader<'_>) -> Option<ColType>
 /// Takes the name of a type.
 #[tactic(auto, using(crate::proofs::Ahead::rest_is_no_more), unfolding(crate::specs::Columns::column_type))]
 pub fn column_type(r: &mut Reader<'_>) -> Result<ColType, ReadError>
-    ensures reads { Reads (λ kind. kind) (spec.column_type (to_read r.old)) result (to_read r.new) }
-    ensures fewer { OnOk result (size (to_read r.new) ≤ size (to_read r.old)) }
+    ensures { Takes (λ kind. kind) spec.column_type r.old result r.new }
 {
     if !is_name_ahead(r) {
         return Err(r.refusal("a data type"));
@@ -103,8 +102,7 @@ fn given_by(
     what: &'static str,
     given: Constraints,
 ) -> Result<Constraints, ReadError>
-    ensures reads { Reads (λ given. given) (spec.given_by second given (to_read r.old)) result (to_read r.new) }
-    ensures fewer { OnOk result (size (to_read r.new) < size (to_read r.old)) }
+    ensures { TakesSome (λ given. given) (spec.given_by second given) r.old result r.new }
 {
     r.advance();
     r.expect(Item::Keyword(second), what)?;
@@ -118,8 +116,7 @@ fn constraint(
     has_key: bool,
     given: Constraints,
 ) -> Result<Constraints, ReadError>
-    ensures reads { Reads (λ given. given) (spec.constraint has_key given (to_read r.old)) result (to_read r.new) }
-    ensures fewer { OnOk result (size (to_read r.new) < size (to_read r.old)) }
+    ensures { TakesSome (λ given. given) (spec.constraint has_key given) r.old result r.new }
 {
     match r.item() {
         Some(Item::Keyword(Keyword::Not)) => {
@@ -151,8 +148,7 @@ fn constraint(
 /// Takes the constraints of a column.
 #[tactic(auto, using(crate::proofs::Turning::turns), unfolding(crate::specs::Columns::constraints))]
 pub fn column_constraints(r: &mut Reader<'_>, has_key: bool) -> Result<Constraints, ReadError>
-    ensures reads { Reads (λ given. given) (spec.constraints has_key (to_read r.old)) result (to_read r.new) }
-    ensures fewer { OnOk result (size (to_read r.new) ≤ size (to_read r.old)) }
+    ensures { Takes (λ given. given) (spec.constraints has_key) r.old result r.new }
 {
     let mut given = Constraints {
         not_null: false,

@@ -85,7 +85,9 @@ fn with_literal(
     op: Op,
     literal: Literal,
 ) -> Result<Filter, ReadError>
-    ensures { Answers expr_view (spec.fitting (spec.fits place kind op (constant_view literal)) (expr.Atom (expr.Cmp term op (constant_view literal)))) result }
+    ensures { Answers expr_view
+        (spec.fitting (spec.fits place kind op (constant_view literal))
+        (expr.Atom (expr.Cmp term op (constant_view literal)))) result }
 {
     fits(place, kind, op, &literal)?;
     Ok(Filter::Atom(Atom::Cmp(term, op, literal)))
@@ -99,7 +101,9 @@ fn from_literal(
     term: Term,
     kind: ColType,
 ) -> Result<Filter, ReadError>
-    ensures { Answers expr_view (spec.fitting (spec.fits place kind op (constant_view literal)) (expr.Atom (expr.Cmp term (written.turned op) (constant_view literal)))) result }
+    ensures { Answers expr_view
+        (spec.fitting (spec.fits place kind op (constant_view literal))
+        (expr.Atom (expr.Cmp term (written.turned op) (constant_view literal)))) result }
 {
     fits(place, kind, op, &literal)?;
     Ok(Filter::Atom(Atom::Cmp(term, turned(op), literal)))

@@ -1,11 +1,10 @@
 //! The columns and the primary key of CREATE TABLE.
 
 ghost use Rattle.std.specs.Prelude.{◌≡◌, ◌<◌, OnOk};
-ghost use Rattle.sql_reader.specs.Ahead.{to_read};
-ghost use Rattle.sql_reader.specs.Items.{size};
-ghost use Rattle.sql_reader.specs.Reading.{Reads, Answers};
+ghost use Rattle.sql_reader.specs.Reading.{Answers};
 ghost use Rattle.sql_reader.specs.Columns as spec;
 ghost use Rattle.sql_reader.specs.PartsView.{parts_view};
+ghost use Rattle.sql_reader.specs.Taking.{Takes, TakesSome};
 
 use crate::column::{FoundColumn, find_column, known_column};
 use crate::column_rule::{Constraints, column_constraints, column_type, left_out_clause};
@@ -79,8 +78,7 @@ fn column_element(
     alloc: Global,
     parts: &mut TableParts,
 ) -> Result<(), ReadError>
-    ensures reads { Reads (λ _. parts_view parts.new) (spec.column_element (parts_view parts.old) (to_read r.old)) result (to_read r.new) }
-    ensures fewer { OnOk result (size (to_read r.new) < size (to_read r.old)) }
+    ensures { TakesSome (λ _. parts_view parts.new) (spec.column_element (parts_view parts.old)) r.old result r.new }
 {
     let name = read_name(r, alloc, "a column or PRIMARY KEY")?;
     new_column(parts, &name)?;
@@ -126,8 +124,7 @@ fn add_key_column(parts: &mut TableParts, column: FoundColumn) -> Result<(), All
 /// Takes the name of a column of the key.
 #[tactic(auto, unfolding(crate::specs::Columns::key_column))]
 fn key_column(r: &mut Reader<'_>, alloc: Global, parts: &mut TableParts) -> Result<(), ReadError>
-    ensures reads { Reads (λ _. parts_view parts.new) (spec.key_column (parts_view parts.old) (to_read r.old)) result (to_read r.new) }
-    ensures fewer { OnOk result (size (to_read r.new) < size (to_read r.old)) }
+    ensures { TakesSome (λ _. parts_view parts.new) (spec.key_column (parts_view parts.old)) r.old result r.new }
 {
     let name = read_name(r, alloc, "a column of the key")?;
     let column = known_column(parts.columns.as_slice(), &name)?;
@@ -139,8 +136,7 @@ fn key_column(r: &mut Reader<'_>, alloc: Global, parts: &mut TableParts) -> Resu
 /// Takes the names of the key's columns, which commas part.
 #[tactic(auto, using(crate::proofs::Turning::chains), unfolding(crate::specs::Columns::key_columns))]
 fn key_columns(r: &mut Reader<'_>, alloc: Global, parts: &mut TableParts) -> Result<(), ReadError>
-    ensures reads { Reads (λ _. parts_view parts.new) (spec.key_columns (parts_view parts.old) (to_read r.old)) result (to_read r.new) }
-    ensures fewer { OnOk result (size (to_read r.new) < size (to_read r.old)) }
+    ensures { TakesSome (λ _. parts_view parts.new) (spec.key_columns (parts_view parts.old)) r.old result r.new }
 {
     key_column(r, alloc, parts)?;
     while r.next_is(Item::Comma)? {
@@ -153,8 +149,7 @@ fn key_columns(r: &mut Reader<'_>, alloc: Global, parts: &mut TableParts) -> Res
 /// Takes `PRIMARY KEY ( name , .. )`.
 #[tactic(auto, unfolding(crate::specs::Columns::first_key))]
 fn first_key(r: &mut Reader<'_>, alloc: Global, parts: &mut TableParts) -> Result<(), ReadError>
-    ensures reads { Reads (λ _. parts_view parts.new) (spec.first_key (parts_view parts.old) (to_read r.old)) result (to_read r.new) }
-    ensures fewer { OnOk result (size (to_read r.new) < size (to_read r.old)) }
+    ensures { TakesSome (λ _. parts_view parts.new) (spec.first_key (parts_view parts.old)) r.old result r.new }
 {
     r.expect(Item::Keyword(Keyword::Primary), "PRIMARY KEY")?;
     r.expect(Item::Keyword(Keyword::Key), "KEY")?;
@@ -167,8 +162,7 @@ fn first_key(r: &mut Reader<'_>, alloc: Global, parts: &mut TableParts) -> Resul
 /// Takes the primary key, if the table has none so far.
 #[tactic(auto, unfolding(crate::specs::Columns::key_element))]
 fn key_element(r: &mut Reader<'_>, alloc: Global, parts: &mut TableParts) -> Result<(), ReadError>
-    ensures reads { Reads (λ _. parts_view parts.new) (spec.key_element (parts_view parts.old) (to_read r.old)) result (to_read r.new) }
-    ensures fewer { OnOk result (size (to_read r.new) < size (to_read r.old)) }
+    ensures { TakesSome (λ _. parts_view parts.new) (spec.key_element (parts_view parts.old)) r.old result r.new }
 {
     if !parts.key.is_empty() {
         return Err(r.refusal("no second PRIMARY KEY"));
@@ -179,8 +173,7 @@ fn key_element(r: &mut Reader<'_>, alloc: Global, parts: &mut TableParts) -> Res
 /// Takes an element of CREATE TABLE.
 #[tactic(auto, unfolding(crate::specs::Columns::element))]
 fn element(r: &mut Reader<'_>, alloc: Global, parts: &mut TableParts) -> Result<(), ReadError>
-    ensures reads { Reads (λ _. parts_view parts.new) (spec.element (parts_view parts.old) (to_read r.old)) result (to_read r.new) }
-    ensures fewer { OnOk result (size (to_read r.new) < size (to_read r.old)) }
+    ensures { TakesSome (λ _. parts_view parts.new) (spec.element (parts_view parts.old)) r.old result r.new }
 {
     match r.item() {
         Some(Item::Keyword(Keyword::Primary)) => key_element(r, alloc, parts),
@@ -200,8 +193,7 @@ fn element(r: &mut Reader<'_>, alloc: Global, parts: &mut TableParts) -> Result<
 /// The first fault of the elements, with its place, or `OutOfMemory`.
 #[tactic(auto, using(crate::proofs::Turning::chains), unfolding(crate::specs::Columns::elements))]
 pub fn read_elements(r: &mut Reader<'_>, alloc: Global) -> Result<TableParts, ReadError>
-    ensures reads { Reads (λ parts. parts_view parts) (spec.elements (to_read r.old)) result (to_read r.new) }
-    ensures fewer { OnOk result (size (to_read r.new) < size (to_read r.old)) }
+    ensures { TakesSome (λ parts. parts_view parts) spec.elements r.old result r.new }
 {
     let mut parts = TableParts {
         columns: Vec::new(alloc),

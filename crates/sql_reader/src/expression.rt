@@ -1,12 +1,11 @@
 //! The filters of WHERE clauses.
 
-ghost use Rattle.std.specs.Prelude.{◌<◌, ◌≤◌, OnOk, false, true};
+ghost use Rattle.std.specs.Prelude.{◌<◌, false, true};
 ghost use Rattle.filter_tree.specs.Shape.{expr_view};
-ghost use Rattle.sql_reader.specs.Ahead.{to_read};
 ghost use Rattle.sql_reader.specs.Expressions as spec;
-ghost use Rattle.sql_reader.specs.Items.{size};
+ghost use Rattle.sql_reader.specs.Filters as filters;
 ghost use Rattle.sql_reader.specs.OperandView.{part_view};
-ghost use Rattle.sql_reader.specs.Reading.{Reads};
+ghost use Rattle.sql_reader.specs.Taking.{Takes, TakesSome};
 ghost use Rattle.sql_reader.specs.Written.{as_filter};
 
 use crate::column::FoundColumn;
@@ -28,8 +27,7 @@ const MAX_NESTING: u32 = 64;
 
 /// Takes the parenthesis after a part, which begins at the one before it.
 fn closed(r: &mut Reader<'_>, place: usize, inner: Part) -> Result<Part, ReadError>
-    ensures reads { Reads part_view (spec.closed place (part_view inner) (to_read r.old)) result (to_read r.new) }
-    ensures fewer { OnOk result (size (to_read r.new) < size (to_read r.old)) }
+    ensures { TakesSome part_view (spec.closed place (part_view inner)) r.old result r.new }
 {
     r.expect(Item::Close, "AND, OR or `)`")?;
     Ok(Part {
@@ -47,8 +45,7 @@ fn in_parentheses(
     columns: &[Column],
     depth: u32,
 ) -> Result<Part, ReadError>
-    ensures reads { Reads part_view (spec.nested as_filter columns.now depth false (to_read r.old)) result (to_read r.new) }
-    ensures fewer { OnOk result (size (to_read r.new) < size (to_read r.old)) }
+    ensures { TakesSome part_view (filters.nested columns.now depth false) r.old result r.new }
 {
     if depth == 0 {
         return Err(r.refused(ErrorKind::TooDeep));
@@ -67,8 +64,7 @@ fn primary(
     columns: &[Column],
     depth: u32,
 ) -> Result<Part, ReadError>
-    ensures reads { Reads part_view (spec.primary as_filter columns.now (spec.nested as_filter columns.now depth) (to_read r.old)) result (to_read r.new) }
-    ensures fewer { OnOk result (size (to_read r.new) < size (to_read r.old)) }
+    ensures { TakesSome part_view (filters.primary columns.now depth) r.old result r.new }
 {
     if r.is(Item::Open) {
         return Ok(in_parentheses(r, alloc, columns, depth)?);
@@ -87,8 +83,7 @@ fn divisor(
     first: usize,
     column: Option<FoundColumn>,
 ) -> Result<Part, ReadError>
-    ensures reads { Reads part_view (spec.divisor as_filter columns.now (spec.nested as_filter columns.now depth) first column (to_read r.old)) result (to_read r.new) }
-    ensures fewer { OnOk result (size (to_read r.new) < size (to_read r.old)) }
+    ensures { TakesSome part_view (filters.divisor columns.now depth first column) r.old result r.new }
 {
     let place = r.expect(Item::Operator(Operator::Percent), "`%`")?;
     let right = primary(r, alloc, columns, depth)?;
@@ -105,8 +100,7 @@ fn divisor_or_none(
     depth: u32,
     left: Part,
 ) -> Result<Part, ReadError>
-    ensures reads { Reads part_view (spec.divisor_or_none as_filter columns.now (spec.nested as_filter columns.now depth) (part_view left) (to_read r.old)) result (to_read r.new) }
-    ensures fewer { OnOk result (size (to_read r.new) ≤ size (to_read r.old)) }
+    ensures { Takes part_view (filters.divisor_or_none columns.now depth (part_view left)) r.old result r.new }
 {
     if r.next_is(Item::Operator(Operator::Percent))? {
         let first = left.place;
@@ -124,8 +118,7 @@ fn term(
     columns: &[Column],
     depth: u32,
 ) -> Result<Part, ReadError>
-    ensures reads { Reads part_view (spec.term as_filter columns.now (spec.nested as_filter columns.now depth) (to_read r.old)) result (to_read r.new) }
-    ensures fewer { OnOk result (size (to_read r.new) < size (to_read r.old)) }
+    ensures { TakesSome part_view (filters.term columns.now depth) r.old result r.new }
 {
     let left = primary(r, alloc, columns, depth)?;
     Ok(divisor_or_none(r, alloc, columns, depth, left)?)
@@ -133,8 +126,7 @@ fn term(
 
 /// Looks at what follows a side of a comparison.
 fn side_ended(r: &mut Reader<'_>, part: Part) -> Result<Part, ReadError>
-    ensures reads { Reads part_view (spec.side_ended (part_view part) (to_read r.old)) result (to_read r.new) }
-    ensures fewer { OnOk result (size (to_read r.new) ≤ size (to_read r.old)) }
+    ensures { Takes part_view (spec.side_ended (part_view part)) r.old result r.new }
 {
     no_operator(r)?;
     Ok(part)
@@ -149,8 +141,7 @@ fn side(
     columns: &[Column],
     depth: u32,
 ) -> Result<Part, ReadError>
-    ensures reads { Reads part_view (spec.side as_filter columns.now (spec.nested as_filter columns.now depth) (to_read r.old)) result (to_read r.new) }
-    ensures fewer { OnOk result (size (to_read r.new) < size (to_read r.old)) }
+    ensures { TakesSome part_view (filters.side columns.now depth) r.old result r.new }
 {
     let part = term(r, alloc, columns, depth)?;
     Ok(side_ended(r, part)?)
@@ -167,8 +158,7 @@ fn right_side(
     left: Part,
     op: Op,
 ) -> Result<Part, ReadError>
-    ensures reads { Reads part_view (spec.right_side as_filter columns.now (spec.nested as_filter columns.now depth) (part_view left) op (to_read r.old)) result (to_read r.new) }
-    ensures fewer { OnOk result (size (to_read r.new) ≤ size (to_read r.old)) }
+    ensures { Takes part_view (filters.right_side columns.now depth (part_view left) op) r.old result r.new }
 {
     let place = r.place();
     r.advance();
@@ -188,8 +178,7 @@ fn right_side_or_none(
     depth: u32,
     left: Part,
 ) -> Result<Part, ReadError>
-    ensures reads { Reads part_view (spec.right_side_or_none as_filter columns.now (spec.nested as_filter columns.now depth) (part_view left) (to_read r.old)) result (to_read r.new) }
-    ensures fewer { OnOk result (size (to_read r.new) ≤ size (to_read r.old)) }
+    ensures { Takes part_view (filters.right_side_or_none columns.now depth (part_view left)) r.old result r.new }
 {
     match comparison_by(r.item()) {
         Some(op) => Ok(right_side(r, alloc, columns, depth, left, op)?),
@@ -206,8 +195,7 @@ fn comparison(
     columns: &[Column],
     depth: u32,
 ) -> Result<Part, ReadError>
-    ensures reads { Reads part_view (spec.comparison as_filter columns.now (spec.nested as_filter columns.now depth) (to_read r.old)) result (to_read r.new) }
-    ensures fewer { OnOk result (size (to_read r.new) < size (to_read r.old)) }
+    ensures { TakesSome part_view (filters.comparison columns.now depth) r.old result r.new }
 {
     let left = side(r, alloc, columns, depth)?;
     Ok(right_side_or_none(r, alloc, columns, depth, left)?)
@@ -222,8 +210,7 @@ fn test(
     columns: &[Column],
     depth: u32,
 ) -> Result<Part, ReadError>
-    ensures reads { Reads part_view (spec.test as_filter columns.now (spec.nested as_filter columns.now depth) (to_read r.old)) result (to_read r.new) }
-    ensures fewer { OnOk result (size (to_read r.new) < size (to_read r.old)) }
+    ensures { TakesSome part_view (filters.test columns.now depth) r.old result r.new }
 {
     let part = comparison(r, alloc, columns, depth)?;
     Ok(tested(r, alloc, part)?)
@@ -238,8 +225,7 @@ fn after_not(
     columns: &[Column],
     depth: u32,
 ) -> Result<Part, ReadError>
-    ensures reads { Reads part_view (spec.nested as_filter columns.now depth true (to_read r.old)) result (to_read r.new) }
-    ensures fewer { OnOk result (size (to_read r.new) < size (to_read r.old)) }
+    ensures { TakesSome part_view (filters.nested columns.now depth true) r.old result r.new }
 {
     if depth == 0 {
         return Err(r.refused(ErrorKind::TooDeep));
@@ -258,8 +244,7 @@ fn negation(
     columns: &[Column],
     depth: u32,
 ) -> Result<Part, ReadError>
-    ensures reads { Reads part_view (spec.negation as_filter columns.now (spec.nested as_filter columns.now depth) (to_read r.old)) result (to_read r.new) }
-    ensures fewer { OnOk result (size (to_read r.new) < size (to_read r.old)) }
+    ensures { TakesSome part_view (filters.negation columns.now depth) r.old result r.new }
 {
     if r.is(Item::Keyword(Keyword::Not)) {
         return Ok(after_not(r, alloc, columns, depth)?);
@@ -277,8 +262,7 @@ fn one_more_negation(
     depth: u32,
     left: Part,
 ) -> Result<Part, ReadError>
-    ensures reads { Reads part_view (spec.one_more_negation as_filter columns.now (spec.nested as_filter columns.now depth) (part_view left) (to_read r.old)) result (to_read r.new) }
-    ensures fewer { OnOk result (size (to_read r.new) < size (to_read r.old)) }
+    ensures { TakesSome part_view (filters.one_more_negation columns.now depth (part_view left)) r.old result r.new }
 {
     let place = left.place;
     let filter = wanted(left)?;
@@ -295,8 +279,7 @@ fn conjunction(
     columns: &[Column],
     depth: u32,
 ) -> Result<Part, ReadError>
-    ensures reads { Reads part_view (spec.conjunction as_filter columns.now (spec.nested as_filter columns.now depth) (to_read r.old)) result (to_read r.new) }
-    ensures fewer { OnOk result (size (to_read r.new) < size (to_read r.old)) }
+    ensures { TakesSome part_view (filters.conjunction columns.now depth) r.old result r.new }
 {
     let mut left = negation(r, alloc, columns, depth)?;
     while r.next_is(Item::Keyword(Keyword::And))? {
@@ -316,8 +299,7 @@ fn one_more_conjunction(
     depth: u32,
     left: Part,
 ) -> Result<Part, ReadError>
-    ensures reads { Reads part_view (spec.one_more_conjunction as_filter columns.now (spec.nested as_filter columns.now depth) (part_view left) (to_read r.old)) result (to_read r.new) }
-    ensures fewer { OnOk result (size (to_read r.new) < size (to_read r.old)) }
+    ensures { TakesSome part_view (filters.one_more_conjunction columns.now depth (part_view left)) r.old result r.new }
 {
     let place = left.place;
     let filter = wanted(left)?;
@@ -334,8 +316,7 @@ fn disjunction(
     columns: &[Column],
     depth: u32,
 ) -> Result<Part, ReadError>
-    ensures reads { Reads part_view (spec.disjunction as_filter columns.now (spec.nested as_filter columns.now depth) (to_read r.old)) result (to_read r.new) }
-    ensures fewer { OnOk result (size (to_read r.new) < size (to_read r.old)) }
+    ensures { TakesSome part_view (filters.disjunction columns.now depth) r.old result r.new }
 {
     let mut left = conjunction(r, alloc, columns, depth)?;
     while r.next_is(Item::Keyword(Keyword::Or))? {
@@ -356,8 +337,7 @@ pub fn read_filter(
     alloc: Global,
     columns: &[Column],
 ) -> Result<Filter, ReadError>
-    ensures reads { Reads (λ f. expr_view f) (spec.expression as_filter columns.now (to_read r.old)) result (to_read r.new) }
-    ensures fewer { OnOk result (size (to_read r.new) < size (to_read r.old)) }
+    ensures { TakesSome (λ f. expr_view f) (spec.expression as_filter columns.now) r.old result r.new }
 {
     let whole = disjunction(r, alloc, columns, MAX_NESTING)?;
     Ok(wanted(whole)?)

@@ -1,10 +1,10 @@
 //! Names and strings, as they are meant.
 
-ghost use Rattle.std.specs.Prelude.{◌≡◌, ◌<◌, IfOk, IsSome, IsTrue, OnOk};
+ghost use Rattle.std.specs.Prelude.{◌≡◌, ◌<◌, IfOk, IsSome, IsTrue};
 ghost use Rattle.sql_reader.specs.Ahead.{to_read};
-ghost use Rattle.sql_reader.specs.Items.{size};
 ghost use Rattle.sql_reader.specs.Names as spec;
-ghost use Rattle.sql_reader.specs.Reading.{Reads, item_ahead, written_ahead};
+ghost use Rattle.sql_reader.specs.Reading.{item_ahead, written_ahead};
+ghost use Rattle.sql_reader.specs.Taking.{Takes, TakesSome};
 
 use crate::error::ReadError;
 use crate::item::Item;
@@ -43,7 +43,8 @@ pub fn is_name_ahead(r: &Reader<'_>) -> bool
 /// The text of the name ahead.
 fn name_text(r: &Reader<'_>, alloc: Global) -> Result<Text, AllocError>
     requires { IsSome (item_ahead (to_read r.now)) }
-    ensures { IfOk result (λ text. text ≡ spec.name_meant (item_ahead (to_read r.now)) (written_ahead (to_read r.now))) }
+    ensures { IfOk result
+        (λ text. text ≡ spec.name_meant (item_ahead (to_read r.now)) (written_ahead (to_read r.now))) }
 {
     let written = r.written();
     match r.item() {
@@ -63,8 +64,7 @@ pub fn read_name(
     alloc: Global,
     what: &'static str,
 ) -> Result<PlacedName, ReadError>
-    ensures reads { Reads (λ name. name) (spec.name (to_read r.old)) result (to_read r.new) }
-    ensures fewer { OnOk result (size (to_read r.new) < size (to_read r.old)) }
+    ensures { TakesSome (λ name. name) spec.name r.old result r.new }
 {
     if !is_name_ahead(r) {
         return Err(r.refusal(what));

@@ -90,7 +90,8 @@ pub fn both(alloc: Global, place: usize, left: Filter, right: Part) -> Result<Pa
 /// OR of a filter and a part, at the place of the filter.
 #[tactic(auto, unfolding(crate::specs::Operands::joined))]
 pub fn either(alloc: Global, place: usize, left: Filter, right: Part) -> Result<Part, ReadError>
-    ensures { Answers part_view (spec.joined as_filter as_filter.either place (expr_view left) (part_view right)) result }
+    ensures { Answers part_view
+        (spec.joined as_filter as_filter.either place (expr_view left) (part_view right)) result }
 {
     let right = wanted(right)?;
     Ok(Part {

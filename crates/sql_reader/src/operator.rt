@@ -1,10 +1,9 @@
 //! Operators after an operand that are not read.
 
-ghost use Rattle.std.specs.Prelude.{◌≤◌, OnOk};
 ghost use Rattle.sql_reader.specs.Ahead.{to_read};
 ghost use Rattle.sql_reader.specs.Expressions as spec;
-ghost use Rattle.sql_reader.specs.Items.{size};
 ghost use Rattle.sql_reader.specs.Reading.{Reads};
+ghost use Rattle.sql_reader.specs.Taking.{Takes};
 
 use crate::error::{ErrorKind, Later, Omitted, ReadError};
 use crate::item::Item;
@@ -30,8 +29,7 @@ fn no_word_operator(r: &Reader<'_>) -> Result<(), ReadError>
 /// Takes NOT after an operand, and refuses the operator that it begins.
 #[tactic(auto, unfolding(crate::specs::Expressions::no_negated_operator))]
 fn no_negated_operator(r: &mut Reader<'_>) -> Result<(), ReadError>
-    ensures reads { Reads (λ u. u) (spec.no_negated_operator (to_read r.old)) result (to_read r.new) }
-    ensures fewer { OnOk result (size (to_read r.new) ≤ size (to_read r.old)) }
+    ensures { Takes (λ u. u) spec.no_negated_operator r.old result r.new }
 {
     r.advance();
     no_word_operator(r)?;
@@ -52,8 +50,7 @@ pub fn no_cast(r: &Reader<'_>) -> Result<(), ReadError>
 /// Looks at the token after an operand, and refuses a cast and the operators that are not read.
 #[tactic(auto, unfolding(crate::specs::Expressions::no_operator))]
 pub fn no_operator(r: &mut Reader<'_>) -> Result<(), ReadError>
-    ensures reads { Reads (λ u. u) (spec.no_operator (to_read r.old)) result (to_read r.new) }
-    ensures fewer { OnOk result (size (to_read r.new) ≤ size (to_read r.old)) }
+    ensures { Takes (λ u. u) spec.no_operator r.old result r.new }
 {
     r.look()?;
     match r.item() {

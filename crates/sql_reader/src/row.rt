@@ -1,11 +1,11 @@
 //! Rows as they are written.
 
-ghost use Rattle.std.specs.Prelude.{◌<◌, ◌≤◌, IsSome, OnOk, map};
+ghost use Rattle.std.specs.Prelude.{◌<◌, IsSome, map};
 ghost use Rattle.filter_tree.specs.Values.{datum_view};
 ghost use Rattle.sql_reader.specs.Ahead.{to_read};
-ghost use Rattle.sql_reader.specs.Items.{size};
 ghost use Rattle.sql_reader.specs.Reading.{Reads, Answers, item_ahead};
 ghost use Rattle.sql_reader.specs.Rows as spec;
+ghost use Rattle.sql_reader.specs.Taking.{Takes, TakesSome};
 
 use crate::error::ReadError;
 use crate::item::Item;
@@ -20,8 +20,7 @@ use std::alloc::Global;
 /// Takes `:: text`.
 #[tactic(auto, using(crate::proofs::Ahead::rest_is_no_more), unfolding(crate::specs::Rows::text_cast))]
 fn text_cast(r: &mut Reader<'_>) -> Result<(), ReadError>
-    ensures reads { Reads (λ u. u) (spec.text_cast (to_read r.old)) result (to_read r.new) }
-    ensures fewer { OnOk result (size (to_read r.new) < size (to_read r.old)) }
+    ensures { TakesSome (λ u. u) spec.text_cast r.old result r.new }
 {
     r.advance();
     r.expect(Item::Keyword(Keyword::Text), "`text`")?;
@@ -31,8 +30,7 @@ fn text_cast(r: &mut Reader<'_>) -> Result<(), ReadError>
 /// Takes `:: text`, if it follows.
 #[tactic(auto, unfolding(crate::specs::Rows::cast_or_none))]
 fn cast_or_none(r: &mut Reader<'_>) -> Result<(), ReadError>
-    ensures reads { Reads (λ u. u) (spec.cast_or_none (to_read r.old)) result (to_read r.new) }
-    ensures fewer { OnOk result (size (to_read r.new) ≤ size (to_read r.old)) }
+    ensures { Takes (λ u. u) spec.cast_or_none r.old result r.new }
 {
     if r.next_is(Item::DoubleColon)? {
         return Ok(text_cast(r)?);
@@ -44,8 +42,7 @@ fn cast_or_none(r: &mut Reader<'_>) -> Result<(), ReadError>
 #[tactic(auto, using(crate::proofs::Ahead::rest_of_some_is_fewer), unfolding(crate::specs::Rows::string_value))]
 fn string_value(r: &mut Reader<'_>, alloc: Global) -> Result<Value, ReadError>
     requires { IsSome (item_ahead (to_read r.old)) }
-    ensures reads { Reads datum_view (spec.string_value (to_read r.old)) result (to_read r.new) }
-    ensures fewer { OnOk result (size (to_read r.new) < size (to_read r.old)) }
+    ensures { TakesSome datum_view spec.string_value r.old result r.new }
 {
     let text = string_text(r, alloc)?;
     r.advance();
@@ -55,8 +52,7 @@ fn string_value(r: &mut Reader<'_>, alloc: Global) -> Result<Value, ReadError>
 
 #[tactic(auto, unfolding(crate::specs::Rows::number_value))]
 fn number_value(r: &mut Reader<'_>) -> Result<Value, ReadError>
-    ensures reads { Reads datum_view (spec.number_value (to_read r.old)) result (to_read r.new) }
-    ensures fewer { OnOk result (size (to_read r.new) < size (to_read r.old)) }
+    ensures { TakesSome datum_view spec.number_value r.old result r.new }
 {
     Ok(Value::Int(signed_number(r)?))
 }
@@ -64,8 +60,7 @@ fn number_value(r: &mut Reader<'_>) -> Result<Value, ReadError>
 /// Takes a value of a row.
 #[tactic(auto, using(crate::proofs::Ahead::rest_of_some_is_fewer), unfolding(crate::specs::Rows::value))]
 fn value(r: &mut Reader<'_>, alloc: Global) -> Result<Value, ReadError>
-    ensures reads { Reads datum_view (spec.value (to_read r.old)) result (to_read r.new) }
-    ensures fewer { OnOk result (size (to_read r.new) < size (to_read r.old)) }
+    ensures { TakesSome datum_view spec.value r.old result r.new }
 {
     match r.item() {
         Some(Item::Keyword(Keyword::Null)) => {
@@ -90,8 +85,8 @@ fn value(r: &mut Reader<'_>, alloc: Global) -> Result<Value, ReadError>
 /// Takes one more value.
 #[tactic(auto, unfolding(crate::specs::Rows::one_value))]
 fn one_value(r: &mut Reader<'_>, alloc: Global, row: &mut Vec<Value>) -> Result<(), ReadError>
-    ensures reads { Reads (λ _. map datum_view row.new.items) (spec.one_value (map datum_view row.old.items) (to_read r.old)) result (to_read r.new) }
-    ensures fewer { OnOk result (size (to_read r.new) < size (to_read r.old)) }
+    ensures { TakesSome (λ _. map datum_view row.new.items) (spec.one_value (map datum_view row.old.items))
+        r.old result r.new }
 {
     let cell = value(r, alloc)?;
     row.push(cell)?;

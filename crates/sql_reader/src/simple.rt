@@ -1,11 +1,11 @@
 //! Operands of an expression that are no parentheses: literals and columns.
 
-ghost use Rattle.std.specs.Prelude.{◌<◌, ◌≤◌, IsSome, OnOk};
+ghost use Rattle.std.specs.Prelude.{◌<◌, IsSome};
 ghost use Rattle.sql_reader.specs.Ahead.{to_read};
 ghost use Rattle.sql_reader.specs.Expressions as spec;
-ghost use Rattle.sql_reader.specs.Items.{size};
 ghost use Rattle.sql_reader.specs.OperandView.{part_view};
 ghost use Rattle.sql_reader.specs.Reading.{Reads, item_ahead};
+ghost use Rattle.sql_reader.specs.Taking.{Takes, TakesSome};
 
 use crate::column::{FoundColumn, known_column};
 use crate::error::{ErrorKind, Omitted, ReadError};
@@ -41,8 +41,7 @@ fn no_call(r: &Reader<'_>, name: &PlacedName) -> Result<(), ReadError>
 /// Takes the name of a column.
 #[tactic(auto, unfolding(crate::specs::Expressions::column))]
 fn column(r: &mut Reader<'_>, alloc: Global, columns: &[Column]) -> Result<FoundColumn, ReadError>
-    ensures reads { Reads (λ column. column) (spec.column columns.now (to_read r.old)) result (to_read r.new) }
-    ensures fewer { OnOk result (size (to_read r.new) < size (to_read r.old)) }
+    ensures { TakesSome (λ column. column) (spec.column columns.now) r.old result r.new }
 {
     let name = read_name(r, alloc, "a column, a literal, NOT or `(`")?;
     no_call(r, &name)?;
@@ -52,8 +51,7 @@ fn column(r: &mut Reader<'_>, alloc: Global, columns: &[Column]) -> Result<Found
 /// Takes a column.
 #[tactic(auto, unfolding(crate::specs::Expressions::column_part))]
 fn column_part(r: &mut Reader<'_>, alloc: Global, columns: &[Column]) -> Result<Part, ReadError>
-    ensures reads { Reads part_view (spec.column_part columns.now (to_read r.old)) result (to_read r.new) }
-    ensures fewer { OnOk result (size (to_read r.new) < size (to_read r.old)) }
+    ensures { TakesSome part_view (spec.column_part columns.now) r.old result r.new }
 {
     let place = r.place();
     let found = column(r, alloc, columns)?;
@@ -66,8 +64,7 @@ fn column_part(r: &mut Reader<'_>, alloc: Global, columns: &[Column]) -> Result<
 /// Takes a number, with a minus before it or none.
 #[tactic(auto, unfolding(crate::specs::Expressions::number_part))]
 fn number_part(r: &mut Reader<'_>) -> Result<Part, ReadError>
-    ensures reads { Reads part_view (spec.number_part (to_read r.old)) result (to_read r.new) }
-    ensures fewer { OnOk result (size (to_read r.new) < size (to_read r.old)) }
+    ensures { TakesSome part_view spec.number_part r.old result r.new }
 {
     let place = r.place();
     let digits = placed_number(r)?;
@@ -80,8 +77,7 @@ fn number_part(r: &mut Reader<'_>) -> Result<Part, ReadError>
 /// Takes the type after `::`, which is at `place`.
 #[tactic(auto, using(crate::proofs::Ahead::rest_is_no_more), unfolding(crate::specs::Expressions::text_type))]
 fn text_type(r: &mut Reader<'_>, place: usize) -> Result<(), ReadError>
-    ensures reads { Reads (λ u. u) (spec.text_type place (to_read r.old)) result (to_read r.new) }
-    ensures fewer { OnOk result (size (to_read r.new) ≤ size (to_read r.old)) }
+    ensures { Takes (λ u. u) (spec.text_type place) r.old result r.new }
 {
     match r.item() {
         Some(Item::Keyword(Keyword::Text)) => {
@@ -99,8 +95,7 @@ fn text_type(r: &mut Reader<'_>, place: usize) -> Result<(), ReadError>
 /// Takes `::` and the type after it.
 #[tactic(auto, unfolding(crate::specs::Expressions::text_cast))]
 fn text_cast(r: &mut Reader<'_>) -> Result<(), ReadError>
-    ensures reads { Reads (λ u. u) (spec.text_cast (to_read r.old)) result (to_read r.new) }
-    ensures fewer { OnOk result (size (to_read r.new) < size (to_read r.old)) }
+    ensures { TakesSome (λ u. u) spec.text_cast r.old result r.new }
 {
     let place = r.expect(Item::DoubleColon, "`::`")?;
     text_type(r, place)
@@ -109,8 +104,7 @@ fn text_cast(r: &mut Reader<'_>) -> Result<(), ReadError>
 /// Takes the cast after a string, if there is one.
 #[tactic(auto, unfolding(crate::specs::Expressions::cast_or_none))]
 fn cast_or_none(r: &mut Reader<'_>) -> Result<(), ReadError>
-    ensures reads { Reads (λ u. u) (spec.cast_or_none (to_read r.old)) result (to_read r.new) }
-    ensures fewer { OnOk result (size (to_read r.new) ≤ size (to_read r.old)) }
+    ensures { Takes (λ u. u) spec.cast_or_none r.old result r.new }
 {
     if r.next_is(Item::DoubleColon)? {
         return Ok(text_cast(r)?);
@@ -122,8 +116,7 @@ fn cast_or_none(r: &mut Reader<'_>) -> Result<(), ReadError>
 #[tactic(auto, using(crate::proofs::Ahead::rest_of_some_is_fewer), unfolding(crate::specs::Expressions::string_part))]
 fn string_part(r: &mut Reader<'_>, alloc: Global) -> Result<Part, ReadError>
     requires { IsSome (item_ahead (to_read r.old)) }
-    ensures reads { Reads part_view (spec.string_part (to_read r.old)) result (to_read r.new) }
-    ensures fewer { OnOk result (size (to_read r.new) < size (to_read r.old)) }
+    ensures { TakesSome part_view spec.string_part r.old result r.new }
 {
     let place = r.place();
     let text = string_text(r, alloc)?;
@@ -139,8 +132,7 @@ fn string_part(r: &mut Reader<'_>, alloc: Global) -> Result<Part, ReadError>
 #[tactic(auto, using(crate::proofs::Ahead::rest_of_some_is_fewer), unfolding(crate::specs::Expressions::truth_part))]
 fn truth_part(r: &mut Reader<'_>, known: bool) -> Result<Part, ReadError>
     requires { IsSome (item_ahead (to_read r.old)) }
-    ensures reads { Reads part_view (spec.truth_part known (to_read r.old)) result (to_read r.new) }
-    ensures fewer { OnOk result (size (to_read r.new) < size (to_read r.old)) }
+    ensures { TakesSome part_view (spec.truth_part known) r.old result r.new }
 {
     let place = r.place();
     r.advance();
@@ -153,8 +145,7 @@ fn truth_part(r: &mut Reader<'_>, known: bool) -> Result<Part, ReadError>
 /// Takes a literal or a column.
 #[tactic(auto, unfolding(crate::specs::Expressions::simple))]
 pub fn simple(r: &mut Reader<'_>, alloc: Global, columns: &[Column]) -> Result<Part, ReadError>
-    ensures reads { Reads part_view (spec.simple columns.now (to_read r.old)) result (to_read r.new) }
-    ensures fewer { OnOk result (size (to_read r.new) < size (to_read r.old)) }
+    ensures { TakesSome part_view (spec.simple columns.now) r.old result r.new }
 {
     match r.item() {
         Some(Item::Operator(Operator::Minus)) => number_part(r),

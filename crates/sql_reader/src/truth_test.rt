@@ -1,14 +1,13 @@
 //! The tests IS NULL, IS TRUE, IS FALSE and IS UNKNOWN.
 
-ghost use Rattle.std.specs.Prelude.{◌≡◌, ◌<◌, ◌≤◌, IfOk, OnOk, Some};
+ghost use Rattle.std.specs.Prelude.{◌≡◌, ◌<◌, IfOk, Some};
 ghost use Rattle.std.specs.Option.{option_map};
 ghost use Rattle.filter_tree.specs.Shape.{expr_view};
-ghost use Rattle.sql_reader.specs.Ahead.{to_read};
 ghost use Rattle.sql_reader.specs.Expressions as grammar;
-ghost use Rattle.sql_reader.specs.Items.{size};
 ghost use Rattle.sql_reader.specs.Operands as spec;
 ghost use Rattle.sql_reader.specs.OperandView.{operand_view, part_view};
-ghost use Rattle.sql_reader.specs.Reading.{Reads, Answers};
+ghost use Rattle.sql_reader.specs.Reading.{Answers};
+ghost use Rattle.sql_reader.specs.Taking.{Takes, TakesSome};
 ghost use Rattle.sql_reader.specs.Written.{as_filter};
 ghost use Rattle.sql_reader.specs.declared.truth_test.Asked.TheVariants.{Null, Truth};
 
@@ -38,8 +37,7 @@ pub struct TruthTest {
 /// Takes what follows IS.
 #[tactic(auto, using(crate::proofs::Ahead::rest_is_no_more), unfolding(crate::specs::Expressions::asked_for))]
 fn asked_for(r: &mut Reader<'_>) -> Result<Asked, ReadError>
-    ensures reads { Reads (λ asked. asked) (grammar.asked_for (to_read r.old)) result (to_read r.new) }
-    ensures fewer { OnOk result (size (to_read r.new) ≤ size (to_read r.old)) }
+    ensures { Takes (λ asked. asked) grammar.asked_for r.old result r.new }
 {
     let asked = match r.item() {
         Some(Item::Keyword(Keyword::Null)) => Asked::Null,
@@ -58,8 +56,7 @@ fn asked_for(r: &mut Reader<'_>) -> Result<Asked, ReadError>
 /// Takes IS and what is asked.
 #[tactic(auto, unfolding(crate::specs::Expressions::is_test))]
 fn is_test(r: &mut Reader<'_>) -> Result<Option<TruthTest>, ReadError>
-    ensures reads { Reads (λ test. test) (grammar.is_test (to_read r.old)) result (to_read r.new) }
-    ensures fewer { OnOk result (size (to_read r.new) < size (to_read r.old)) }
+    ensures { TakesSome (λ test. test) grammar.is_test r.old result r.new }
 {
     let place = r.expect(Item::Keyword(Keyword::Is), "IS")?;
     let is_negated = r.eat(Item::Keyword(Keyword::Not));
@@ -74,8 +71,7 @@ fn is_test(r: &mut Reader<'_>) -> Result<Option<TruthTest>, ReadError>
 /// Takes ISNULL or NOTNULL.
 #[tactic(auto, using(crate::proofs::Ahead::rest_is_no_more), unfolding(crate::specs::Expressions::null_test))]
 fn null_test(r: &mut Reader<'_>, is_negated: bool) -> Result<Option<TruthTest>, ReadError>
-    ensures reads { Reads (λ test. test) (grammar.null_test is_negated (to_read r.old)) result (to_read r.new) }
-    ensures fewer { OnOk result (size (to_read r.new) ≤ size (to_read r.old)) }
+    ensures { Takes (λ test. test) (grammar.null_test is_negated) r.old result r.new }
 {
     let place = r.place();
     r.advance();
@@ -89,8 +85,7 @@ fn null_test(r: &mut Reader<'_>, is_negated: bool) -> Result<Option<TruthTest>, 
 /// Takes a test, if one is ahead.
 #[tactic(auto, unfolding(crate::specs::Expressions::test_or_none))]
 fn test_or_none(r: &mut Reader<'_>) -> Result<Option<TruthTest>, ReadError>
-    ensures reads { Reads (λ test. test) (grammar.test_or_none (to_read r.old)) result (to_read r.new) }
-    ensures fewer { OnOk result (size (to_read r.new) ≤ size (to_read r.old)) }
+    ensures { Takes (λ test. test) grammar.test_or_none r.old result r.new }
 {
     match r.item() {
         Some(Item::Keyword(Keyword::Is)) => is_test(r),
@@ -193,8 +188,7 @@ fn tested_by(alloc: Global, test: TruthTest, part: Part) -> Result<Part, ReadErr
 /// Takes the test after a part, if there is one.
 #[tactic(auto, unfolding(crate::specs::Expressions::tested, crate::specs::Operands::tested))]
 pub fn tested(r: &mut Reader<'_>, alloc: Global, part: Part) -> Result<Part, ReadError>
-    ensures reads { Reads part_view (grammar.tested as_filter (part_view part) (to_read r.old)) result (to_read r.new) }
-    ensures fewer { OnOk result (size (to_read r.new) ≤ size (to_read r.old)) }
+    ensures { Takes part_view (grammar.tested as_filter (part_view part)) r.old result r.new }
 {
     match test_or_none(r)? {
         Some(test) => Ok(tested_by(alloc, test, part)?),

@@ -27,7 +27,8 @@ pub fn write_row<R: Allocator>(alloc: Global, row: &Row<R>) -> Result<String, Al
     // It is read as that row where each value is readable,
     ensures again { IfOk result (λ text. IsReadableRow row.now → row_of (string_bytes text) ≡ Ok row.now) }
     // so where the row fits a table and the least bigint is not in it.
-    ensures valid { IfOk result (λ text. (columns : List Column) → row_fault columns row.now ≡ None → row.now ≢ [] → ¬ Contains row.now least
+    ensures valid { IfOk result
+        (λ text. (columns : List Column) → row_fault columns row.now ≡ None → row.now ≢ [] → ¬ Contains row.now least
         → row_of (string_bytes text) ≡ Ok row.now) }
 {
     let mut text = String::new(alloc);
@@ -39,7 +40,8 @@ pub fn write_row<R: Allocator>(alloc: Global, row: &Row<R>) -> Result<String, Al
 
 /// Writes values with a comma and a space between each two.
 fn write_values<R: Allocator>(values: &[Value<R>], text: &mut String) -> Result<(), AllocError>
-    ensures { OnOk result (string_bytes text.new ≡ string_bytes text.old ++ join_by value_text (codes ", ") (map datum_view values.now)) }
+    ensures { OnOk result
+        (string_bytes text.new ≡ string_bytes text.old ++ join_by value_text (codes ", ") (map datum_view values.now)) }
 {
     if let [first, others @ ..] = values {
         write_value(first, text)?;
