@@ -30,7 +30,7 @@ fn publication_name(
     alloc: Global,
     draft: &Draft,
 ) -> Result<PlacedName, ReadError>
-    ensures { TakesSome (λ name. name) (spec.publication_name (draft_view draft.now)) r.old result r.new }
+    ensures takes { TakesSome (λ name. name) (spec.publication_name (draft_view draft.now)) r.old result r.new }
     ensures free { IfOk result (λ name. find_publication name.text (draft_view draft.now).publications ≡ None) }
 {
     let name = read_name(r, alloc, "the name of a publication")?;

@@ -21,7 +21,7 @@ fn subscription_name(
     alloc: Global,
     draft: &Draft,
 ) -> Result<PlacedName, ReadError>
-    ensures { TakesSome (λ name. name) (spec.subscription_name (draft_view draft.now)) r.old result r.new }
+    ensures takes { TakesSome (λ name. name) (spec.subscription_name (draft_view draft.now)) r.old result r.new }
     ensures free { IfOk result (λ name. find_subscription name.text (draft_view draft.now).subscriptions ≡ None) }
 {
     let name = read_name(r, alloc, "the name of a subscription")?;

@@ -45,7 +45,7 @@ fn table_in_schema(
     draft: &Draft,
     schema: &PlacedName,
 ) -> Result<usize, ReadError>
-    ensures { TakesSome (λ number. number) (spec.table_in_schema (draft_view draft.now) schema.now) r.old result r.new }
+    ensures takes { TakesSome (λ number. number) (spec.table_in_schema (draft_view draft.now) schema.now) r.old result r.new }
     ensures within { IfOk result (λ number. number < length (draft_view draft.now).tables) }
 {
     let name = name_in_schema(r, alloc, draft, schema)?;
@@ -60,7 +60,7 @@ pub fn table_named(
     draft: &Draft,
     name: &PlacedName,
 ) -> Result<usize, ReadError>
-    ensures { Takes (λ number. number) (spec.table_named (draft_view draft.now) name.now) r.old result r.new }
+    ensures takes { Takes (λ number. number) (spec.table_named (draft_view draft.now) name.now) r.old result r.new }
     ensures within { IfOk result (λ number. number < length (draft_view draft.now).tables) }
 {
     r.look()?;
@@ -73,7 +73,7 @@ pub fn table_named(
 /// Takes the name of a table that was made before, and tells its number.
 #[tactic(auto, unfolding(crate::specs::TableNames::table_number))]
 pub fn table_number(r: &mut Reader<'_>, alloc: Global, draft: &Draft) -> Result<usize, ReadError>
-    ensures { TakesSome (λ number. number) (spec.table_number (draft_view draft.now)) r.old result r.new }
+    ensures takes { TakesSome (λ number. number) (spec.table_number (draft_view draft.now)) r.old result r.new }
     ensures within { IfOk result (λ number. number < length (draft_view draft.now).tables) }
 {
     let name = read_name(r, alloc, "the name of a table")?;
