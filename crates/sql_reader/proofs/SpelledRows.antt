@@ -22,7 +22,7 @@ use Rattle.sql_reader.specs.Items.{Items, Stop, Then, seen, items, items_of, siz
 use Rattle.sql_reader.specs.Keywords.{keyword_of, early_keyword, late_keyword}
 use Rattle.sql_reader.specs.Numbers.{number, placed_number, signed_number}
 use Rattle.sql_reader.specs.Reading.{look, is_ahead, next_is, expect, rest_of}
-use Rattle.sql_reader.specs.Rows.{cast_or_none, string_value, number_value, value, one_value, values, end, row, row_of}
+use Rattle.sql_reader.specs.Rows.{cast_or_none, string_value, number_value, value, one_value, values, end, in_parentheses, row, row_of}
 use Rattle.sql_reader.specs.Turns.{link, repeat}
 use Rattle.sql_reader.specs.WrittenRows.{value_text, row_text, IsReadable, IsReadableRow, least}
 use Rattle.sql_reader.proofs.Turning.{link-goes_on, link-ends}
@@ -187,16 +187,16 @@ nothing_ahead : (place : ℕ) → ahead place [] ≡ Stop place
 unfolding tokens_from items
 nothing_ahead place = refl
 
-in_parentheses : (text : List ℕ) (cells : List Datum) (place : ℕ) → values (ahead 1 text) ≡ Ok (cells, closing place) → row_of (40 ∷ text) ≡ Ok cells
-unfolding row_of row items_of expect end is_ahead
-in_parentheses text cells place e = rw (open_ahead text, e, close_ahead place [], nothing_ahead (place + 1)) refl
+between_parentheses : (text : List ℕ) (cells : List Datum) (place : ℕ) → values (ahead 1 text) ≡ Ok (cells, closing place) → row_of (40 ∷ text) ≡ Ok cells
+unfolding row_of row in_parentheses items_of expect end is_ahead
+between_parentheses text cells place e = rw (open_ahead text, e, close_ahead place [], nothing_ahead (place + 1)) refl
 
 row_again : (row : List Datum) → IsReadableRow row → row_of (row_text row) ≡ Ok row
 row_again [] is = absurd (is.some refl)
 row_again (cell ∷ cells) is =
     let place = 1 + length (value_text cell) + length (flat_map other_text cells) in
     ap (λ text. row_of (40 ∷ text)) (append_assoc (value_text cell) (flat_map other_text cells) (41 ∷ []))
-    ∙ in_parentheses (value_text cell ++ others_text cells) (cell ∷ cells) place
+    ∙ between_parentheses (value_text cell ++ others_text cells) (cell ∷ cells) place
     (values_again cell cells 1 (is.each 0 cell (omega arith)) (λ k d below. is.each (suc k) d (omega arith)))
 
 pub is_read_again : (text : List ℕ) (row : List Datum) → text ≡ row_text row → IsReadableRow row → row_of text ≡ Ok row

@@ -53,11 +53,18 @@ ended ts = Err (refusal ts)
 unfoldable pub end : Rule (Unit {0})
 end ts = ended ts
 
-unfoldable pub row : Rule (List Datum)
-row = do
+-- values between parentheses
+unfoldable pub in_parentheses : Rule (List Datum)
+in_parentheses = do
   expect i.Open
   cells ← values
   expect i.Close
+  pure cells
+
+-- values between parentheses, and nothing after them
+unfoldable pub row : Rule (List Datum)
+row = do
+  cells ← in_parentheses
   end
   pure cells
 

@@ -36,6 +36,6 @@ pub use item::Item;
 pub use limits::exceeded_limit;
 pub use name::{PlacedName, is_name_ahead, read_name};
 pub use reader::Reader;
-pub use row::read_row;
+pub use row::{read_row, read_values};
 pub use word::{Keyword, same_word};
 pub use written_row::write_row;

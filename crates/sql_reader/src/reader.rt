@@ -108,7 +108,7 @@ impl<'a> Reader<'a> {
 
     /// The place of the token ahead, in bytes from the start of the text; at its end, the text's length.
     #[tactic(auto, unfolding(crate::specs::Ahead::to_read))]
-    pub(crate) fn place(&self) -> usize
+    pub fn place(&self) -> usize
         ensures { result ≡ spec.place_ahead (to_read self.now) }
     {
         self.place

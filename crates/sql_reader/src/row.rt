@@ -96,7 +96,7 @@ fn one_value(r: &mut Reader<'_>, alloc: Global, row: &mut Vec<Value>) -> Result<
 /// Takes the values of a row, which commas part.
 #[tactic(auto, using(crate::proofs::Turning::chains), unfolding(crate::specs::Rows::values))]
 fn values(r: &mut Reader<'_>, alloc: Global) -> Result<Vec<Value>, ReadError>
-    ensures { Reads (λ row. map datum_view row.items) (spec.values (to_read r.old)) result (to_read r.new) }
+    ensures { TakesSome (λ row. map datum_view row.items) spec.values r.old result r.new }
 {
     let mut row = Vec::new(alloc);
     one_value(r, alloc, &mut row)?;
@@ -107,15 +107,29 @@ fn values(r: &mut Reader<'_>, alloc: Global) -> Result<Vec<Value>, ReadError>
     Ok(row)
 }
 
-#[tactic(auto, unfolding(crate::specs::Rows::row))]
-fn row(r: &mut Reader<'_>, alloc: Global) -> Result<Row, ReadError>
-    ensures { Reads (λ row. row) (spec.row (to_read r.old)) result (to_read r.new) }
+/// Takes the values of a row between parentheses: `( value , .. )`, where a value is NULL, TRUE, FALSE, a number with a
+/// minus or none, or a string with `:: text` or without.
+///
+/// # Errors
+///
+/// The first fault, or `OutOfMemory` where an allocation was refused.
+#[tactic(auto, unfolding(crate::specs::Rows::in_parentheses))]
+pub fn read_values(r: &mut Reader<'_>, alloc: Global) -> Result<Row, ReadError>
+    ensures { TakesSome (λ row. row) spec.in_parentheses r.old result r.new }
 {
     r.expect(Item::Open, "`(`")?;
     let values = values(r, alloc)?;
     r.expect(Item::Close, "`,` or `)`")?;
-    r.end("the end of the row")?;
     Ok(Row::from_values(values))
+}
+
+#[tactic(auto, unfolding(crate::specs::Rows::row))]
+fn row(r: &mut Reader<'_>, alloc: Global) -> Result<Row, ReadError>
+    ensures { Reads (λ row. row) (spec.row (to_read r.old)) result (to_read r.new) }
+{
+    let row = read_values(r, alloc)?;
+    r.end("the end of the row")?;
+    Ok(row)
 }
 
 /// Reads a row: `( value , .. )`, where a value is NULL, TRUE, FALSE, a number with a minus or none, or a string with
