@@ -1,12 +1,12 @@
 -- What is carried in CopyData is read as it was spelled.
-use Rattle.std.proofs.Common.{◌≡◌, ℕ, ◌<◌, ◌≤◌, ◌^◌, ◌+◌, Bool, true, false, List, ◌++◌, length, refl, ap, ◌∙◌, append_assoc, arith}
-use Rattle.std.specs.Prelude.{Option, Some, None, nat_le, not, ◌==◌, if◌then◌else◌}
+use Rattle.std.proofs.Common.{◌≡◌, ℕ, ◌+◌, Bool, true, false, List, ◌++◌, length, refl, ap, ◌∙◌, append_assoc, arith}
+use Rattle.std.specs.Prelude.{Some, None, nat_le, not, ◌==◌, if◌then◌else◌}
 use Rattle.std.proofs.lemmas.Bool.Decides.{nat_tests}
 use Rattle.std.proofs.lemmas.Nat.{from_be_bytes-to_be_bytes_8}
 use Rattle.copy_both.specs.declared.keepalive.Keepalive.{Keepalive}
 use Rattle.copy_both.specs.declared.status.Status.{Status}
 use Rattle.copy_both.specs.declared.xlog_data.XLogData.{XLogData}
-use Rattle.copy_both.specs.Contents.{xlog_data_body, xlog_data_in, keepalive_body, keepalive_in, status_body, status_in, flag, number_at, flag_at}
+use Rattle.copy_both.specs.Contents.{xlog_data_body, keepalive_body, status_body, flag, number_at, flag_at}
 use Rattle.copy_both.specs.ContentLaws.{XLogDataIsRead, KeepaliveIsRead, StatusIsRead}
 
 keepalive : ℕ → ℕ → Bool → Keepalive

@@ -1,5 +1,5 @@
 -- How bytes are cut, by what is at their front, and what is left after whole frames.
-use Rattle.std.proofs.Common.{◌≡◌, ℕ, zero, suc, ◌+◌, ◌-◌, ◌<◌, ◌≤◌, ◌^◌, Bool, true, false, cond, List, [], ◌∷◌, ◌++◌, length, take, drop, refl, sym, ap, ◌∙◌, inl, inr, append_assoc, arith, length-append, length-drop}
+use Rattle.std.proofs.Common.{◌≡◌, ℕ, zero, suc, ◌+◌, ◌-◌, ◌≤◌, ◌^◌, Bool, true, false, cond, List, [], ◌∷◌, ◌++◌, length, take, drop, refl, sym, ap, ◌∙◌, inl, inr, append_assoc, arith, length-append, length-drop}
 use Rattle.std.specs.Prelude.{Option, Some, None, slice_index, nat_lt}
 use Rattle.std.specs.Int.{from_be_bytes, w32}
 use Rattle.std.specs.List.{flat_map}
@@ -10,8 +10,8 @@ use Rattle.copy_both.specs.declared.fault.FrameFault.TheVariants.{BadLength, Fra
 use Rattle.copy_both.specs.declared.frame.Frame.{Frame}
 use Rattle.copy_both.specs.declared.front.Front.{Front}
 use Rattle.copy_both.specs.declared.front.Front.TheVariants.{Part, Faulty, Whole}
-use Rattle.copy_both.specs.Frames.{framed, IsFrame, sized, front, frame_of, Cut, Rest, Bad, Then, cut_after, cut_some, cut, bytes_of, after_frames, fault_of, fault_in}
-use Rattle.copy_both.specs.FrameLaws.{AreBytes, AreFrames, IsCut, CutsAreSpelled, SpelledAreCut, CutsAreWhole}
+use Rattle.copy_both.specs.Frames.{framed, sized, front, frame_of, Rest, Bad, Then, cut_after, cut_some, cut, bytes_of, fault_of, fault_in}
+use Rattle.copy_both.specs.FrameLaws.{AreBytes, IsCut, CutsAreSpelled, SpelledAreCut, CutsAreWhole}
 use Rattle.copy_both.specs.Inboxes.{Inbox, TakesPiece}
 use Rattle.copy_both.specs.Scans.{SpellsFrame, Tells, Reaches, Scans}
 use Rattle.copy_both.proofs.FrontLemmas.{IsWhole, whole_front, front_whole, whole_more, spelled_whole, allowed_whole, framed_whole, frame_of-framed, drop-framed}

@@ -1,14 +1,12 @@
 -- What a front that is whole says of the bytes.
-use Rattle.std.proofs.Common.{◌≡◌, ℕ, zero, suc, ◌+◌, ◌-◌, ◌<◌, ◌≤◌, ◌^◌, Bool, true, false, cond, List, [], ◌∷◌, ◌++◌, length, take, drop, get_or, refl, sym, ap, ◌∙◌, inl, inr, arith, length-append, length-drop}
+use Rattle.std.proofs.Common.{◌≡◌, ℕ, ◌+◌, ◌<◌, ◌≤◌, ◌^◌, Bool, true, false, cond, List, [], ◌∷◌, ◌++◌, length, take, drop, get_or, refl, sym, ap, ◌∙◌, inl, inr, arith, length-append, length-drop}
 use Rattle.std.specs.Prelude.{nat_lt, slice_index}
 use Rattle.std.specs.Int.{from_be_bytes, to_be_bytes, w32}
 use Rattle.std.proofs.lemmas.Bool.{ltb-true, ltb-false, lt-ltb, cases_lt}
 use Rattle.std.proofs.lemmas.List.{take-append-drop, take-append-le, drop-append-le, take-take, take_at, drop_at, length-take, length-take-le, get_or-take, get_or-drop, get_or_past}
 use Rattle.std.proofs.lemmas.Nat.{be_bytes_4, from_be_bytes-to_be_bytes_4}
-use Rattle.copy_both.specs.declared.fault.FrameFault.{FrameFault}
 use Rattle.copy_both.specs.declared.fault.FrameFault.TheVariants.{BadLength, FrameTooLong}
 use Rattle.copy_both.specs.declared.frame.Frame.{Frame}
-use Rattle.copy_both.specs.declared.front.Front.{Front}
 use Rattle.copy_both.specs.declared.front.Front.TheVariants.{Part, Faulty, Whole}
 use Rattle.copy_both.specs.Frames.{framed, IsFrame, sized, front, frame_of}
 

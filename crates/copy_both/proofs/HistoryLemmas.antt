@@ -1,11 +1,10 @@
 -- What a deframer has given of all that it was fed.
-use Rattle.std.proofs.Common.{◌≡◌, ℕ, List, [], ◌∷◌, ◌++◌, refl, sym, ap, ◌∙◌, append_assoc}
+use Rattle.std.proofs.Common.{◌≡◌, List, [], ◌∷◌, ◌++◌, refl, sym, ap, ◌∙◌, append_assoc}
 use Rattle.std.specs.List.{flat_map}
 use Rattle.std.proofs.lemmas.List.{append-nil, flat_map_more}
 use Rattle.copy_both.specs.declared.frame.Frame.{Frame}
 use Rattle.copy_both.specs.Frames.{framed, Cut, Then, cut, after_frames, fault_of, fault_in}
-use Rattle.copy_both.specs.FrameLaws.{HasGiven, FrameIsGiven, FaultIsFirst}
-use Rattle.copy_both.specs.Inboxes.{Inbox, GivesFrame}
+use Rattle.copy_both.specs.FrameLaws.{FrameIsGiven, FaultIsFirst}
 
 after_frames-append : (given : List Frame) (frame : Frame) (last : Cut) → after_frames (given ++ frame ∷ []) last ≡ after_frames given (Then frame last)
 after_frames-append [] frame last = refl

@@ -1,5 +1,5 @@
 -- What is carried in CopyData is read as it was spelled.
-use Rattle.std.specs.Prelude.{◌≡◌, ℕ, ◌<◌, ◌^◌, List, Option, Some}
+use Rattle.std.specs.Prelude.{◌≡◌, ℕ, ◌<◌, ◌^◌, List, Some}
 use Rattle.copy_both.specs.declared.keepalive.Keepalive.{Keepalive}
 use Rattle.copy_both.specs.declared.status.Status.{Status}
 use Rattle.copy_both.specs.declared.xlog_data.XLogData.{XLogData}

@@ -1,5 +1,5 @@
 -- What CopyData carries while a stream runs, and the frames that begin and end it ("55.4. Streaming Replication Protocol", "55.7. Message Formats").
-use Rattle.std.specs.Prelude.{ℕ, ◌<◌, ◌^◌, ◌==◌, Bool, true, false, not, if◌then◌else◌, nat_le, List, [], ◌∷◌, ◌++◌, length, take, drop, slice_index, Option, Some, None}
+use Rattle.std.specs.Prelude.{ℕ, ◌==◌, Bool, true, false, not, if◌then◌else◌, nat_le, List, [], ◌∷◌, ◌++◌, length, take, drop, slice_index, Option, Some, None}
 use Rattle.std.specs.Int.{to_be_bytes, from_be_bytes, w64}
 use Rattle.copy_both.specs.declared.keepalive.Keepalive.{Keepalive}
 use Rattle.copy_both.specs.declared.status.Status.{Status}

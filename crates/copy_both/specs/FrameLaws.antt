@@ -1,9 +1,7 @@
 -- What bytes as frames have to do with the bytes, and what a deframer gives over many calls ("55.7. Message Formats").
-use Rattle.std.specs.Prelude.{◌≡◌, ℕ, ◌<◌, List, [], ◌∷◌, ◌++◌, slice_index, Option, Some, None}
+use Rattle.std.specs.Prelude.{◌≡◌, ℕ, ◌<◌, List, [], ◌∷◌, ◌++◌, slice_index}
 use Rattle.std.specs.List.{flat_map}
-use Rattle.copy_both.specs.declared.fault.FrameFault.{FrameFault}
 use Rattle.copy_both.specs.declared.frame.Frame.{Frame}
-use Rattle.copy_both.specs.declared.front.Front.{Front}
 use Rattle.copy_both.specs.declared.front.Front.TheVariants.{Part, Faulty}
 use Rattle.copy_both.specs.Frames.{framed, IsFrame, front, Cut, Rest, Bad, Then, cut, bytes_of, after_frames, fault_in}
 use Rattle.copy_both.specs.Inboxes.{Inbox, empty_inbox, with_piece, GivesFrame}
