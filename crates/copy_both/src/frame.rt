@@ -1,0 +1,8 @@
+use bytes::Bytes;
+
+/// A frame: one byte that says its kind, and what comes after its length ("55.7. Message Formats").
+#[derive(Drop)]
+pub struct Frame {
+    pub kind: u8,
+    pub body: Bytes,
+}
