@@ -1,3 +1,5 @@
+pub mod GrowLemmas
+pub mod GrowMemory
 pub mod HeadLemmas
 pub mod LevelLemmas
 pub mod MemoryLemmas

@@ -2,7 +2,6 @@
 use Rattle.std.proofs.Common.{◌≡◌, ℕ, ◌+◌, Bool, true, false, ◌&&◌, ◌==◌, List, [], ◌∷◌, ◌++◌, length, take, Option, Some, None, Ok, Err, ap, ◌∙◌}
 use Rattle.std.specs.Prelude.{if◌then◌else◌, nat_le}
 use Rattle.std.specs.Fmt.{decimal}
-use Rattle.split_cert.specs.declared.error.CertError.{CertError}
 use Rattle.split_cert.specs.declared.error.CertError.TheVariants.{BadToken, Ended, TooLarge, TooDeep, OutOfMemory}
 use Rattle.split_cert.specs.declared.head.Head.{Head}
 use Rattle.split_cert.specs.declared.head.Kind.{Kind}
@@ -14,7 +13,7 @@ use Rattle.split_cert.specs.Tree.{max_nodes}
 use Rattle.split_cert.proofs.HeadLemmas.{head_takes}
 
 -- the outcome is no want of memory
-abbrev NeedsNone : {A : Type 0} → Outcome A → Type 0
+abbrev pub NeedsNone : {A : Type 0} → Outcome A → Type 0
 NeedsNone outcome = outcome ≡ Err OutOfMemory → ⊥
 
 bind_needs_none : {A B : Type 0} (outcome : Outcome A) (more : A → Rule B) → NeedsNone outcome → ((a : A) (here : Here) → NeedsNone (more a here)) → NeedsNone (and_then outcome more)
@@ -49,7 +48,7 @@ first_needs_none : (here : Here) (bytes : List ℕ) → NeedsNone (space_first h
 first_needs_none here [] e = cc
 first_needs_none here (byte ∷ bytes) e = if_space (byte == 32) here.place (tt, record { place = here.place + 1; nodes = here.nodes; rest = bytes }) e
 
-space_needs_none : (here : Here) → NeedsNone (space here)
+pub space_needs_none : (here : Here) → NeedsNone (space here)
 unfolding space
 space_needs_none here = first_needs_none here here.rest
 
@@ -63,7 +62,7 @@ unfolding count
 count_needs_none may_open kind here =
     within_limits (nat_le max_nodes here.nodes) (is_split kind && may_open == 0) (tt, record { place = here.place; nodes = here.nodes + 1; rest = here.rest })
 
-head_needs_none : (may_open : ℕ) (here : Here) → NeedsNone (head may_open here)
+pub head_needs_none : (may_open : ℕ) (here : Here) → NeedsNone (head may_open here)
 unfolding head
 head_needs_none may_open here =
     bind_needs_none (letter here) (λ kind. count may_open kind >> space >> number >>= (λ n. pure (record { kind = kind; number = n }))) (letter_needs_none here) (λ kind behind.
@@ -75,12 +74,7 @@ head_needs_none may_open here =
 
 -- ---- a tree
 
-pub head_fails : (may_open : ℕ) (here : Here) (fault : CertError) → head may_open here ≡ Err fault → fault ≡ OutOfMemory → BeginsWithSplit here.rest
-head_fails may_open here fault e same = absurd (head_needs_none may_open here (e ∙ ap (λ fault. Err fault) same))
-
 pub split_begins : (may_open : ℕ) (here : Here) (h : Head) (behind : Here) → head may_open here ≡ Ok (h, behind) → h.kind ≡ Split → BeginsWithSplit here.rest
 split_begins may_open here h behind e split =
     let takes = head_takes may_open here (h, behind) e in
     (decimal h.number ++ behind.rest, takes.parts ∙ ap (λ kind. words_of kind h.number ++ behind.rest) split)
-
-pub ruleset memory = (head_fails, split_begins)

@@ -1,6 +1,5 @@
 -- A tree is read as a head and what stands behind it.
 use Rattle.std.proofs.Common.{◌≡◌, ℕ, zero, suc, ◌-◌, ◌<◌, Ok, Err, refl, arith}
-use Rattle.split_cert.specs.declared.error.CertError.{CertError}
 use Rattle.split_cert.specs.declared.error.CertError.TheVariants.{TooDeep}
 use Rattle.split_cert.specs.declared.head.Head.{Head}
 use Rattle.split_cert.specs.declared.head.Kind.{Kind}
@@ -22,14 +21,6 @@ pub tree_opens : (n : ℕ) (here : Here) (h : Head) (rest : Here) → head n her
 unfolding tree branch
 tree_opens zero here h rest e opens = rw e (same_behind (λ here. Err TooDeep) (branch (0 - 1)) h.kind h.number rest (λ split. omega (arith, opens split)))
 tree_opens (suc n) here h rest e opens = let k : suc n - 1 ≡ n = omega arith in rw (e, k) refl
-
--- and where no head was read, no tree is
-pub tree_fails : (n : ℕ) (here : Here) (fault : CertError) → head n here ≡ Err fault → tree n here ≡ Err fault
-unfolding tree
-tree_fails zero here fault e = rw e refl
-tree_fails (suc n) here fault e = rw e refl
-
-pub ruleset trees = (tree_opens, tree_fails)
 
 pub some_nodes : (tree : Tree) → 0 < nodes tree
 some_nodes (T.Split atom if_true if_false if_null) = omega arith

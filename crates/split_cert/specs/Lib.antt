@@ -1,4 +1,5 @@
 pub mod ErrorNames
+pub mod Growing
 pub mod Nodes
 pub mod Numbers
 pub mod Reading

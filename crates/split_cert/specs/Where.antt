@@ -5,7 +5,7 @@ use Rattle.split_cert.specs.declared.cert.Cert.{Cert}
 use Rattle.split_cert.specs.declared.cert.Cert.TheVariants.{Split', Owner, Empty, NeverNull}
 use Rattle.split_cert.specs.declared.cursor.Cursor.{Cursor}
 use Rattle.split_cert.specs.declared.error.CertError.{CertError}
-use Rattle.split_cert.specs.Reading.{Here, Rule, told}
+use Rattle.split_cert.specs.Reading.{Here, Rule}
 use Rattle.split_cert.specs.Tree.{Tree}
 use Rattle.split_cert.specs.Tree as T
 
@@ -22,7 +22,3 @@ here_view cursor = record { place = cursor.place; nodes = cursor.nodes; rest = c
 -- the result is what the rule gives at the first cursor, where `view` is what a value stands for; with a value the second cursor is where the rule comes to
 abbrev pub Finds : {A B : Type 0} → (A → B) → Rule B → Cursor → Cursor → Result A CertError → Type 0
 Finds view rule old new result = Answers (λ a. (view a, here_view new)) (λ error. Some error) (rule (here_view old)) result
-
--- the same of a function that takes memory
-abbrev pub Reads : {A B : Type 0} → (A → B) → Rule B → Cursor → Cursor → Result A CertError → Type 0
-Reads view rule old new result = Answers (λ a. (view a, here_view new)) told (rule (here_view old)) result

@@ -103,4 +103,19 @@ impl<'a> NodeReader<'a> {
         self.has_begun = true;
         Ok(Some(Node::new(head)))
     }
+
+    /// Reads the nodes that are left.
+    ///
+    /// # Errors
+    ///
+    /// The first fault of the text, if it has one.
+    pub fn finish(&mut self) -> Result<(), CertError>
+        ensures { result ≡ self.old.end }
+    {
+        loop {
+            if self.next()?.is_none() {
+                return Ok(());
+            }
+        }
+    }
 }

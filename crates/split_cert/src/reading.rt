@@ -1,100 +1,91 @@
 //! Certificates as they are read.
 
-ghost use Rattle.std.specs.Prelude.{◌≡◌, ◌<◌, ◌-◌, ◌++◌, ◌∷◌, ℕ, List, length, IfOk, Ok, Err};
+ghost use Rattle.std.specs.Prelude.{◌≡◌, ◌++◌, ◌∷◌, ℕ, List, length, IfOk, Ok, Err};
 ghost use Rattle.filter_tree.specs.Memory.{Answers};
 ghost use Rattle.split_cert.specs.declared.error.CertError.TheVariants.{Trailing};
-ghost use Rattle.split_cert.specs.declared.head.Kind.TheVariants.{Split};
+ghost use Rattle.split_cert.specs.Growing.{Grows, BeginsBySplit};
+ghost use Rattle.split_cert.specs.Nodes.{led};
 ghost use Rattle.split_cert.specs.Reading.{NeedsMemoryOnlyIf, told};
 ghost use Rattle.split_cert.specs.Text as spec;
 ghost use Rattle.split_cert.specs.Tree.{Tree, IsWithinLimits};
-ghost use Rattle.split_cert.specs.Where.{here_view, tree_view, Reads};
+ghost use Rattle.split_cert.specs.Where.{tree_view};
 
-use crate::cert::{Cert, MAX_SPLITS};
-use crate::cursor::Cursor;
+use crate::cert::Cert;
 use crate::error::CertError;
-use crate::head::{Head, Kind};
+use crate::node::Node;
+use crate::node_reader::NodeReader;
 use std::alloc::Allocator;
 
-/// Takes a tree, where so many splits may still open on its path.
+/// Takes the nodes of a tree.
 #[cycle(tree)]
-#[tactic(auto, using(crate::proofs::TreeLemmas::trees, crate::proofs::MemoryLemmas::memory))]
-fn tree<A: Allocator + Clone>(
-    alloc: &A,
-    may_open: usize,
-    cursor: &mut Cursor<'_>,
-) -> Result<Cert<A>, CertError>
-    ensures tree { Reads tree_view (spec.tree may_open) cursor.old cursor.new result }
-    ensures memory { NeedsMemoryOnlyIf (spec.BeginsWithSplit (here_view cursor.old).rest) result }
+#[tactic(auto, using(crate::proofs::GrowLemmas::grows, crate::proofs::GrowMemory::wants))]
+fn tree<A: Allocator + Clone>(alloc: &A, reader: &mut NodeReader<'_>) -> Result<Cert<A>, CertError>
+    ensures tree { Grows tree_view reader.old reader.new result }
+    ensures memory { NeedsMemoryOnlyIf (BeginsBySplit reader.old) result }
 {
-    let head = cursor.head(may_open)?;
-    node(alloc, may_open, head, cursor)
+    match reader.next()? {
+        None => Err(CertError::Ended),
+        Some(node) => rooted(alloc, node, reader),
+    }
 }
 
-/// Takes what stands behind the head of a node.
+/// Takes the nodes of a tree after its first node.
 #[cycle(tree)]
-fn node<A: Allocator + Clone>(
+#[tactic(auto, using(crate::proofs::GrowLemmas::grows, crate::proofs::GrowMemory::wants))]
+fn rooted<A: Allocator + Clone>(
     alloc: &A,
-    may_open: usize,
-    head: Head,
-    cursor: &mut Cursor<'_>,
+    node: Node,
+    reader: &mut NodeReader<'_>,
 ) -> Result<Cert<A>, CertError>
-    requires { head.kind ≡ Split → 0 < may_open }
-    ensures node { Reads tree_view (spec.node (spec.branch (may_open - 1)) head) cursor.old cursor.new result }
-    ensures memory { NeedsMemoryOnlyIf (head.kind ≡ Split) result }
+    ensures tree { Grows tree_view (led node reader.old) reader.new result }
+    ensures memory { NeedsMemoryOnlyIf (BeginsBySplit (led node reader.old)) result }
 {
-    match head.kind {
-        Kind::Split => split(alloc, may_open - 1, head.number, cursor),
-        Kind::Owner => Ok(Cert::Owner(head.number)),
-        Kind::Empty => Ok(Cert::Empty(head.number)),
-        Kind::NeverNull => Ok(Cert::NeverNull(head.number)),
+    match node {
+        Node::Split(atom) => split(alloc, atom, reader),
+        Node::Owner(subscriber) => Ok(Cert::Owner(subscriber)),
+        Node::Empty(term) => Ok(Cert::Empty(term)),
+        Node::NeverNull(atom) => Ok(Cert::NeverNull(atom)),
     }
 }
 
 /// Takes the branches of a split.
 #[cycle(tree)]
-#[tactic(auto, unfolding(crate::specs::Text::branches))]
+#[tactic(auto, using(crate::proofs::GrowLemmas::grows, crate::proofs::GrowMemory::wants))]
 fn split<A: Allocator + Clone>(
     alloc: &A,
-    may_open: usize,
     atom: u32,
-    cursor: &mut Cursor<'_>,
+    reader: &mut NodeReader<'_>,
 ) -> Result<Cert<A>, CertError>
-    ensures { Reads tree_view (spec.branches (spec.branch may_open) atom) cursor.old cursor.new result }
+    ensures { Grows tree_view (led (Node.Split atom) reader.old) reader.new result }
 {
-    let if_true = branch(alloc, may_open, cursor)?;
-    let if_false = branch(alloc, may_open, cursor)?;
-    let if_null = branch(alloc, may_open, cursor)?;
+    let if_true = branch(alloc, reader)?;
+    let if_false = branch(alloc, reader)?;
+    let if_null = branch(alloc, reader)?;
     Ok(Cert::Split(atom, if_true, if_false, if_null))
 }
 
-/// Takes a space and a branch.
+/// Takes the nodes of a branch.
 #[cycle(tree)]
-#[tactic(auto, unfolding(crate::specs::Text::branch))]
 fn branch<A: Allocator + Clone>(
     alloc: &A,
-    may_open: usize,
-    cursor: &mut Cursor<'_>,
+    reader: &mut NodeReader<'_>,
 ) -> Result<Box<Cert<A>, A>, CertError>
-    ensures { Reads (λ branch. tree_view branch.value) (spec.branch may_open) cursor.old cursor.new result }
+    ensures { Grows (λ branch. tree_view branch.value) reader.old reader.new result }
 {
-    cursor.space()?;
-    let branch = tree(alloc, may_open, cursor)?;
+    let branch = tree(alloc, reader)?;
     Ok(Box::new(alloc.clone()?, branch)?)
 }
 
 /// The certificate of a whole text.
-#[tactic(auto, unfolding(crate::specs::Text::certificate_of))]
+#[tactic(auto, using(crate::proofs::GrowMemory::texts))]
 fn certificate<A: Allocator + Clone>(alloc: &A, text: &str) -> Result<Cert<A>, CertError>
     ensures exact { Answers tree_view told (spec.certificate_of text.now) result }
     ensures memory { NeedsMemoryOnlyIf (spec.BeginsWithSplit text.now) result }
 {
-    let mut cursor = Cursor::new(text);
-    let cert = tree(alloc, MAX_SPLITS, &mut cursor)?;
-    if cursor.is_at_end() {
-        Ok(cert)
-    } else {
-        Err(CertError::Trailing(cursor.place()))
-    }
+    let mut reader = NodeReader::new(text);
+    let cert = tree(alloc, &mut reader)?;
+    reader.finish()?;
+    Ok(cert)
 }
 
 /// The certificate of a text, with its nodes in `alloc`. It takes time in proportion to the text, and stack for at most

@@ -8,18 +8,6 @@ fn fault(alloc: Global, text: &str) -> Option<CertError> {
     read_in(alloc, text).err()
 }
 
-/// Why the nodes of a text end, or `None` where they end with the text.
-fn end_of(reader: &mut NodeReader<'_>) -> Option<CertError> {
-    for _ in 0..u64::MAX {
-        match reader.next() {
-            Ok(Some(_)) => {}
-            Ok(None) => return None,
-            Err(fault) => return Some(fault),
-        }
-    }
-    None
-}
-
 #[test]
 fn faults_are_told_where_they_are_met(rt: HostRuntime) {
     use CertError::{BadToken, Ended, Trailing};
@@ -70,7 +58,7 @@ fn faults_are_told_where_they_are_met(rt: HostRuntime) {
     for (text, expected) in cases {
         assert_eq!(rt; fault(rt.alloc(), text), Some(expected), "{text}");
         let mut reader = NodeReader::new(text);
-        assert_eq!(rt; end_of(&mut reader), Some(expected), "{text}");
+        assert_eq!(rt; reader.finish(), Err(expected), "{text}");
         assert_eq!(rt; reader.next(), Err(expected), "{text}");
     }
 }
@@ -148,11 +136,8 @@ fn paths_have_at_most_64_splits(rt: HostRuntime) -> Result<(), Fail> {
         assert_eq!(rt; write(rt.alloc(), &read_in(rt.alloc(), &whole)?)?, whole);
         let deep = chain(rt.alloc(), 65, before, behind)?;
         assert_eq!(rt; fault(rt.alloc(), &deep), Some(CertError::TooDeep));
-        assert_eq!(rt; end_of(&mut NodeReader::new(&whole)), None);
-        assert_eq!(rt;
-            end_of(&mut NodeReader::new(&deep)),
-            Some(CertError::TooDeep)
-        );
+        assert_eq!(rt; NodeReader::new(&whole).finish(), Ok(()));
+        assert_eq!(rt; NodeReader::new(&deep).finish(), Err(CertError::TooDeep));
         let open = before.repeat(rt.alloc(), 64)?;
         let letter = format!(in rt.alloc(); "{open}s")?;
         assert_eq!(rt; fault(rt.alloc(), &letter), Some(CertError::TooDeep));
@@ -185,7 +170,7 @@ fn a_million_nodes_are_read_and_written_again(rt: HostRuntime) -> Result<(), Fai
     let cert = read_in(rt.alloc(), &text)?;
     assert!(rt; is_within_limits(&cert));
     assert!(rt; write(rt.alloc(), &cert)? == text);
-    assert_eq!(rt; end_of(&mut NodeReader::new(&text)), None);
+    assert_eq!(rt; NodeReader::new(&text).finish(), Ok(()));
     Ok(())
 }
 

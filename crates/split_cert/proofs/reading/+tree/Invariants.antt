@@ -1,14 +1,15 @@
-use Rattle.std.proofs.Common.{◌+◌, ◌*◌}
+use Rattle.std.proofs.Common.{◌+◌, ◌*◌, length}
 use Rattle.split_cert.proofs.reading.+tree.Given as goal
 
+-- the nodes that are left, where a tree goes before what comes after its first node, and branches before their trees
 abbrev pub decreases-tree : goal.decreases-tree
-decreases-tree g l = 4 * l.may_open + 3
+decreases-tree g l = 4 * length l.reader.now.nodes
 
-abbrev pub decreases-node : goal.decreases-node
-decreases-node g l = 4 * l.may_open + 2
+abbrev pub decreases-rooted : goal.decreases-rooted
+decreases-rooted g l = 4 * length l.reader.now.nodes + 3
 
 abbrev pub decreases-split : goal.decreases-split
-decreases-split g l = 4 * l.may_open + 5
+decreases-split g l = 4 * length l.reader.now.nodes + 2
 
 abbrev pub decreases-branch : goal.decreases-branch
-decreases-branch g l = 4 * l.may_open + 4
+decreases-branch g l = 4 * length l.reader.now.nodes + 1
