@@ -51,8 +51,7 @@ pub enum ErrorKind {
     NullableIndex,
 }
 
-/// Forms that are not read yet. No reader answers the last three: TRUNCATE is a command of scripts, and unique indexes are
-/// read.
+/// Forms that are not read yet.
 #[derive(Clone, Copy, Debug, PartialEq, Eq, Error)]
 pub enum Later {
     #[error("IN")]
@@ -61,12 +60,6 @@ pub enum Later {
     Between,
     #[error("IS DISTINCT FROM")]
     DistinctFrom,
-    #[error("TRUNCATE")]
-    Truncate,
-    #[error("CREATE UNIQUE INDEX")]
-    UniqueIndex,
-    #[error("REPLICA IDENTITY USING INDEX")]
-    UsingIndex,
 }
 
 /// Forms of PostgreSQL that are left out.
