@@ -15,6 +15,8 @@ HEADS = [
     "Publications",
     "eval, ms",
     "eval, thousand rows/s",
+    "eval --insert, ms",
+    "times as long",
     "query, ms",
     "query in parallel, ms",
     "COPY and query, ms",
@@ -58,13 +60,15 @@ def row(setup, folder, connection, name, count):
     given.write_program_input(text)
     words = [setup.program, "eval", rows.TABLE]
     time = setup.milliseconds(words, text)
+    inserting = setup.milliseconds([*words, "--insert"], text)
     counts = carried(setup.answer(words, text), count)
     given.write_copy_input(copy_text)
     os.chmod(copy_text, 0o644)
     times, theirs = database_times(connection, setup, given, copy_text)
     told = "the same" if counts == theirs else f"{counts} and {theirs}"
     shown = [f"{it:.0f}" for it in times]
-    return [name, count, f"{time:.0f}", rate(rows.ROWS, time), *shown, rate(rows.ROWS, times[-1]), told]
+    inserts = [f"{inserting:.0f}", f"{inserting / time:.2f}"]
+    return [name, count, f"{time:.0f}", rate(rows.ROWS, time), *inserts, *shown, rate(rows.ROWS, times[-1]), told]
 
 
 def measure(setup):

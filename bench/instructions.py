@@ -22,15 +22,14 @@ def instructions(words, path):
     return int(re.search(r"refs:\s*([\d,]+)", ran.stderr).group(1).replace(",", ""))
 
 
-def eval_row(setup, path, name, count):
+def eval_row(setup, path, told, given, *words):
     """The rows alone: what the same catalog takes without rows is taken off."""
-    given = rows.FAMILIES[name](count)
-    words = [setup.program, "eval", rows.TABLE]
+    command = [setup.program, "eval", rows.TABLE, *words]
     given.write_program_input(path, 0)
-    before = instructions(words, path)
+    before = instructions(command, path)
     given.write_program_input(path, ROWS)
-    total = instructions(words, path)
-    return [f"eval, {name}, {count} publications, {ROWS:,} rows", f"{total:,}", "row", f"{(total - before) / ROWS:,.0f}"]
+    total = instructions(command, path)
+    return [f"eval{told}, {ROWS:,} rows", f"{total:,}", "row", f"{(total - before) / ROWS:,.0f}"]
 
 
 def check_row(setup, path, kind):
@@ -55,9 +54,12 @@ def read_row(setup, path):
 
 
 def all_rows(setup, path):
+    yield eval_row(setup, path, ", three values, no publication", rows.unpublished())
     for name in rows.FAMILIES:
         for count in (2, 8):
-            yield eval_row(setup, path, name, count)
+            told, given = f", {name}, {count} publications", rows.FAMILIES[name](count)
+            yield eval_row(setup, path, told, given)
+            yield eval_row(setup, path, f" --insert{told}", given, "--insert")
     yield read_row(setup, path)
     for kind in checking.KINDS:
         yield check_row(setup, path, kind)

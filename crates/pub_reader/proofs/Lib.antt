@@ -5,4 +5,5 @@ pub mod KeptIndexes
 pub mod KeptLimits
 pub mod Listing
 pub mod Positions
+pub mod StepWords
 pub mod TableLemmas

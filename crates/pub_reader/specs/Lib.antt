@@ -11,7 +11,12 @@ pub mod Operations
 pub mod Publications
 pub mod Publishing
 pub mod Schemas
+pub mod ScriptCommands
+pub mod ScriptTables
+pub mod ScriptView
+pub mod Scripts
 pub mod Statements
+pub mod Steps
 pub mod Subscriptions
 pub mod TableNames
 pub mod Tables

@@ -1,5 +1,6 @@
 //! Reads the catalog of a publisher, its schemas, tables, replica identities, publications with their row filters and
-//! subscriptions, from the SQL of PostgreSQL 15 in which people write them; rows of its tables are read by `read_row`.
+//! subscriptions, from the SQL of PostgreSQL 15 in which people write them; rows of its tables are read by `read_row`, and
+//! scripts of commands and of what happens to subscribers by `read_script`.
 #![tactic(auto)]
 
 mod catalog;
@@ -16,7 +17,12 @@ mod publication;
 mod publish;
 mod resolution;
 mod schema;
+mod script;
+mod script_command;
+mod script_table;
 mod statement;
+mod step;
+mod step_word;
 mod subscription;
 mod table;
 mod table_name;
@@ -24,5 +30,8 @@ mod table_name;
 mod tests;
 
 pub use catalog::{Catalog, Entry, Operations, Publication, Subscription};
+pub use script::{Line, read_script};
 pub use sql_reader::{ErrorKind, Later, Limit, Omitted, ReadError, read_row};
 pub use statement::read_catalog;
+pub use step::Step;
+pub use table_changes::Command;
