@@ -1,8 +1,9 @@
 pub mod AnyTest
-pub mod CountingLemmas
 pub mod EmptyLemmas
 pub mod ExistingLemmas
 pub mod FactLemmas
+pub mod NodeLemmas
+pub mod OnwardLemmas
 pub mod OwnerLemmas
 pub mod PlaceLemmas
 pub mod PlanFacts
@@ -14,5 +15,7 @@ pub mod SoundFacts
 pub mod SoundLemmas
 pub mod StandingLemmas
 pub mod Testing
+pub mod TextLemmas
 pub mod TruthLemmas
 pub mod ValueLemmas
+pub mod WalkLemmas

@@ -11,5 +11,7 @@ pub mod Refusal
 pub mod Rows
 pub mod Sound
 pub mod SubjectView
+pub mod Texts
 pub mod Truth
+pub mod Walking
 pub mod Trying

@@ -83,17 +83,6 @@ refusal is_empty subject (Owner subscriber) path node = owner_refusal subject pa
 refusal is_empty subject (Empty term) path node = empty_refusal is_empty subject path node (slice_get subject.terms term)
 refusal is_empty subject (NeverNull index) path node = never_null_refusal subject path node (slice_get subject.atoms index)
 
--- the first refusal in the branches of a split by this atom, the first of which begins with the node of this number
-abbrev pub branches_refusal : Test → Subject → Path → ℕ → AtomOf → Tree → Tree → Tree → Option CheckError
-branches_refusal is_empty subject path node atom if_true if_false if_null =
-    first_of (refusal is_empty subject if_true (path ++ (atom, True) ∷ []) node)
-    (first_of (refusal is_empty subject if_false (path ++ (atom, False) ∷ []) (later node (nodes if_true)))
-    (refusal is_empty subject if_null (path ++ (atom, Null) ∷ []) (later (later node (nodes if_true)) (nodes if_false))))
-
--- the number of the node after three trees, the first of which begins with the node of this number
-abbrev pub after_branches : ℕ → Tree → Tree → Tree → ℕ
-after_branches node if_true if_false if_null = later (later (later node (nodes if_true)) (nodes if_false)) (nodes if_null)
-
 -- the first refusal in the certificate of the table of this number
 abbrev pub first_refusal : Test → ℕ → Table → List ShareOf → Tree → Option CheckError
 first_refusal is_empty number table shares tree = refusal is_empty (subject_of number table.columns shares) tree [] 0

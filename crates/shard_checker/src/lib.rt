@@ -14,9 +14,12 @@ mod one_table;
 mod owners;
 mod publishing;
 mod sharding;
+mod source;
 mod subject;
 #[cfg(test)]
 mod tests;
+mod text_error;
+mod texts;
 mod values;
 mod walk;
 
@@ -27,3 +30,5 @@ pub use laws::emptiness_can_be_told;
 pub use numbering::{numbered_atoms, numbered_terms};
 pub use one_table::check_one;
 pub use sharding::{check, shares_in};
+pub use text_error::TextError;
+pub use texts::check_text;

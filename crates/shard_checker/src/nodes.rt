@@ -1,12 +1,12 @@
 //! What a node that isn't a split says of the rows at the end of its path.
 
-ghost use Rattle.std.specs.Prelude.{◌≡◌};
+ghost use Rattle.std.specs.Prelude.{◌≡◌, slice_get};
 ghost use Rattle.filter_tree.specs.Paths.{path_view};
-ghost use Rattle.split_cert.specs.Tree.{Owner, Empty, NeverNull};
 ghost use Rattle.shard_checker.specs.Checks.{Finds};
-ghost use Rattle.shard_checker.specs.Refusal as spec;
+ghost use Rattle.shard_checker.specs.Refusal.{others_refusal};
 ghost use Rattle.shard_checker.specs.SubjectView.{subject_view};
 ghost use Rattle.shard_checker.specs.Trying as trying;
+ghost use Rattle.shard_checker.specs.Walking as spec;
 
 use crate::domain::kind_at;
 use crate::error::CheckError;
@@ -15,6 +15,7 @@ use crate::owners::{must_take, second_owner};
 use crate::subject::{Subject, atom_at, share_at, term_at};
 use crate::values::has_value;
 use filter_tree::{Atom, Column, Term, Tri};
+use split_cert::Node;
 use std::alloc::Allocator;
 
 /// Whether no value is left to the term at the end of the path: its column would have to be null and not null, or none
@@ -27,6 +28,24 @@ fn is_empty<A: Allocator>(columns: &[Column], term: Term, path: &[(&Atom<A>, Tri
         || !has_value(kind_at(columns, column), term, path)
 }
 
+/// Checks that the atom by which a node splits is there.
+pub fn check_split<A: Allocator>(
+    subject: &Subject<'_, A>,
+    node: usize,
+    number: u32,
+) -> Result<(), CheckError>
+    ensures { Finds
+        (spec.known_atom (subject_view subject.now) node (slice_get (subject_view subject.now).atoms number)) result }
+{
+    match atom_at(subject.atoms, number) {
+        None => Err(CheckError::BadIndex {
+            table: subject.table,
+            node,
+        }),
+        Some(_) => Ok(()),
+    }
+}
+
 /// Checks a node that says that no row is there, since the term has no value.
 pub fn check_empty<A: Allocator>(
     subject: &Subject<'_, A>,
@@ -35,7 +54,8 @@ pub fn check_empty<A: Allocator>(
     number: u32,
 ) -> Result<(), CheckError>
     ensures { Finds
-        (spec.refusal trying.is_empty (subject_view subject.now) (Empty number) (path_view path.now) node) result }
+        (spec.node_refusal trying.is_empty (subject_view subject.now) (Node.Empty number) (path_view path.now) node)
+        result }
 {
     let table = subject.table;
     match term_at(subject.terms, number) {
@@ -53,7 +73,8 @@ pub fn check_never_null<A: Allocator>(
     number: u32,
 ) -> Result<(), CheckError>
     ensures { Finds
-        (spec.refusal trying.is_empty (subject_view subject.now) (NeverNull number) (path_view path.now) node) result }
+        (spec.node_refusal trying.is_empty (subject_view subject.now) (Node.NeverNull number) (path_view path.now) node)
+        result }
 {
     let table = subject.table;
     match atom_at(subject.atoms, number) {
@@ -70,7 +91,7 @@ fn check_others<A: Allocator>(
     node: usize,
     owner: usize,
 ) -> Result<(), CheckError>
-    ensures { Finds (spec.others_refusal (subject_view subject.now) (path_view path.now) node owner) result }
+    ensures { Finds (others_refusal (subject_view subject.now) (path_view path.now) node owner) result }
 {
     match second_owner(owner, subject.shares, path) {
         None => Ok(()),
@@ -90,7 +111,8 @@ pub fn check_owner<A: Allocator>(
     number: u32,
 ) -> Result<(), CheckError>
     ensures { Finds
-        (spec.refusal trying.is_empty (subject_view subject.now) (Owner number) (path_view path.now) node) result }
+        (spec.node_refusal trying.is_empty (subject_view subject.now) (Node.Owner number) (path_view path.now) node)
+        result }
 {
     let table = subject.table;
     match share_at(subject.shares, number) {

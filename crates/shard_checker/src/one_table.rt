@@ -11,39 +11,42 @@ ghost use Rattle.shard_checker.specs.Rows.{IsTyped};
 ghost use Rattle.shard_checker.specs.SubjectView.{subject_view};
 ghost use Rattle.shard_checker.specs.Trying.{is_empty};
 ghost use Rattle.shard_checker.specs.Truth.{CertificateIsWrong};
+ghost use Rattle.shard_checker.specs.Walking.{walk, nodes_refusal};
 
 use crate::error::CheckError;
 use crate::numbering::{numbered_atoms, numbered_terms};
+use crate::source::Source;
 use crate::subject::Subject;
-use crate::walk::check_tree;
+use crate::walk::begin;
 use filter_tree::Table;
 use replica_identity::Share;
 use split_cert::Cert;
 use std::alloc::{Allocator, Global};
 
 /// Checks the certificate of a table whose atoms and terms are numbered.
-fn check_subject<'a, A: Allocator, B: Allocator>(
+#[tactic(auto, using(crate::proofs::WalkLemmas::wholes))]
+fn check_subject<'a, A: Allocator, C: Source>(
     alloc: Global,
     subject: &Subject<'a, A>,
-    cert: &Cert<B>,
+    cert: &C,
 ) -> Result<(), CheckError>
-    ensures { Checks (spec.refusal is_empty (subject_view subject.now) (tree_view cert.now) [] 0) result }
+    ensures { Checks (walk is_empty (subject_view subject.now) (C.nodes cert.now) (Some []) 0) result }
 {
-    let mut path = Vec::new(alloc);
-    let mut node = 0;
-    check_tree(subject, &mut path, &mut node, cert)
+    let mut walk = begin(alloc);
+    cert.visit(subject, &mut walk)?;
+    Ok(())
 }
 
 /// Checks the certificate of the table of this number.
-pub fn check_table<A: Allocator, B: Allocator>(
+pub fn check_table<A: Allocator, C: Source>(
     alloc: Global,
     number: usize,
     table: &Table,
     shares: &[&Share<A>],
-    cert: &Cert<B>,
+    cert: &C,
 ) -> Result<(), CheckError>
     ensures { Checks
-        (spec.first_refusal is_empty number table.now (shares_view shares.now) (tree_view cert.now)) result }
+        (nodes_refusal is_empty number table.now (shares_view shares.now) (C.nodes cert.now)) result }
 {
     let atoms = numbered_atoms(alloc, shares)?;
     let terms = numbered_terms(alloc, shares)?;
@@ -55,6 +58,21 @@ pub fn check_table<A: Allocator, B: Allocator>(
         terms: &terms,
     };
     check_subject(alloc, &subject, cert)
+}
+
+/// Checks a tree that is the certificate of the table of number 0.
+#[tactic(auto, using(crate::proofs::NodeLemmas::tree_by_nodes))]
+fn check_tree<A: Allocator, B: Allocator>(
+    alloc: Global,
+    table: &Table,
+    shares: &[&Share<A>],
+    cert: &Cert<B>,
+) -> Result<(), CheckError>
+    ensures { Checks
+        (spec.first_refusal is_empty 0 table.now (shares_view shares.now) (tree_view cert.now)) result }
+{
+    check_table(alloc, 0, table, shares, cert)?;
+    Ok(())
 }
 
 /// Checks that each row that may stand in the table, with texts of any length, is taken by exactly one of the shares, as
@@ -77,5 +95,5 @@ pub fn check_one<A: Allocator, B: Allocator>(
         Checks (spec.first_refusal test 0 table.now (shares_view shares.now) (tree_view cert.now)) result }
     ensures wrong { IfRefused result (CertificateIsWrong 0 table.now (shares_view shares.now) (tree_view cert.now)) }
 {
-    check_table(alloc, 0, table, shares, cert)
+    check_tree(alloc, table, shares, cert)
 }

@@ -15,12 +15,14 @@ ghost use Rattle.shard_checker.specs.Emptiness.{IsEmptiness, Test};
 ghost use Rattle.shard_checker.specs.Owners.{shares_view};
 ghost use Rattle.shard_checker.specs.Sound.{IsSound};
 ghost use Rattle.shard_checker.specs.Trying.{is_empty};
+ghost use Rattle.shard_checker.specs.Walking as walking;
 
 use crate::checked::Checked;
 use crate::covering::{check_covering, check_identities};
 use crate::error::CheckError;
 use crate::one_table::check_table;
 use crate::publishing::check_publishing;
+use crate::source::Source;
 use filter_tree::Table;
 use pub_reader::{Catalog, Subscription};
 use replica_identity::{Plan, Share};
@@ -45,34 +47,34 @@ pub fn shares_in<'a>(
 }
 
 /// Checks the certificate of the table of this number.
-fn check_certificate<A: Allocator>(
+fn check_certificate<C: Source>(
     alloc: Global,
     plan: &Plan,
     subscriptions: &[Subscription],
     number: usize,
     table: &Table,
-    cert: &Cert<A>,
+    cert: &C,
 ) -> Result<(), CheckError>
     ensures { Checks
-        (spec.certificate_refusal is_empty (plan_view plan.now) subscriptions.now number table.now (tree_view cert.now))
-        result }
+        (walking.nodes_refusal is_empty number table.now
+        (spec.table_shares (plan_view plan.now) number 0 subscriptions.now) (C.nodes cert.now)) result }
 {
     let shares = shares_in(alloc, plan, number, subscriptions)?;
     check_table(alloc, number, table, &shares, cert)
 }
 
 /// Checks the certificates of the tables, of which there are as many.
-fn check_certificates<A: Allocator>(
+fn check_certificates<C: Source>(
     alloc: Global,
     plan: &Plan,
     subscriptions: &[Subscription],
     tables: &[Table],
-    certs: &[Cert<A>],
+    certs: &[C],
 ) -> Result<(), CheckError>
     requires { length certs.now ≡ length tables.now }
     ensures { Checks
-        (spec.certificates_refusal is_empty (plan_view plan.now) subscriptions.now 0 tables.now
-        (map tree_view certs.now)) result }
+        (walking.tables_refusal is_empty (plan_view plan.now) subscriptions.now 0 tables.now
+        (map C.nodes certs.now)) result }
 {
     for (number, table) in tables.iter().enumerate() {
         check_certificate(alloc, plan, subscriptions, number, table, &certs[number])?;
@@ -106,6 +108,25 @@ fn check_catalog(alloc: Global, catalog: &Catalog) -> Result<(), CheckError>
     Ok(())
 }
 
+/// Checks a sharding by certificates that are trees or texts.
+pub fn check_given<C: Source>(
+    alloc: Global,
+    catalog: &Catalog,
+    plan: &Plan,
+    certs: &[C],
+) -> Result<(), CheckError>
+    ensures exact { Checks
+        (walking.refusal_by_nodes is_empty (catalog_view catalog.now) (plan_view plan.now) (map C.nodes certs.now))
+        result }
+    ensures memory { NeedsMemoryOnlyIf (spec.declared_refusal (catalog_view catalog.now) ≡ None) result }
+{
+    check_catalog(alloc, catalog)?;
+    let tables = catalog.tables.as_slice();
+    check_count(tables.len(), certs.len())?;
+    check_certificates(alloc, plan, catalog.subscriptions.as_slice(), tables, certs)?;
+    Ok(())
+}
+
 fn check_sharding<A: Allocator>(
     alloc: Global,
     catalog: &Catalog,
@@ -117,10 +138,7 @@ fn check_sharding<A: Allocator>(
         result }
     ensures memory { NeedsMemoryOnlyIf (spec.declared_refusal (catalog_view catalog.now) ≡ None) result }
 {
-    check_catalog(alloc, catalog)?;
-    let tables = catalog.tables.as_slice();
-    check_count(tables.len(), certs.len())?;
-    check_certificates(alloc, plan, catalog.subscriptions.as_slice(), tables, certs)?;
+    check_given(alloc, catalog, plan, certs)?;
     Ok(())
 }
 
