@@ -1,3 +1,7 @@
-pub mod Kept
+pub mod Counting
+pub mod Exact
+pub mod Fields
+pub mod Messages
 pub mod RowLemmas
-pub mod SpellingLemmas
+pub mod SpellingLaws
+pub mod Writing

@@ -8,7 +8,7 @@ use Rattle.filter_tree.specs.Valid.{IsOf, Fits, IsValid}
 use Rattle.filter_tree.specs.declared.table.Column.{Column}
 use Rattle.filter_tree.specs.declared.table.ColType.{ColType}
 use Rattle.filter_tree.specs.declared.table.ColType.TheVariants.{SmallInt, Integer, BigInt, Boolean, Text}
-use Rattle.pgoutput_msgs.specs.Spelling.{IsCellWithinRange, IsTupleWithinRange}
+use Rattle.pgoutput_msgs.specs.Ranges.{IsCellWithinRange, IsTupleWithinRange}
 use Rattle.pgoutput_msgs.specs.ValueText.{cell_of, cells_of}
 
 short_number : (number : ℤ) (least greatest : ℕ) → least < 2 ^ 63 → greatest < 2 ^ 63 → negsuc least ≤ℤ number

@@ -1,3 +1,6 @@
-pub mod Prefix
+pub mod Laws
+pub mod Ranges
+pub mod Reading
+pub mod Room
 pub mod Spelling
 pub mod ValueText

@@ -1,121 +1,106 @@
-ghost use Rattle.std.specs.Prelude.{◌≡◌, ◌++◌, ◌<◌, ◌∷◌, length, take, OnOk, OnErr, IsTrue, ◌↔◌, All};
-ghost use Rattle.std.specs.List.{flat_map};
-ghost use Rattle.pgoutput_msgs.specs.Spelling.{spelling_of, tuple_spelling, cell_spelling, int16, int32, IsWithinRange, IsTupleWithinRange, IsCellWithinRange};
+//! Messages as bytes.
 
-use crate::message::{Cell, Msg, Tuple};
-use byteorder::{BigEndian, ByteOrder};
+ghost use Rattle.std.specs.Prelude.{◌≡◌, ◌++◌, ◌^◌, ◌-◌, length, min, OnOk, OnErr, IsTrue, ◌↔◌};
+ghost use Rattle.pgoutput_msgs.specs.Spelling.{spelling_of};
+ghost use Rattle.pgoutput_msgs.specs.Ranges.{IsWithinRange, IsCellWithinRange, IsTupleWithinRange, IsOldWithinRange, IsMaybeOldWithinRange};
+ghost use Rattle.pgoutput_msgs.specs.Room.{HasRoom, Puts};
+
+use crate::begin::{BEGIN_LEN, put_begin};
+use crate::commit::{COMMIT_LEN, put_commit};
+use crate::delete::{delete_len, put_delete};
+use crate::insert::{insert_len, put_insert};
+use crate::message::Msg;
+use crate::relation::{put_relation, relation_len};
+use crate::truncate::{put_truncate, truncate_len};
+use crate::tuple::{Cell, OldTuple, Tuple};
+use crate::update::{put_update, update_len};
 use std::alloc::AllocError;
 
-/// Appends the bytes that spell the message. The only error is want of memory, which leaves `out` as it was.
+/// Appends the bytes that spell the message. The only error is want of memory, which leaves `out` as it was. Room is made
+/// for the whole message at once.
+///
+/// PostgreSQL 15, 55.9. Logical Replication Message Formats.
 pub fn encode(message: &Msg, out: &mut Vec<u8>) -> Result<(), AllocError>
     requires { IsWithinRange message.now }
     ensures ok { OnOk result (out.new.items ≡ out.old.items ++ spelling_of message.now) }
     ensures err { OnErr result (out.new.items ≡ out.old.items) }
 {
-    let start = out.len();
-    let appended = append_message(message, out);
-    if appended.is_err() {
-        out.truncate(start);
-    }
-    appended
-}
-
-#[tactic(auto, using(crate::proofs::Kept::kept_through, std::proofs::lemmas::List::append_assoc))]
-fn append_message(message: &Msg, out: &mut Vec<u8>) -> Result<(), AllocError>
-    requires { IsWithinRange message.now }
-    ensures ok { OnOk result (out.new.items ≡ out.old.items ++ spelling_of message.now) }
-    ensures kept { take (length out.old.items) out.new.items ≡ out.old.items }
-{
-    match message {
-        Msg::Insert { relation, new } => {
-            append_letter_and_oid(b'I', *relation, out)?;
-            append_marked_tuple(b'N', new, out)
-        }
-    }
-}
-
-fn append_letter_and_oid(letter: u8, oid: u32, out: &mut Vec<u8>) -> Result<(), AllocError>
-    ensures ok { OnOk result (out.new.items ≡ out.old.items ++ (letter ∷ int32 oid)) }
-    ensures kept { take (length out.old.items) out.new.items ≡ out.old.items }
-{
-    out.push(letter)?;
-    append_int32(oid, out)
-}
-
-#[tactic(auto, using(crate::proofs::Kept::kept_through, std::proofs::lemmas::List::append_assoc))]
-fn append_marked_tuple(marker: u8, tuple: &Tuple, out: &mut Vec<u8>) -> Result<(), AllocError>
-    requires { IsTupleWithinRange tuple.now }
-    ensures ok { OnOk result (out.new.items ≡ out.old.items ++ (marker ∷ tuple_spelling tuple.now)) }
-    ensures kept { take (length out.old.items) out.new.items ≡ out.old.items }
-{
-    out.push(marker)?;
-    append_tuple(tuple, out)
-}
-
-#[tactic(auto, using(crate::proofs::Kept::kept_through))]
-fn append_tuple(tuple: &Tuple, out: &mut Vec<u8>) -> Result<(), AllocError>
-    requires { IsTupleWithinRange tuple.now }
-    ensures ok { OnOk result (out.new.items ≡ out.old.items ++ tuple_spelling tuple.now) }
-    ensures kept { take (length out.old.items) out.new.items ≡ out.old.items }
-{
-    append_int16(tuple.len() as u16, out)?;
-    append_cells(tuple.cells(), out)
-}
-
-#[tactic(auto, using(crate::proofs::Kept::kept_through))]
-fn append_cells(cells: &[Cell], out: &mut Vec<u8>) -> Result<(), AllocError>
-    requires { All IsCellWithinRange cells.now }
-    ensures ok { OnOk result (out.new.items ≡ out.old.items ++ flat_map cell_spelling cells.now) }
-    ensures kept { take (length out.old.items) out.new.items ≡ out.old.items }
-{
-    for cell in cells {
-        append_cell(cell, out)?;
-    }
+    out.reserve(message_len(message))?;
+    put_message(message, out);
     Ok(())
 }
 
-#[tactic(auto, using(crate::proofs::Kept::kept_through))]
-fn append_cell(cell: &Cell, out: &mut Vec<u8>) -> Result<(), AllocError>
-    requires { IsCellWithinRange cell.now }
-    ensures ok { OnOk result (out.new.items ≡ out.old.items ++ cell_spelling cell.now) }
-    ensures kept { take (length out.old.items) out.new.items ≡ out.old.items }
+/// How many bytes spell the message, up to `usize::MAX`.
+fn message_len(message: &Msg) -> usize
+    ensures { result ≡ min (length (spelling_of message.now)) (2 ^ 64 - 1) }
 {
-    match cell {
-        Cell::Null => Ok(out.push(b'n')?),
-        Cell::Text(text) => {
-            out.push(b't')?;
-            append_int32(text.len() as u32, out)?;
-            out.extend_from_slice(text.as_bytes())
-        }
+    match message {
+        Msg::Begin { .. } => BEGIN_LEN,
+        Msg::Commit { .. } => COMMIT_LEN,
+        Msg::Relation(relation) => relation_len(relation),
+        Msg::Insert { new, .. } => insert_len(new),
+        Msg::Update { old, new, .. } => update_len(old, new),
+        Msg::Delete { old, .. } => delete_len(old),
+        Msg::Truncate { relations, .. } => truncate_len(relations.as_slice()),
     }
 }
 
-fn append_int16(number: u16, out: &mut Vec<u8>) -> Result<(), AllocError>
-    ensures ok { OnOk result (out.new.items ≡ out.old.items ++ int16 number) }
-    ensures err { OnErr result (out.new.items ≡ out.old.items) }
+fn put_message(message: &Msg, out: &mut Vec<u8>)
+    requires fits { IsWithinRange message.now }
+    requires room { HasRoom out.old (spelling_of message.now) }
+    ensures { Puts out.old out.new (spelling_of message.now) }
 {
-    let mut bytes = [0; 2];
-    BigEndian::write_u16(&mut bytes, number);
-    out.extend_from_slice(&bytes)
+    match message {
+        Msg::Begin {
+            final_lsn,
+            time,
+            xid,
+        } => put_begin(*final_lsn, *time, *xid, out),
+        Msg::Commit { lsn, end_lsn, time } => put_commit(*lsn, *end_lsn, *time, out),
+        Msg::Relation(relation) => put_relation(relation, out),
+        Msg::Insert { relation, new } => put_insert(*relation, new, out),
+        Msg::Update { relation, old, new } => put_update(*relation, old, new, out),
+        Msg::Delete { relation, old } => put_delete(*relation, old, out),
+        Msg::Truncate { options, relations } => put_truncate(*options, relations, out),
+    }
 }
 
-fn append_int32(number: u32, out: &mut Vec<u8>) -> Result<(), AllocError>
-    ensures ok { OnOk result (out.new.items ≡ out.old.items ++ int32 number) }
-    ensures err { OnErr result (out.new.items ≡ out.old.items) }
-{
-    let mut bytes = [0; 4];
-    BigEndian::write_u32(&mut bytes, number);
-    out.extend_from_slice(&bytes)
-}
-
-/// Whether the layout has room for the message: each tuple has fewer than 2^15 columns, and each text fewer than 2^31
-/// bytes.
+/// Whether the layout has room for the message: each table and each tuple has fewer than 2^15 columns, each text of a
+/// tuple fewer than 2^31 bytes, and fewer than 2^31 tables are emptied.
 pub fn fits(message: &Msg) -> bool
     ensures { IsTrue result ↔ IsWithinRange message.now }
 {
     match message {
-        Msg::Insert { new, .. } => new.len() < 32_768 && new.cells().iter().all(cell_fits),
+        Msg::Begin { .. } | Msg::Commit { .. } => true,
+        Msg::Relation(relation) => relation.columns.len() < 32_768,
+        Msg::Insert { new, .. } => tuple_fits(new),
+        Msg::Update { old, new, .. } => maybe_old_fits(old) && tuple_fits(new),
+        Msg::Delete { old, .. } => old_fits(old),
+        Msg::Truncate { relations, .. } => relations.len() < 2_147_483_648,
     }
+}
+
+fn maybe_old_fits(old: &Option<OldTuple>) -> bool
+    ensures { IsTrue result ↔ IsMaybeOldWithinRange old.now }
+{
+    match old {
+        None => true,
+        Some(old) => old_fits(old),
+    }
+}
+
+fn old_fits(old: &OldTuple) -> bool
+    ensures { IsTrue result ↔ IsOldWithinRange old.now }
+{
+    match old {
+        OldTuple::Key(tuple) | OldTuple::Full(tuple) => tuple_fits(tuple),
+    }
+}
+
+fn tuple_fits(tuple: &Tuple) -> bool
+    ensures { IsTrue result ↔ IsTupleWithinRange tuple.now }
+{
+    tuple.len() < 32_768 && tuple.cells().iter().all(cell_fits)
 }
 
 fn cell_fits(cell: &Cell) -> bool

@@ -1,14 +1,30 @@
 //! The messages of PostgreSQL's logical replication protocol as values, and the bytes that spell them.
 #![tactic(auto)]
 
+mod begin;
+mod commit;
+mod decoding;
+mod delete;
 mod encoding;
+mod error;
+mod insert;
 mod laws;
 mod message;
+mod reader;
+mod relation;
+mod room;
 #[cfg(test)]
 mod tests;
+mod truncate;
+mod tuple;
+mod update;
 mod values;
 
+pub use decoding::decode;
 pub use encoding::{encode, fits};
+pub use error::MsgError;
 pub use laws::no_spelling_begins_another;
-pub use message::{Cell, Msg, Tuple};
+pub use message::Msg;
+pub use relation::{Relation, RelationColumn, ReplicaIdentity};
+pub use tuple::{Cell, OldTuple, Tuple};
 pub use values::tuple_of;

@@ -1,63 +1,48 @@
-ghost use Rattle.std.specs.Prelude.{◌≡◌, ◌==◌, length};
+//! Messages of the logical replication protocol as values.
 
-use filter_tree::Text;
-use std::marker::Model;
+use crate::relation::Relation;
+use crate::tuple::{OldTuple, Tuple};
+use filter_tree::Items;
 
-/// A column's value as a message has it: null, or the text of a value.
-#[derive(Debug, Drop)]
-pub enum Cell {
-    Null,
-    Text(Text),
-}
-
-/// The values of a row as a message has them, in the order of the columns. Contracts see the list of the cells.
-#[derive(Debug, Drop)]
-pub struct Tuple {
-    cells: Vec<Cell>,
-}
-
-impl Model for Tuple {
-    ghost use Rattle.std.specs.Prelude.{List};
-    ghost use Rattle.pgoutput_msgs.specs.declared.message.Cell.{Cell};
-
-    ghost Value = { List Cell };
-
-    ghost view = { λ t. t.cells.items };
-}
-
-impl Tuple {
-    /// The tuple of these cells.
-    pub fn from_cells(cells: Vec<Cell>) -> Tuple
-        ensures { result ≡ cells.items }
-    {
-        Tuple { cells }
-    }
-
-    /// The cells in the order of the columns.
-    pub fn cells(&self) -> &[Cell]
-        ensures { result.now ≡ self.now }
-    {
-        self.cells.as_slice()
-    }
-
-    /// The number of columns.
-    pub fn len(&self) -> usize
-        ensures { result ≡ length self.now }
-    {
-        self.cells.len()
-    }
-
-    /// Whether the tuple has no column.
-    pub fn is_empty(&self) -> bool
-        ensures { result ≡ (length self.now == 0) }
-    {
-        self.cells.is_empty()
-    }
-}
-
-/// A message of the logical replication protocol.
+/// A message of the logical replication protocol, version 1, with each of its fields. Log sequence numbers (LSNs) are
+/// places in the log in bytes, times are in microseconds since 2000-01-01, and tables are named by their OIDs.
+///
+/// PostgreSQL 15, 55.9. Logical Replication Message Formats.
 #[derive(Debug, Drop)]
 pub enum Msg {
+    /// A transaction begins: its final LSN, when it was committed, and its number (xid).
+    Begin {
+        final_lsn: u64,
+        time: u64,
+        xid: u32,
+    },
+    /// A transaction ends: the LSN of the commit, the LSN at which the transaction ends, and when it was committed.
+    Commit {
+        lsn: u64,
+        end_lsn: u64,
+        time: u64,
+    },
+    /// A table whose changes follow.
+    Relation(Relation),
     /// A row was inserted into the table with this OID, and these are its values.
-    Insert { relation: u32, new: Tuple },
+    Insert {
+        relation: u32,
+        new: Tuple,
+    },
+    /// A row of the table with this OID was updated: what is sent of the old row, if anything, and the new row's values.
+    Update {
+        relation: u32,
+        old: Option<OldTuple>,
+        new: Tuple,
+    },
+    /// A row of the table with this OID was deleted, of which this is sent.
+    Delete {
+        relation: u32,
+        old: OldTuple,
+    },
+    /// The tables with these OIDs were emptied. Of the options the bit 1 is CASCADE, and 2 is RESTART IDENTITY.
+    Truncate {
+        options: u8,
+        relations: Items<u32>,
+    },
 }

@@ -1,4 +1,7 @@
-use crate::{Msg, encode, fits, no_spelling_begins_another, tuple_of};
+mod faults;
+mod server;
+
+use crate::{Msg, decode, encode, fits, no_spelling_begins_another, tuple_of};
 use filter_tree::{Row, Text, Value};
 use std::alloc::{AllocError, Global};
 use std::test::Fail;
@@ -42,6 +45,42 @@ fn hexadecimal(alloc: Global, bytes: &[u8]) -> Result<String, AllocError> {
     Ok(text)
 }
 
+fn digit(letter: u8) -> u8 {
+    match letter {
+        b'0'..=b'9' => letter - b'0',
+        b'a'..=b'f' => letter - b'a' + 10,
+        _ => 0,
+    }
+}
+
+/// The bytes that hexadecimal digits write. Spaces between them count for nothing.
+fn bytes_of(alloc: Global, text: &str) -> Result<Vec<u8>, AllocError> {
+    let mut bytes = Vec::new(alloc);
+    let mut high = None;
+    for letter in text.as_bytes() {
+        if *letter != b' ' {
+            let low = digit(*letter);
+            match high {
+                None => high = Some(low),
+                Some(first) => {
+                    bytes.push((first & 15) << 4 | low)?;
+                    high = None;
+                }
+            }
+        }
+    }
+    Ok(bytes)
+}
+
+/// The bytes that spell a message that there is room for.
+fn spelled(alloc: Global, message: &Msg) -> Result<Vec<u8>, AllocError> {
+    let mut out = Vec::new(alloc);
+    if fits(message) {
+        encode(message, &mut out)?;
+    }
+    Ok(out)
+}
+
 #[test]
 fn insert_messages_are_spelled_by_the_layout(rt: HostRuntime) -> Result<(), Fail> {
     use Datum::{Bool, Int, Null};
@@ -75,18 +114,15 @@ fn insert_messages_are_spelled_by_the_layout(rt: HostRuntime) -> Result<(), Fail
     ];
     for (row, tuple) in cases {
         let message = insert_of(rt.alloc(), row)?;
-        let Msg::Insert { relation: _, new } = &message;
-        assert_eq!(rt;
-            (new.len(), new.is_empty(), new.cells().len()),
-            (row.len(), row.is_empty(), row.len())
-        );
-        let mut out = Vec::new(rt.alloc());
-        if fits(&message) {
-            encode(&message, &mut out)?;
+        if let Msg::Insert { relation: _, new } = &message {
+            assert_eq!(rt;
+                (new.len(), new.is_empty(), new.cells().len()),
+                (row.len(), row.is_empty(), row.len())
+            );
         }
-        let spelled = hexadecimal(rt.alloc(), out.as_slice())?;
+        let out = spelled(rt.alloc(), &message)?;
         let expected = format!(in rt.alloc(); "{head}{tuple}")?;
-        assert_eq!(rt; spelled, expected);
+        assert_eq!(rt; hexadecimal(rt.alloc(), out.as_slice())?, expected);
     }
     no_spelling_begins_another();
     Ok(())
@@ -150,15 +186,14 @@ fn a_row_may_have_100_of_the_longest_texts(rt: HostRuntime) -> Result<(), Fail> 
         relation: 16_447,
         new: tuple_of(rt.alloc(), &row)?,
     };
-    let mut out = Vec::new(rt.alloc());
-    if fits(&message) {
-        encode(&message, &mut out)?;
-    }
+    let out = spelled(rt.alloc(), &message)?;
     // eight bytes before the columns; of each column a letter, its length and its text
     assert_eq!(rt; out.len(), 8 + 100 * (1 + 4 + 65_535));
     assert!(rt;
         out.as_slice()
             .starts_with(b"I\0\0\x40\x3fN\0\x64t\0\0\xff\xffa")
     );
+    let again = decode(rt.alloc(), out.as_slice())?;
+    assert!(rt; spelled(rt.alloc(), &again)?.as_slice() == out.as_slice());
     Ok(())
 }

@@ -2,10 +2,10 @@ ghost use Rattle.std.specs.Prelude.{◌≡◌, ◌<◌, ◌^◌, IfOk, List, len
 ghost use Rattle.filter_tree.specs.declared.table.Column.{Column};
 ghost use Rattle.filter_tree.specs.Valid.{IsValid};
 ghost use Rattle.filter_tree.specs.Values.{datum_view};
-ghost use Rattle.pgoutput_msgs.specs.Spelling.{IsTupleWithinRange};
+ghost use Rattle.pgoutput_msgs.specs.Ranges.{IsTupleWithinRange};
 ghost use Rattle.pgoutput_msgs.specs.ValueText.{cell_of, cells_of};
 
-use crate::message::{Cell, Tuple};
+use crate::tuple::{Cell, Tuple};
 use filter_tree::{Row, Text, Value};
 use std::alloc::{AllocError, Allocator, Global};
 

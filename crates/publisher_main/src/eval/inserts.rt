@@ -3,7 +3,7 @@
 ghost use Rattle.std.specs.Prelude.{◌≡◌, ◌++◌, [], map, IfOk, OnOk};
 ghost use Rattle.std.specs.String.{string_bytes};
 ghost use Rattle.filter_tree.specs.Valid.{IsValid};
-ghost use Rattle.pgoutput_msgs.specs.Spelling.{IsWithinRange};
+ghost use Rattle.pgoutput_msgs.specs.Ranges.{IsWithinRange};
 ghost use Rattle.publisher_main.specs.Eval.Carriers.{carrier_view};
 ghost use Rattle.publisher_main.specs.Eval.Inserts as spec;
 ghost use Rattle.publisher_main.specs.Eval.Printing.{carriers_in};

@@ -1,4 +1,4 @@
-use Rattle.pgoutput_msgs.proofs.SpellingLemmas.{prefix_free, same_message}
+use Rattle.pgoutput_msgs.proofs.SpellingLaws.{prefix_free, same_message}
 use Rattle.pgoutput_msgs.proofs.laws.no_spelling_begins_another.Goals as goal
 
 pub returns-clause-ends : goal.returns-clause-ends

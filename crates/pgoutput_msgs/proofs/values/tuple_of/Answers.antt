@@ -1,6 +1,6 @@
 use Rattle.std.proofs.Common.{◌≡◌, sym, subst, arith, rules}
 use Rattle.std.proofs.lemmas.Grind.{common_steps}
-use Rattle.pgoutput_msgs.specs.Spelling.{IsTupleWithinRange}
+use Rattle.pgoutput_msgs.specs.Ranges.{IsTupleWithinRange}
 use Rattle.pgoutput_msgs.specs.ValueText.{cells_of}
 use Rattle.pgoutput_msgs.proofs.RowLemmas.{valid_row_fits}
 use Rattle.pgoutput_msgs.proofs.values.tuple_of.Goals as goal
