@@ -8,7 +8,7 @@ mod laws;
 mod tests;
 
 pub use command::Command;
-pub use key::key_of;
+pub use key::{key_of, values_at};
 pub use laws::{
     commands_change_rows, commands_come_one_by_one, records_show_what_is_seen, rows_come_and_go,
 };
