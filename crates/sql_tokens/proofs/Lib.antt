@@ -2,6 +2,7 @@ pub mod CommentTurns
 pub mod QuoteTurns
 pub mod NumberTurns
 pub mod Ends
+pub mod Fronts
 pub mod Lexing
 pub mod Cuts
 pub mod SpelledTokens

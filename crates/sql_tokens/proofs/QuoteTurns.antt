@@ -1,5 +1,5 @@
 -- A quoted text read a byte at a time.
-use Rattle.std.proofs.Common.{◌≡◌, ℕ, suc, ◌+◌, ◌<◌, Bool, true, false, ◌&&◌, ◌==◌, if◌then◌else◌, List, [], ◌∷◌, length, get_or, Option, Some, None, IfSome, refl, arith, eqb-true}
+use Rattle.std.proofs.Common.{◌≡◌, ℕ, suc, ◌+◌, ◌<◌, ◌≤◌, Bool, true, false, ◌&&◌, ◌==◌, if◌then◌else◌, List, [], ◌∷◌, length, get_or, Option, Some, None, IfSome, refl, arith, eqb-true}
 use Rattle.std.proofs.lemmas.Bool.Decides.{nat_tests}
 use Rattle.sql_tokens.specs.Comments.{longer}
 use Rattle.sql_tokens.specs.Quotes.{inner_len, undoubled}
@@ -47,6 +47,20 @@ inner_len-from quote bytes = (inner_by_byte quote bytes).1
 pub undoubled-from : (quote : ℕ) (bytes : List ℕ) → length (undoubled quote bytes) ≡ undoubled_from quote false bytes
 undoubled-from quote bytes = (undoubled_by_byte quote bytes).1
 
+undoubled_from-no_longer : (quote : ℕ) (is_quote : Bool) (bytes : List ℕ) → undoubled_from quote is_quote bytes ≤ length bytes
+unfolding undoubled_from
+undoubled_from-no_longer quote is_quote [] = omega arith
+undoubled_from-no_longer quote is_quote (b ∷ bytes) =
+    let after_first = undoubled_from-no_longer quote false bytes in
+    let after_other = undoubled_from-no_longer quote (b == quote) bytes in
+    grind (arith, nat_tests)
+
+-- a text is no longer once its quotes are undoubled
+pub undoubled-no_longer : (quote : ℕ) (bytes : List ℕ) → length (undoubled quote bytes) ≤ length bytes
+undoubled-no_longer quote bytes =
+    let less = undoubled_from-no_longer quote false bytes in
+    omega (arith, undoubled-from quote bytes)
+
 -- at the place there is the quote
 abbrev IsAtQuote : ℕ → List ℕ → ℕ → Type 0
 IsAtQuote quote bytes n = (n < length bytes) × (get_or bytes n 0 ≡ quote)
@@ -82,3 +96,5 @@ inner_len-ends quote bytes n e = let found = rw e at (inner_len-at_quote quote b
 pub ruleset inner_turns = (longer_longer, longer_zero, inner_len-from, inner_len-ends)
 
 pub ruleset undoubled_turns = undoubled-from
+
+pub ruleset shorter = (undoubled-no_longer, nat_tests)

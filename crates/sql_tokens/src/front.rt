@@ -69,9 +69,9 @@ fn punctuation(bytes: &[u8]) -> Piece
     }
 }
 
-/// What is at the front of some bytes.
+/// What is at the front of some bytes, by the tests of all that it may be.
 #[tactic(auto, unfolding(crate::specs::Front::front))]
-pub(crate) fn front(bytes: &[u8]) -> Piece
+fn any_front(bytes: &[u8]) -> Piece
     requires { 0 < length bytes.now }
     ensures value { result ≡ spec.front bytes.now }
     ensures within { IsPiece bytes.now result }
@@ -95,5 +95,20 @@ pub(crate) fn front(bytes: &[u8]) -> Piece
         operator(bytes)
     } else {
         punctuation(bytes)
+    }
+}
+
+/// What is at the front of some bytes. Digits, and the marks that part values, come so often that they are told by their
+/// first byte alone.
+#[tactic(auto, using(crate::proofs::Fronts::fronts))]
+pub(crate) fn front(bytes: &[u8]) -> Piece
+    requires { 0 < length bytes.now }
+    ensures value { result ≡ spec.front bytes.now }
+    ensures within { IsPiece bytes.now result }
+{
+    match bytes[0] {
+        b'0'..=b'9' => number(bytes),
+        b'(' | b')' | b',' | b';' => punctuation(bytes),
+        _ => any_front(bytes),
     }
 }

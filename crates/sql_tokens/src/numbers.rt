@@ -21,14 +21,13 @@ fn value_of(digits: &[u8]) -> Option<u64>
     let mut rest = digits;
     let mut value = 0;
     while let [byte, after @ ..] = rest {
-        let digit = u64::from(byte.saturating_sub(b'0'));
-        if (LIMIT - digit) / 10 < value {
+        if LIMIT / 10 < value {
             return None;
         }
-        value = 10 * value + digit;
+        value = 10 * value + u64::from(byte.saturating_sub(b'0'));
         rest = after;
     }
-    Some(value)
+    if LIMIT < value { None } else { Some(value) }
 }
 
 /// The number at the front of some bytes, which begin with a digit.

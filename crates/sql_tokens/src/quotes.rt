@@ -1,6 +1,6 @@
 //! Quoted names and string constants.
 
-ghost use Rattle.std.specs.Prelude.{◌≡◌, ◌<◌, length, slice_index, IfSome};
+ghost use Rattle.std.specs.Prelude.{◌≡◌, ◌<◌, length, nat_lt, slice_index, IfSome};
 ghost use Rattle.sql_tokens.specs.Quotes as spec;
 ghost use Rattle.sql_tokens.specs.Pieces.{IsPiece};
 
@@ -60,6 +60,14 @@ fn undoubled_len(quote: u8, inner: &[u8]) -> usize
     length
 }
 
+/// Whether more bytes than this are left once doubled quotes are undone, of which there are no more than before.
+#[tactic(auto, using(crate::proofs::QuoteTurns::shorter))]
+fn is_longer(quote: u8, inner: &[u8], limit: usize) -> bool
+    ensures { result ≡ nat_lt limit (length (spec.undoubled quote inner.now)) }
+{
+    limit < inner.len() && limit < undoubled_len(quote, inner)
+}
+
 /// The name that begins with a double quote at the front of some bytes.
 #[tactic(auto, unfolding(crate::specs::Quotes::quoted_name))]
 pub(crate) fn quoted_name(bytes: &[u8]) -> Piece
@@ -73,7 +81,7 @@ pub(crate) fn quoted_name(bytes: &[u8]) -> Piece
     };
     if length == 0 {
         Piece::Faulty(FaultKind::BadToken)
-    } else if NAME_BYTES < undoubled_len(b'"', &after[..length]) {
+    } else if is_longer(b'"', &after[..length], NAME_BYTES) {
         Piece::Faulty(FaultKind::NameTooLong)
     } else {
         Piece::Whole(TokenKind::QuotedName, length + 2)
@@ -91,7 +99,7 @@ pub(crate) fn string(bytes: &[u8]) -> Piece
     let Some(length) = inner_len(b'\'', after) else {
         return Piece::Faulty(FaultKind::BadToken);
     };
-    if STRING_BYTES < undoubled_len(b'\'', &after[..length]) {
+    if is_longer(b'\'', &after[..length], STRING_BYTES) {
         Piece::Faulty(FaultKind::LiteralBytes)
     } else {
         Piece::Whole(TokenKind::Text, length + 2)
