@@ -1,6 +1,7 @@
 mod catalogs;
 mod limits;
 mod terms;
+mod texts;
 
 use crate::{CheckError, check_one};
 use filter_tree::{

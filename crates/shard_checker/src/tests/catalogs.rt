@@ -12,7 +12,7 @@ use std::alloc::{AllocError, Global};
 use std::test::Fail;
 
 /// The first operations, so many, in the order insert, update, delete, truncate.
-fn operations(count: usize) -> Operations {
+pub fn operations(count: usize) -> Operations {
     Operations {
         insert: count > 0,
         update: count > 1,
@@ -47,7 +47,7 @@ fn subscription(alloc: Global, name: &str, publication: usize) -> Result<Subscri
 
 /// `t` with this replica identity, and three publications of it, of which two subscribers take the first and the second:
 /// `pa` with these operations and this filter, `pb` for `id >= 100`, and `pc`, which nobody takes.
-fn catalog(
+pub fn catalog(
     alloc: Global,
     identity: Identity,
     publishes: Operations,
@@ -68,7 +68,7 @@ fn catalog(
     })
 }
 
-fn low() -> Filter {
+pub fn low() -> Filter {
     number(ID, Op::Lt, 100)
 }
 

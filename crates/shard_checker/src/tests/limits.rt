@@ -160,7 +160,7 @@ fn the_last_of_a_catalog_at_the_limits_is_refused(rt: HostRuntime) -> Result<(),
 }
 
 /// Appends a text of so many splits by atom 0, as even as can be, whose leaves name subscriber 0.
-fn push_even(splits: usize, text: &mut String) -> Result<(), AllocError> {
+pub fn push_even(splits: usize, text: &mut String) -> Result<(), AllocError> {
     if splits == 0 {
         return text.push_str("o 0");
     }
