@@ -2,6 +2,8 @@ pub mod Counting
 pub mod Exact
 pub mod Fields
 pub mod Messages
+pub mod RelationRules
 pub mod RowLemmas
 pub mod SpellingLaws
+pub mod TupleRules
 pub mod Writing

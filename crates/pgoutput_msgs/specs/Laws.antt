@@ -25,8 +25,10 @@ SpellingsAreDecoded = (message : Msg) → IsMessage message → decoded (spellin
 
 -- what is decoded is spelled so
 abbrev pub DecodedAreSpellings : Type 0
-DecodedAreSpellings = (bytes : List ℕ) (message : Msg) → IsBytes bytes → decoded bytes ≡ Ok message → IsMessage message × (bytes ≡ spelling_of message)
+DecodedAreSpellings = (bytes : List ℕ) (message : Msg) → IsBytes bytes → decoded bytes ≡ Ok message
+    → IsMessage message × (bytes ≡ spelling_of message)
 
 -- a spelling with bytes after it is refused for these
 abbrev pub NothingMayFollow : Type 0
-NothingMayFollow = (message : Msg) (next : ℕ) (more : List ℕ) → IsMessage message → decoded (spelling_of message ++ next ∷ more) ≡ Err Trailing
+NothingMayFollow = (message : Msg) (next : ℕ) (more : List ℕ) → IsMessage message
+    → decoded (spelling_of message ++ next ∷ more) ≡ Err Trailing

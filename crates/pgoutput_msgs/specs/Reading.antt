@@ -145,7 +145,8 @@ unfoldable pub flag_at : Rule Bool
 flag_at = byte >>= flag_by
 
 unfoldable pub column_at : Rule RelationColumn
-column_at = mapped (λ f. record { is_key = f.0; name = f.1.0; type_oid = f.1.1.0; type_modifier = cast_signed w32 f.1.1.1 })
+column_at = mapped
+    (λ f. record { is_key = f.0; name = f.1.0; type_oid = f.1.1.0; type_modifier = cast_signed w32 f.1.1.1 })
     (flag_at & string_at & number w32 & number w32)
 
 unfoldable pub columns_at : Rule (List RelationColumn)
@@ -159,13 +160,20 @@ begin_at = mapped (λ f. m.Begin f.0 f.1.0 f.1.1) (number w64 & number w64 & num
 -- the flags of a commit are not used, and 0
 abbrev pub commit_by : ℕ → Rule Msg
 commit_by flags =
-    if flags == 0 then mapped (λ f. m.Commit f.0 f.1.0 f.1.1) (number w64 & number w64 & number w64) else fail (Unknown flags)
+    if flags == 0 then mapped (λ f. m.Commit f.0 f.1.0 f.1.1) (number w64 & number w64 & number w64)
+    else fail (Unknown flags)
 
 unfoldable pub commit_at : Rule Msg
 commit_at = byte >>= commit_by
 
 unfoldable pub relation_at : Rule Msg
-relation_at = mapped (λ f. m.Relation (record { oid = f.0; namespace = f.1.0; name = f.1.1.0; identity = f.1.1.1.0; columns = f.1.1.1.1 }))
+relation_at = mapped (λ f. m.Relation (record {
+  oid = f.0;
+  namespace = f.1.0;
+  name = f.1.1.0;
+  identity = f.1.1.1.0;
+  columns = f.1.1.1.1;
+}))
     (number w32 & string_at & string_at & identity_at & columns_at)
 
 unfoldable pub insert_at : Rule Msg
@@ -173,7 +181,9 @@ insert_at = mapped (λ f. m.Insert f.0 f.1) (number w32 & new_at)
 
 -- a new row alone, or what is sent of the old row and then the new one
 abbrev pub rows_by : ℕ → Rule (Option OldTuple × List Cell)
-rows_by kind = if kind == 78 then mapped (λ new. (None, new)) tuple_at else mapped (λ f. (Some f.0, f.1)) (old_by kind & new_at)
+rows_by kind =
+    if kind == 78 then mapped (λ new. (None, new)) tuple_at
+    else mapped (λ f. (Some f.0, f.1)) (old_by kind & new_at)
 
 unfoldable pub update_at : Rule Msg
 update_at = mapped (λ f. m.Update f.0 f.1.0 f.1.1) (number w32 & (byte >>= rows_by))

@@ -77,7 +77,8 @@ key_flag true = 1
 
 abbrev pub column_spelling : RelationColumn → List ℕ
 column_spelling column =
-    int8 (key_flag column.is_key) ++ (string column.name ++ (int32 column.type_oid ++ signed_int32 column.type_modifier))
+    int8 (key_flag column.is_key)
+    ++ (string column.name ++ (int32 column.type_oid ++ signed_int32 column.type_modifier))
 
 abbrev pub columns_spelling : List RelationColumn → List ℕ
 columns_spelling columns = int16 (length columns) ++ flat_map column_spelling columns

@@ -11,8 +11,8 @@ use thiserror::Error;
 /// PostgreSQL 15, 55.9. Logical Replication Message Formats.
 #[derive(Clone, Copy, Debug, PartialEq, Eq, Error)]
 pub enum MsgError {
-    /// This byte is none of those that may be here: of the letters of messages, of rows and of replica identities, of the
-    /// kinds of a column's value, and of flags.
+    /// This byte is none of those that may be here: of the letters of messages, of rows and of replica identities, of
+    /// the kinds of a column's value, and of flags.
     #[error("a message can't have the byte {0} here")]
     Unknown(u8),
     /// A value that was not sent, since it is stored out of line and did not change (`u`).

@@ -1,8 +1,18 @@
-ghost use Rattle.pgoutput_msgs.specs.Laws.{NoneIsProperPrefix, EachSpellsOne};
+//! Laws of the spellings of messages.
+
+ghost use Rattle.pgoutput_msgs.specs.Laws.{NoneIsProperPrefix, EachSpellsOne, SpellingsAreDecoded, DecodedAreSpellings, NothingMayFollow};
 
 /// A law, and no code: no message's spelling is a proper prefix of another's, and no two messages are spelled alike. So
 /// whoever reads spellings one after another can tell where each ends, and which message it spells.
 pub fn no_spelling_begins_another()
     ensures ends { NoneIsProperPrefix }
     ensures one { EachSpellsOne }
+{}
+
+/// A law, and no code: what is decoded of a spelling is its message, what is decoded is spelled so, and a spelling with
+/// bytes after it is refused for these.
+pub fn spellings_are_decoded()
+    ensures decoded { SpellingsAreDecoded }
+    ensures spelled { DecodedAreSpellings }
+    ensures alone { NothingMayFollow }
 {}

@@ -23,7 +23,7 @@ mod values;
 pub use decoding::decode;
 pub use encoding::{encode, fits};
 pub use error::MsgError;
-pub use laws::no_spelling_begins_another;
+pub use laws::{no_spelling_begins_another, spellings_are_decoded};
 pub use message::Msg;
 pub use relation::{Relation, RelationColumn, ReplicaIdentity};
 pub use tuple::{Cell, OldTuple, Tuple};

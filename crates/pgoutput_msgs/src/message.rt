@@ -29,7 +29,7 @@ pub enum Msg {
         relation: u32,
         new: Tuple,
     },
-    /// A row of the table with this OID was updated: what is sent of the old row, if anything, and the new row's values.
+    /// A row of the table with this OID was updated: what is sent of the old row, if anything, and the new values.
     Update {
         relation: u32,
         old: Option<OldTuple>,

@@ -37,8 +37,8 @@ impl ReplicaIdentity {
     }
 }
 
-/// A column of a table: whether it is one of the replica identity's, its name, and the OID and modifier of its type. The
-/// modifier is -1 for a type without one.
+/// A column of a table: whether it is one of the replica identity's, its name, and the OID and the modifier of its type.
+/// The modifier is -1 for a type without one.
 #[derive(Debug, Drop)]
 pub struct RelationColumn {
     pub is_key: bool,

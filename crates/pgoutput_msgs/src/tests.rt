@@ -1,7 +1,9 @@
 mod faults;
 mod server;
 
-use crate::{Msg, decode, encode, fits, no_spelling_begins_another, tuple_of};
+use crate::{
+    Msg, decode, encode, fits, no_spelling_begins_another, spellings_are_decoded, tuple_of,
+};
 use filter_tree::{Row, Text, Value};
 use std::alloc::{AllocError, Global};
 use std::test::Fail;
@@ -125,6 +127,7 @@ fn insert_messages_are_spelled_by_the_layout(rt: HostRuntime) -> Result<(), Fail
         assert_eq!(rt; hexadecimal(rt.alloc(), out.as_slice())?, expected);
     }
     no_spelling_begins_another();
+    spellings_are_decoded();
     Ok(())
 }
 

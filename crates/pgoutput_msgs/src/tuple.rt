@@ -66,8 +66,8 @@ impl Tuple {
     }
 }
 
-/// What is sent of an old row: `Key` has the values of the columns of the replica identity and null in the others, `Full`
-/// has all values.
+/// What is sent of an old row: `Key` has the values of the columns of the replica identity and null in the others,
+/// `Full` has all values.
 #[derive(Debug, Drop)]
 pub enum OldTuple {
     Key(Tuple),
