@@ -3,4 +3,8 @@ pub mod Contents
 pub mod FrameLaws
 pub mod Frames
 pub mod Inboxes
+pub mod Refusals
 pub mod Scans
+pub mod StartOrder
+pub mod StreamLaws
+pub mod Streams

@@ -21,8 +21,7 @@ pub fn look(limit: u32, bytes: &[u8]) -> Front
     ensures front { result ≡ front limit bytes.now }
     ensures tells { Tells limit bytes.now result }
 {
-    let found = classify(limit, bytes);
-    found
+    classify(limit, bytes)
 }
 
 #[tactic(auto, unfolding(crate::specs::Frames::front))]

@@ -1,4 +1,6 @@
 ghost use Rattle.copy_both.specs.FrameLaws.{CutsAreSpelled, SpelledAreCut, CutsAreWhole, StartsGiven, FedIsGiven, FrameIsGiven, FaultIsFirst};
+ghost use Rattle.copy_both.specs.StreamLaws.{Starts, Takes, Keeps, Passes, Grows};
+ghost use Rattle.copy_both.specs.Streams.{Telling};
 ghost use Rattle.copy_both.specs.ContentLaws.{XLogDataIsRead, KeepaliveIsRead, StatusIsRead};
 
 /// A law, and no code, of what bytes are cut into.
@@ -30,4 +32,15 @@ pub fn bodies_are_read_as_spelled()
     ensures data { XLogDataIsRead }
     ensures keepalive { KeepaliveIsRead }
     ensures status { StatusIsRead }
+{}
+
+/// A law, and no code, of what a connection sends, whatever it tells of a commit. After CopyBothResponse the stream grows
+/// by each commit that is taken and by each keepalive. What was passed on and what waits are together the stream, however
+/// much was passed on. A log that grows changes nothing of it.
+pub fn streams_grow<C>()
+    ensures starts { (telling : Telling C) → Starts telling }
+    ensures takes { (telling : Telling C) → Takes telling }
+    ensures keeps { (telling : Telling C) → Keeps telling }
+    ensures passes { (telling : Telling C) → Passes telling }
+    ensures grows { (telling : Telling C) → Grows telling }
 {}

@@ -57,3 +57,12 @@ pub fn put_flag(out: &mut BytesMut, is_yes: bool)
         put_byte(out, 0);
     }
 }
+
+/// Appends a text for which there is room.
+pub fn put_text(out: &mut BytesMut, text: &str)
+    requires { length text.now ≤ out.old.spare }
+    ensures items { out.new.items ≡ out.old.items ++ text.now }
+    ensures spare { out.new.spare + length text.now ≡ out.old.spare }
+{
+    out.extend_reserved(text.as_bytes());
+}

@@ -2,6 +2,7 @@ use crate::{
     Deframer, FrameFault, Keepalive, Status, XLogData, append_copy_both_response, append_copy_done,
     append_keepalive, append_status, append_xlog_data, bodies_are_read_as_spelled,
     bytes_make_frames, pieces_make_frames, read_keepalive, read_status, read_xlog_data,
+    streams_grow,
 };
 use bytes::BytesMut;
 use std::alloc::{AllocError, Global};
@@ -87,6 +88,7 @@ fn frames_do_not_depend_on_the_pieces(rt: HostRuntime) -> Result<(), Fail> {
     }
     bytes_make_frames();
     pieces_make_frames();
+    streams_grow::<u8>();
     Ok(())
 }
 

@@ -1,0 +1,74 @@
+-- Why a stream is not started, and the ErrorResponse that says so ("55.7. Message Formats", "55.8. Error and Notice Message Fields", "Appendix A. PostgreSQL Error Codes"). The texts are this project's own.
+use Rattle.std.specs.Prelude.{ℕ, ◌<◌, ◌+◌, ◌^◌, List, [], ◌∷◌, ◌++◌, length, codes}
+use Rattle.copy_both.specs.declared.refusal.Refusal.{Refusal}
+use Rattle.copy_both.specs.declared.refusal.Refusal.TheVariants as code
+use Rattle.copy_both.specs.Frames.{framed}
+
+-- the names are those of the slot, the option or the publication
+pub data RefusalOf : Type 0 where
+  ExpectedQuery : RefusalOf
+  Unreadable : RefusalOf
+  NoSlot : List ℕ → RefusalOf
+  WrongOption : List ℕ → RefusalOf
+  UnsupportedOption : List ℕ → RefusalOf
+  MissingOption : List ℕ → RefusalOf
+  NoPublication : List ℕ → RefusalOf
+  OtherPublications : List ℕ → RefusalOf
+  Ahead : RefusalOf
+  InUse : List ℕ → RefusalOf
+
+abbrev pub refusal_view : Refusal → RefusalOf
+refusal_view code.ExpectedQuery = ExpectedQuery
+refusal_view code.Unreadable = Unreadable
+refusal_view (code.NoSlot slot) = NoSlot slot.now
+refusal_view (code.WrongOption option) = WrongOption option.now
+refusal_view (code.UnsupportedOption option) = UnsupportedOption option.now
+refusal_view (code.MissingOption option) = MissingOption option.now
+refusal_view (code.NoPublication publication) = NoPublication publication.now
+refusal_view (code.OtherPublications slot) = OtherPublications slot.now
+refusal_view code.Ahead = Ahead
+refusal_view (code.InUse slot) = InUse slot.now
+
+-- protocol_violation, syntax_error, undefined_object, invalid_parameter_value, feature_not_supported and object_in_use
+abbrev pub code_of : RefusalOf → List ℕ
+code_of ExpectedQuery = codes "08P01"
+code_of Unreadable = codes "42601"
+code_of (NoSlot slot) = codes "42704"
+code_of (WrongOption option) = codes "22023"
+code_of (UnsupportedOption option) = codes "0A000"
+code_of (MissingOption option) = codes "22023"
+code_of (NoPublication publication) = codes "42704"
+code_of (OtherPublications slot) = codes "22023"
+code_of Ahead = codes "22023"
+code_of (InUse slot) = codes "55006"
+
+-- a text with a name between double quotes
+abbrev pub naming : List ℕ → List ℕ → List ℕ → List ℕ
+naming before name after = before ++ (34 ∷ (name ++ (34 ∷ after)))
+
+abbrev pub text_of : RefusalOf → List ℕ
+text_of ExpectedQuery = codes "expected a query"
+text_of Unreadable = codes "cannot read the replication command"
+text_of (NoSlot slot) = naming (codes "replication slot ") slot (codes " does not exist")
+text_of (WrongOption option) = naming (codes "option ") option (codes " is wrong")
+text_of (UnsupportedOption option) = naming (codes "option ") option (codes " is not supported")
+text_of (MissingOption option) = naming (codes "option ") option (codes " is missing")
+text_of (NoPublication publication) = naming (codes "publication ") publication (codes " does not exist")
+text_of (OtherPublications slot) = naming (codes "publications differ from those of slot ") slot []
+text_of Ahead = codes "start position is ahead of the log"
+text_of (InUse slot) = naming (codes "replication slot ") slot (codes " is active")
+
+-- a field: its letter, and its value with a zero byte after it
+abbrev pub field : ℕ → List ℕ → List ℕ
+field letter value = letter ∷ (value ++ (0 ∷ []))
+
+-- severity, severity that is never translated, code and text
+abbrev pub error_fields : List ℕ → List ℕ → List ℕ
+error_fields code text = field 83 (codes "ERROR") ++ (field 86 (codes "ERROR") ++ (field 67 code ++ (field 77 text ++ (0 ∷ []))))
+
+abbrev pub error_response : RefusalOf → List ℕ
+error_response refusal = framed (record { kind = 69; body = error_fields (code_of refusal) (text_of refusal) })
+
+-- its length is a signed number of 32 bits
+abbrev pub CanBeSent : RefusalOf → Type 0
+CanBeSent refusal = length (text_of refusal) + 29 < 2 ^ 31

@@ -1,0 +1,101 @@
+ghost use Rattle.std.specs.Prelude.{◌≡◌, ◌+◌, ◌++◌, [], length};
+ghost use Rattle.copy_both.specs.Refusals.{code_of, text_of, refusal_view};
+
+/// Why a stream is not started, with the name of the slot, the option or the publication. Each is answered by an
+/// ErrorResponse ("55.8. Error and Notice Message Fields").
+#[derive(Clone, Copy, Debug)]
+pub enum Refusal<'a> {
+    /// The first frame is no Query, or its body is no text with one zero byte, its last.
+    ExpectedQuery,
+    /// The text is no START_REPLICATION command for a logical slot.
+    Unreadable,
+    NoSlot(&'a str),
+    /// The option is unknown or given twice, or has no value that it can have.
+    WrongOption(&'a str),
+    /// The option asks for another protocol version, or for what is left out.
+    UnsupportedOption(&'a str),
+    MissingOption(&'a str),
+    NoPublication(&'a str),
+    /// The publications are not those of the subscription whose slot this is.
+    OtherPublications(&'a str),
+    /// The position is after the log's end.
+    Ahead,
+    /// Another connection streams from the slot.
+    InUse(&'a str),
+}
+
+/// The text of a refusal, in three parts.
+#[derive(Clone, Copy, Debug)]
+pub struct Words<'a> {
+    pub before: &'static str,
+    pub name: &'a str,
+    pub after: &'static str,
+}
+
+impl<'a> Refusal<'a> {
+    /// The code of the error, of five characters ("Appendix A. PostgreSQL Error Codes").
+    pub fn code(&self) -> &'static str
+        ensures code { result.now ≡ code_of (refusal_view self.now) }
+        ensures five { length result.now ≡ 5 }
+    {
+        match self {
+            Refusal::ExpectedQuery => "08P01",
+            Refusal::Unreadable => "42601",
+            Refusal::NoSlot(_) | Refusal::NoPublication(_) => "42704",
+            Refusal::WrongOption(_)
+            | Refusal::MissingOption(_)
+            | Refusal::OtherPublications(_)
+            | Refusal::Ahead => "22023",
+            Refusal::UnsupportedOption(_) => "0A000",
+            Refusal::InUse(_) => "55006",
+        }
+    }
+
+    /// The text: what is wrong, with the name of what is meant.
+    pub fn words(&self) -> Words<'a>
+        ensures text { result.before.now ++ result.name.now ++ result.after.now ≡ text_of (refusal_view self.now) }
+        ensures length { length result.before.now + length result.name.now + length result.after.now
+            ≡ length (text_of (refusal_view self.now)) }
+    {
+        match self {
+            Refusal::ExpectedQuery => plain("expected a query"),
+            Refusal::Unreadable => plain("cannot read the replication command"),
+            Refusal::NoSlot(slot) => naming("replication slot \"", slot, "\" does not exist"),
+            Refusal::WrongOption(option) => naming("option \"", option, "\" is wrong"),
+            Refusal::UnsupportedOption(option) => naming(
+                "option \"",
+                option,
+                "\" is not supported",
+            ),
+            Refusal::MissingOption(option) => naming("option \"", option, "\" is missing"),
+            Refusal::NoPublication(publication) => {
+                naming("publication \"", publication, "\" does not exist")
+            }
+            Refusal::OtherPublications(slot) => {
+                naming("publications differ from those of slot \"", slot, "\"")
+            }
+            Refusal::Ahead => plain("start position is ahead of the log"),
+            Refusal::InUse(slot) => naming("replication slot \"", slot, "\" is active"),
+        }
+    }
+}
+
+fn plain(text: &'static str) -> Words<'static>
+    ensures before { result.before.now ≡ text.now }
+    ensures name { result.name.now ≡ [] }
+    ensures after { result.after.now ≡ [] }
+{
+    naming(text, "", "")
+}
+
+fn naming<'a>(before: &'static str, name: &'a str, after: &'static str) -> Words<'a>
+    ensures before { result.before.now ≡ before.now }
+    ensures name { result.name.now ≡ name.now }
+    ensures after { result.after.now ≡ after.now }
+{
+    Words {
+        before,
+        name,
+        after,
+    }
+}

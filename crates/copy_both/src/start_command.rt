@@ -1,0 +1,32 @@
+use filter_tree::{Items, Text};
+
+/// What a START_REPLICATION command for a logical slot asks for ("55.4. Streaming Replication Protocol").
+#[derive(Debug, Drop)]
+pub struct StartCommand {
+    pub slot: Text,
+    /// A place in the log, in bytes: the commits from there on are asked for.
+    pub position: u64,
+    pub options: Vec<StartOption>,
+}
+
+/// An option of the output plugin ("55.5. Logical Streaming Replication Protocol").
+#[derive(Debug, Drop)]
+pub struct StartOption {
+    pub name: Text,
+    pub value: OptionValue,
+}
+
+/// What the value of an option says.
+#[derive(Debug, Drop)]
+pub enum OptionValue {
+    /// There is no option of this name, or its value is missing or none that it can have.
+    Wrong,
+    /// Another version of the protocol than 1, or that something is on that is left out.
+    Unsupported,
+    /// Version 1 of the protocol.
+    Version,
+    /// The names of the publications.
+    Publications(Items<Text>),
+    /// Something that is left out is off.
+    Off,
+}
