@@ -1,5 +1,6 @@
 -- A quoted text read a character at a time.
-use Rattle.std.proofs.Common.{◌≡◌, ℕ, suc, ◌+◌, ◌<◌, ◌≤◌, Bool, false, ◌&&◌, ◌==◌, if◌then◌else◌, List, [], ◌∷◌, ◌++◌, length, get_or, encode_utf8, inl, inr, refl, sym, arith, append-nil, append_assoc}
+use Rattle.std.proofs.Common.{◌≡◌, ℕ, suc, ◌+◌, ◌<◌, ◌≤◌, Bool, true, false, ◌&&◌, ◌||◌, ◌==◌, if◌then◌else◌, List, [], ◌∷◌, ◌++◌, length, get_or, encode_utf8, inl, inr, refl, sym, ap, ◌∙◌, arith, append-nil, append_assoc}
+use Rattle.std.specs.List.{list_any}
 use Rattle.std.proofs.lemmas.Bool.{cases_lt}
 use Rattle.std.proofs.lemmas.Bool.Decides.{nat_tests}
 use Rattle.std.proofs.lemmas.Str.{encode_ascii, inside_one, length-encode, len_utf8_bounds}
@@ -67,5 +68,20 @@ undoubled_from-char quote is_quote c rest small = elim (cases_lt c 128) [
       let e = kept_after quote is_quote (encode_utf8 c) rest small (omega (arith, length-encode c, len_utf8_bounds c)) high in
       grind (arith, nat_tests)
 ]
+
+neither : (x y : Bool) → (x || y) ≡ false → (x ≡ false) × (y ≡ false)
+neither false y h = (refl, h)
+neither true y h = cc
+
+undoubled_from-without : (quote : ℕ) (bytes : List ℕ) → list_any (λ b. b == quote) bytes ≡ false → undoubled_from quote false bytes ≡ bytes
+unfolding undoubled_from
+undoubled_from-without quote [] none = refl
+undoubled_from-without quote (b ∷ bytes) none =
+    let parts = neither (b == quote) (list_any (λ b. b == quote) bytes) none in
+    rw parts.0 (ap (λ rest. b ∷ rest) (undoubled_from-without quote bytes parts.1))
+
+-- a text without quotes stays
+pub undoubled_without : (quote : ℕ) (bytes : List ℕ) → list_any (λ b. b == quote) bytes ≡ false → undoubled quote bytes ≡ bytes
+undoubled_without quote bytes none = undoubled-from quote bytes ∙ undoubled_from-without quote bytes none
 
 pub ruleset undoubled_turns = (undoubled-from, undoubled_from-nil, undoubled_from-char, append_assoc, append-nil, nat_tests)
