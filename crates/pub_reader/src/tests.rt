@@ -5,6 +5,8 @@ mod largest;
 mod parameter_cases;
 mod publication_cases;
 mod resolution;
+mod script_cases;
+mod scripts;
 mod statement_cases;
 
 use self::catalog_cases::{AFTER_A_TABLE, Case, FILTERS, WHOLE};
