@@ -1,3 +1,5 @@
+//! The frames that begin and end a stream.
+
 ghost use Rattle.std.specs.Prelude.{◌≡◌, ◌++◌, OnOk, OnErr};
 ghost use Rattle.copy_both.specs.Contents.{copy_both_response, copy_done};
 

@@ -1,3 +1,5 @@
+//! Bytes of a connection, cut into frames.
+
 ghost use Rattle.std.specs.Prelude.{◌≡◌, IfOk, OnErr, None};
 ghost use Rattle.copy_both.specs.Inboxes.{empty_inbox, answer_of, IsFed, Gives};
 ghost use Rattle.copy_both.specs.Scans.{Reaches, Scans};

@@ -1,3 +1,5 @@
+//! The response to a start that is refused.
+
 ghost use Rattle.std.specs.Prelude.{◌≡◌, ◌++◌, OnOk, OnErr};
 ghost use Rattle.copy_both.specs.Refusals.{CanBeSent, error_response, refusal_view};
 

@@ -1,3 +1,5 @@
+//! Why bytes are not cut into further frames.
+
 use thiserror::Error;
 
 /// Why bytes are not cut into further frames.

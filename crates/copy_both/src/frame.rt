@@ -1,3 +1,5 @@
+//! Frames.
+
 use bytes::Bytes;
 
 /// A frame: one byte that says its kind, and what comes after its length ("55.7. Message Formats").

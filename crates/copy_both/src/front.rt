@@ -1,3 +1,5 @@
+//! What is at the front of some bytes.
+
 ghost use Rattle.std.specs.Prelude.{◌≡◌, ◌≤◌, length};
 ghost use Rattle.copy_both.specs.Frames.{front};
 ghost use Rattle.copy_both.specs.Scans.{Tells};

@@ -1,3 +1,5 @@
+//! What a server says while it has nothing to send.
+
 ghost use Rattle.std.specs.Prelude.{◌≡◌, ◌++◌, OnOk, OnErr};
 ghost use Rattle.copy_both.specs.Contents.{copy_data, keepalive_body, keepalive_in};
 

@@ -1,3 +1,5 @@
+//! Laws of frames, of what they hold, and of streams.
+
 ghost use Rattle.copy_both.specs.FrameLaws.{CutsAreSpelled, SpelledAreCut, CutsAreWhole, StartsGiven, FedIsGiven, FrameIsGiven, FaultIsFirst};
 ghost use Rattle.copy_both.specs.StreamLaws.{Starts, Takes, Keeps, Passes, Grows};
 ghost use Rattle.copy_both.specs.Streams.{Telling};

@@ -1,3 +1,5 @@
+//! Numbers in bytes.
+
 ghost use Rattle.std.specs.Prelude.{◌≡◌, ◌≤◌, ◌+◌, length};
 ghost use Rattle.copy_both.specs.Contents.{number_at};
 

@@ -1,3 +1,5 @@
+//! Why a start is refused.
+
 ghost use Rattle.std.specs.Prelude.{◌≡◌, ◌+◌, ◌++◌, [], length};
 ghost use Rattle.copy_both.specs.Refusals.{code_of, text_of, refusal_view};
 

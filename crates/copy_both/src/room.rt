@@ -1,3 +1,5 @@
+//! Bytes that are appended where there is room for them.
+
 ghost use Rattle.std.specs.Prelude.{◌≡◌, ◌≤◌, ◌+◌, ◌++◌, ◌∷◌, [], length};
 ghost use Rattle.copy_both.specs.Contents.{flag, int64};
 ghost use Rattle.std.specs.Int.{to_be_bytes, w32};

@@ -1,3 +1,5 @@
+//! The command that starts a stream.
+
 use filter_tree::{Items, Text};
 
 /// What a START_REPLICATION command for a logical slot asks for ("55.4. Streaming Replication Protocol").

@@ -1,3 +1,5 @@
+//! Starts that are refused, and those that are not.
+
 use crate::{
     Offer, OptionValue, Refusal, StartCommand, StartOption, append_error_response, find_slot,
     start_refusal,

@@ -1,3 +1,5 @@
+//! What a client says of how far it is.
+
 ghost use Rattle.std.specs.Prelude.{◌≡◌, ◌++◌, OnOk, OnErr};
 ghost use Rattle.copy_both.specs.Contents.{copy_data, status_body, status_in};
 

@@ -1,3 +1,5 @@
+//! Frames in pieces, and what CopyData carries.
+
 use crate::{
     Deframer, FrameFault, Keepalive, Status, XLogData, append_copy_both_response, append_copy_done,
     append_keepalive, append_status, append_xlog_data, bodies_are_read_as_spelled,

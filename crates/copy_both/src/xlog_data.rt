@@ -1,3 +1,5 @@
+//! What comes before a message in a stream.
+
 ghost use Rattle.std.specs.Prelude.{◌≡◌, ◌<◌, ◌+◌, ◌^◌, ◌++◌, length, OnOk, OnErr};
 ghost use Rattle.std.specs.Option.{option_map};
 ghost use Rattle.copy_both.specs.Contents.{copy_data, xlog_data_body, xlog_data_in};
