@@ -14,7 +14,7 @@ use Rattle.table_changes.specs.Tables.{Tables, SameTables, is_row, is_own, put, 
 
 -- ---- tables with the same rows
 
-found_alike : (one other : List Datum → Option (List Datum)) → ((value : List Datum) → one value ≡ other value) → (key : Option (List Datum)) → found_at one key ≡ found_at other key
+pub found_alike : (one other : List Datum → Option (List Datum)) → ((value : List Datum) → one value ≡ other value) → (key : Option (List Datum)) → found_at one key ≡ found_at other key
 found_alike one other same None = refl
 found_alike one other same (Some value) = same value
 
@@ -27,7 +27,7 @@ stands_alike keys one other same stands = record {
   whole = λ table number next value another row h k. sym (same table next another) ∙ stands.whole table number next value another row (same table number value ∙ h) k;
 }
 
-free_from_alike : (one other : ℕ → List Datum → Option (List Datum)) → ((number : ℕ) (value : List Datum) → one number value ≡ other number value)
+pub free_from_alike : (one other : ℕ → List Datum → Option (List Datum)) → ((number : ℕ) (value : List Datum) → one number value ≡ other number value)
     → (number : ℕ) (keys : List UniqueKey) (row : List Datum) → is_free_from one number keys row ≡ is_free_from other number keys row
 free_from_alike one other same number [] row = refl
 free_from_alike one other same number (key ∷ keys) row =

@@ -1,4 +1,4 @@
-//! Primary keys of rows.
+//! The values of rows in some of their columns, as primary keys and unique indexes have them.
 
 ghost use Rattle.std.specs.Prelude.{◌≡◌, IfOk};
 ghost use Rattle.filter_tree.specs.Datum.{value_at};
@@ -22,6 +22,22 @@ fn copy_at<A: Allocator, B: Allocator + Clone>(
     }
 }
 
+/// The row's values in these columns, in their order; null for a column past the row's end. The only error is want of
+/// memory.
+pub fn values_at<A: Allocator, B: Allocator + Clone>(
+    alloc: B,
+    columns: &[usize],
+    row: &Row<A>,
+) -> Result<Row<B>, AllocError>
+    ensures { IfOk result (λ values. values ≡ values_at columns.now row.now) }
+{
+    let mut values = Vec::with_capacity(alloc.clone()?, columns.len())?;
+    for column in columns {
+        values.push(copy_at(&alloc, row, *column)?)?;
+    }
+    Ok(Row::from_values(values))
+}
+
 /// The values of the row in the columns of the table's primary key, in the key's order; null for a column past the row's
 /// end. The only error is want of memory.
 ///
@@ -33,10 +49,5 @@ pub fn key_of<A: Allocator, B: Allocator + Clone>(
 ) -> Result<Row<B>, AllocError>
     ensures { IfOk result (λ key. key ≡ values_at table.now.key row.now) }
 {
-    let columns = table.key.as_slice();
-    let mut values = Vec::with_capacity(alloc.clone()?, columns.len())?;
-    for column in columns {
-        values.push(copy_at(&alloc, row, *column)?)?;
-    }
-    Ok(Row::from_values(values))
+    values_at(alloc, table.key.as_slice(), row)
 }

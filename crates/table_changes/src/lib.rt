@@ -1,12 +1,14 @@
 //! What commands do to tables: which of them are refused, which rows are there afterwards, and what stays so.
 #![tactic(auto)]
 
+mod command;
 mod key;
 mod laws;
 #[cfg(test)]
 mod tests;
 
-pub use key::key_of;
+pub use command::Command;
+pub use key::{key_of, values_at};
 pub use laws::{
     commands_change_rows, commands_come_one_by_one, records_show_what_is_seen, rows_come_and_go,
 };

@@ -1,0 +1,9 @@
+pub mod BookLemmas
+pub mod CommandLemmas
+pub mod LayerLemmas
+pub mod ListLemmas
+pub mod PassLemmas
+pub mod PlaceLemmas
+pub mod SendableLemmas
+pub mod StandLemmas
+pub mod TruncateLemmas

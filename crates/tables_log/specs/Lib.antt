@@ -1,0 +1,13 @@
+pub mod Applying
+pub mod ApplyingAll
+pub mod BookView
+pub mod Commits
+pub mod Committing
+pub mod Faults
+pub mod Layers
+pub mod Logs
+pub mod Places
+pub mod Sendable
+pub mod Slots
+pub mod Staging
+pub mod StandsFor

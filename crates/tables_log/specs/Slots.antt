@@ -1,0 +1,57 @@
+-- Slots and the positions up to which they are confirmed: PostgreSQL 15, "Logical Replication", 31.8 Replication slots, and 27.2.6 Replication Slots. Commit n, from 1, is at position 64 * n, and ends at 64 * n + 64 (the project's own).
+use Rattle.std.specs.Prelude.{◌≡◌, ℕ, ◌+◌, ◌*◌, ◌≤◌, max, nat_lt, Bool, true, false, List, slice_get, slice_set, Option, Some, None, if◌then◌else◌}
+use Rattle.tables_log.specs.declared.error.StartError.{StartError}
+use Rattle.tables_log.specs.declared.error.StartError.TheVariants.{NoSlot, Ahead, InUse}
+use Rattle.tables_log.specs.declared.slots.Slot.{Slot}
+
+-- where a log of so many commits ends
+abbrev pub end_after : ℕ → ℕ
+end_after commits = 64 * commits + 64
+
+abbrev pub confirmed_of : Option Slot → ℕ
+confirmed_of None = 0
+confirmed_of (Some slot) = slot.confirmed
+
+-- the confirmed position of the slot of this number; 0 of one that isn't there
+abbrev pub confirmed_at : List Slot → ℕ → ℕ
+confirmed_at slots number = confirmed_of (slice_get slots number)
+
+-- no slot is confirmed after the end of a log of so many commits
+abbrev pub IsBounded : List Slot → ℕ → Type 0
+IsBounded slots commits = (number : ℕ) → confirmed_at slots number ≤ end_after commits
+
+-- ---- start
+
+-- the first of the faults of a start: no such slot, a position after the log's end, and a slot that a stream has
+abbrev pub slot_fault : Option Slot → ℕ → ℕ → Option StartError
+slot_fault None end position = Some NoSlot
+slot_fault (Some slot) end position = if nat_lt end position then Some Ahead else (if slot.taken then Some InUse else None)
+
+abbrev pub start_fault : List Slot → ℕ → ℕ → ℕ → Option StartError
+start_fault slots end number position = slot_fault (slice_get slots number) end position
+
+-- ---- what calls leave of the slots
+
+abbrev pub changed : List Slot → ℕ → Option Slot → (Slot → Slot) → List Slot
+changed slots number None change = slots
+changed slots number (Some slot) change = slice_set slots number (change slot)
+
+-- the slots where this is done to the one of this number
+abbrev pub change_at : List Slot → ℕ → (Slot → Slot) → List Slot
+change_at slots number change = changed slots number (slice_get slots number) change
+
+abbrev pub with_stream : Bool → Slot → Slot
+with_stream taken slot = record { confirmed = slot.confirmed; taken = taken }
+
+abbrev pub started : List Slot → ℕ → List Slot
+started slots number = change_at slots number (with_stream true)
+
+abbrev pub released : List Slot → ℕ → List Slot
+released slots number = change_at slots number (with_stream false)
+
+-- a confirmed position never goes back
+abbrev pub raised : ℕ → Slot → Slot
+raised position slot = record { confirmed = max slot.confirmed position; taken = slot.taken }
+
+abbrev pub confirmed_up_to : List Slot → ℕ → ℕ → List Slot
+confirmed_up_to slots number position = change_at slots number (raised position)

@@ -1,0 +1,238 @@
+//! Commands on the rows of tables.
+
+ghost use Rattle.std.specs.Prelude.{◌≡◌, ◌≤◌, length, slice_get, Some, None, IfOk, IfErr, OnOk};
+ghost use Rattle.filter_tree.specs.Valid.{row_fault};
+ghost use Rattle.replica_identity.specs.ChangeView.{change_view};
+ghost use Rattle.replica_identity.specs.Setting.{keys_in};
+ghost use Rattle.shard_checker.specs.CheckedView.{checked_view, setting_in};
+ghost use Rattle.table_changes.specs.Commands as c;
+ghost use Rattle.table_changes.specs.Commands.{unless_unfit, fault_of};
+ghost use Rattle.tables_log.specs.Applying.{unless_taken, delete_fault, replace_fault, ReplacesRow, InsertsRow, UpdatesRow, DeletesRow, HasMaps, Applies};
+ghost use Rattle.tables_log.specs.Faults.{Finds};
+ghost use Rattle.tables_log.specs.Sendable.{IsSendableRow};
+ghost use Rattle.tables_log.specs.Places.{seen_at, seen_in, values_in, KeepsRows, PutsRow, KeepsTables};
+
+use crate::error::{CommandFault, Refused};
+use crate::keys::key_values;
+use crate::shared_row::SharedRow;
+use crate::table_rows::TableRows;
+use filter_tree::{Row, Table, copy_row, valid};
+use replica_identity::{Change, old_part};
+use shard_checker::Checked;
+use std::alloc::Global;
+
+/// The row, if it fits the table.
+#[tactic(auto, using(crate::proofs::SendableLemmas::valid_sendable, crate::proofs::SendableLemmas::no_fault_of_ok))]
+fn fitting(alloc: Global, table: &Table, row: &Row) -> Result<SharedRow, Refused>
+    requires { length table.now.columns ≤ 100 }
+    ensures fault { Finds (unless_unfit (row_fault table.now.columns row.now) None) result }
+    ensures ok { IfOk result (λ shared. shared ≡ row.now) }
+    ensures sendable { OnOk result (IsSendableRow row.now) }
+{
+    match valid(table, row) {
+        Err(fault) => Err(Refused::Fault(CommandFault::Row(fault))),
+        Ok(()) => {
+            let copy = copy_row(alloc, row)?;
+            Ok(SharedRow::new(alloc, copy)?)
+        }
+    }
+}
+
+/// Stages the row, unless another row has its value in one of the table's unique keys.
+fn place(alloc: Global, table: &Table, rows: &mut TableRows, row: &SharedRow) -> Result<(), Refused>
+    requires { length rows.old.maps.items ≡ length (keys_in (Some table.now)) }
+    ensures fault { Finds (unless_taken (keys_in (Some table.now)) (seen_at rows.old.maps.items) row.now) result }
+    ensures keeps { KeepsRows rows.old rows.new }
+    ensures puts { OnOk result (PutsRow rows.old rows.new (values_in (keys_in (Some table.now)) row.now)
+        (Some row.now)) }
+{
+    let values = key_values(alloc, table, row.row())?;
+    if !rows.is_free(&values) {
+        return Err(Refused::Fault(CommandFault::DuplicateKey));
+    }
+    rows.put(values, Some(row))?;
+    Ok(())
+}
+
+/// Stages that the row of this primary key is gone, and gives that row.
+fn take(alloc: Global, table: &Table, rows: &mut TableRows, key: &Row) -> Result<SharedRow, Refused>
+    requires { length rows.old.maps.items ≡ length (keys_in (Some table.now)) }
+    ensures fault { Finds (delete_fault (seen_at rows.old.maps.items) key.now) result }
+    ensures keeps { KeepsRows rows.old rows.new }
+    ensures found { IfOk result (λ old. seen_at rows.old.maps.items 0 key.now ≡ Some old) }
+    ensures puts { IfOk result (λ old. PutsRow rows.old rows.new (values_in (keys_in (Some table.now)) old) None) }
+{
+    let Some(found) = rows.find(0, key) else {
+        return Err(Refused::Fault(CommandFault::NoSuchRow));
+    };
+    let old = found.share()?;
+    let values = key_values(alloc, table, old.row())?;
+    rows.put(values, None)?;
+    Ok(old)
+}
+
+/// Stages the row in the place of the one of this primary key, and gives that one.
+fn replace(
+    alloc: Global,
+    table: &Table,
+    rows: &mut TableRows,
+    key: &Row,
+    row: &SharedRow,
+) -> Result<SharedRow, Refused>
+    requires { length rows.old.maps.items ≡ length (keys_in (Some table.now)) }
+    ensures fault { Finds (replace_fault (keys_in (Some table.now))
+        (seen_at rows.old.maps.items) key.now row.now) result }
+    ensures keeps { KeepsRows rows.old rows.new }
+    ensures found { IfOk result (λ old. seen_at rows.old.maps.items 0 key.now ≡ Some old) }
+    ensures puts { IfOk result (λ old. ReplacesRow rows.old rows.new (keys_in (Some table.now)) old row.now) }
+{
+    let old = take(alloc, table, rows, key)?;
+    place(alloc, table, rows, row)?;
+    Ok(old)
+}
+
+/// The table of this number.
+fn known(checked: &Checked, number: usize) -> Result<&Table, CommandFault>
+    ensures known { IfOk result (λ table. slice_get (checked_view checked.now).catalog.tables number ≡ Some table.now) }
+    ensures unknown { IfErr result (λ fault. fault ≡ CommandFault.NoTable) }
+    ensures none { IfErr result (λ _. slice_get (checked_view checked.now).catalog.tables number ≡ None) }
+{
+    match checked.catalog().tables.get(number) {
+        None => Err(CommandFault::NoTable),
+        Some(table) => Ok(table),
+    }
+}
+
+/// Stages a new row of this table, which has this number.
+fn insert_in(
+    alloc: Global,
+    table: &Table,
+    number: usize,
+    rows: &mut TableRows,
+    row: &Row,
+) -> Result<Change, Refused>
+    requires narrow { length table.now.columns ≤ 100 }
+    requires wide { length rows.old.maps.items ≡ length (keys_in (Some table.now)) }
+    ensures fault { Finds (unless_unfit (row_fault table.now.columns row.now)
+        (unless_taken (keys_in (Some table.now)) (seen_at rows.old.maps.items) row.now)) result }
+    ensures keeps { KeepsRows rows.old rows.new }
+    ensures ok { IfOk result (λ change. InsertsRow table.now number rows.old rows.new row.now (change_view change)) }
+{
+    let new = fitting(alloc, table, row)?;
+    place(alloc, table, rows, &new)?;
+    let copy = copy_row(alloc, row)?;
+    Ok(Change::Insert {
+        table: number,
+        new: copy,
+    })
+}
+
+/// Stages a row in the place of the one of this primary key.
+fn update_in(
+    alloc: Global,
+    table: &Table,
+    number: usize,
+    rows: &mut TableRows,
+    key: &Row,
+    row: &Row,
+) -> Result<Change, Refused>
+    requires narrow { length table.now.columns ≤ 100 }
+    requires wide { length rows.old.maps.items ≡ length (keys_in (Some table.now)) }
+    ensures fault { Finds (unless_unfit (row_fault table.now.columns row.now)
+        (replace_fault (keys_in (Some table.now)) (seen_at rows.old.maps.items) key.now row.now)) result }
+    ensures keeps { KeepsRows rows.old rows.new }
+    ensures ok { IfOk result (λ change. UpdatesRow table.now number rows.old rows.new key.now row.now
+        (change_view change)) }
+{
+    let new = fitting(alloc, table, row)?;
+    let gone = replace(alloc, table, rows, key, &new)?;
+    let part = old_part(alloc, table, gone.row(), Some(row))?;
+    let copy = copy_row(alloc, row)?;
+    Ok(Change::Update {
+        table: number,
+        old: part,
+        new: copy,
+    })
+}
+
+/// Stages that the row of this primary key is gone.
+fn delete_in(
+    alloc: Global,
+    table: &Table,
+    number: usize,
+    rows: &mut TableRows,
+    key: &Row,
+) -> Result<Change, Refused>
+    requires { length rows.old.maps.items ≡ length (keys_in (Some table.now)) }
+    ensures fault { Finds (delete_fault (seen_at rows.old.maps.items) key.now) result }
+    ensures keeps { KeepsRows rows.old rows.new }
+    ensures ok { IfOk result (λ change. DeletesRow table.now number rows.old rows.new key.now (change_view change)) }
+{
+    let gone = take(alloc, table, rows, key)?;
+    let part = old_part(alloc, table, gone.row(), None)?;
+    Ok(Change::Delete {
+        table: number,
+        old: part,
+    })
+}
+
+/// Stages a new row.
+pub(crate) fn insert(
+    alloc: Global,
+    checked: &Checked,
+    tables: &mut [TableRows],
+    number: usize,
+    row: &Row,
+) -> Result<Change, Refused>
+    requires { HasMaps (checked_view checked.now).catalog.tables tables.old }
+    ensures fault { Finds (fault_of (setting_in (checked_view checked.now)) (seen_in tables.old)
+        (c.Insert number row.now)) result }
+    ensures keeps { KeepsTables tables.old tables.new }
+    ensures ok { IfOk result (λ change.
+        Applies (setting_in (checked_view checked.now)) tables.old tables.new (c.Insert number row.now)
+        (change_view change)) }
+{
+    let table = known(checked, number)?;
+    insert_in(alloc, table, number, &mut tables[number], row)
+}
+
+/// Stages a row in the place of the one of this primary key.
+pub(crate) fn update(
+    alloc: Global,
+    checked: &Checked,
+    tables: &mut [TableRows],
+    number: usize,
+    key: &Row,
+    row: &Row,
+) -> Result<Change, Refused>
+    requires { HasMaps (checked_view checked.now).catalog.tables tables.old }
+    ensures fault { Finds (fault_of (setting_in (checked_view checked.now)) (seen_in tables.old)
+        (c.Update number key.now row.now)) result }
+    ensures keeps { KeepsTables tables.old tables.new }
+    ensures ok { IfOk result (λ change.
+        Applies (setting_in (checked_view checked.now)) tables.old tables.new (c.Update number key.now row.now)
+        (change_view change)) }
+{
+    let table = known(checked, number)?;
+    update_in(alloc, table, number, &mut tables[number], key, row)
+}
+
+/// Stages that the row of this primary key is gone.
+pub(crate) fn delete(
+    alloc: Global,
+    checked: &Checked,
+    tables: &mut [TableRows],
+    number: usize,
+    key: &Row,
+) -> Result<Change, Refused>
+    requires { HasMaps (checked_view checked.now).catalog.tables tables.old }
+    ensures fault { Finds (fault_of (setting_in (checked_view checked.now)) (seen_in tables.old)
+        (c.Delete number key.now)) result }
+    ensures keeps { KeepsTables tables.old tables.new }
+    ensures ok { IfOk result (λ change.
+        Applies (setting_in (checked_view checked.now)) tables.old tables.new (c.Delete number key.now)
+        (change_view change)) }
+{
+    let table = known(checked, number)?;
+    delete_in(alloc, table, number, &mut tables[number], key)
+}

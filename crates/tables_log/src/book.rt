@@ -1,0 +1,257 @@
+//! The publisher's tables, its log and its slots.
+
+ghost use Rattle.std.specs.Prelude.{◌≤◌, length, map};
+ghost use Rattle.std.specs.Arc.{arc_value};
+ghost use Rattle.shard_checker.specs.CheckedView.{checked_view};
+ghost use Rattle.tables_log.specs.Applying.{HasMaps};
+ghost use Rattle.tables_log.specs.Logs.{IsNumbered};
+ghost use Rattle.tables_log.specs.Slots.{IsBounded};
+
+use crate::commit::Commit;
+use crate::committing::{check_count, commit_tables, empty_tables};
+use crate::error::{CommitError, StartError, StatusAhead};
+use crate::slots::{self, Slot};
+use crate::table_rows::TableRows;
+use filter_tree::Row;
+use shard_checker::Checked;
+use std::alloc::{AllocError, Global};
+use std::sync::Arc;
+use table_changes::Command;
+
+/// The tables of a catalog whose sharding is sound, the log of the commits that made their rows, and a replication slot
+/// for each subscription.
+///
+/// A book stands for the list of the transactions that it accepted: its tables have the rows that these leave, in their
+/// order, of tables without rows, and its log has an entry for each.
+///
+/// PostgreSQL 15, 3.4. Transactions, and "Logical Replication", 31.1 Publication.
+#[derive(Drop)]
+pub struct Book {
+    alloc: Global,
+    checked: Arc<Checked, Global>,
+    limit: u32,
+    tables: Vec<TableRows>,
+    log: Vec<Arc<Commit, Global>>,
+    slots: Vec<Slot>,
+    ghost within: { limit ≤ 1000000000 },
+    ghost room: { length log.items ≤ limit },
+    ghost numbered: { IsNumbered (map (λ commit. arc_value commit) log.items) },
+    ghost maps: { HasMaps (checked_view (arc_value checked)).catalog.tables tables.items },
+    ghost bounded: { IsBounded slots.items (length log.items) },
+}
+
+impl Book {
+    ghost use Rattle.std.specs.Prelude.{◌≡◌, ◌+◌, ◌*◌, ◌<◌, ◌≤◌, max, length, map, IfOk, IfErr, IfSome, OnOk, OnErr};
+    ghost use Rattle.std.specs.Arc.{arc_value};
+    ghost use Rattle.std.specs.Option.{option_map};
+    ghost use Rattle.pub_reader.specs.CatalogLimits.{IsLimited};
+    ghost use Rattle.shard_checker.specs.CheckedView.{checked_view};
+    ghost use Rattle.table_changes.specs.CommandView.{command_view};
+    ghost use Rattle.tables_log.specs.BookView.{book_limit, book_log, book_rows, book_listed, book_slots};
+    ghost use Rattle.tables_log.specs.Committing.{IsNew, Commits, IsKept, ChangesSlots, RefusedBy};
+    ghost use Rattle.tables_log.specs.Logs.{entry_at, IsNumbered};
+    ghost use Rattle.tables_log.specs.Places.{IsInOrder};
+    ghost use Rattle.tables_log.specs.Slots.{end_after, confirmed_at, start_fault, started, released, confirmed_up_to};
+
+    /// A book of the catalog's tables, without rows and with an empty log, which may have so many commits, and with a
+    /// slot for each subscription, of which nothing is confirmed. The only error is want of memory.
+    #[tactic(auto, using(crate::proofs::BookLemmas::narrow_limited))]
+    pub fn new(alloc: Global, checked: Arc<Checked, Global>, limit: u32) -> Result<Book, AllocError>
+        requires some { 1 ≤ limit }
+        requires within { limit ≤ 1000000000 }
+        requires tables { IsLimited (checked_view (arc_value checked)).catalog }
+        ensures { IfOk result (λ book. IsNew book (checked_view (arc_value checked)) limit) }
+    {
+        let catalog = checked.catalog();
+        let tables = empty_tables(alloc, catalog.tables.as_slice())?;
+        let free = Slot {
+            confirmed: 0,
+            taken: false,
+        };
+        let slots = vec![in alloc; free; catalog.subscriptions.len()]?;
+        Ok(Book {
+            alloc,
+            checked,
+            limit,
+            tables,
+            log: Vec::new(alloc),
+            slots,
+        })
+    }
+
+    /// Makes the commands one transaction, each on what the earlier ones leave, and logs it with this time, in
+    /// microseconds since 2000-01-01. The answer is its number, from 1. With an error nothing changes.
+    ///
+    /// It takes time for its commands, each times the logarithm of a table's rows, and looks at no other row.
+    ///
+    /// # Errors
+    ///
+    /// The first of `EmptyTransaction`, `TooManyCommands` (more than 1,000), `LogFull`, and `At` with the number, from
+    /// 1, of the first command that has a fault, and the fault; or `OutOfMemory` in place of any of them where an
+    /// allocation was refused.
+    ///
+    /// PostgreSQL 15, 3.4. Transactions, and Chapter 6 Data Manipulation.
+    #[tactic(auto, using(crate::proofs::BookLemmas::refused_by, crate::proofs::BookLemmas::count_refused, crate::proofs::BookLemmas::is_transaction, crate::proofs::ListLemmas::map_more))]
+    pub fn commit(&mut self, commands: &[Command], time: u64) -> Result<u32, CommitError>
+        ensures ok { IfOk result (λ number. Commits self.old self.new (map command_view commands.now) time number) }
+        ensures refused { IfErr result (RefusedBy self.old (map command_view commands.now)) }
+        ensures err { OnErr result (IsKept self.old self.new) }
+    {
+        check_count(commands.len())?;
+        let count = self.log_len();
+        if count == self.limit {
+            return Err(CommitError::LogFull);
+        }
+        let number = count + 1;
+        self.log.reserve(1)?;
+        let commit = commit_tables(
+            self.alloc,
+            &self.checked,
+            &mut self.tables,
+            commands,
+            number,
+            time,
+        )?;
+        self.log.push_reserved(commit);
+        Ok(number)
+    }
+
+    /// The number of commits in the log, which is also the number of the last one.
+    pub fn log_len(&self) -> u32
+        ensures shows { result ≡ length (book_log self.now) }
+        ensures room { result ≤ book_limit self.now }
+        ensures within { book_limit self.now ≤ 1000000000 }
+        ensures numbered { IsNumbered (book_log self.now) }
+    {
+        let _limit = self.limit;
+        self.log.len() as u32
+    }
+
+    /// The commit of this number: `Some` for 1 to `log_len()`.
+    #[tactic(auto, using(crate::proofs::BookLemmas::found_numbered))]
+    pub fn entry(&self, number: u32) -> Option<&Commit>
+        ensures shows { option_map (λ commit. commit.now) result ≡ entry_at (book_log self.now) number }
+        ensures numbered { IfSome result (λ commit. commit.now.number ≡ number) }
+    {
+        match self.place(number) {
+            None => None,
+            Some(commit) => Some(&**commit),
+        }
+    }
+
+    /// The commit of this number once more: `Some` for 1 to `log_len()`. The only error is that it is shared too often.
+    #[tactic(auto, using(crate::proofs::BookLemmas::found_numbered))]
+    pub fn shared(&self, number: u32) -> Result<Option<Arc<Commit, Global>>, AllocError>
+        ensures shows { IfOk result (λ found. option_map (λ commit. arc_value commit) found ≡ entry_at
+            (book_log self.now) number) }
+        ensures numbered { IfOk result (λ found. IfSome found (λ commit. (arc_value commit).number ≡ number)) }
+    {
+        let Some(commit) = self.place(number) else {
+            return Ok(None);
+        };
+        Ok(Some(Arc::try_clone(commit)?))
+    }
+
+    /// The row of the table that has this primary key, if there is one. The key has its values in the order of the
+    /// primary key's columns.
+    pub fn row(&self, table: usize, key: &Row) -> Option<&Row>
+        ensures { option_map (λ row. row.now) result ≡ book_rows self.now table 0 key.now }
+    {
+        match self.tables.get(table) {
+            None => None,
+            Some(rows) => rows.get(0, key).map(|row| row.row()),
+        }
+    }
+
+    /// Copies of the table's rows, in their order: NULL first, numbers by their size, FALSE before TRUE, texts byte by
+    /// byte, by the first column in which the rows differ. There are none of a table that isn't there. The only error
+    /// is want of memory.
+    ///
+    /// PostgreSQL 15, 7.5 Sorting Rows.
+    pub fn rows(&self, table: usize) -> Result<Vec<Row>, AllocError>
+        ensures { IfOk result (λ rows. IsInOrder (book_listed self.now table) rows.items) }
+    {
+        match self.tables.get(table) {
+            None => Ok(Vec::new(self.alloc)),
+            Some(rows) => rows.rows(self.alloc),
+        }
+    }
+
+    /// The position up to which the slot's subscriber has confirmed the log, which is at most 64 * log_len() + 64; 0
+    /// where nothing is confirmed, or there is no such slot.
+    pub fn confirmed(&self, slot: usize) -> u64
+        ensures shows { result ≡ confirmed_at (book_slots self.now) slot }
+        ensures bounded { result ≤ end_after (length (book_log self.now)) }
+    {
+        slots::confirmed(&self.slots, slot)
+    }
+
+    /// Takes the slot for a stream that starts at the position, or at the confirmed one if that is greater; the answer
+    /// is where it starts. With an error nothing changes.
+    ///
+    /// # Errors
+    ///
+    /// The first of `NoSlot`, `Ahead` (the position is above 64 * log_len() + 64) and `InUse`.
+    ///
+    /// PostgreSQL 15, 55.4. Streaming Replication Protocol (START_REPLICATION SLOT .. LOGICAL).
+    pub fn start(&mut self, slot: usize, position: u64) -> Result<u64, StartError>
+        ensures ok { OnOk result (ChangesSlots self.old self.new (started (book_slots self.old) slot)) }
+        ensures at { IfOk result (λ start. start ≡ max position (confirmed_at (book_slots self.old) slot)) }
+        ensures within { IfOk result (λ start. start ≤ end_after (length (book_log self.old))) }
+        ensures accepted { OnOk result
+            (start_fault (book_slots self.old) (end_after (length (book_log self.old))) slot position ≡ None) }
+        ensures refused { IfErr result (λ error.
+            start_fault (book_slots self.old) (end_after (length (book_log self.old))) slot position ≡ Some error) }
+        ensures err { OnErr result (IsKept self.old self.new) }
+    {
+        let end = self.end();
+        slots::start(&mut self.slots, end, slot, position)
+    }
+
+    /// Gives the slot back, so that another stream may have it.
+    pub fn release(&mut self, slot: usize)
+        ensures { ChangesSlots self.old self.new (released (book_slots self.old) slot) }
+    {
+        slots::release(&mut self.slots, slot);
+    }
+
+    /// Confirms the log up to the position for the slot's subscriber, to whom it was sent up to `sent`. A position that
+    /// is not above the confirmed one changes nothing.
+    ///
+    /// # Errors
+    ///
+    /// `StatusAhead` where the position is above `sent`; then nothing changes.
+    ///
+    /// PostgreSQL 15, 55.4. Streaming Replication Protocol (Standby status update).
+    pub fn confirm(&mut self, slot: usize, position: u64, sent: u64) -> Result<(), StatusAhead>
+        requires { sent ≤ end_after (length (book_log self.old)) }
+        ensures ok { OnOk result (ChangesSlots self.old self.new (confirmed_up_to
+            (book_slots self.old) slot position)) }
+        ensures accepted { OnOk result (position ≤ sent) }
+        ensures refused { OnErr result (sent < position) }
+        ensures err { OnErr result (IsKept self.old self.new) }
+    {
+        if position > sent {
+            return Err(StatusAhead);
+        }
+        slots::confirm(&mut self.slots, slot, position);
+        Ok(())
+    }
+
+    /// The entry of this number.
+    fn place(&self, number: u32) -> Option<&Arc<Commit, Global>>
+        ensures { option_map (λ commit. arc_value commit.now) result ≡ entry_at (book_log self.now) number }
+    {
+        if number == 0 {
+            return None;
+        }
+        self.log.get(number as usize - 1)
+    }
+
+    /// Where the log ends: 64 * log_len() + 64.
+    fn end(&self) -> u64
+        ensures { result ≡ end_after (length (book_log self.now)) }
+    {
+        64 * u64::from(self.log_len()) + 64
+    }
+}

@@ -1,0 +1,18 @@
+//! Laws of what a book stands for.
+
+ghost use Rattle.tables_log.specs.StandsFor.{NewStands, CommitsAddOne, SlotsKeepIt, EachIsLogged, BooksAreRight};
+
+/// A law, and no code, of the list of transactions that a book stands for. A new book stands for none (`new`); after a
+/// commit it stands for one more (`commits`); and whatever else happens to its slots, or is refused, it stands for the
+/// same (`kept`). Its log has an entry for each (`logged`). Each row is where each of its unique keys has it and fits
+/// its table, and where commands keep rows apart by their replica identity no two rows of a table have one (`rows`).
+///
+/// PostgreSQL 15, 3.4. Transactions, 5.4.4 Primary Keys, 11.6 Unique Indexes.
+#[tactic(auto, using(crate::proofs::StandLemmas::new_stands, crate::proofs::StandLemmas::commits_add_one, crate::proofs::StandLemmas::slots_keep_it, crate::proofs::StandLemmas::each_is_logged, crate::proofs::StandLemmas::books_are_right))]
+pub fn books_stand_for_transactions()
+    ensures new { NewStands }
+    ensures commits { CommitsAddOne }
+    ensures kept { SlotsKeepIt }
+    ensures logged { EachIsLogged }
+    ensures rows { BooksAreRight }
+{}

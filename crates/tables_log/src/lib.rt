@@ -1,0 +1,21 @@
+//! The publisher's tables, the log of its commits, and the positions up to which subscribers have confirmed it.
+#![tactic(auto)]
+
+mod applying;
+mod book;
+mod commit;
+mod committing;
+mod error;
+mod keys;
+mod laws;
+mod shared_row;
+mod slots;
+mod staged;
+mod staging;
+mod table_rows;
+mod truncating;
+
+pub use book::Book;
+pub use commit::Commit;
+pub use error::{CommandFault, CommitError, StartError, StatusAhead};
+pub use laws::books_stand_for_transactions;

@@ -1,0 +1,78 @@
+//! Replication slots.
+
+ghost use Rattle.std.specs.Prelude.{◌≡◌, ◌≤◌, max, length, IfOk, IfErr, OnOk, OnErr, Some, None};
+ghost use Rattle.tables_log.specs.Slots.{confirmed_at, start_fault, started, released, confirmed_up_to};
+
+use crate::error::StartError;
+
+/// A replication slot: the position up to which its subscriber has confirmed the log, and whether a stream has it.
+///
+/// PostgreSQL 15, 27.2.6 Replication Slots.
+#[derive(Clone, Copy, Debug)]
+pub(crate) struct Slot {
+    pub(crate) confirmed: u64,
+    pub(crate) taken: bool,
+}
+
+/// The slot's confirmed position; 0 where there is no such slot.
+pub(crate) fn confirmed(slots: &[Slot], number: usize) -> u64
+    ensures { result ≡ confirmed_at slots.now number }
+{
+    match slots.get(number) {
+        None => 0,
+        Some(slot) => slot.confirmed,
+    }
+}
+
+/// Takes the slot for a stream that starts at the position, or at the confirmed one if that is greater.
+pub(crate) fn start(
+    slots: &mut [Slot],
+    end: u64,
+    number: usize,
+    position: u64,
+) -> Result<u64, StartError>
+    ensures ok { OnOk result (start_fault slots.old end number position ≡ None) }
+    ensures at { IfOk result (λ start. start ≡ max position (confirmed_at slots.old number)) }
+    ensures started { OnOk result (slots.new ≡ started slots.old number) }
+    ensures fault { IfErr result (λ fault. start_fault slots.old end number position ≡ Some fault) }
+    ensures err { OnErr result (slots.new ≡ slots.old) }
+{
+    let Some(slot) = slots.get(number).copied() else {
+        return Err(StartError::NoSlot);
+    };
+    if position > end {
+        return Err(StartError::Ahead);
+    }
+    if slot.taken {
+        return Err(StartError::InUse);
+    }
+    slots[number] = Slot {
+        confirmed: slot.confirmed,
+        taken: true,
+    };
+    Ok(position.max(slot.confirmed))
+}
+
+/// Gives the slot back.
+pub(crate) fn release(slots: &mut [Slot], number: usize)
+    ensures { slots.new ≡ released slots.old number }
+{
+    if let Some(slot) = slots.get(number).copied() {
+        slots[number] = Slot {
+            confirmed: slot.confirmed,
+            taken: false,
+        };
+    }
+}
+
+/// Raises the slot's confirmed position to this one, if that is greater.
+pub(crate) fn confirm(slots: &mut [Slot], number: usize, position: u64)
+    ensures { slots.new ≡ confirmed_up_to slots.old number position }
+{
+    if let Some(slot) = slots.get(number).copied() {
+        slots[number] = Slot {
+            confirmed: slot.confirmed.max(position),
+            taken: slot.taken,
+        };
+    }
+}

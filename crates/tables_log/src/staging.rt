@@ -1,0 +1,97 @@
+//! Lists of commands on the rows of tables.
+
+ghost use Rattle.std.specs.Prelude.{◌≡◌, ◌≤◌, length, map, IfOk, IfErr};
+ghost use Rattle.replica_identity.specs.ChangeView.{change_view};
+ghost use Rattle.shard_checker.specs.CheckedView.{checked_view, setting_in};
+ghost use Rattle.table_changes.specs.CommandView.{command_view};
+ghost use Rattle.table_changes.specs.Commands.{fault_of};
+ghost use Rattle.tables_log.specs.Applying.{HasMaps, Applies};
+ghost use Rattle.tables_log.specs.Faults.{Finds};
+ghost use Rattle.tables_log.specs.Places.{seen_in, KeepsTables, SettlesTables, DiscardsTables};
+ghost use Rattle.tables_log.specs.ApplyingAll.{AppliesAll, StopsAt, error_at};
+
+use crate::applying::{delete, insert, update};
+use crate::error::{CommitError, Refused};
+use crate::table_rows::TableRows;
+use crate::truncating::truncate;
+use replica_identity::Change;
+use shard_checker::Checked;
+use std::alloc::Global;
+use table_changes::Command;
+
+/// Stages what the command does.
+fn apply(
+    alloc: Global,
+    checked: &Checked,
+    tables: &mut [TableRows],
+    command: &Command,
+) -> Result<Change, Refused>
+    requires { HasMaps (checked_view checked.now).catalog.tables tables.old }
+    ensures fault { Finds (fault_of (setting_in (checked_view checked.now)) (seen_in tables.old)
+        (command_view command.now)) result }
+    ensures keeps { KeepsTables tables.old tables.new }
+    ensures ok { IfOk result (λ change. Applies
+        (setting_in (checked_view checked.now)) tables.old tables.new (command_view command.now) (change_view change)) }
+{
+    match command {
+        Command::Insert { table, row } => insert(alloc, checked, tables, *table, row),
+        Command::Update { table, key, row } => update(alloc, checked, tables, *table, key, row),
+        Command::Delete { table, key } => delete(alloc, checked, tables, *table, key),
+        Command::Truncate { tables: numbers } => truncate(alloc, checked, tables, numbers),
+    }
+}
+
+/// Why the list is refused whose command of this number is.
+fn refused_at(number: usize, refused: Refused) -> CommitError
+    ensures { result ≡ error_at number refused }
+{
+    match refused {
+        Refused::Fault(fault) => CommitError::At(number, fault),
+        Refused::OutOfMemory => CommitError::OutOfMemory,
+    }
+}
+
+/// Stages what the commands do, each on what the earlier ones leave, up to the first that is refused.
+#[tactic(auto, using(crate::proofs::ListLemmas::so_far_begins, crate::proofs::ListLemmas::keeps_both, crate::proofs::ListLemmas::keeps_itself))]
+pub(crate) fn apply_all(
+    alloc: Global,
+    checked: &Checked,
+    tables: &mut [TableRows],
+    commands: &[Command],
+) -> Result<Vec<Change>, CommitError>
+    requires maps { HasMaps (checked_view checked.now).catalog.tables tables.old }
+    requires few { length commands.now ≤ 1000 }
+    ensures keeps { KeepsTables tables.old tables.new }
+    ensures ok { IfOk result (λ changes. AppliesAll
+        (setting_in (checked_view checked.now)) tables.old tables.new (map command_view commands.now)
+        (map change_view changes.items)) }
+    ensures err { IfErr result (StopsAt (setting_in (checked_view checked.now)) (seen_in tables.old)
+        (map command_view commands.now)) }
+{
+    let mut changes = Vec::with_capacity(alloc, commands.len())?;
+    for (index, command) in commands.iter().enumerate() {
+        match apply(alloc, checked, tables, command) {
+            Ok(change) => changes.push(change)?,
+            Err(refused) => return Err(refused_at(index + 1, refused)),
+        }
+    }
+    Ok(changes)
+}
+
+/// Keeps what is seen.
+pub(crate) fn settle(tables: &mut [TableRows])
+    ensures { SettlesTables tables.old tables.new }
+{
+    for rows in tables.iter_mut() {
+        rows.settle();
+    }
+}
+
+/// Forgets what is staged.
+pub(crate) fn discard(tables: &mut [TableRows])
+    ensures { DiscardsTables tables.old tables.new }
+{
+    for rows in tables.iter_mut() {
+        rows.discard();
+    }
+}
