@@ -1,5 +1,5 @@
 -- The fields of a message are read as they are spelled.
-use Rattle.std.proofs.Common.{◌≡◌, ℕ, zero, suc, ◌+◌, ◌-◌, ◌^◌, ◌<◌, ◌≤◌, Bool, true, false, cond, ltb, List, [], ◌∷◌, ◌++◌, length, get_or, take, drop, Option, Some, None, Result, Ok, Err, refl, sym, ap, subst, ◌∙◌, append_assoc, arith, inl, inr}
+use Rattle.std.proofs.Common.{◌≡◌, ℕ, zero, suc, ◌+◌, ◌-◌, ◌^◌, ◌<◌, ◌≤◌, Bool, true, false, cond, ltb, List, [], ◌∷◌, ◌++◌, length, get_or, take, drop, Option, Some, None, Ok, Err, refl, sym, ap, subst, ◌∙◌, append_assoc, arith, inl, inr}
 use Rattle.std.specs.Prelude.{◌==◌, nat_lt, if◌then◌else◌, Contains}
 use Rattle.std.specs.Int.{Width, w16, w32, w64, byte_len, from_be_bytes, to_be_bytes}
 use Rattle.std.specs.List.{position, position_or_len}
@@ -14,9 +14,9 @@ use Rattle.pgoutput_msgs.specs.declared.error.MsgError.{MsgError}
 use Rattle.pgoutput_msgs.specs.declared.error.MsgError.TheVariants.{Short, BadCount, BadText}
 use Rattle.pgoutput_msgs.specs.Laws.{IsBytes}
 use Rattle.pgoutput_msgs.specs.Ranges.{IsName}
-use Rattle.pgoutput_msgs.specs.Reading.{Outcome, Rule, pure, ◌>>=◌, tested, passed, byte, some, number, count16, count32, cut_at, up_to_zero, utf8_text, string_at, text_at}
+use Rattle.pgoutput_msgs.specs.Reading.{pure, ◌>>=◌, tested, byte, some, number, count16, count32, cut_at, up_to_zero, utf8_text, string_at, text_at}
 use Rattle.pgoutput_msgs.specs.Spelling.{int8, int16, int32, int64, string}
-use Rattle.pgoutput_msgs.proofs.Exact.{Exact, Takes, done, same_read, never, bound, exact_then, exact_passed, exact_as}
+use Rattle.pgoutput_msgs.proofs.Exact.{Exact, Takes, done, same_read, never, bound, exact_then, exact_passed}
 
 IsBytes-drop : (n : ℕ) (bytes : List ℕ) → IsBytes bytes → IsBytes (drop n bytes)
 IsBytes-drop n bytes h i = rw get_or-drop (h (n + i))
@@ -190,7 +190,7 @@ pub not_true : (b : Bool) → (b ≡ true → ⊥) → b ≡ false
 not_true true apart = absurd (apart refl)
 not_true false apart = refl
 
-is_not_zero : (n : ℕ) → (n ≡ 0 → ⊥) → is_zero n ≡ false
+pub is_not_zero : (n : ℕ) → (n ≡ 0 → ⊥) → is_zero n ≡ false
 is_not_zero n apart = not_true (is_zero n) (λ e. apart (eqb-true n 0 e))
 
 before_zero_is : (x rest : List ℕ) → NoZero x → before_zero (x ++ (0 ∷ rest)) ≡ length x

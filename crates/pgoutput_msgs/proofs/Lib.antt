@@ -2,8 +2,10 @@ pub mod Counting
 pub mod Exact
 pub mod Fields
 pub mod Messages
+pub mod ReadBackLemmas
 pub mod RelationRules
 pub mod RowLemmas
 pub mod SpellingLaws
 pub mod TupleRules
+pub mod ValueLemmas
 pub mod Writing

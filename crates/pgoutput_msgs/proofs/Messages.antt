@@ -5,7 +5,6 @@ use Rattle.std.specs.List.{flat_map}
 use Rattle.pgoutput_msgs.specs.declared.error.MsgError.TheVariants.{Unknown}
 use Rattle.pgoutput_msgs.specs.declared.message.Msg.{Msg}
 use Rattle.pgoutput_msgs.specs.declared.message.Msg.TheVariants as m
-use Rattle.pgoutput_msgs.specs.declared.relation.Relation.{Relation}
 use Rattle.pgoutput_msgs.specs.declared.tuple.Cell.{Cell}
 use Rattle.pgoutput_msgs.specs.declared.tuple.OldTuple.{OldTuple}
 use Rattle.pgoutput_msgs.specs.declared.tuple.OldTuple.TheVariants.{Key, Full}

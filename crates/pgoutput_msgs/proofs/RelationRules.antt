@@ -10,7 +10,6 @@ use Rattle.pgoutput_msgs.specs.declared.relation.Relation.{Relation}
 use Rattle.pgoutput_msgs.specs.declared.relation.RelationColumn.{RelationColumn}
 use Rattle.pgoutput_msgs.specs.declared.relation.ReplicaIdentity.{ReplicaIdentity}
 use Rattle.pgoutput_msgs.specs.declared.relation.ReplicaIdentity.TheVariants as i
-use Rattle.pgoutput_msgs.specs.declared.tuple.OldTuple.TheVariants.{Full}
 use Rattle.pgoutput_msgs.specs.Ranges.{IsName, IsColumn}
 use Rattle.pgoutput_msgs.specs.Reading.{pure, fail, ◌>>=◌, ◌&◌, many, byte, number, count16, string_at, identity_by, identity_at, flag_by, flag_at, column_at, columns_at}
 use Rattle.pgoutput_msgs.specs.Spelling.{int8, int16, int32, string, identity_letter, key_flag, column_spelling, columns_spelling}

@@ -1,5 +1,5 @@
 -- What is decoded is spelled so, what is spelled is decoded, and a spelling with bytes after it is not.
-use Rattle.std.proofs.Common.{◌≡◌, ℕ, Bool, true, false, List, [], ◌∷◌, ◌++◌, length, append-nil, Result, Ok, Err, refl, sym, ap, subst, ◌∙◌, arith}
+use Rattle.std.proofs.Common.{◌≡◌, ℕ, Bool, true, false, List, [], ◌∷◌, ◌++◌, length, append-nil, Result, Ok, Err, refl, sym, ap, ◌∙◌, arith}
 use Rattle.std.specs.Prelude.{◌==◌, IfOk, if◌then◌else◌}
 use Rattle.std.proofs.lemmas.Bool.{eqb-true}
 use Rattle.std.proofs.lemmas.List.{nil_from_length}
@@ -11,7 +11,7 @@ use Rattle.pgoutput_msgs.specs.Laws.{IsBytes, NoneIsProperPrefix, EachSpellsOne,
 use Rattle.pgoutput_msgs.specs.Ranges.{IsMessage}
 use Rattle.pgoutput_msgs.specs.Reading.{Outcome, message_at, ended, decoded, told}
 use Rattle.pgoutput_msgs.specs.Spelling.{spelling_of}
-use Rattle.pgoutput_msgs.proofs.Exact.{Exact, done, same_read}
+use Rattle.pgoutput_msgs.proofs.Exact.{done, same_read}
 use Rattle.pgoutput_msgs.proofs.Fields.{not_true}
 use Rattle.pgoutput_msgs.proofs.Messages.{exact_message}
 

@@ -1,5 +1,6 @@
 pub mod Laws
 pub mod Ranges
+pub mod ReadBack
 pub mod Reading
 pub mod Room
 pub mod Spelling

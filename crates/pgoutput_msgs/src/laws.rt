@@ -1,5 +1,6 @@
 //! Laws of the spellings of messages.
 
+ghost use Rattle.pgoutput_msgs.specs.ReadBack.{RowsReadBack, ValidRowsReadBack};
 ghost use Rattle.pgoutput_msgs.specs.Laws.{NoneIsProperPrefix, EachSpellsOne, SpellingsAreDecoded, DecodedAreSpellings, NothingMayFollow};
 
 /// A law, and no code: no message's spelling is a proper prefix of another's, and no two messages are spelled alike. So
@@ -15,4 +16,11 @@ pub fn spellings_are_decoded()
     ensures decoded { SpellingsAreDecoded }
     ensures spelled { DecodedAreSpellings }
     ensures alone { NothingMayFollow }
+{}
+
+/// A law, and no code: the tuple of a row whose values are null or of their columns' types is read back as that row, value
+/// by value. So is that of a row that fits its table.
+pub fn rows_are_read_back()
+    ensures rows { RowsReadBack }
+    ensures valid { ValidRowsReadBack }
 {}

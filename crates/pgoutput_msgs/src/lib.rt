@@ -13,6 +13,7 @@ mod message;
 mod reader;
 mod relation;
 mod room;
+mod row_values;
 #[cfg(test)]
 mod tests;
 mod truncate;
@@ -23,8 +24,9 @@ mod values;
 pub use decoding::decode;
 pub use encoding::{encode, fits};
 pub use error::MsgError;
-pub use laws::{no_spelling_begins_another, spellings_are_decoded};
+pub use laws::{no_spelling_begins_another, rows_are_read_back, spellings_are_decoded};
 pub use message::Msg;
 pub use relation::{Relation, RelationColumn, ReplicaIdentity};
+pub use row_values::value_of;
 pub use tuple::{Cell, OldTuple, Tuple};
 pub use values::tuple_of;

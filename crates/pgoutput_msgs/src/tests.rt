@@ -1,5 +1,6 @@
 mod faults;
 mod server;
+mod values;
 
 use crate::{
     Msg, decode, encode, fits, no_spelling_begins_another, spellings_are_decoded, tuple_of,
