@@ -13,6 +13,8 @@ mod slots;
 mod staged;
 mod staging;
 mod table_rows;
+#[cfg(test)]
+mod tests;
 mod truncating;
 
 pub use book::Book;
