@@ -4,8 +4,10 @@ pub mod Fields
 pub mod Messages
 pub mod ReadBackLemmas
 pub mod RelationRules
+pub mod RoomLemmas
 pub mod RowLemmas
 pub mod SpellingLaws
+pub mod TellingLemmas
 pub mod TupleRules
 pub mod ValueLemmas
 pub mod Writing

@@ -11,7 +11,7 @@ use Rattle.filter_tree.specs.declared.table.ColType.TheVariants.{SmallInt, Integ
 use Rattle.pgoutput_msgs.specs.Ranges.{IsCellWithinRange, IsTupleWithinRange}
 use Rattle.pgoutput_msgs.specs.ValueText.{cell_of, cells_of}
 
-short_number : (number : ℤ) (least greatest : ℕ) → least < 2 ^ 63 → greatest < 2 ^ 63 → negsuc least ≤ℤ number
+pub short_number : (number : ℤ) (least greatest : ℕ) → least < 2 ^ 63 → greatest < 2 ^ 63 → negsuc least ≤ℤ number
     → number ≤ℤ pos greatest → length (signed_decimal number) < 2 ^ 31
 short_number (pos n) least greatest p q low high =
     let n_le : n ≤ greatest = lit≤ high.le in

@@ -4,4 +4,5 @@ pub mod ReadBack
 pub mod Reading
 pub mod Room
 pub mod Spelling
+pub mod Telling
 pub mod ValueText

@@ -14,6 +14,9 @@ mod reader;
 mod relation;
 mod room;
 mod row_values;
+mod saying;
+mod tables;
+mod telling;
 #[cfg(test)]
 mod tests;
 mod truncate;
@@ -28,5 +31,7 @@ pub use laws::{no_spelling_begins_another, rows_are_read_back, spellings_are_dec
 pub use message::Msg;
 pub use relation::{Relation, RelationColumn, ReplicaIdentity};
 pub use row_values::value_of;
+pub use tables::{oid_of, type_oid};
+pub use telling::messages_of;
 pub use tuple::{Cell, OldTuple, Tuple};
 pub use values::tuple_of;

@@ -1,0 +1,175 @@
+-- The messages that tell a subscriber of a commit: PostgreSQL 15, 55.5.2. Logical Replication Protocol Message Flow, and 55.9. Logical Replication Message Formats. Log sequence numbers, OIDs and numbers of transactions are this project's own.
+use Rattle.std.specs.Prelude.{ℕ, ◌+◌, ◌*◌, ◌^◌, ◌<◌, length, IfSome, ℤ, negsuc, Bool, true, false, if◌then◌else◌, List, [], ◌∷◌, ◌++◌, map, slice_get, slice_index_or, slice_set, Option, Some, None}
+use Rattle.filter_tree.specs.Datum.{Datum}
+use Rattle.filter_tree.specs.declared.table.ColType.{ColType}
+use Rattle.filter_tree.specs.declared.table.ColType.TheVariants as k
+use Rattle.filter_tree.specs.declared.table.Column.{Column}
+use Rattle.filter_tree.specs.declared.table.Identity.{Identity}
+use Rattle.filter_tree.specs.declared.table.Identity.TheVariants as t
+use Rattle.filter_tree.specs.declared.table.Table.{Table}
+use Rattle.replica_identity.specs.Identities.{is_covered}
+use Rattle.shard_checker.specs.CheckedView.{CheckedOf, setting_in}
+use Rattle.table_changes.specs.Outs.{got}
+use Rattle.table_changes.specs.Records as r
+use Rattle.tables_log.specs.Commits.{CommitOf}
+use Rattle.pgoutput_msgs.specs.ValueText.{cells_of}
+use Rattle.pgoutput_msgs.specs.declared.message.Msg.{Msg}
+use Rattle.pgoutput_msgs.specs.declared.message.Msg.TheVariants as m
+use Rattle.pgoutput_msgs.specs.declared.relation.Relation.{Relation}
+use Rattle.pgoutput_msgs.specs.declared.relation.RelationColumn.{RelationColumn}
+use Rattle.pgoutput_msgs.specs.declared.relation.ReplicaIdentity.{ReplicaIdentity}
+use Rattle.pgoutput_msgs.specs.declared.relation.ReplicaIdentity.TheVariants as i
+use Rattle.pgoutput_msgs.specs.declared.tuple.OldTuple.{OldTuple}
+use Rattle.pgoutput_msgs.specs.declared.tuple.OldTuple.TheVariants as o
+
+-- ---- numbers of commits and of tables
+
+-- the LSN of the commit of this number, which is counted from 1
+abbrev pub lsn_of : ℕ → ℕ
+lsn_of number = 64 * number
+
+-- the LSN at which it ends
+abbrev pub end_lsn_of : ℕ → ℕ
+end_lsn_of number = 64 * number + 64
+
+-- the number of its transaction
+abbrev pub xid_of : ℕ → ℕ
+xid_of number = number + 2
+
+-- the OID of the table of this number, which is counted from 0
+abbrev pub oid_of : ℕ → ℕ
+oid_of table = 16384 + table
+
+-- ---- Relation
+
+-- the OIDs of the types (53.64. pg_type)
+abbrev pub type_oid_of : ColType → ℕ
+type_oid_of k.SmallInt = 21
+type_oid_of k.Integer = 23
+type_oid_of k.BigInt = 20
+type_oid_of k.Boolean = 16
+type_oid_of k.Text = 25
+
+abbrev pub identity_of : Identity → ReplicaIdentity
+identity_of t.Default = i.Default
+identity_of (t.Index number) = i.Index
+identity_of t.Full = i.Full
+identity_of t.Nothing = i.Nothing
+
+-- the column of this number: the flag marks those of the replica identity, under FULL all
+abbrev pub column_of : Table → ℕ → Column → RelationColumn
+column_of table number column =
+    record { is_key = is_covered table number; name = column.name; type_oid = type_oid_of column.kind; type_modifier = negsuc 0 }
+
+-- these columns, the first of which has this number
+abbrev pub columns_from : Table → ℕ → List Column → List RelationColumn
+columns_from table number [] = []
+columns_from table number (column ∷ columns) = column_of table number column ∷ columns_from table (number + 1) columns
+
+abbrev pub relation_of : ℕ → Table → Relation
+relation_of number table = record {
+  oid = oid_of number;
+  namespace = table.schema;
+  name = table.name;
+  identity = identity_of table.identity;
+  columns = columns_from table 0 table.columns;
+}
+
+-- ---- what is said of a change
+
+abbrev pub old_of : r.PartOf → OldTuple
+old_of (r.Key part) = o.Key (cells_of part)
+old_of (r.Full old) = o.Full (cells_of old)
+
+abbrev pub maybe_old_of : Option r.PartOf → Option OldTuple
+maybe_old_of None = None
+maybe_old_of (Some part) = Some (old_of part)
+
+-- the message of a change, as the subscriber gets it: none of an old row of which nothing is recorded
+abbrev pub message_of : r.ChangeOf → List Msg
+message_of (r.Insert table new) = m.Insert (oid_of table) (cells_of new) ∷ []
+message_of (r.Update table part new) = m.Update (oid_of table) (maybe_old_of part) (cells_of new) ∷ []
+message_of (r.Delete table None) = []
+message_of (r.Delete table (Some part)) = m.Delete (oid_of table) (old_of part) ∷ []
+message_of (r.Truncate numbers) = m.Truncate 0 (map oid_of numbers) ∷ []
+
+-- the tables that the message names, in its order
+abbrev pub named_in : r.ChangeOf → List ℕ
+named_in (r.Insert table new) = table ∷ []
+named_in (r.Update table part new) = table ∷ []
+named_in (r.Delete table None) = []
+named_in (r.Delete table (Some part)) = table ∷ []
+named_in (r.Truncate numbers) = numbers
+
+-- ---- Relations, each sent once: `told` has by a table's number whether it was
+
+abbrev pub relation_at : ℕ → Option Table → List Msg
+relation_at number None = []
+relation_at number (Some table) = m.Relation (relation_of number table) ∷ []
+
+abbrev pub introduced : List Table → Bool → ℕ → List Msg
+introduced tables true number = []
+introduced tables false number = relation_at number (slice_get tables number)
+
+-- the Relation of a table, if it was not sent
+unfoldable pub relation_once : List Table → List Bool → ℕ → List Msg
+relation_once tables told number = introduced tables (slice_index_or told number false) number
+
+abbrev pub told_one : List Bool → ℕ → List Bool
+told_one told number = slice_set told number true
+
+-- the Relations of tables that were not sent, in this order
+unfoldable pub relations_of : List Table → List Bool → List ℕ → List Msg
+relations_of tables told [] = []
+relations_of tables told (number ∷ numbers) =
+    relation_once tables told number ++ relations_of tables (told_one told number) numbers
+
+unfoldable pub told_all : List Bool → List ℕ → List Bool
+told_all told [] = told
+told_all told (number ∷ numbers) = told_all (told_one told number) numbers
+
+-- ---- commits
+
+-- what is said of a change that the subscriber gets, if it gets one
+unfoldable pub said : List Table → List Bool → Option r.ChangeOf → List Msg
+said tables told None = []
+said tables told (Some change) = relations_of tables told (named_in change) ++ message_of change
+
+unfoldable pub told_by : List Bool → Option r.ChangeOf → List Bool
+told_by told None = told
+told_by told (Some change) = told_all told (named_in change)
+
+-- what is said of changes, one after the other
+unfoldable pub said_each : CheckedOf → ℕ → List Bool → List r.ChangeOf → List Msg
+said_each checked subscriber told [] = []
+said_each checked subscriber told (change ∷ changes) =
+    said checked.catalog.tables told (got (setting_in checked) subscriber change)
+    ++ said_each checked subscriber (told_by told (got (setting_in checked) subscriber change)) changes
+
+unfoldable pub told_each : CheckedOf → ℕ → List Bool → List r.ChangeOf → List Bool
+told_each checked subscriber told [] = told
+told_each checked subscriber told (change ∷ changes) =
+    told_each checked subscriber (told_by told (got (setting_in checked) subscriber change)) changes
+
+abbrev pub begin_of : CommitOf → Msg
+begin_of commit = m.Begin (lsn_of commit.number) commit.time (xid_of commit.number)
+
+abbrev pub commit_of : CommitOf → Msg
+commit_of commit = m.Commit (lsn_of commit.number) (end_lsn_of commit.number) commit.time
+
+-- Begin, what is said, and Commit; nothing where nothing is said
+abbrev pub enclosed : CommitOf → List Msg → List Msg
+enclosed commit [] = []
+enclosed commit (first ∷ others) = begin_of commit ∷ (first ∷ others) ++ commit_of commit ∷ []
+
+-- the messages of a commit for the subscriber of this number, where these Relations were sent before it
+abbrev pub messages_for : CheckedOf → ℕ → List Bool → CommitOf → List Msg
+messages_for checked subscriber told commit = enclosed commit (said_each checked subscriber told commit.changes)
+
+-- the Relations that were sent after it
+abbrev pub told_after : CheckedOf → ℕ → List Bool → CommitOf → List Bool
+told_after checked subscriber told commit = told_each checked subscriber told commit.changes
+
+-- ---- a layout has room for the Relation of each table
+abbrev pub TablesFit : List Table → Type 0
+TablesFit tables = (number : ℕ) → IfSome (slice_get tables number) (λ table. length table.columns < 2 ^ 15)

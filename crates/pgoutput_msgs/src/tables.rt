@@ -1,0 +1,86 @@
+//! Relation messages of a catalog's tables.
+
+ghost use Rattle.std.specs.Prelude.{◌≡◌, ◌<◌, ◌^◌, IfOk};
+ghost use Rattle.pgoutput_msgs.specs.Telling as spec;
+
+use crate::relation::{Relation, RelationColumn, ReplicaIdentity};
+use filter_tree::{ColType, Identity, Items, Table, Text};
+use replica_identity::covered;
+use std::alloc::{AllocError, Global};
+
+/// The OID of the first table of a catalog. The others follow in their order.
+const FIRST_OID: u32 = 16_384;
+
+/// The OID of the table of this number, which is counted from 0.
+pub fn oid_of(table: usize) -> u32
+    requires { table < 2 ^ 31 }
+    ensures { result ≡ spec.oid_of table }
+{
+    FIRST_OID + table as u32
+}
+
+/// The OID of a type: of smallint, integer, bigint, boolean and text.
+///
+/// PostgreSQL 15, 53.64. pg_type.
+pub fn type_oid(kind: ColType) -> u32
+    ensures { result ≡ spec.type_oid_of kind }
+{
+    match kind {
+        ColType::SmallInt => 21,
+        ColType::Integer => 23,
+        ColType::BigInt => 20,
+        ColType::Boolean => 16,
+        ColType::Text => 25,
+    }
+}
+
+fn identity_of(identity: Identity) -> ReplicaIdentity
+    ensures { result ≡ spec.identity_of identity }
+{
+    match identity {
+        Identity::Default => ReplicaIdentity::Default,
+        Identity::Index(_) => ReplicaIdentity::Index,
+        Identity::Full => ReplicaIdentity::Full,
+        Identity::Nothing => ReplicaIdentity::Nothing,
+    }
+}
+
+fn copy_of(alloc: Global, text: &Text) -> Result<Text, AllocError>
+    ensures { IfOk result (λ copy. copy ≡ text.now) }
+{
+    Ok(Text::from_str(alloc, text.as_str())?)
+}
+
+fn columns_of(alloc: Global, table: &Table) -> Result<Items<RelationColumn>, AllocError>
+    ensures { IfOk result (λ columns. columns ≡ spec.columns_from table.now 0 table.now.columns) }
+{
+    let columns = table.columns.as_slice();
+    let mut made = Vec::with_capacity(alloc, columns.len())?;
+    for (number, column) in columns.iter().enumerate() {
+        made.push(RelationColumn {
+            is_key: covered(table, number),
+            name: copy_of(alloc, &column.name)?,
+            type_oid: type_oid(column.kind),
+            type_modifier: -1,
+        })?;
+    }
+    Ok(Items::from_vec(made))
+}
+
+/// The Relation message of the table of this number. The only error is want of memory.
+pub(crate) fn relation_of(
+    alloc: Global,
+    number: usize,
+    table: &Table,
+) -> Result<Relation, AllocError>
+    requires { number < 2 ^ 31 }
+    ensures { IfOk result (λ relation. relation ≡ spec.relation_of number table.now) }
+{
+    Ok(Relation {
+        oid: oid_of(number),
+        namespace: copy_of(alloc, &table.schema)?,
+        name: copy_of(alloc, &table.name)?,
+        identity: identity_of(table.identity),
+        columns: columns_of(alloc, table)?,
+    })
+}
