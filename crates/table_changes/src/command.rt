@@ -8,20 +8,8 @@ use filter_tree::Row;
 /// PostgreSQL 15, Chapter 6 Data Manipulation, and SQL Commands, TRUNCATE.
 #[derive(Debug, Drop, PartialEq, Eq)]
 pub enum Command {
-    Insert {
-        table: usize,
-        row: Row,
-    },
-    Update {
-        table: usize,
-        key: Row,
-        row: Row,
-    },
-    Delete {
-        table: usize,
-        key: Row,
-    },
-    Truncate {
-        tables: Vec<usize>,
-    },
+    Insert { table: usize, row: Row },
+    Update { table: usize, key: Row, row: Row },
+    Delete { table: usize, key: Row },
+    Truncate { tables: Vec<usize> },
 }
