@@ -4,6 +4,7 @@ ghost use Rattle.std.specs.Prelude.{◌≡◌, ◌++◌, [], map, IfOk, OnOk};
 ghost use Rattle.std.specs.String.{string_bytes};
 ghost use Rattle.filter_tree.specs.Valid.{IsValid};
 ghost use Rattle.pgoutput_msgs.specs.Ranges.{IsWithinRange};
+ghost use Rattle.pgoutput_msgs.specs.Spelling.{spelling_of};
 ghost use Rattle.publisher_main.specs.Eval.Carriers.{carrier_view};
 ghost use Rattle.publisher_main.specs.Eval.Inserts as spec;
 ghost use Rattle.publisher_main.specs.Eval.Printing.{carriers_in};
@@ -50,6 +51,17 @@ fn insert_of(alloc: Global, carried: CatalogTable<'_>, row: &Row) -> Result<Msg,
     Ok(Msg::Insert { relation, new })
 }
 
+/// The bytes that spell it.
+fn spelled(alloc: Global, carried: CatalogTable<'_>, row: &Row) -> Result<Vec<u8>, AllocError>
+    requires fits { IsValid carried.table.now.columns row.now }
+    ensures { IfOk result (λ bytes. bytes.items ≡ spelling_of (spec.insert_of carried.entry.number row.now)) }
+{
+    let message = insert_of(alloc, carried, row)?;
+    let mut bytes = Vec::new(alloc);
+    encode(&message, &mut bytes)?;
+    Ok(bytes)
+}
+
 /// Writes the message of a row of the table after what is on the line.
 fn push_message(
     alloc: Global,
@@ -61,10 +73,9 @@ fn push_message(
     ensures { OnOk result (string_bytes line.new ≡ string_bytes line.old ++ spec.message_text carried.entry.number
         row.now) }
 {
-    let message = insert_of(alloc, carried, row)?;
-    let mut bytes = Vec::new(alloc);
-    encode(&message, &mut bytes)?;
-    push_hexadecimal(line, bytes.as_slice())
+    let bytes = spelled(alloc, carried, row)?;
+    push_hexadecimal(line, bytes.as_slice())?;
+    Ok(())
 }
 
 /// Writes the Insert message of a row on an empty line, or `none` where no publication carries the row.
