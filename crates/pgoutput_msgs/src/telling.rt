@@ -18,11 +18,12 @@ use shard_checker::Checked;
 use std::alloc::{AllocError, Global};
 use tables_log::Commit;
 
-/// The messages that tell the subscriber of this number of a commit: Begin, then for each change that is for it the message
-/// of what it gets, and Commit; none if no change is for it. `told` has by a table's number whether its Relation was sent:
-/// one that wasn't comes directly before the first message that names its table, before a Truncate in its order, and is
-/// told from then on. Each message fits its layout, where each table has fewer than 2^15 columns. Commit n has the LSN `64 * n`, ends at `64 * n + 64` and is transaction `n + 2`; table j has the OID
-/// `16384 + j`. The only error is want of memory, which leaves `told` as it was.
+/// The messages that tell the subscriber of this number of a commit: Begin, then for each change that is for it the
+/// message of what it gets, and Commit; none if no change is for it. `told` has by a table's number whether its Relation
+/// was sent: one that wasn't comes directly before the first message that names its table, before a Truncate in its
+/// order, and is told from then on. Each message fits its layout, where each table has fewer than 2^15 columns. Commit n
+/// has the LSN `64 * n`, ends at `64 * n + 64` and is transaction `n + 2`; table j has the OID `16384 + j`. The only error
+/// is want of memory, which leaves `told` as it was.
 ///
 /// PostgreSQL 15, 55.5.2. Logical Replication Protocol Message Flow.
 #[tactic(auto, using(crate::proofs::RoomLemmas::messages_room))]

@@ -39,13 +39,13 @@ abbrev pub error_at : ℕ → Refused → CommitError
 error_at number (r.Fault fault) = e.At number fault
 error_at number r.OutOfMemory = e.OutOfMemory
 
--- the error is the first fault of the commands, or want of memory
 -- a list of so many commands is refused
 abbrev pub RefusesCount : ℕ → CommitError → Type 0
 RefusesCount commands e.EmptyTransaction = commands ≡ 0
 RefusesCount commands e.TooManyCommands = 1000 < commands
 RefusesCount commands _ = ⊥
 
+-- the error is the first fault of the commands, or want of memory
 abbrev pub StopsAt : Setting → Tables → List Command → CommitError → Type 0
 StopsAt setting tables commands (e.At number fault) = first_fault setting tables 1 commands ≡ Some (number, fault_view fault)
 StopsAt setting tables commands e.OutOfMemory = Unit {0}
