@@ -1,7 +1,3 @@
-pub mod ContentLemmas
-pub mod CutLemmas
-pub mod FrontLemmas
-pub mod HistoryLemmas
 pub mod OrderLemmas
 pub mod StreamLemmas
 pub mod RefusalLemmas

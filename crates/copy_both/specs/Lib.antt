@@ -1,10 +1,4 @@
-pub mod ContentLaws
-pub mod Contents
-pub mod FrameLaws
-pub mod Frames
-pub mod Inboxes
 pub mod Refusals
-pub mod Scans
 pub mod StartOrder
 pub mod StreamLaws
 pub mod Streams

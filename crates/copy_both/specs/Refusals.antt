@@ -2,7 +2,7 @@
 use Rattle.std.specs.Prelude.{ℕ, ◌<◌, ◌+◌, ◌^◌, List, [], ◌∷◌, ◌++◌, length, codes}
 use Rattle.copy_both.specs.declared.refusal.Refusal.{Refusal}
 use Rattle.copy_both.specs.declared.refusal.Refusal.TheVariants as code
-use Rattle.copy_both.specs.Frames.{framed}
+use Rattle.copy_frames.specs.Frames.{framed}
 
 -- the names are those of the slot, the option or the publication
 pub data RefusalOf : Type 0 where

@@ -1,6 +1,6 @@
 -- A stream grows move by move, and what was passed on and what waits are together the stream.
 use Rattle.std.specs.Prelude.{◌≡◌, ℕ, ◌<◌, Bool, List, [], ◌∷◌, ◌++◌, length, take, drop, slice_get, Some}
-use Rattle.copy_both.specs.Contents.{copy_both_response}
+use Rattle.copy_frames.specs.Contents.{copy_both_response}
 use Rattle.copy_both.specs.Streams.{Telling, Place, Move, Take, Keep, place_at, place_after, take_bytes, keep_bytes, moved, all_moved, stream}
 
 -- each commit that is taken is there

@@ -1,7 +1,7 @@
 -- What a connection sends: CopyBothResponse, and then what is taken of the log, commit by commit, and keepalives ("55.4. Streaming Replication Protocol", "55.5. Logical Streaming Replication Protocol"). Positions in the log are this project's own.
 use Rattle.std.specs.Prelude.{◌≡◌, ℕ, ◌+◌, ◌-◌, ◌*◌, ◌/◌, ◌==◌, if◌then◌else◌, Bool, false, List, [], ◌∷◌, ◌++◌, map, replicate, slice_get, Option, Some, None}
 use Rattle.std.specs.List.{flat_map}
-use Rattle.copy_both.specs.Contents.{copy_both_response, copy_data, xlog_data_body, keepalive_body}
+use Rattle.copy_frames.specs.Contents.{copy_both_response, copy_data, xlog_data_body, keepalive_body}
 
 -- what a subscriber is told of commits: the number of a commit, from 1; the messages of it for the subscriber of a slot, spelled, where these tables were told of; and which tables were told of after it
 pub record Telling (C : Type 0) : Type 0 where

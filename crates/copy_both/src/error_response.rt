@@ -4,7 +4,7 @@ ghost use Rattle.std.specs.Prelude.{◌≡◌, ◌++◌, OnOk, OnErr};
 ghost use Rattle.copy_both.specs.Refusals.{CanBeSent, error_response, refusal_view};
 
 use crate::refusal::Refusal;
-use crate::room::{put, put_int32, put_text};
+use copy_frames::{put, put_int32, put_text};
 use bytes::BytesMut;
 use std::alloc::AllocError;
 

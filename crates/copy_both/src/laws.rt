@@ -1,40 +1,7 @@
-//! Laws of frames, of what they hold, and of streams.
+//! Laws of streams.
 
-ghost use Rattle.copy_both.specs.FrameLaws.{CutsAreSpelled, SpelledAreCut, CutsAreWhole, StartsGiven, FedIsGiven, FrameIsGiven, FaultIsFirst};
 ghost use Rattle.copy_both.specs.StreamLaws.{Starts, Takes, Keeps, Passes, Grows};
 ghost use Rattle.copy_both.specs.Streams.{Telling};
-ghost use Rattle.copy_both.specs.ContentLaws.{XLogDataIsRead, KeepaliveIsRead, StatusIsRead};
-
-/// A law, and no code, of what bytes are cut into.
-///
-/// What was cut, spelled again, are the bytes. The spellings of frames, one after another, are cut into those frames
-/// and what comes after them. Each frame is within the limit, what is left at the end is no whole frame, and a fault is
-/// that of the length there.
-#[tactic(auto, using(crate::proofs::CutLemmas::cuts_are_spelled, crate::proofs::CutLemmas::spelled_are_cut, crate::proofs::CutLemmas::cuts_are_whole))]
-pub fn bytes_make_frames()
-    ensures spelled { CutsAreSpelled }
-    ensures cut { SpelledAreCut }
-    ensures whole { CutsAreWhole }
-{}
-
-/// A law, and no code, of what a `Deframer` gives: whatever the pieces, the bytes that were fed are the frames that it
-/// gave and what it holds, and they are cut into the same frames as if they had come at once. The fault is that of all
-/// bytes that were fed.
-#[tactic(auto, using(crate::proofs::HistoryLemmas::fault_is_first))]
-pub fn pieces_make_frames()
-    ensures starts { StartsGiven }
-    ensures feeds { FedIsGiven }
-    ensures gives { FrameIsGiven }
-    ensures fault { FaultIsFirst }
-{}
-
-/// A law, and no code, of what is carried in CopyData: what is spelled is read.
-#[tactic(auto, using(crate::proofs::ContentLemmas::data_is_read, crate::proofs::ContentLemmas::keepalive_is_read, crate::proofs::ContentLemmas::status_is_read))]
-pub fn bodies_are_read_as_spelled()
-    ensures data { XLogDataIsRead }
-    ensures keepalive { KeepaliveIsRead }
-    ensures status { StatusIsRead }
-{}
 
 /// A law, and no code, of what a connection sends, whatever it tells of a commit. After CopyBothResponse the stream grows
 /// by each commit that is taken and by each keepalive. What was passed on and what waits are together the stream, however

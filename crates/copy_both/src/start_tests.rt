@@ -2,7 +2,7 @@
 
 use crate::{
     Offer, OptionValue, Refusal, StartCommand, StartOption, append_error_response, find_slot,
-    start_refusal,
+    start_refusal, streams_grow,
 };
 use bytes::BytesMut;
 use filter_tree::{Items, Text};
@@ -239,5 +239,12 @@ fn a_refusal_is_told_by_an_error_response(rt: HostRuntime) -> Result<(), Fail> {
         b"E\0\0\0\x3bSERROR\0VERROR\0C55006\0Mreplication slot \"s0\" is active\0\0\
         E\0\0\0\x2cSERROR\0VERROR\0C08P01\0Mexpected a query\0\0";
     assert!(rt; out.as_slice() == expected);
+    Ok(())
+}
+
+/// The law at a type.
+#[test]
+fn streams_grow_at_a_type() -> Result<(), Fail> {
+    streams_grow::<u8>();
     Ok(())
 }

@@ -1,0 +1,4 @@
+pub mod ContentLemmas
+pub mod CutLemmas
+pub mod FrontLemmas
+pub mod HistoryLemmas
