@@ -3,7 +3,7 @@
 
     bench/run.py [--program FILE] [--core N] [--first] [--runs N] [PART ..]
 
-The parts are start, large, eval, check, make and instructions; without one, all are run. The program has to be built,
+The parts are start, large, eval, check, make, book, messages and instructions; without one, all are run. The program has to be built,
 which the script `pgshard` does. PostgreSQL 15, z3 and valgrind are left out where they are not installed.
 """
 
@@ -13,9 +13,11 @@ import pathlib
 import sys
 import tempfile
 
+import book
 import checking
 import evaluation
 import instructions
+import messages
 import sharding
 import starting
 from measuring import BUILT, Setup, machine
@@ -26,6 +28,8 @@ PARTS = {
     "eval": ("eval", lambda setup, _: evaluation.measure(setup)),
     "check": ("check", checking.measure),
     "make": ("make", sharding.measure),
+    "book": ("The publisher's tables and log", book.measure),
+    "messages": ("Messages", messages.measure),
     "instructions": ("Instructions", instructions.measure),
 }
 

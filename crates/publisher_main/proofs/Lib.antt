@@ -1,6 +1,5 @@
 pub mod Asking
 pub mod BadLines
-pub mod CertificateLines
 pub mod Evaluating
 pub mod Exits
 pub mod Faults

@@ -8,12 +8,11 @@ use Rattle.pub_reader.specs.Statements.{catalog_by}
 use Rattle.replica_identity.specs.Plans.{plan_of}
 use Rattle.shard_checker.specs.CatalogTruth.{ShardingIsWrong}
 use Rattle.shard_checker.specs.Sound.{IsSound}
+use Rattle.shard_checker.specs.Texts.{text_fault, trees_in}
 use Rattle.shard_checker.specs.declared.error.CheckError.{CheckError}
-use Rattle.split_cert.specs.Tree.{Tree}
 use Rattle.sql_reader.specs.Written.{as_filter}
 use Rattle.publisher_main.proofs.Faults.{out_of_memory}
 use Rattle.publisher_main.proofs.Writing.{text_of-one}
-use Rattle.publisher_main.specs.Check.Certificates.{AreCertificates}
 use Rattle.publisher_main.specs.Check.Checking.{IsCheck, IsFirstRefusal}
 use Rattle.publisher_main.specs.Check.Refusals.{refused_line}
 use Rattle.publisher_main.specs.Output.{StopsText, WritesFirst, ended}
@@ -42,17 +41,17 @@ line_ends input line status old new (Err f.Output) is same appends stops = recor
   first = subst (λ (t : List ℕ). WritesFirst t old new) (sym (text_of-one line)) stops;
 }
 
-module _ (input : List ℕ) (cut : Cut) (catalog : CatalogOf Expr) (trees : List Tree) (parts : two_parts input ≡ Some cut) (reads : catalog_by as_filter cut.part ≡ Ok catalog) (certificates : AreCertificates (lines_of cut.rest) trees) where
-  pub accepted : (old new : Option (List ℕ)) (result : Result Status Failure) → IsSound catalog → IsFirstRefusal catalog trees None → IfOk result (λ s. s ≡ Done)
+module _ (input : List ℕ) (cut : Cut) (catalog : CatalogOf Expr) (parts : two_parts input ≡ Some cut) (reads : catalog_by as_filter cut.part ≡ Ok catalog) (certificates : text_fault 1 (lines_of cut.rest) ≡ None) where
+  pub accepted : (old new : Option (List ℕ)) (result : Result Status Failure) → IsSound catalog → IsFirstRefusal catalog (trees_in (lines_of cut.rest)) None → IfOk result (λ s. s ≡ Done)
       → OnOk result (Appends old new (ended (codes "accepted"))) → IfErr result (StopsText (ended (codes "accepted")) old new) → EndsRequest Check input old new result
   accepted old new result sound unrefused same appends stops =
       line_ends input (codes "accepted") Done old new result
-      (record { cut = cut; catalog = catalog; trees = trees; parts = parts; reads = reads; certificates = certificates; verdict = record { sound = sound; unrefused = unrefused; are = refl } })
+      (record { cut = cut; catalog = catalog; parts = parts; reads = reads; certificates = certificates; verdict = record { sound = sound; unrefused = unrefused; are = refl } })
       same appends stops
 
-  pub refused : (error : CheckError) (old new : Option (List ℕ)) (result : Result Status Failure) → IsFirstRefusal catalog trees (Some error) → ShardingIsWrong catalog (plan_of catalog) trees error → IfOk result (λ s. s ≡ Refused)
+  pub refused : (error : CheckError) (old new : Option (List ℕ)) (result : Result Status Failure) → IsFirstRefusal catalog (trees_in (lines_of cut.rest)) (Some error) → ShardingIsWrong catalog (plan_of catalog) (trees_in (lines_of cut.rest)) error → IfOk result (λ s. s ≡ Refused)
       → OnOk result (Appends old new (ended (refused_line catalog error))) → IfErr result (StopsText (ended (refused_line catalog error)) old new) → EndsRequest Check input old new result
   refused error old new result refusal wrong same appends stops =
       line_ends input (refused_line catalog error) Refused old new result
-      (record { cut = cut; catalog = catalog; trees = trees; parts = parts; reads = reads; certificates = certificates; verdict = record { error = error; refusal = refusal; wrong = wrong; are = refl } })
+      (record { cut = cut; catalog = catalog; parts = parts; reads = reads; certificates = certificates; verdict = record { error = error; refusal = refusal; wrong = wrong; are = refl } })
       same appends stops

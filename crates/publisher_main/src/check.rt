@@ -1,52 +1,75 @@
 //! `check`: whether a sharding is sound, by the certificates of its tables.
 
-ghost use Rattle.std.specs.Prelude.{◌≡◌, IfErr, IfOk, IfSome, OnOk, None, codes, map};
+ghost use Rattle.std.specs.Prelude.{◌≡◌, IfErr, IfOk, IfSome, OnOk, None, codes};
 ghost use Rattle.std.specs.Io.KnownBytes.{Appends};
 ghost use Rattle.pub_reader.specs.CatalogView.{catalog_view};
 ghost use Rattle.replica_identity.specs.Plans.{plan_of};
 ghost use Rattle.shard_checker.specs.CatalogTruth.{ShardingIsWrong};
 ghost use Rattle.shard_checker.specs.Sound.{IsSound};
-ghost use Rattle.split_cert.specs.Where.{tree_view};
+ghost use Rattle.shard_checker.specs.Texts.{text_fault, texts_view, trees_in};
+ghost use Rattle.publisher_main.specs.Check.Certificates as certificates;
+ghost use Rattle.publisher_main.specs.Check.Certificates.{IsOfLines};
 ghost use Rattle.publisher_main.specs.Check.Checking as spec;
 ghost use Rattle.publisher_main.specs.Check.Refusals.{refused_line};
 ghost use Rattle.publisher_main.specs.Output.{StopsText, ended};
+ghost use Rattle.publisher_main.specs.Parts as parts;
 ghost use Rattle.publisher_main.specs.Requests.{EndsRequest};
 ghost use Rattle.publisher_main.specs.declared.arguments.Request.TheVariants.{Check};
 ghost use Rattle.publisher_main.specs.declared.failure.Status.TheVariants.{Done, Refused};
 
-pub mod certificates;
 pub mod refusals;
 #[cfg(test)]
 pub mod tests;
 
-use crate::check::certificates::read_certificates;
 use crate::check::refusals::push_refusal;
 use crate::failure::{Failure, InputFault, Status};
 use crate::output::write_line;
-use crate::parts::two_parts;
+use crate::parts::{Lines, two_parts};
 use pub_reader::{Catalog, read_catalog};
 use replica_identity::plan;
-use shard_checker::{CheckError, check};
-use split_cert::Cert;
+use shard_checker::{CheckError, TextError, check_text};
 use std::alloc::{AllocError, Global};
 use std::io::Write;
 
-/// The first reason to refuse the sharding of a catalog, if there is one.
-fn refusal_of(
+/// The lines of a text.
+fn lines_of(alloc: Global, text: &str) -> Result<Vec<&str>, AllocError>
+    ensures { IfOk result (λ lines. texts_view lines.items ≡ parts::lines_of text.now) }
+{
+    let mut lines = Vec::new(alloc);
+    for line in Lines::new(text) {
+        lines.push(line)?;
+    }
+    Ok(lines)
+}
+
+/// The refusal that the error of a check is.
+fn refusal_in<'a>(error: TextError) -> Result<Option<CheckError>, Failure<'a>>
+    ensures { result ≡ certificates::refusal_in error }
+{
+    match error {
+        TextError::Text(line, error) => Err(Failure::Input(InputFault::Certificate { line, error })),
+        TextError::Check(CheckError::OutOfMemory) => Err(Failure::OutOfMemory),
+        TextError::Check(refusal) => Ok(Some(refusal)),
+    }
+}
+
+/// The first reason to refuse the sharding of a catalog by the texts of certificates, if there is one.
+fn refusal_of<'a>(
     alloc: Global,
     catalog: Catalog,
-    certs: &[Cert],
-) -> Result<Option<CheckError>, AllocError>
+    texts: &[&str],
+) -> Result<Option<CheckError>, Failure<'a>>
+    ensures read { OnOk result (text_fault 1 (texts_view texts.now) ≡ None) }
     ensures sound { IfOk result (λ refusal. refusal ≡ None → IsSound (catalog_view catalog)) }
-    ensures first { IfOk result (spec.IsFirstRefusal (catalog_view catalog) (map tree_view certs.now)) }
+    ensures first { IfOk result (spec.IsFirstRefusal (catalog_view catalog) (trees_in (texts_view texts.now))) }
     ensures wrong { IfOk result (λ refusal. IfSome refusal (ShardingIsWrong (catalog_view catalog)
-        (plan_of (catalog_view catalog)) (map tree_view certs.now))) }
+        (plan_of (catalog_view catalog)) (trees_in (texts_view texts.now)))) }
+    ensures err { IfErr result (IsOfLines (texts_view texts.now)) }
 {
     let plan = plan(alloc, &catalog)?;
-    match check(alloc, catalog, plan, certs) {
+    match check_text(alloc, catalog, plan, texts) {
         Ok(_) => Ok(None),
-        Err(CheckError::OutOfMemory) => Err(AllocError),
-        Err(refusal) => Ok(Some(refusal)),
+        Err(error) => refusal_in(error),
     }
 }
 
@@ -79,8 +102,8 @@ fn write_refused<'a, W: Write>(
     Ok(Status::Refused)
 }
 
-/// Answers an input: a catalog, a line `%%`, and the certificates of its tables, one a line in the order of the tables.
-/// The check takes the catalog, so that for the names in a refusal its text is read once more.
+/// Answers an input: a catalog, a line `%%`, and the texts of the certificates of its tables, one a line in the order of the
+/// tables. The check takes the catalog, so that for the names in a refusal its text is read once more.
 pub fn check_input<'a, W: Write>(
     alloc: Global,
     input: &str,
@@ -90,8 +113,8 @@ pub fn check_input<'a, W: Write>(
 {
     let (text, lines) = two_parts(input).ok_or(InputFault::Parts)?;
     let catalog = read_catalog(alloc, text)?;
-    let certs = read_certificates(alloc, lines)?;
-    match refusal_of(alloc, catalog, certs.as_slice())? {
+    let texts = lines_of(alloc, lines)?;
+    match refusal_of(alloc, catalog, texts.as_slice())? {
         None => write_accepted(alloc, writer),
         Some(refusal) => {
             let catalog = read_catalog(alloc, text)?;

@@ -1,4 +1,4 @@
--- What `check` answers: the first part of its input is a catalog, and the second has the certificates of its tables, one a line in the order of the tables.
+-- What `check` answers: the first part of its input is a catalog, and the second has the texts of the certificates of its tables, one a line in the order of the tables. The format is this project's own.
 use Rattle.std.specs.Prelude.{◌≡◌, ℕ, List, [], ◌∷◌, Option, Some, None, Ok, codes}
 use Rattle.filter_tree.specs.Expr.{Expr}
 use Rattle.pub_reader.specs.Catalogs.{CatalogOf}
@@ -9,10 +9,11 @@ use Rattle.shard_checker.specs.CatalogRefusal.{sharding_refusal}
 use Rattle.shard_checker.specs.CatalogTruth.{ShardingIsWrong}
 use Rattle.shard_checker.specs.Emptiness.{Test, IsEmptiness}
 use Rattle.shard_checker.specs.Sound.{IsSound}
+use Rattle.shard_checker.specs.Texts.{text_fault, trees_in}
 use Rattle.shard_checker.specs.declared.error.CheckError.{CheckError}
+use Rattle.shard_checker.specs.declared.text_error.TextError.TheVariants.{Text}
 use Rattle.split_cert.specs.Tree.{Tree}
 use Rattle.split_cert.specs.declared.error.CertError.{CertError}
-use Rattle.publisher_main.specs.Check.Certificates.{AreCertificates, IsFirstBad}
 use Rattle.publisher_main.specs.Eval.Evaluation.{IsBadCatalog}
 use Rattle.publisher_main.specs.Parts.{Cut, two_parts, lines_of}
 use Rattle.publisher_main.specs.Check.Refusals.{refused_line}
@@ -49,11 +50,10 @@ IsVerdict catalog trees lines _ = ⊥
 pub record IsCheck (input : List ℕ) (lines : List (List ℕ)) (status : Status) : Type 0 where
   pub cut : Cut
   pub catalog : CatalogOf Expr
-  pub trees : List Tree
   pub parts : two_parts input ≡ Some cut
   pub reads : catalog_by as_filter cut.part ≡ Ok catalog
-  pub certificates : AreCertificates (lines_of cut.rest) trees
-  pub verdict : IsVerdict catalog trees lines status
+  pub certificates : text_fault 1 (lines_of cut.rest) ≡ None
+  pub verdict : IsVerdict catalog (trees_in (lines_of cut.rest)) lines status
 
 -- ---- why there is no answer
 
@@ -63,7 +63,7 @@ pub record IsBadCertificate (input : List ℕ) (number : ℕ) (error : CertError
   pub catalog : CatalogOf Expr
   pub parts : two_parts input ≡ Some cut
   pub reads : catalog_by as_filter cut.part ≡ Ok catalog
-  pub first : IsFirstBad (lines_of cut.rest) number error
+  pub first : text_fault 1 (lines_of cut.rest) ≡ Some (Text number error)
 
 abbrev pub IsFault : List ℕ → InputFault → Type 0
 IsFault input i.Unread = ⊥

@@ -1,9 +1,10 @@
 -- The Insert message of a row that some publication carries: PostgreSQL 15, "Row Filters", 31.3, and "Logical Replication Message Formats", 55.9.
-use Rattle.std.specs.Prelude.{ℕ, ◌+◌, Bool, true, false, if◌then◌else◌, List, codes}
+use Rattle.std.specs.Prelude.{ℕ, Bool, true, false, if◌then◌else◌, List, codes}
 use Rattle.std.specs.List.{list_any}
 use Rattle.filter_tree.specs.Datum.{Datum}
 use Rattle.filter_tree.specs.declared.tri.Tri.TheVariants.{True}
 use Rattle.pgoutput_msgs.specs.Spelling.{spelling_of}
+use Rattle.pgoutput_msgs.specs.Telling.{oid_of}
 use Rattle.pgoutput_msgs.specs.ValueText.{cells_of}
 use Rattle.pgoutput_msgs.specs.declared.message.Msg.{Msg}
 use Rattle.pgoutput_msgs.specs.declared.message.Msg.TheVariants.{Insert}
@@ -24,10 +25,6 @@ carries cells carrier = is_through (answer_of cells carrier.filter)
 
 abbrev pub is_carried : List Datum → List CarrierOf → Bool
 is_carried cells carriers = list_any (carries cells) carriers
-
--- the OID of a table is 16384 and its number
-abbrev pub oid_of : ℕ → ℕ
-oid_of table = 16384 + table
 
 abbrev pub insert_of : ℕ → List Datum → Msg
 insert_of table cells = Insert (oid_of table) (cells_of cells)

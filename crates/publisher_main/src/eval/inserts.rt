@@ -14,11 +14,8 @@ use crate::eval::carriers::Carrier;
 use crate::eval::hexadecimal::push_hexadecimal;
 use crate::eval::tables::CatalogTable;
 use filter_tree::{Row, Tri};
-use pgoutput_msgs::{Msg, encode, tuple_of};
+use pgoutput_msgs::{Msg, encode, oid_of, tuple_of};
 use std::alloc::{AllocError, Global};
-
-/// The OID of the first table of a catalog. The others follow in their order.
-const FIRST_OID: u32 = 16_384;
 
 fn carries(carrier: Carrier<'_>, row: &Row) -> bool
     ensures { result ≡ spec.carries row.now (carrier_view carrier.entry) }
@@ -47,7 +44,7 @@ fn insert_of(alloc: Global, carried: CatalogTable<'_>, row: &Row) -> Result<Msg,
     ensures room { IfOk result IsWithinRange }
 {
     let new = tuple_of(alloc, row)?;
-    let relation = FIRST_OID + carried.number as u32;
+    let relation = oid_of(carried.number);
     Ok(Msg::Insert { relation, new })
 }
 
