@@ -22,7 +22,6 @@ def driver(name, libraries):
         (root / "crates.txt").write_text(f"{listed}{name}_times: {libraries}\n")
         crate = root / "crates" / f"{name}_times"
         (crate / "src").mkdir(parents=True)
-        for source in (DRIVERS / name / "src").iterdir():
-            (crate / "src" / source.name).write_text(source.read_text())
+        (crate / "src" / "main.rt").write_text((DRIVERS / f"{name}.rt.in").read_text())
         subprocess.run(["rt", "run"], cwd=crate, check=False, stdout=subprocess.DEVNULL, stderr=subprocess.DEVNULL)
         yield crate / "out" / f"{name}_times"
