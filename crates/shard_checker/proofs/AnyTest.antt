@@ -1,5 +1,5 @@
 -- All tests that hold exactly of the terms to which no value is left lead to the same refusals.
-use Rattle.std.proofs.Common.{◌≡◌, ℕ, ◌+◌, Bool, true, false, List, [], ◌∷◌, ◌++◌, length, refl, sym, ◌∙◌, ap, subst}
+use Rattle.std.proofs.Common.{◌≡◌, ℕ, ◌+◌, Bool, List, [], ◌∷◌, ◌++◌, length, refl, sym, ◌∙◌, ap, subst}
 use Rattle.std.specs.Prelude.{Option, Some, None, Result, if◌then◌else◌, slice_get}
 use Rattle.filter_tree.specs.Expr.{Expr, AtomOf}
 use Rattle.filter_tree.specs.Paths.{Path}

@@ -2,12 +2,16 @@ pub mod AnyTest
 pub mod EmptyLemmas
 pub mod ExistingLemmas
 pub mod FactLemmas
+pub mod KnownLemmas
+pub mod MaskLemmas
+pub mod NamingLemmas
 pub mod NodeLemmas
 pub mod OnwardLemmas
 pub mod OwnerLemmas
 pub mod PlaceLemmas
 pub mod PlanFacts
 pub mod RangeLemmas
+pub mod ReadyLemmas
 pub mod ReasonLemmas
 pub mod RowLemmas
 pub mod ShardingLemmas
@@ -15,6 +19,7 @@ pub mod SoundFacts
 pub mod SoundLemmas
 pub mod StandingLemmas
 pub mod Testing
+pub mod StepLemmas
 pub mod TextLemmas
 pub mod TruthLemmas
 pub mod ValueLemmas

@@ -22,7 +22,6 @@ use Rattle.replica_identity.specs.Identities.{index_columns, columns_by, identit
 use Rattle.replica_identity.specs.Passes.{listed_by, lets, entry_carries, carries}
 use Rattle.replica_identity.specs.Plans.{PlanOf, TakesWhatPasses, share_at, plan_of}
 use Rattle.replica_identity.specs.Setting.{recorded_as, fault_in, recorded_in, identity_by, identity_in, blanked_by, blanked_in, setting_of}
-use Rattle.replica_identity.specs.SettingLaws.{HasTable}
 use Rattle.replica_identity.specs.Shares.{ShareOf, Everything, Where, takes, is_true, is_nothing}
 use Rattle.replica_identity.specs.Shares as share
 use Rattle.replica_identity.proofs.PassingLemmas.{takes_what_passes}

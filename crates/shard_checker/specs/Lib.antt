@@ -5,11 +5,14 @@ pub mod Checks
 pub mod Domain
 pub mod Emptiness
 pub mod Facts
+pub mod Knowing
 pub mod Numbering
 pub mod Owners
+pub mod Ready
 pub mod Refusal
 pub mod Rows
 pub mod Sound
+pub mod Steps
 pub mod SubjectView
 pub mod Texts
 pub mod Truth

@@ -7,7 +7,10 @@ mod covering;
 mod domain;
 mod error;
 mod facts;
+mod formulas;
+mod known;
 mod laws;
+mod masks;
 mod nodes;
 mod numbering;
 mod one_table;
@@ -15,6 +18,7 @@ mod owners;
 mod publishing;
 mod sharding;
 mod source;
+mod steps;
 mod subject;
 #[cfg(test)]
 mod tests;

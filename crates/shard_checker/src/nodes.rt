@@ -1,9 +1,11 @@
 //! What a node that isn't a split says of the rows at the end of its path.
 
-ghost use Rattle.std.specs.Prelude.{◌≡◌, slice_get};
+ghost use Rattle.std.specs.Prelude.{◌≡◌, map, slice_get};
 ghost use Rattle.filter_tree.specs.Paths.{path_view};
 ghost use Rattle.shard_checker.specs.Checks.{Finds};
-ghost use Rattle.shard_checker.specs.Refusal.{others_refusal};
+ghost use Rattle.shard_checker.specs.Ready.{Ready};
+ghost use Rattle.shard_checker.specs.Refusal.{second_refusal};
+ghost use Rattle.shard_checker.specs.Steps.{IsSettled, mask_in, second_among};
 ghost use Rattle.shard_checker.specs.SubjectView.{subject_view};
 ghost use Rattle.shard_checker.specs.Trying as trying;
 ghost use Rattle.shard_checker.specs.Walking as spec;
@@ -11,9 +13,12 @@ ghost use Rattle.shard_checker.specs.Walking as spec;
 use crate::domain::kind_at;
 use crate::error::CheckError;
 use crate::facts::{is_never_null, is_null, is_present};
-use crate::owners::{must_take, second_owner};
-use crate::subject::{Subject, atom_at, share_at, term_at};
+use crate::formulas::root_at;
+use crate::masks::mask_at;
+use crate::owners::{is_surely_true, second_owner};
+use crate::subject::{Subject, atom_at, term_at};
 use crate::values::has_value;
+use crate::walk::Walk;
 use filter_tree::{Atom, Column, Term, Tri};
 use split_cert::Node;
 use std::alloc::Allocator;
@@ -87,37 +92,44 @@ pub fn check_never_null<A: Allocator>(
 /// Checks that no other share than the owner's may take a row.
 fn check_others<A: Allocator>(
     subject: &Subject<'_, A>,
-    path: &[(&Atom<A>, Tri)],
-    node: usize,
+    walk: &Walk<'_, A>,
     owner: usize,
 ) -> Result<(), CheckError>
-    ensures { Finds (others_refusal (subject_view subject.now) (path_view path.now) node owner) result }
+    ensures { Finds (second_refusal (subject_view subject.now) walk.now.node
+        (second_among owner 0 (map (mask_in walk.now.masks.items) subject.now.formulas.now.roots.items))) result }
 {
-    match second_owner(owner, subject.shares, path) {
+    match second_owner(owner, &subject.formulas.roots, &walk.masks) {
         None => Ok(()),
         Some(subscriber) => Err(CheckError::SecondOwner {
             table: subject.table,
-            node,
+            node: walk.node,
             subscriber,
         }),
     }
 }
 
 /// Checks a node that says that each row there passes to the subscriber, and to no other.
+#[tactic(auto, using(crate::proofs::ReadyLemmas::owning))]
 pub fn check_owner<A: Allocator>(
     subject: &Subject<'_, A>,
-    path: &[(&Atom<A>, Tri)],
-    node: usize,
+    walk: &Walk<'_, A>,
     number: u32,
 ) -> Result<(), CheckError>
+    requires ready { Ready subject.now walk.now }
+    requires settled { IsSettled subject.now.formulas.now.steps.items walk.now.known.atoms.items walk.now.masks.items }
     ensures { Finds
-        (spec.node_refusal trying.is_empty (subject_view subject.now) (Node.Owner number) (path_view path.now) node)
-        result }
+        (spec.node_refusal trying.is_empty (subject_view subject.now) (Node.Owner number) (path_view walk.now.path.items)
+        walk.now.node) result }
 {
     let table = subject.table;
-    match share_at(subject.shares, number) {
+    let node = walk.node;
+    match root_at(&subject.formulas.roots, number) {
         None => Err(CheckError::BadIndex { table, node }),
-        Some(share) if must_take(share, path) => check_others(subject, path, node, number as usize),
+        Some(root) if is_surely_true(mask_at(&walk.masks, root)) => check_others(
+            subject,
+            walk,
+            number as usize,
+        ),
         Some(_) => Err(CheckError::NotOwner { table, node }),
     }
 }

@@ -6,6 +6,7 @@ ghost use Rattle.split_cert.specs.Where.{tree_view};
 ghost use Rattle.shard_checker.specs.Checks.{Checks, IfRefused};
 ghost use Rattle.shard_checker.specs.Emptiness.{IsEmptiness, Test};
 ghost use Rattle.shard_checker.specs.Owners.{shares_view, HasOneOwner};
+ghost use Rattle.shard_checker.specs.Ready.{Prepared};
 ghost use Rattle.shard_checker.specs.Refusal as spec;
 ghost use Rattle.shard_checker.specs.Rows.{IsTyped};
 ghost use Rattle.shard_checker.specs.SubjectView.{subject_view};
@@ -14,6 +15,7 @@ ghost use Rattle.shard_checker.specs.Truth.{CertificateIsWrong};
 ghost use Rattle.shard_checker.specs.Walking.{walk, nodes_refusal};
 
 use crate::error::CheckError;
+use crate::formulas::formulas_of;
 use crate::numbering::{numbered_atoms, numbered_terms};
 use crate::source::Source;
 use crate::subject::Subject;
@@ -30,9 +32,10 @@ fn check_subject<'a, A: Allocator, C: Source>(
     subject: &Subject<'a, A>,
     cert: &C,
 ) -> Result<(), CheckError>
+    requires { Prepared subject.now }
     ensures { Checks (walk is_empty (subject_view subject.now) (C.nodes cert.now) (Some []) 0) result }
 {
-    let mut walk = begin(alloc);
+    let mut walk = begin(alloc, subject)?;
     cert.visit(subject, &mut walk)?;
     Ok(())
 }
@@ -50,12 +53,14 @@ pub fn check_table<A: Allocator, C: Source>(
 {
     let atoms = numbered_atoms(alloc, shares)?;
     let terms = numbered_terms(alloc, shares)?;
+    let formulas = formulas_of(alloc, &atoms, shares)?;
     let subject = Subject {
         table: number,
         columns: table.columns.as_slice(),
         shares,
         atoms: &atoms,
         terms: &terms,
+        formulas: &formulas,
     };
     check_subject(alloc, &subject, cert)
 }

@@ -1,64 +1,32 @@
-//! What a path tells of the shares of subscribers.
+//! What the sets of truth values that the filters of shares may have tell of the shares.
 
-ghost use Rattle.std.specs.Prelude.{◌≡◌, ◌<◌};
-ghost use Rattle.filter_tree.specs.Paths.{path_view};
-ghost use Rattle.replica_identity.specs.Shares.{share_view};
+ghost use Rattle.std.specs.Prelude.{◌≡◌, ◌&&◌, ◌==◌, not, map};
 ghost use Rattle.shard_checker.specs.Owners as spec;
+ghost use Rattle.shard_checker.specs.Steps.{mask_in, second_among};
 
-use filter_tree::{Atom, Mask, Tri, possible};
-use replica_identity::Share;
-use std::alloc::Allocator;
+use crate::masks::mask_at;
+use filter_tree::Mask;
 
 /// Whether the set has true alone.
-fn is_surely_true(mask: Mask) -> bool
+pub fn is_surely_true(mask: Mask) -> bool
     ensures { result ≡ spec.is_surely_true mask }
 {
     mask.truth && !mask.falsity && !mask.null
 }
 
-/// Whether the share takes every row at the end of the path.
-pub fn must_take<A: Allocator>(share: &Share<A>, path: &[(&Atom<A>, Tri)]) -> bool
-    ensures { result ≡ spec.must_take (share_view share.now) (path_view path.now) }
+fn is_second(owner: usize, number: usize, mask: Mask) -> bool
+    ensures { result ≡ (not (number == owner) && mask.truth) }
 {
-    match share {
-        Share::Nothing => false,
-        Share::Everything => true,
-        Share::Where(filter) => is_surely_true(possible(filter, path)),
-    }
+    number != owner && mask.truth
 }
 
-/// Whether the share may take a row at the end of the path.
-fn may_take<A: Allocator>(share: &Share<A>, path: &[(&Atom<A>, Tri)]) -> bool
-    ensures { result ≡ spec.may_take (share_view share.now) (path_view path.now) }
+/// The least number of a share, other than the owner's, that may take a row: the share's filter, whose step has the number
+/// that the roots give, may be true.
+pub fn second_owner(owner: usize, roots: &[usize], masks: &[Mask]) -> Option<usize>
+    ensures { result ≡ second_among owner 0 (map (mask_in masks.now) roots.now) }
 {
-    match share {
-        Share::Nothing => false,
-        Share::Everything => true,
-        Share::Where(filter) => possible(filter, path).truth,
-    }
-}
-
-fn is_second<A: Allocator>(
-    owner: usize,
-    number: usize,
-    share: &Share<A>,
-    path: &[(&Atom<A>, Tri)],
-) -> bool
-    ensures { result ≡ spec.is_second owner number (share_view share.now) (path_view path.now) }
-{
-    number != owner && may_take(share, path)
-}
-
-/// The least number of a share, other than the owner's, that may take a row at the end of the path.
-pub fn second_owner<A: Allocator>(
-    owner: usize,
-    shares: &[&Share<A>],
-    path: &[(&Atom<A>, Tri)],
-) -> Option<usize>
-    ensures { result ≡ spec.second_owner owner 0 (spec.shares_view shares.now) (path_view path.now) }
-{
-    for (number, share) in shares.iter().enumerate() {
-        if is_second(owner, number, *share, path) {
+    for (number, root) in roots.iter().enumerate() {
+        if is_second(owner, number, mask_at(masks, *root)) {
             return Some(number);
         }
     }

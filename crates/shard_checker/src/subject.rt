@@ -3,9 +3,8 @@
 ghost use Rattle.std.specs.Prelude.{◌≡◌, slice_get};
 ghost use Rattle.std.specs.Option.{option_map};
 ghost use Rattle.filter_tree.specs.Shape.{atom_view, atoms_view};
-ghost use Rattle.replica_identity.specs.Shares.{share_view};
-ghost use Rattle.shard_checker.specs.Owners.{shares_view};
 
+use crate::formulas::Formulas;
 use filter_tree::{Atom, Column, Term};
 use replica_identity::Share;
 use std::alloc::Allocator;
@@ -19,6 +18,8 @@ pub struct Subject<'a, A: Allocator> {
     pub shares: &'a [&'a Share<A>],
     pub atoms: &'a [&'a Atom<A>],
     pub terms: &'a [Term],
+    /// The shares' filters.
+    pub formulas: &'a Formulas,
 }
 
 /// The atom of this number.
@@ -29,17 +30,6 @@ pub fn atom_at<'a, A: Allocator>(atoms: &[&'a Atom<A>], number: u32) -> Option<&
     match atoms.get(number as usize) {
         None => None,
         Some(atom) => Some(*atom),
-    }
-}
-
-/// The share of this number.
-#[tactic(auto, using(crate::proofs::PlaceLemmas::places))]
-pub fn share_at<'a, A: Allocator>(shares: &[&'a Share<A>], number: u32) -> Option<&'a Share<A>>
-    ensures { option_map (λ share. share_view share.now) result ≡ slice_get (shares_view shares.now) number }
-{
-    match shares.get(number as usize) {
-        None => None,
-        Some(share) => Some(*share),
     }
 }
 

@@ -1,19 +1,24 @@
 //! The walk over the nodes of a certificate, in the order in which it is written.
 
-ghost use Rattle.std.specs.Prelude.{◌≡◌, ◌++◌, ◌∷◌, [], false, OnOk, IfOk, MatchOption};
+ghost use Rattle.std.specs.Prelude.{◌≡◌, ◌⊎◌, ◌++◌, ◌∷◌, [], false, slice_get, OnOk, IfOk, MatchOption};
+ghost use Rattle.std.specs.Option.{option_map};
 ghost use Rattle.filter_tree.specs.Paths.{path_view};
 ghost use Rattle.split_cert.specs.Nodes.{nodes_in, preorder};
 ghost use Rattle.split_cert.specs.Where.{tree_view};
 ghost use Rattle.shard_checker.specs.Checks.{Finds};
+ghost use Rattle.shard_checker.specs.Ready.{GoesBack, Prepared, Ready};
 ghost use Rattle.shard_checker.specs.Refusal as refusal;
+ghost use Rattle.shard_checker.specs.Steps.{IsSettled};
 ghost use Rattle.shard_checker.specs.SubjectView.{subject_view};
 ghost use Rattle.shard_checker.specs.Trying.{is_empty};
 ghost use Rattle.shard_checker.specs.Walking as spec;
 
 use crate::error::CheckError;
+use crate::known::Known;
+use crate::masks::{NONE, refresh};
 use crate::nodes::{check_empty, check_never_null, check_owner, check_split};
 use crate::subject::{Subject, atom_at};
-use filter_tree::{Atom, Tri};
+use filter_tree::{Atom, Mask, Tri};
 use split_cert::{Cert, Node, NodeReader};
 use std::alloc::{AllocError, Allocator, Global};
 
@@ -22,20 +27,31 @@ use std::alloc::{AllocError, Allocator, Global};
 #[derive(Drop)]
 pub struct Walk<'a, A: Allocator> {
     pub path: Vec<(&'a Atom<A>, Tri)>,
+    /// What the path says of the atoms.
+    pub known: Known,
+    /// A place for each step of the filters, for what the step may be.
+    pub masks: Vec<Mask>,
     pub node: usize,
     /// Whether no node is due.
     pub is_over: bool,
 }
 
 /// A walk before the first node.
-pub fn begin<'a, A: Allocator>(alloc: Global) -> Walk<'a, A>
-    ensures { spec.place_of result ≡ spec.beginning }
+pub fn begin<'a, A: Allocator>(
+    alloc: Global,
+    subject: &Subject<'a, A>,
+) -> Result<Walk<'a, A>, AllocError>
+    requires { Prepared subject.now }
+    ensures place { IfOk result (λ walk. spec.place_of walk ≡ spec.beginning) }
+    ensures ready { IfOk result (λ walk. Ready subject.now walk) }
 {
-    Walk {
+    Ok(Walk {
         path: Vec::new(alloc),
+        known: Known::new(alloc, subject.atoms)?,
+        masks: vec![in alloc; NONE; subject.formulas.steps.len()]?,
         node: 0,
         is_over: false,
-    }
+    })
 }
 
 /// The number of the node after this one; numbers end at the greatest.
@@ -56,52 +72,67 @@ fn extend<'a, A: Allocator>(
     Ok(())
 }
 
-/// Takes the path to the next branch of the last split that has one, and says whether none has.
-#[tactic(auto, using(crate::proofs::OnwardLemmas::onwards))]
-fn go_on<'a, A: Allocator>(path: &mut Vec<(&'a Atom<A>, Tri)>) -> Result<bool, AllocError>
-    ensures { IfOk result (λ ends.
-        spec.path_unless ends (path_view path.new.items) ≡ spec.onward (path_view path.old.items)) }
-{
-    while let Some((atom, value)) = path.pop() {
-        match value {
-            Tri::True => {
-                extend(path, atom, Tri::False)?;
-                return Ok(false);
-            }
-            Tri::False => {
-                extend(path, atom, Tri::Null)?;
-                return Ok(false);
-            }
-            Tri::Null => {}
-        }
-    }
-    Ok(true)
-}
-
-/// Enters the first branch of a split by the atom of this number.
+/// Enters the branch of a split by the atom of this number where the atom has the value.
+#[tactic(auto, using(crate::proofs::ReadyLemmas::entering))]
 fn enter<'a, A: Allocator>(
     subject: &Subject<'a, A>,
     walk: &mut Walk<'a, A>,
     number: u32,
+    value: Tri,
 ) -> Result<(), AllocError>
-    requires { walk.old.is_over ≡ false }
-    ensures path { OnOk result (spec.path_of walk.new
-        ≡ spec.path_after (subject_view subject.now) (Node.Split number) (path_view walk.old.path.items)) }
+    requires due { walk.old.is_over ≡ false }
+    requires ready { Ready subject.now walk.old }
+    ensures path { OnOk result (spec.path_of walk.new ≡ option_map
+        (λ atom. path_view walk.old.path.items ++ (atom, value) ∷ []) (slice_get (subject_view subject.now).atoms number)) }
     ensures node { walk.new.node ≡ walk.old.node }
+    ensures ready { OnOk result (Ready subject.now walk.new) }
 {
     match atom_at(subject.atoms, number) {
         None => walk.is_over = true,
-        Some(atom) => extend(&mut walk.path, atom, Tri::True)?,
+        Some(atom) => {
+            walk.known.learn(number, value)?;
+            extend(&mut walk.path, atom, value)?;
+        }
     }
     Ok(())
 }
 
-/// Leaves a node that isn't a split.
-fn leave<'a, A: Allocator>(walk: &mut Walk<'a, A>) -> Result<(), AllocError>
+/// Takes the last entry off the path, and gives its atom's number and its value.
+#[tactic(auto, using(crate::proofs::ReadyLemmas::returning))]
+fn go_back<'a, A: Allocator>(subject: &Subject<'a, A>, walk: &mut Walk<'a, A>) -> Option<(u32, Tri)>
+    requires { Ready subject.now walk.old }
+    ensures ready { Ready subject.now walk.new }
+    ensures path { MatchOption result (path_view walk.old.path.items ≡ [])
+        (λ last. GoesBack (subject_view subject.now).atoms (path_view walk.old.path.items)
+        (path_view walk.new.path.items) last.0 last.1) }
+    ensures node { walk.new.node ≡ walk.old.node }
+    ensures due { walk.new.is_over ≡ walk.old.is_over }
+{
+    let (_, value) = walk.path.pop()?;
+    let before = walk.known.take_back()?;
+    Some((before.number, value))
+}
+
+/// Leaves a node that isn't a split: goes to the next branch of the last split that has one, or ends where none has.
+#[tactic(auto, using(crate::proofs::ReadyLemmas::leaving))]
+fn leave<'a, A: Allocator>(
+    subject: &Subject<'a, A>,
+    walk: &mut Walk<'a, A>,
+) -> Result<(), AllocError>
+    requires due { walk.old.is_over ≡ false }
+    requires ready { Ready subject.now walk.old }
     ensures path { OnOk result (spec.path_of walk.new ≡ spec.onward (path_view walk.old.path.items)) }
     ensures node { walk.new.node ≡ walk.old.node }
+    ensures ready { OnOk result (Ready subject.now walk.new) }
 {
-    walk.is_over = go_on(&mut walk.path)?;
+    while let Some((number, value)) = go_back(subject, walk) {
+        match value {
+            Tri::True => return enter(subject, walk, number, Tri::False),
+            Tri::False => return enter(subject, walk, number, Tri::Null),
+            Tri::Null => {}
+        }
+    }
+    walk.is_over = true;
     Ok(())
 }
 
@@ -111,32 +142,53 @@ fn step<'a, A: Allocator>(
     walk: &mut Walk<'a, A>,
     node: Node,
 ) -> Result<(), AllocError>
-    requires { walk.old.is_over ≡ false }
+    requires due { walk.old.is_over ≡ false }
+    requires ready { Ready subject.now walk.old }
     ensures path { OnOk result (spec.path_of walk.new
         ≡ spec.path_after (subject_view subject.now) node (path_view walk.old.path.items)) }
     ensures node { walk.new.node ≡ walk.old.node }
+    ensures ready { OnOk result (Ready subject.now walk.new) }
 {
     match node {
-        Node::Split(number) => enter(subject, walk, number),
-        Node::Owner(_) | Node::Empty(_) | Node::NeverNull(_) => leave(walk),
+        Node::Split(number) => enter(subject, walk, number, Tri::True),
+        Node::Owner(_) | Node::Empty(_) | Node::NeverNull(_) => leave(subject, walk),
     }
+}
+
+/// Tells of each step of the filters what it may be at the end of the path.
+fn settle<A: Allocator>(subject: &Subject<'_, A>, walk: &mut Walk<'_, A>)
+    requires { Ready subject.now walk.old }
+    ensures settled { IsSettled subject.now.formulas.now.steps.items walk.new.known.atoms.items walk.new.masks.items }
+    ensures ready { Ready subject.now walk.new }
+    ensures path { walk.new.path.items ≡ walk.old.path.items }
+    ensures node { walk.new.node ≡ walk.old.node }
+    ensures due { walk.new.is_over ≡ walk.old.is_over }
+{
+    refresh(&subject.formulas.steps, &walk.known.atoms, &mut walk.masks);
 }
 
 /// Checks a node at the end of a path, a split's branches apart.
 fn check_node<A: Allocator>(
     subject: &Subject<'_, A>,
-    path: &[(&Atom<A>, Tri)],
-    here: usize,
+    walk: &mut Walk<'_, A>,
     node: Node,
 ) -> Result<(), CheckError>
-    ensures { Finds
-        (spec.node_refusal is_empty (subject_view subject.now) node (path_view path.now) here) result }
+    requires { Ready subject.now walk.old }
+    ensures refusal { Finds (spec.node_refusal is_empty (subject_view subject.now) node (path_view walk.old.path.items)
+        walk.old.node) result }
+    ensures ready { Ready subject.now walk.new }
+    ensures path { walk.new.path.items ≡ walk.old.path.items }
+    ensures node { walk.new.node ≡ walk.old.node }
+    ensures due { walk.new.is_over ≡ walk.old.is_over }
 {
     match node {
-        Node::Split(number) => check_split(subject, here, number),
-        Node::Owner(number) => check_owner(subject, path, here, number),
-        Node::Empty(number) => check_empty(subject, path, here, number),
-        Node::NeverNull(number) => check_never_null(subject, path, here, number),
+        Node::Split(number) => check_split(subject, walk.node, number),
+        Node::Owner(number) => {
+            settle(subject, walk);
+            check_owner(subject, walk, number)
+        }
+        Node::Empty(number) => check_empty(subject, &walk.path, walk.node, number),
+        Node::NeverNull(number) => check_never_null(subject, &walk.path, walk.node, number),
     }
 }
 
@@ -147,13 +199,15 @@ fn visit<'a, A: Allocator>(
     walk: &mut Walk<'a, A>,
     node: Node,
 ) -> Result<(), CheckError>
-    ensures { spec.Walks is_empty (subject_view subject.now) (node ∷ []) (spec.place_of walk.old)
+    requires { Ready subject.now walk.old }
+    ensures walks { spec.Walks is_empty (subject_view subject.now) (node ∷ []) (spec.place_of walk.old)
         (spec.place_of walk.new) result }
+    ensures ready { OnOk result (Ready subject.now walk.new) }
 {
     if walk.is_over {
         return Ok(());
     }
-    check_node(subject, &walk.path, walk.node, node)?;
+    check_node(subject, walk, node)?;
     walk.node = next(walk.node);
     step(subject, walk, node)?;
     Ok(())
@@ -169,9 +223,11 @@ fn visit_branches<'a, A: Allocator, B: Allocator>(
     if_false: &Cert<B>,
     if_null: &Cert<B>,
 ) -> Result<(), CheckError>
-    ensures { spec.Walks is_empty (subject_view subject.now)
+    requires { Ready subject.now walk.old }
+    ensures walks { spec.Walks is_empty (subject_view subject.now)
         (preorder (tree_view if_true.now) ++ preorder (tree_view if_false.now) ++ preorder (tree_view if_null.now))
         (spec.place_of walk.old) (spec.place_of walk.new) result }
+    ensures ready { OnOk result (Ready subject.now walk.new) }
 {
     visit_tree(subject, walk, if_true)?;
     visit_tree(subject, walk, if_false)?;
@@ -187,8 +243,10 @@ pub fn visit_tree<'a, A: Allocator, B: Allocator>(
     walk: &mut Walk<'a, A>,
     tree: &Cert<B>,
 ) -> Result<(), CheckError>
-    ensures { spec.Walks is_empty (subject_view subject.now) (preorder (tree_view tree.now))
+    requires { Ready subject.now walk.old }
+    ensures walks { spec.Walks is_empty (subject_view subject.now) (preorder (tree_view tree.now))
         (spec.place_of walk.old) (spec.place_of walk.new) result }
+    ensures ready { OnOk result (Ready subject.now walk.new) }
 {
     match tree {
         Cert::Split(atom, if_true, if_false, if_null) => {
@@ -220,6 +278,7 @@ pub fn visit_text<'a, A: Allocator>(
     walk: &mut Walk<'a, A>,
     text: &str,
 ) -> Result<(), CheckError>
+    requires { Ready subject.now walk.old }
     ensures { spec.Walks is_empty (subject_view subject.now) (nodes_in text.now).nodes
         (spec.place_of walk.old) (spec.place_of walk.new) result }
 {

@@ -1,9 +1,9 @@
 use Rattle.std.proofs.Common.{◌≡◌, drop}
-use Rattle.filter_tree.specs.Paths.{path_view}
-use Rattle.shard_checker.specs.Owners.{shares_view, second_owner}
+use Rattle.std.specs.Prelude.{map}
+use Rattle.shard_checker.specs.Steps.{mask_in, second_among}
 use Rattle.shard_checker.proofs.owners.second_owner.Given as goal
 
 -- the answer for the shares that are left is that for all
 abbrev pub invariant-loop-number : goal.invariant-loop-number
-invariant-loop-number g l =
-    second_owner l.owner l.number (shares_view (drop l.number l.shares)) (path_view l.path) ≡ second_owner l.owner 0 (shares_view l.shares) (path_view l.path)
+invariant-loop-number l =
+    second_among l.owner l.number (map (mask_in l.masks) (drop l.number l.roots)) ≡ second_among l.owner 0 (map (mask_in l.masks) l.roots)

@@ -1,0 +1,186 @@
+-- What a walk keeps of the path, as it enters branches and leaves them, and what it tells of owners.
+use Rattle.std.proofs.Common.{◌≡◌, ℕ, ◌+◌, ◌<◌, true, false, not, ◌&&◌, List, [], ◌∷◌, ◌++◌, length, refl, sym, ap, subst, ◌∙◌, arith, length-append}
+use Rattle.std.specs.Prelude.{◌==◌, if◌then◌else◌, Option, Some, None, Result, slice_get, map}
+use Rattle.std.specs.Option.{option_map}
+use Rattle.std.specs.Borrow.{Bor}
+use Rattle.std.proofs.lemmas.List.{map-append}
+use Rattle.std.proofs.lemmas.Option.{slice_get-map, same_Some}
+use Rattle.filter_tree.specs.Expr.{AtomOf}
+use Rattle.filter_tree.specs.Paths.{Path, path_view, possible_of}
+use Rattle.filter_tree.specs.Shape.{atom_view}
+use Rattle.filter_tree.specs.declared.filter.Atom.{Atom}
+use Rattle.filter_tree.specs.declared.mask.Mask.{Mask}
+use Rattle.filter_tree.specs.declared.tri.Tri.{Tri}
+use Rattle.filter_tree.specs.declared.tri.Tri.TheVariants.{True, False, Null}
+use Rattle.replica_identity.specs.Shares.{ShareOf, Nothing, Everything, Where}
+use Rattle.shard_checker.specs.Checks.{Finds}
+use Rattle.shard_checker.specs.Knowing.{AreBefore, IsKnown, Learns, TakesBack, atom_masks}
+use Rattle.shard_checker.specs.Owners.{is_surely_true, must_take, may_take, second_owner}
+use Rattle.shard_checker.specs.Ready.{IsReady, GoesBack}
+use Rattle.shard_checker.specs.Refusal.{Subject, owner_refusal, second_refusal}
+use Rattle.shard_checker.specs.Steps.{AreFilters, IsSettled, filter_of, mask_in, second_among}
+use Rattle.shard_checker.specs.Walking.{onward}
+use Rattle.shard_checker.specs.declared.error.CheckError.{CheckError}
+use Rattle.shard_checker.specs.declared.error.CheckError.TheVariants.{BadIndex, NotOwner}
+use Rattle.shard_checker.specs.declared.formulas.Formulas.{Formulas}
+use Rattle.shard_checker.specs.declared.known.Before.{Before}
+use Rattle.shard_checker.specs.declared.known.Known.{Known}
+use Rattle.shard_checker.specs.declared.steps.Step.{Step}
+use Rattle.shard_checker.proofs.KnownLemmas.{known_learned, known_taken_back, was_named}
+use Rattle.shard_checker.proofs.MaskLemmas.{filter_mask}
+use Rattle.shard_checker.proofs.OnwardLemmas.{onward_true, onward_false, onward_null}
+
+-- ---- a branch is entered
+
+pub ready_entered : {A : _} (subject : Subject) (formulas : Formulas) (old new : Known) (masks : List Mask) (entries more : List (Bor (Atom A) × Tri)) (number : ℕ) (atom : Bor (Atom A)) (value : Tri)
+    → IsReady subject formulas old masks (path_view entries) → Some (atom_view atom.now) ≡ slice_get subject.atoms number → Learns old new number value
+    → more ≡ entries ++ (atom, value) ∷ [] → IsReady subject formulas new masks (path_view more)
+ready_entered {A} subject formulas old new masks entries more number atom value ready named learns pushed = record {
+  prepared = ready.prepared;
+  knows = subst (λ (path : Path). IsKnown subject.atoms new path)
+      (sym (map-append (λ (e : Bor (Atom A) × Tri). (atom_view e.0.now, e.1)) entries ((atom, value) ∷ [])) ∙ ap path_view (sym pushed))
+      (known_learned subject.atoms old new (path_view entries) number (atom_view atom.now) value ready.prepared.differ ready.knows (sym named) learns);
+  sized = ready.sized;
+}
+
+pub ruleset entering = (ready_entered)
+
+-- ---- a branch is left
+
+nothing_before : (atoms : List AtomOf) (done : Path) (befores : List Before) (path : Path) → AreBefore atoms done befores path → befores ≡ [] → path ≡ []
+nothing_before atoms done [] [] h e = refl
+nothing_before atoms done [] (entry ∷ path) h e = absurd h
+nothing_before atoms done (before ∷ befores) path h e = absurd cc
+
+not_at_end : (path : Path) (entry : AtomOf × Tri) → path ++ entry ∷ [] ≡ [] → ⊥
+not_at_end [] entry e = cc
+not_at_end (first ∷ path) entry e = cc
+
+module _ {A : _} (subject : Subject) (formulas : Formulas) (was now : Known) (masks : List Mask) (old new : List (Bor (Atom A) × Tri)) (last : Bor (Atom A) × Tri)
+    (ready : IsReady subject formulas was masks (path_view old)) (pops : old ≡ new ++ last ∷ []) where
+  whole : path_view old ≡ path_view new ++ (atom_view last.0.now, last.1) ∷ []
+  whole = ap path_view pops ∙ map-append (λ (e : Bor (Atom A) × Tri). (atom_view e.0.now, e.1)) new (last ∷ [])
+
+  knew : IsKnown subject.atoms was (path_view new ++ (atom_view last.0.now, last.1) ∷ [])
+  knew = subst (λ (path : Path). IsKnown subject.atoms was path) whole ready.knows
+
+  pub back_ready : (before : Before) → TakesBack was now before → IsReady subject formulas now masks (path_view new)
+  back_ready before takes = record {
+    prepared = ready.prepared;
+    knows = known_taken_back subject.atoms was now (path_view new) before (atom_view last.0.now) last.1 knew takes ready.prepared.differ;
+    sized = ready.sized;
+  }
+
+  pub goes_back : (before : Before) → TakesBack was now before → GoesBack subject.atoms (path_view old) (path_view new) before.number last.1
+  goes_back before takes = record {
+    atom = atom_view last.0.now;
+    path = whole;
+    named = was_named subject.atoms was now (path_view new) before (atom_view last.0.now) last.1 knew takes;
+  }
+
+  pub always_known : was.befores.items ≡ [] → ⊥
+  always_known e = not_at_end (path_view new) (atom_view last.0.now, last.1) (nothing_before subject.atoms [] was.befores.items _ knew.befores e)
+
+pub ruleset returning = (back_ready, goes_back)
+
+module _ (atoms : List AtomOf) (old new : Path) (number : ℕ) where
+  pub true_turns : (start : Option Path) (found : Option Path) → GoesBack atoms old new number True → onward old ≡ start
+      → found ≡ option_map (λ atom. new ++ (atom, False) ∷ []) (slice_get atoms number) → found ≡ start
+  true_turns start found back goes is =
+      is ∙ ap (option_map (λ atom. new ++ (atom, False) ∷ [])) back.named ∙ sym (onward_true new back.atom) ∙ ap onward (sym back.path) ∙ goes
+
+  pub false_turns : (start : Option Path) (found : Option Path) → GoesBack atoms old new number False → onward old ≡ start
+      → found ≡ option_map (λ atom. new ++ (atom, Null) ∷ []) (slice_get atoms number) → found ≡ start
+  false_turns start found back goes is =
+      is ∙ ap (option_map (λ atom. new ++ (atom, Null) ∷ [])) back.named ∙ sym (onward_false new back.atom) ∙ ap onward (sym back.path) ∙ goes
+
+  pub null_goes : (start : Option Path) → GoesBack atoms old new number Null → onward old ≡ start → onward new ≡ start
+  null_goes start back goes = sym (onward_null new back.atom) ∙ ap onward (sym back.path) ∙ goes
+
+  pub goes_shorter : (value : Tri) → GoesBack atoms old new number value → length new < length old
+  goes_shorter value back =
+      let shorter : length old ≡ length new + 1 = ap length back.path ∙ length-append new ((back.atom, value) ∷ []) in omega arith
+
+pub ended : (path : Path) (start : Option Path) → path ≡ [] → onward path ≡ start → None ≡ start
+ended path start none goes = ap onward (sym none) ∙ goes
+
+pub ruleset leaving = (true_turns, false_turns, null_goes, goes_shorter, ended)
+
+-- ---- owners
+
+must_by_mask : (share : ShareOf) (path : Path) → must_take share path ≡ is_surely_true (possible_of (filter_of share) path)
+must_by_mask Nothing path = refl
+must_by_mask Everything path = refl
+must_by_mask (Where filter) path = refl
+
+may_by_mask : (share : ShareOf) (path : Path) → may_take share path ≡ (possible_of (filter_of share) path).truth
+may_by_mask Nothing path = refl
+may_by_mask Everything path = refl
+may_by_mask (Where filter) path = refl
+
+abbrev share_mask : Path → ShareOf → Mask
+share_mask path share = possible_of (filter_of share) path
+
+second_by_masks : (owner number : ℕ) (shares : List ShareOf) (path : Path) → second_owner owner number shares path ≡ second_among owner number (map (share_mask path) shares)
+second_by_masks owner number [] path = refl
+second_by_masks owner number (share ∷ shares) path =
+    ap (λ may. if not (number == owner) && may then Some number else second_owner owner (number + 1) shares path) (may_by_mask share path)
+    ∙ ap (λ next. if not (number == owner) && (share_mask path share).truth then Some number else next) (second_by_masks owner (number + 1) shares path)
+
+roots_masks : (atoms : List AtomOf) (path : Path) (steps : List Step) (masks : List Mask) → IsSettled steps (atom_masks atoms path) masks → (roots : List ℕ) (shares : List ShareOf)
+    → AreFilters atoms steps roots shares → map (mask_in masks) roots ≡ map (share_mask path) shares
+roots_masks atoms path steps masks settled [] [] h = refl
+roots_masks atoms path steps masks settled [] (share ∷ shares) h = absurd h
+roots_masks atoms path steps masks settled (root ∷ roots) [] h = absurd h
+roots_masks atoms path steps masks settled (root ∷ roots) (share ∷ shares) h =
+    ap (λ m. m ∷ map (mask_in masks) roots) (filter_mask atoms path steps masks settled root (filter_of share) h.0)
+    ∙ ap (λ ms. share_mask path share ∷ ms) (roots_masks atoms path steps masks settled roots shares h.1)
+
+module _ (subject : Subject) (formulas : Formulas) (known : Known) (masks : List Mask) (path : Path) (ready : IsReady subject formulas known masks path)
+    (settled : IsSettled formulas.steps.items known.atoms.items masks) (node number : ℕ) where
+  same_masks : map (mask_in masks) formulas.roots.items ≡ map (share_mask path) subject.shares
+  same_masks = roots_masks subject.atoms path formulas.steps.items masks
+      (subst (λ found. IsSettled formulas.steps.items found masks) ready.knows.masks settled) formulas.roots.items subject.shares ready.prepared.compiled.filters
+
+  by_mask : (found : Option ShareOf) → Option CheckError
+  by_mask found = owner_refusal subject path node number found
+
+  same_at : option_map (mask_in masks) (slice_get formulas.roots.items number) ≡ option_map (share_mask path) (slice_get subject.shares number)
+  same_at = sym (slice_get-map (mask_in masks) formulas.roots.items number) ∙ ap (λ ms. slice_get ms number) same_masks ∙ slice_get-map (share_mask path) subject.shares number
+
+  unknown : (found : Option ShareOf) → None ≡ option_map (share_mask path) found → owner_refusal subject path node number found ≡ Some (BadIndex subject.table node)
+  unknown None h = refl
+  unknown (Some share) h = absurd cc
+
+  refused : (found : Option ShareOf) (mask : Mask) → Some mask ≡ option_map (share_mask path) found → is_surely_true mask ≡ false
+      → owner_refusal subject path node number found ≡ Some (NotOwner subject.table node)
+  refused None mask h not_sure = absurd cc
+  refused (Some share) mask h not_sure =
+      let same : mask ≡ share_mask path share = same_Some mask (share_mask path share) h in
+      let no_must : must_take share path ≡ false = must_by_mask share path ∙ ap is_surely_true (sym same) ∙ not_sure in
+      rw no_must refl
+
+  taken : (found : Option ShareOf) (mask : Mask) → Some mask ≡ option_map (share_mask path) found → is_surely_true mask ≡ true
+      → owner_refusal subject path node number found ≡ second_refusal subject node (second_owner number 0 subject.shares path)
+  taken None mask h sure = absurd cc
+  taken (Some share) mask h sure =
+      let same : mask ≡ share_mask path share = same_Some mask (share_mask path share) h in
+      let must : must_take share path ≡ true = must_by_mask share path ∙ ap is_surely_true (sym same) ∙ sure in
+      rw must refl
+
+  pub owner_unknown : slice_get formulas.roots.items number ≡ None → owner_refusal subject path node number (slice_get subject.shares number) ≡ Some (BadIndex subject.table node)
+  owner_unknown h = unknown (slice_get subject.shares number) (ap (option_map (mask_in masks)) (sym h) ∙ same_at)
+
+  pub owner_refused : (root : ℕ) → slice_get formulas.roots.items number ≡ Some root → is_surely_true (mask_in masks root) ≡ false
+      → owner_refusal subject path node number (slice_get subject.shares number) ≡ Some (NotOwner subject.table node)
+  owner_refused root h not_sure = refused (slice_get subject.shares number) (mask_in masks root) (ap (option_map (mask_in masks)) (sym h) ∙ same_at) not_sure
+
+  pub owner_found : {X : Type 0} (root : ℕ) (result : Result X CheckError) → slice_get formulas.roots.items number ≡ Some root → is_surely_true (mask_in masks root) ≡ true
+      → Finds (second_refusal subject node (second_among number 0 (map (mask_in masks) formulas.roots.items))) result
+      → Finds (owner_refusal subject path node number (slice_get subject.shares number)) result
+  owner_found root result h sure found =
+      subst (λ refusal. Finds refusal result)
+      (ap (λ ms. second_refusal subject node (second_among number 0 ms)) same_masks ∙ ap (second_refusal subject node) (sym (second_by_masks number 0 subject.shares path))
+      ∙ sym (taken (slice_get subject.shares number) (mask_in masks root) (ap (option_map (mask_in masks)) (sym h) ∙ same_at) sure)) found
+
+pub ruleset owning = (owner_unknown, owner_refused, owner_found)

@@ -1,0 +1,18 @@
+use Rattle.shard_checker.specs.SubjectView.{subject_view}
+use Rattle.shard_checker.proofs.ReadyLemmas.{back_ready, goes_back}
+use Rattle.shard_checker.proofs.walk.go_back.Goals as goal
+
+-- what is known shrinks with the path
+pub returns-clause-ready : goal.returns-clause-ready
+returns-clause-ready g c =
+    let subject = c.args.subject.now in
+    let walk = c.args.walk.now in
+    back_ready (subject_view subject) subject.formulas.now walk.known c.take_back.new.self walk.masks.items walk.path.items c.pop.new.self.items (c.in_ok-value.field-0-0, c.in_ok-value.value)
+    c.requires c.in_ok-value.ensures.items c.in_ok-before.before c.in_ok-before.ensures
+
+pub returns-clause-path : goal.returns-clause-path
+returns-clause-path g c =
+    let subject = c.args.subject.now in
+    let walk = c.args.walk.now in
+    goes_back (subject_view subject) subject.formulas.now walk.known c.take_back.new.self walk.masks.items walk.path.items c.pop.new.self.items (c.in_ok-value.field-0-0, c.in_ok-value.value)
+    c.requires c.in_ok-value.ensures.items c.in_ok-before.before c.in_ok-before.ensures

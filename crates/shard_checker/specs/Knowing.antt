@@ -1,0 +1,53 @@
+-- What a path says of each atom of a table: the value that it has first on the path, and else any that it may have.
+use Rattle.std.specs.Prelude.{◌≡◌, ℕ, false, ◌&&◌, if◌then◌else◌, List, [], ◌∷◌, ◌++◌, map, Some, slice_get, slice_set}
+use Rattle.std.specs.List.{list_any}
+use Rattle.filter_tree.specs.Expr.{AtomOf}
+use Rattle.filter_tree.specs.Mask.{single_of}
+use Rattle.filter_tree.specs.Paths.{Path, first_value, known_or_open}
+use Rattle.filter_tree.specs.Same.{same_atom}
+use Rattle.filter_tree.specs.declared.mask.Mask.{Mask}
+use Rattle.filter_tree.specs.declared.tri.Tri.{Tri}
+use Rattle.shard_checker.specs.declared.known.Before.{Before}
+use Rattle.shard_checker.specs.declared.known.Known.{Known}
+use Rattle.shard_checker.specs.Steps.{mask_in}
+
+-- the atoms are told from one another
+abbrev pub Differ : List AtomOf → Type 0
+Differ [] = Unit {0}
+Differ (atom ∷ atoms) = (list_any (same_atom atom) atoms ≡ false) × Differ atoms
+
+-- what an atom may be at the end of a path
+abbrev pub atom_mask : Path → AtomOf → Mask
+atom_mask path atom = known_or_open (first_value atom path) atom
+
+abbrev pub atom_masks : List AtomOf → Path → List Mask
+atom_masks atoms path = map (atom_mask path) atoms
+
+-- what an atom may be once it was found to have the value: the value, unless it had one before
+abbrev pub met : Mask → Tri → Mask
+met mask value = if mask.truth && mask.falsity then single_of value else mask
+
+abbrev pub before_of : ℕ → Mask → Before
+before_of number mask = record { number = number; mask = mask }
+
+-- for each entry of a path after another, the number of its atom and what that might be before it
+abbrev pub AreBefore : List AtomOf → Path → List Before → Path → Type 0
+AreBefore atoms done [] [] = Unit {0}
+AreBefore atoms done (before ∷ befores) (entry ∷ path) =
+    ((slice_get atoms before.number ≡ Some entry.0) × (before.mask ≡ atom_mask done entry.0)) × AreBefore atoms (done ++ entry ∷ []) befores path
+AreBefore atoms done befores path = ⊥
+
+-- what is known is what the path says
+pub record IsKnown (atoms : List AtomOf) (known : Known) (path : Path) : Type 0 where
+  pub masks : known.atoms.items ≡ atom_masks atoms path
+  pub befores : AreBefore atoms [] known.befores.items path
+
+-- the atom of the number was found to have the value
+pub record Learns (old new : Known) (number : ℕ) (value : Tri) : Type 0 where
+  pub masks : new.atoms.items ≡ slice_set old.atoms.items number (met (mask_in old.atoms.items number) value)
+  pub befores : new.befores.items ≡ old.befores.items ++ before_of number (mask_in old.atoms.items number) ∷ []
+
+-- what was found last is taken back
+pub record TakesBack (old new : Known) (before : Before) : Type 0 where
+  pub masks : new.atoms.items ≡ slice_set old.atoms.items before.number before.mask
+  pub befores : old.befores.items ≡ new.befores.items ++ before ∷ []
