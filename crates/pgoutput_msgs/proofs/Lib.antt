@@ -1,4 +1,5 @@
 pub mod Counting
+pub mod Everywhere
 pub mod Exact
 pub mod Fields
 pub mod Messages
@@ -6,8 +7,10 @@ pub mod ReadBackLemmas
 pub mod RelationRules
 pub mod RoomLemmas
 pub mod RowLemmas
+pub mod SentLemmas
 pub mod SpellingLaws
 pub mod TellingLemmas
+pub mod TextLemmas
 pub mod TupleRules
 pub mod ValueLemmas
 pub mod Writing

@@ -11,20 +11,22 @@ use Rattle.filter_tree.specs.declared.table.ColType.TheVariants.{SmallInt, Integ
 use Rattle.pgoutput_msgs.specs.Ranges.{IsCellWithinRange, IsTupleWithinRange}
 use Rattle.pgoutput_msgs.specs.ValueText.{cell_of, cells_of}
 
-pub short_number : (number : ℤ) (least greatest : ℕ) → least < 2 ^ 63 → greatest < 2 ^ 63 → negsuc least ≤ℤ number
-    → number ≤ℤ pos greatest → length (signed_decimal number) < 2 ^ 31
-short_number (pos n) least greatest p q low high =
+pub few_digits : (number : ℤ) (least greatest : ℕ) → least < 2 ^ 63 → greatest < 2 ^ 63 → negsuc least ≤ℤ number
+    → number ≤ℤ pos greatest → length (signed_decimal number) ≤ 21
+few_digits (pos n) least greatest p q low high =
     let n_le : n ≤ greatest = lit≤ high.le in
     let wide : n + 1 < 10 ^ 20 = omega (arith, n_le, q) in
     let small : n < 2 ^ 63 = omega (arith, n_le, q) in
-    let digits : length (signed_decimal (pos n)) ≤ 21 = length_signed_le 20 (pos n) wide small in
-    omega (arith, digits)
-short_number (negsuc n) least greatest p q low high =
+    length_signed_le 20 (pos n) wide small
+few_digits (negsuc n) least greatest p q low high =
     let n_le : n ≤ least = lit≤ low.le in
     let wide : n + 1 < 10 ^ 20 = omega (arith, n_le, p) in
     let small : n < 2 ^ 63 = omega (arith, n_le, p) in
-    let digits : length (signed_decimal (negsuc n)) ≤ 21 = length_signed_le 20 (negsuc n) wide small in
-    omega (arith, digits)
+    length_signed_le 20 (negsuc n) wide small
+
+pub short_number : (number : ℤ) (least greatest : ℕ) → least < 2 ^ 63 → greatest < 2 ^ 63 → negsuc least ≤ℤ number
+    → number ≤ℤ pos greatest → length (signed_decimal number) < 2 ^ 31
+short_number number least greatest p q low high = omega (arith, few_digits number least greatest p q low high)
 
 short_constant : (kind : ColType) (constant : Constant) → IsOf kind constant → IsCellWithinRange (cell_of (Known constant))
 short_constant SmallInt (Number z) h = short_number z 32767 32767 (lit< tt) (lit< tt) h.above_least h.below_greatest

@@ -3,6 +3,7 @@ pub mod Ranges
 pub mod ReadBack
 pub mod Reading
 pub mod Room
+pub mod Sent
 pub mod Spelling
 pub mod Telling
 pub mod ValueText

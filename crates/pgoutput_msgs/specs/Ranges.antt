@@ -39,6 +39,40 @@ IsWithinRange (m.Update relation old new) = IsMaybeOldWithinRange old × IsTuple
 IsWithinRange (m.Delete relation old) = IsOldWithinRange old
 IsWithinRange (m.Truncate options relations) = length relations < 2 ^ 31
 
+-- ---- messages whose names and texts are UTF-8
+
+abbrev pub IsCellText : Cell → Type 0
+IsCellText Null = Unit {0}
+IsCellText (Text text) = IsUtf8 text
+
+abbrev pub AreTexts : List Cell → Type 0
+AreTexts cells = All IsCellText cells
+
+abbrev pub IsOldText : OldTuple → Type 0
+IsOldText (Key tuple) = AreTexts tuple
+IsOldText (Full tuple) = AreTexts tuple
+
+abbrev pub IsMaybeOldText : Option OldTuple → Type 0
+IsMaybeOldText None = Unit {0}
+IsMaybeOldText (Some old) = IsOldText old
+
+abbrev pub HasTextName : RelationColumn → Type 0
+HasTextName column = IsUtf8 column.name
+
+pub record HasTextNames (relation : Relation) : Type 0 where
+  pub namespace : IsUtf8 relation.namespace
+  pub name : IsUtf8 relation.name
+  pub columns : All HasTextName relation.columns
+
+abbrev pub HasTexts : Msg → Type 0
+HasTexts (m.Begin final_lsn time xid) = Unit {0}
+HasTexts (m.Commit lsn end_lsn time) = Unit {0}
+HasTexts (m.Relation relation) = HasTextNames relation
+HasTexts (m.Insert relation new) = AreTexts new
+HasTexts (m.Update relation old new) = IsMaybeOldText old × AreTexts new
+HasTexts (m.Delete relation old) = IsOldText old
+HasTexts (m.Truncate options relations) = Unit {0}
+
 -- ---- messages: each field is a value of its type, and there is room for it
 
 -- a text that is ended by a zero byte

@@ -1,6 +1,7 @@
 //! Laws of the spellings of messages.
 
 ghost use Rattle.pgoutput_msgs.specs.ReadBack.{RowsReadBack, ValidRowsReadBack};
+ghost use Rattle.pgoutput_msgs.specs.Sent.{MessagesAreReadBack, LimitedTablesFit};
 ghost use Rattle.pgoutput_msgs.specs.Laws.{NoneIsProperPrefix, EachSpellsOne, SpellingsAreDecoded, DecodedAreSpellings, NothingMayFollow};
 
 /// A law, and no code: no message's spelling is a proper prefix of another's, and no two messages are spelled alike. So
@@ -23,4 +24,16 @@ pub fn spellings_are_decoded()
 pub fn rows_are_read_back()
     ensures rows { RowsReadBack }
     ensures valid { ValidRowsReadBack }
+{}
+
+/// A law, and no code: what is decoded of the spelling of each message that `messages_of` gives, of a catalog as its clause
+/// `sent` asks, is that message.
+pub fn messages_are_read_back()
+    ensures { MessagesAreReadBack }
+{}
+
+/// A law, and no code: the Relations of the tables of a catalog within its limits have room in their layout, as the clause
+/// `room` of `messages_of` asks.
+pub fn limited_tables_fit()
+    ensures { LimitedTablesFit }
 {}

@@ -15,6 +15,7 @@ mod relation;
 mod room;
 mod row_values;
 mod saying;
+mod spoken;
 mod tables;
 mod telling;
 #[cfg(test)]
@@ -27,7 +28,10 @@ mod values;
 pub use decoding::decode;
 pub use encoding::{encode, fits};
 pub use error::MsgError;
-pub use laws::{no_spelling_begins_another, rows_are_read_back, spellings_are_decoded};
+pub use laws::{
+    limited_tables_fit, messages_are_read_back, no_spelling_begins_another, rows_are_read_back,
+    spellings_are_decoded,
+};
 pub use message::Msg;
 pub use relation::{Relation, RelationColumn, ReplicaIdentity};
 pub use row_values::value_of;

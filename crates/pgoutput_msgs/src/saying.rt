@@ -5,9 +5,11 @@ ghost use Rattle.std.specs.Option.{option_copied};
 ghost use Rattle.replica_identity.specs.ChangeView.{part_view};
 ghost use Rattle.table_changes.specs.Records as r;
 ghost use Rattle.tables_log.specs.Sendable.{IsTableNumber};
+ghost use Rattle.pgoutput_msgs.specs.Ranges.{IsOldText, IsMaybeOldText};
 ghost use Rattle.pgoutput_msgs.specs.Telling as spec;
 
 use crate::message::Msg;
+use crate::spoken::Spoken;
 use crate::tables::{oid_of, relation_of};
 use crate::tuple::OldTuple;
 use crate::values::tuple_of;
@@ -42,17 +44,17 @@ fn push_new_relation(
     alloc: Global,
     tables: &[Table],
     number: usize,
-    messages: &mut Vec<Msg>,
+    spoken: &mut Spoken,
 ) -> Result<(), AllocError>
     requires { IsTableNumber number }
-    ensures { OnOk result (messages.new.items
-        ≡ messages.old.items ++ spec.relation_at number (slice_get tables.now number)) }
+    ensures { OnOk result (spoken.new
+        ≡ spoken.old ++ spec.relation_at number (slice_get tables.now number)) }
 {
     match table_at(tables, number) {
         None => Ok(()),
         Some(table) => {
             let relation = relation_of(alloc, number, table)?;
-            messages.push(Msg::Relation(relation))?;
+            spoken.push(Msg::Relation(relation))?;
             Ok(())
         }
     }
@@ -65,18 +67,18 @@ fn push_relation(
     tables: &[Table],
     number: usize,
     told: &mut [bool],
-    messages: &mut Vec<Msg>,
+    spoken: &mut Spoken,
 ) -> Result<(), AllocError>
     requires { IsTableNumber number }
-    ensures said { OnOk result (messages.new.items
-        ≡ messages.old.items ++ spec.relation_once tables.now told.old number) }
+    ensures said { OnOk result (spoken.new
+        ≡ spoken.old ++ spec.relation_once tables.now told.old number) }
     ensures told { OnOk result (told.new ≡ spec.told_one told.old number) }
 {
     if is_told(told, number) {
         mark(told, number);
         return Ok(());
     }
-    push_new_relation(alloc, tables, number, messages)?;
+    push_new_relation(alloc, tables, number, spoken)?;
     mark(told, number);
     Ok(())
 }
@@ -88,22 +90,23 @@ pub(crate) fn push_relations(
     tables: &[Table],
     numbers: &[usize],
     told: &mut [bool],
-    messages: &mut Vec<Msg>,
+    spoken: &mut Spoken,
 ) -> Result<(), AllocError>
     requires { All IsTableNumber numbers.now }
-    ensures said { OnOk result (messages.new.items
-        ≡ messages.old.items ++ spec.relations_of tables.now told.old numbers.now) }
+    ensures said { OnOk result (spoken.new
+        ≡ spoken.old ++ spec.relations_of tables.now told.old numbers.now) }
     ensures told { OnOk result (told.new ≡ spec.told_all told.old numbers.now) }
 {
     for number in numbers {
-        push_relation(alloc, tables, *number, told, messages)?;
+        push_relation(alloc, tables, *number, told, spoken)?;
     }
     Ok(())
 }
 
 /// What is sent of an old row, if anything is recorded of it.
 fn maybe_old_of(alloc: Global, part: &OldPart) -> Result<Option<OldTuple>, AllocError>
-    ensures { IfOk result (λ old. old ≡ spec.maybe_old_of (part_view part.now)) }
+    ensures exact { IfOk result (λ old. old ≡ spec.maybe_old_of (part_view part.now)) }
+    ensures texts { IfOk result (λ old. IsMaybeOldText old) }
 {
     match part {
         OldPart::None => Ok(None),
@@ -130,16 +133,16 @@ pub(crate) fn push_insert(
     table: usize,
     new: &Row,
     told: &mut [bool],
-    messages: &mut Vec<Msg>,
+    spoken: &mut Spoken,
 ) -> Result<(), AllocError>
     requires { IsTableNumber table }
-    ensures said { OnOk result (messages.new.items
-        ≡ messages.old.items ++ spec.said tables.now told.old (Some (r.Insert table new.now))) }
+    ensures said { OnOk result (spoken.new
+        ≡ spoken.old ++ spec.said tables.now told.old (Some (r.Insert table new.now))) }
     ensures told { OnOk result (told.new ≡ spec.told_by told.old (Some (r.Insert table new.now))) }
 {
-    push_relations(alloc, tables, &[table], told, messages)?;
+    push_relations(alloc, tables, &[table], told, spoken)?;
     let new = tuple_of(alloc, new)?;
-    messages.push(Msg::Insert {
+    spoken.push(Msg::Insert {
         relation: oid_of(table),
         new,
     })?;
@@ -154,17 +157,17 @@ pub(crate) fn push_update(
     old: &OldPart,
     new: &Row,
     told: &mut [bool],
-    messages: &mut Vec<Msg>,
+    spoken: &mut Spoken,
 ) -> Result<(), AllocError>
     requires { IsTableNumber table }
-    ensures said { OnOk result (messages.new.items
-        ≡ messages.old.items ++ spec.said tables.now told.old (Some (r.Update table (part_view old.now) new.now))) }
+    ensures said { OnOk result (spoken.new
+        ≡ spoken.old ++ spec.said tables.now told.old (Some (r.Update table (part_view old.now) new.now))) }
     ensures told { OnOk result (told.new ≡ spec.told_by told.old (Some (r.Update table (part_view old.now) new.now))) }
 {
-    push_relations(alloc, tables, &[table], told, messages)?;
+    push_relations(alloc, tables, &[table], told, spoken)?;
     let old = maybe_old_of(alloc, old)?;
     let new = tuple_of(alloc, new)?;
-    messages.push(Msg::Update {
+    spoken.push(Msg::Update {
         relation: oid_of(table),
         old,
         new,
@@ -179,15 +182,16 @@ fn push_gone(
     table: usize,
     old: OldTuple,
     told: &mut [bool],
-    messages: &mut Vec<Msg>,
+    spoken: &mut Spoken,
 ) -> Result<(), AllocError>
-    requires { IsTableNumber table }
-    ensures said { (part : r.PartOf) → old ≡ spec.old_of part → OnOk result (messages.new.items
-        ≡ messages.old.items ++ spec.said tables.now told.old (Some (r.Delete table (Some part)))) }
+    requires number { IsTableNumber table }
+    requires texts { IsOldText old }
+    ensures said { (part : r.PartOf) → old ≡ spec.old_of part → OnOk result (spoken.new
+        ≡ spoken.old ++ spec.said tables.now told.old (Some (r.Delete table (Some part)))) }
     ensures told { (part : r.PartOf) → OnOk result (told.new ≡ spec.told_by told.old (Some (r.Delete table (Some part)))) }
 {
-    push_relations(alloc, tables, &[table], told, messages)?;
-    messages.push(Msg::Delete {
+    push_relations(alloc, tables, &[table], told, spoken)?;
+    spoken.push(Msg::Delete {
         relation: oid_of(table),
         old,
     })?;
@@ -201,22 +205,22 @@ pub(crate) fn push_delete(
     table: usize,
     old: &OldPart,
     told: &mut [bool],
-    messages: &mut Vec<Msg>,
+    spoken: &mut Spoken,
 ) -> Result<(), AllocError>
     requires { IsTableNumber table }
-    ensures said { OnOk result (messages.new.items
-        ≡ messages.old.items ++ spec.said tables.now told.old (Some (r.Delete table (part_view old.now)))) }
+    ensures said { OnOk result (spoken.new
+        ≡ spoken.old ++ spec.said tables.now told.old (Some (r.Delete table (part_view old.now)))) }
     ensures told { OnOk result (told.new ≡ spec.told_by told.old (Some (r.Delete table (part_view old.now)))) }
 {
     match old {
         OldPart::None => Ok(()),
         OldPart::Key(row) => {
             let old = OldTuple::Key(tuple_of(alloc, row)?);
-            Ok(push_gone(alloc, tables, table, old, told, messages)?)
+            Ok(push_gone(alloc, tables, table, old, told, spoken)?)
         }
         OldPart::Full(row) => {
             let old = OldTuple::Full(tuple_of(alloc, row)?);
-            Ok(push_gone(alloc, tables, table, old, told, messages)?)
+            Ok(push_gone(alloc, tables, table, old, told, spoken)?)
         }
     }
 }
@@ -227,16 +231,16 @@ pub(crate) fn push_truncate(
     tables: &[Table],
     numbers: &[usize],
     told: &mut [bool],
-    messages: &mut Vec<Msg>,
+    spoken: &mut Spoken,
 ) -> Result<(), AllocError>
     requires { All IsTableNumber numbers.now }
-    ensures said { OnOk result (messages.new.items
-        ≡ messages.old.items ++ spec.said tables.now told.old (Some (r.Truncate numbers.now))) }
+    ensures said { OnOk result (spoken.new
+        ≡ spoken.old ++ spec.said tables.now told.old (Some (r.Truncate numbers.now))) }
     ensures told { OnOk result (told.new ≡ spec.told_by told.old (Some (r.Truncate numbers.now))) }
 {
-    push_relations(alloc, tables, numbers, told, messages)?;
+    push_relations(alloc, tables, numbers, told, spoken)?;
     let relations = oids_of(alloc, numbers)?;
-    messages.push(Msg::Truncate {
+    spoken.push(Msg::Truncate {
         options: 0,
         relations,
     })?;

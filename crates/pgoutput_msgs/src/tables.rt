@@ -1,6 +1,7 @@
 //! Relation messages of a catalog's tables.
 
-ghost use Rattle.std.specs.Prelude.{◌≡◌, ◌<◌, ◌^◌, IfOk};
+ghost use Rattle.std.specs.Prelude.{◌≡◌, ◌<◌, ◌^◌, All, IfOk, IsUtf8};
+ghost use Rattle.pgoutput_msgs.specs.Ranges.{HasTextName, HasTextNames};
 ghost use Rattle.pgoutput_msgs.specs.Telling as spec;
 
 use crate::relation::{Relation, RelationColumn, ReplicaIdentity};
@@ -45,14 +46,18 @@ fn identity_of(identity: Identity) -> ReplicaIdentity
     }
 }
 
+#[tactic(auto, using(crate::proofs::TextLemmas::text_of_string))]
 fn copy_of(alloc: Global, text: &Text) -> Result<Text, AllocError>
-    ensures { IfOk result (λ copy. copy ≡ text.now) }
+    ensures exact { IfOk result (λ copy. copy ≡ text.now) }
+    ensures text { IfOk result (λ copy. IsUtf8 copy) }
 {
-    Ok(Text::from_str(alloc, text.as_str())?)
+    let copy = String::from_str(alloc, text.as_str())?;
+    Ok(Text::new(copy))
 }
 
 fn columns_of(alloc: Global, table: &Table) -> Result<Items<RelationColumn>, AllocError>
-    ensures { IfOk result (λ columns. columns ≡ spec.columns_from table.now 0 table.now.columns) }
+    ensures exact { IfOk result (λ columns. columns ≡ spec.columns_from table.now 0 table.now.columns) }
+    ensures texts { IfOk result (λ columns. All HasTextName columns) }
 {
     let columns = table.columns.as_slice();
     let mut made = Vec::with_capacity(alloc, columns.len())?;
@@ -74,7 +79,8 @@ pub(crate) fn relation_of(
     table: &Table,
 ) -> Result<Relation, AllocError>
     requires { number < 2 ^ 31 }
-    ensures { IfOk result (λ relation. relation ≡ spec.relation_of number table.now) }
+    ensures exact { IfOk result (λ relation. relation ≡ spec.relation_of number table.now) }
+    ensures texts { IfOk result (λ relation. HasTextNames relation) }
 {
     Ok(Relation {
         oid: oid_of(number),

@@ -8,11 +8,14 @@ ghost use Rattle.shard_checker.specs.CheckedView.{checked_view, setting_in};
 ghost use Rattle.table_changes.specs.Outs as outs;
 ghost use Rattle.table_changes.specs.Outs.{got};
 ghost use Rattle.tables_log.specs.Sendable.{IsSendableChange, IsTableNumber};
-ghost use Rattle.pgoutput_msgs.specs.Ranges.{IsWithinRange};
+ghost use Rattle.pub_reader.specs.CatalogLimits.{IsLimited};
+ghost use Rattle.pgoutput_msgs.specs.Ranges.{IsWithinRange, HasTexts};
+ghost use Rattle.pgoutput_msgs.specs.Sent.{AreNamed, IsSent};
 ghost use Rattle.pgoutput_msgs.specs.Telling as spec;
 
 use crate::message::Msg;
 use crate::saying::{push_delete, push_insert, push_truncate, push_update};
+use crate::spoken::Spoken;
 use replica_identity::{Change, Out, Plan, carries, transform};
 use shard_checker::Checked;
 use std::alloc::{AllocError, Global};
@@ -21,9 +24,11 @@ use tables_log::Commit;
 /// The messages that tell the subscriber of this number of a commit: Begin, then for each change that is for it the
 /// message of what it gets, and Commit; none if no change is for it. `told` has by a table's number whether its Relation
 /// was sent: one that wasn't comes directly before the first message that names its table, before a Truncate in its
-/// order, and is told from then on. Each message fits its layout, where each table has fewer than 2^15 columns. Commit n
-/// has the LSN `64 * n`, ends at `64 * n + 64` and is transaction `n + 2`; table j has the OID `16384 + j`. The only error
-/// is want of memory, which leaves `told` as it was.
+/// order, and is told from then on. Each message fits its layout, where each table has fewer than 2^15 columns (`room`).
+/// Where the catalog is within its limits, and each name in it has at most 63 bytes, none of which is zero, the bytes that
+/// spell a message are decoded as that message, and there are at most 13,108,011 of them (`sent`). Commit n has the LSN
+/// `64 * n`, ends at `64 * n + 64` and is transaction `n + 2`; table j has the OID `16384 + j`. The only error is want of
+/// memory, which leaves `told` as it was.
 ///
 /// PostgreSQL 15, 55.5.2. Logical Replication Protocol Message Flow.
 #[tactic(auto, using(crate::proofs::RoomLemmas::messages_room))]
@@ -40,18 +45,20 @@ pub fn messages_of(
     ensures err { OnErr result (told.new ≡ told.old) }
     ensures room { spec.TablesFit (checked_view checked.now).catalog.tables
         → IfOk result (λ messages. All IsWithinRange messages.items) }
+    ensures sent { IsLimited (checked_view checked.now).catalog → AreNamed (checked_view checked.now).catalog.tables
+        → IfOk result (λ messages. All IsSent messages.items) }
 {
     let mut after = Vec::from_slice(alloc, told)?;
-    let mut said = Vec::new(alloc);
+    let mut spoken = Spoken::new(alloc);
     push_changes(
         alloc,
         checked,
         subscriber,
         commit.changes(),
         after.as_mut_slice(),
-        &mut said,
+        &mut spoken,
     )?;
-    let messages = enclosed(commit, said)?;
+    let messages = enclosed(commit, spoken.into_messages())?;
     told.copy_from_slice(after.as_slice());
     Ok(messages)
 }
@@ -59,7 +66,9 @@ pub fn messages_of(
 /// Begin, what is said, and Commit; nothing where nothing is said.
 #[tactic(auto, using(crate::proofs::TellingLemmas::enclosed_some, crate::proofs::TellingLemmas::enclosed_none))]
 fn enclosed(commit: &Commit, said: Vec<Msg>) -> Result<Vec<Msg>, AllocError>
-    ensures { IfOk result (λ messages. messages.items ≡ spec.enclosed commit.now said.items) }
+    requires { All HasTexts said.items }
+    ensures exact { IfOk result (λ messages. messages.items ≡ spec.enclosed commit.now said.items) }
+    ensures texts { IfOk result (λ messages. All HasTexts messages.items) }
 {
     if said.is_empty() {
         return Ok(said);
@@ -89,16 +98,16 @@ fn push_changes(
     subscriber: usize,
     changes: &[Change],
     told: &mut [bool],
-    messages: &mut Vec<Msg>,
+    spoken: &mut Spoken,
 ) -> Result<(), AllocError>
     requires { All IsSendableChange (map change_view changes.now) }
-    ensures said { OnOk result (messages.new.items ≡ messages.old.items
+    ensures said { OnOk result (spoken.new ≡ spoken.old
         ++ spec.said_each (checked_view checked.now) subscriber told.old (map change_view changes.now)) }
     ensures told { OnOk result (told.new
         ≡ spec.told_each (checked_view checked.now) subscriber told.old (map change_view changes.now)) }
 {
     for change in changes {
-        push_change(alloc, checked, subscriber, change, told, messages)?;
+        push_change(alloc, checked, subscriber, change, told, spoken)?;
     }
     Ok(())
 }
@@ -111,10 +120,10 @@ fn push_change(
     subscriber: usize,
     change: &Change,
     told: &mut [bool],
-    messages: &mut Vec<Msg>,
+    spoken: &mut Spoken,
 ) -> Result<(), AllocError>
     requires { IsSendableChange (change_view change.now) }
-    ensures said { OnOk result (messages.new.items ≡ messages.old.items ++ spec.said (checked_view checked.now).catalog.tables
+    ensures said { OnOk result (spoken.new ≡ spoken.old ++ spec.said (checked_view checked.now).catalog.tables
         told.old (got (setting_in (checked_view checked.now)) subscriber (change_view change.now))) }
     ensures told { OnOk result (told.new
         ≡ spec.told_by told.old (got (setting_in (checked_view checked.now)) subscriber (change_view change.now))) }
@@ -124,14 +133,14 @@ fn push_change(
     let table = table_of(change);
     match transform(plan, subscriber, change) {
         None => Ok(()),
-        Some(Out::Insert(new)) => Ok(push_insert(alloc, tables, table, new, told, messages)?),
+        Some(Out::Insert(new)) => Ok(push_insert(alloc, tables, table, new, told, spoken)?),
         Some(Out::Update(old, new)) => {
-            Ok(push_update(alloc, tables, table, old, new, told, messages)?)
+            Ok(push_update(alloc, tables, table, old, new, told, spoken)?)
         }
-        Some(Out::Delete(old)) => Ok(push_delete(alloc, tables, table, old, told, messages)?),
+        Some(Out::Delete(old)) => Ok(push_delete(alloc, tables, table, old, told, spoken)?),
         Some(Out::Truncate(numbers)) => {
             let carried = carried_of(alloc, plan, subscriber, numbers)?;
-            Ok(push_truncate(alloc, tables, carried.as_slice(), told, messages)?)
+            Ok(push_truncate(alloc, tables, carried.as_slice(), told, spoken)?)
         }
     }
 }

@@ -1,5 +1,6 @@
 mod faults;
 mod server;
+mod telling;
 mod values;
 
 use crate::{

@@ -1,8 +1,9 @@
 ghost use Rattle.std.specs.Prelude.{◌≡◌, ◌<◌, ◌^◌, IfOk, List, length};
+ghost use Rattle.std.specs.String.{string_bytes};
 ghost use Rattle.filter_tree.specs.declared.table.Column.{Column};
 ghost use Rattle.filter_tree.specs.Valid.{IsValid};
 ghost use Rattle.filter_tree.specs.Values.{datum_view};
-ghost use Rattle.pgoutput_msgs.specs.Ranges.{IsTupleWithinRange};
+ghost use Rattle.pgoutput_msgs.specs.Ranges.{IsTupleWithinRange, IsCellText, AreTexts};
 ghost use Rattle.pgoutput_msgs.specs.ValueText.{cell_of, cells_of};
 
 use crate::tuple::{Cell, Tuple};
@@ -15,6 +16,7 @@ pub fn tuple_of<A: Allocator>(alloc: Global, row: &Row<A>) -> Result<Tuple, Allo
     ensures exact { IfOk result (λ tuple. tuple ≡ cells_of row.now) }
     ensures room { IfOk result (λ tuple. (columns : List Column) → IsValid columns row.now
         → length columns < 2 ^ 15 → IsTupleWithinRange tuple) }
+    ensures texts { IfOk result (λ tuple. AreTexts tuple) }
 {
     let values = row.values();
     let mut cells = Vec::with_capacity(alloc, values.len())?;
@@ -24,14 +26,24 @@ pub fn tuple_of<A: Allocator>(alloc: Global, row: &Row<A>) -> Result<Tuple, Allo
     Ok(Tuple::from_cells(cells))
 }
 
+/// The cell of a text.
+#[tactic(auto, using(crate::proofs::TextLemmas::text_of_string))]
+fn text_cell(text: String) -> Cell
+    ensures exact { result ≡ Text (string_bytes text) }
+    ensures text { IsCellText result }
+{
+    Cell::Text(Text::new(text))
+}
+
 fn value_text<A: Allocator>(alloc: Global, value: &Value<A>) -> Result<Cell, AllocError>
-    ensures { IfOk result (λ cell. cell ≡ cell_of (datum_view value.now)) }
+    ensures exact { IfOk result (λ cell. cell ≡ cell_of (datum_view value.now)) }
+    ensures text { IfOk result (λ cell. IsCellText cell) }
 {
     match value {
         Value::Null => Ok(Cell::Null),
-        Value::Int(number) => Ok(Cell::Text(Text::new(number.to_string(alloc)?))),
-        Value::Bool(true) => Ok(Cell::Text(Text::from_str(alloc, "t")?)),
-        Value::Bool(false) => Ok(Cell::Text(Text::from_str(alloc, "f")?)),
-        Value::Text(text) => Ok(Cell::Text(Text::from_str(alloc, text.as_str())?)),
+        Value::Int(number) => Ok(text_cell(number.to_string(alloc)?)),
+        Value::Bool(true) => Ok(text_cell(String::from_str(alloc, "t")?)),
+        Value::Bool(false) => Ok(text_cell(String::from_str(alloc, "f")?)),
+        Value::Text(text) => Ok(text_cell(String::from_str(alloc, text.as_str())?)),
     }
 }

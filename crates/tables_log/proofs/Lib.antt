@@ -2,6 +2,7 @@ pub mod BookLemmas
 pub mod CommandLemmas
 pub mod LayerLemmas
 pub mod ListLemmas
+pub mod ListingLemmas
 pub mod PassLemmas
 pub mod PlaceLemmas
 pub mod SendableLemmas

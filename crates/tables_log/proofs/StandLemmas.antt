@@ -7,19 +7,20 @@ use Rattle.shard_checker.specs.CheckedView.{CheckedOf, setting_in}
 use Rattle.table_changes.specs.Changes.{BeginsWell}
 use Rattle.table_changes.specs.Commands.{Command, first_fault, all_applied}
 use Rattle.table_changes.specs.Growing.{AreAlike}
-use Rattle.table_changes.specs.Keys.{HasPrimaryKeys}
+use Rattle.table_changes.specs.Keys.{HasPrimaryKeys, key_at}
 use Rattle.table_changes.specs.Records.{record_of}
 use Rattle.table_changes.specs.Setting.{Setting}
 use Rattle.table_changes.specs.Standing.{Apart, AllFit, KeepsApart}
 use Rattle.table_changes.specs.Tables.{Tables, SameTables, no_rows, Stands}
 use Rattle.table_changes.proofs.ChangeLemmas.{stay_keyed, stay_fit, stay_apart, begins_well}
 use Rattle.table_changes.proofs.GrowingLemmas.{are_alike}
-use Rattle.tables_log.specs.BookView.{book_checked, book_setting, book_rows, book_log}
+use Rattle.tables_log.specs.BookView.{book_checked, book_setting, book_rows, book_listed, book_log}
 use Rattle.tables_log.specs.Commits.{CommitOf, commit_of}
 use Rattle.tables_log.specs.Committing.{IsNew, ChangesSlots, Commits}
-use Rattle.tables_log.specs.StandsFor.{Transaction, left_by, after, IsAccepted, AreAccepted, entries_from, StandsFor, NewStands, CommitsAddOne, SlotsKeepIt, EachIsLogged, RowsAreRight, BooksAreRight}
+use Rattle.tables_log.specs.StandsFor.{Transaction, left_by, after, IsAccepted, AreAccepted, entries_from, StandsFor, NewStands, CommitsAddOne, SlotsKeepIt, EachIsLogged, RowsAreRight, BooksAreRight, ListedAreRows}
 use Rattle.tables_log.specs.declared.book.Book.{Book}
 use Rattle.tables_log.specs.declared.slots.Slot.{Slot}
+use Rattle.tables_log.proofs.ListingLemmas.{rows_in_order}
 
 same_back : (one other : Tables) → SameTables one other → SameTables other one
 same_back one other same = λ table number value. sym (same table number value)
@@ -145,3 +146,10 @@ books_are_right book transactions stands =
           apart_after (book_setting book) keeps no_rows transactions stands.accepted begins.keyed begins.apart table one other
           (alike.holding table one ∙ first) (alike.holding table other ∙ second) same;
     }
+
+-- ---- the rows of a table as a list
+
+pub listed_are_rows : ListedAreRows
+listed_are_rows book transactions table rows stands lists in_order =
+    let right = books_are_right book transactions stands in
+    rows_in_order (book_rows book table 0) (book_listed book table) rows (key_at (book_setting book).keys table 0) (λ key row is. right.keyed.keyed table 0 key row is) lists in_order

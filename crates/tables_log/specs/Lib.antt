@@ -5,6 +5,7 @@ pub mod Commits
 pub mod Committing
 pub mod Faults
 pub mod Layers
+pub mod Listing
 pub mod Logs
 pub mod Places
 pub mod Sendable

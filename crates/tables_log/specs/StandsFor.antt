@@ -1,14 +1,17 @@
 -- What a book stands for: a list of transactions, each of which is accepted on what the earlier ones leave of tables without rows: PostgreSQL 15, 3.4. Transactions, and "Logical Replication", 31.1 Publication.
 use Rattle.std.specs.Prelude.{◌≡◌, ℕ, ◌+◌, ◌≤◌, ◌++◌, List, [], ◌∷◌, fold, length, None}
+use Rattle.filter_tree.specs.Datum.{Datum}
 use Rattle.table_changes.specs.Commands.{Command, first_fault, all_applied}
 use Rattle.table_changes.specs.Records.{record_of}
 use Rattle.table_changes.specs.Setting.{Setting}
 use Rattle.table_changes.specs.Standing.{Apart, AllFit, KeepsApart}
 use Rattle.table_changes.specs.Tables.{Tables, SameTables, no_rows, Stands}
 use Rattle.shard_checker.specs.CheckedView.{CheckedOf}
-use Rattle.tables_log.specs.BookView.{book_setting, book_limit, book_rows, book_log}
+use Rattle.tables_log.specs.BookView.{book_setting, book_limit, book_rows, book_listed, book_log}
 use Rattle.tables_log.specs.Commits.{CommitOf, commit_of}
 use Rattle.tables_log.specs.Committing.{IsNew, ChangesSlots, Commits, IsTransaction}
+use Rattle.tables_log.specs.Listing.{ListsFound, AreRowsOf}
+use Rattle.tables_log.specs.Places.{IsInOrder}
 use Rattle.tables_log.specs.declared.book.Book.{Book}
 use Rattle.tables_log.specs.declared.slots.Slot.{Slot}
 
@@ -71,3 +74,8 @@ pub record RowsAreRight (book : Book) : Type 0 where
 
 abbrev pub BooksAreRight : Type 0
 BooksAreRight = (book : Book) (transactions : List Transaction) → StandsFor book transactions → RowsAreRight book
+
+-- What `Book::rows` answers are the rows of the table.
+abbrev pub ListedAreRows : Type 0
+ListedAreRows = (book : Book) (transactions : List Transaction) (table : ℕ) (rows : List (List Datum)) → StandsFor book transactions
+    → ListsFound (book_rows book table 0) (book_listed book table) → IsInOrder (book_listed book table) rows → AreRowsOf (book_rows book table 0) rows

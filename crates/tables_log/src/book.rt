@@ -41,14 +41,15 @@ pub struct Book {
 }
 
 impl Book {
-    ghost use Rattle.std.specs.Prelude.{◌≡◌, ◌+◌, ◌*◌, ◌<◌, ◌≤◌, max, length, map, IfOk, IfErr, IfSome, OnOk, OnErr};
+    ghost use Rattle.std.specs.Prelude.{◌≡◌, ◌+◌, ◌*◌, ◌<◌, ◌≤◌, max, length, map, slice_get, IfOk, IfErr, IfSome, OnOk, OnErr};
     ghost use Rattle.std.specs.Arc.{arc_value};
-    ghost use Rattle.std.specs.Option.{option_map};
+    ghost use Rattle.std.specs.Option.{option_map, option_copied};
     ghost use Rattle.pub_reader.specs.CatalogLimits.{IsLimited};
     ghost use Rattle.shard_checker.specs.CheckedView.{checked_view};
     ghost use Rattle.table_changes.specs.CommandView.{command_view};
     ghost use Rattle.tables_log.specs.BookView.{book_limit, book_log, book_rows, book_listed, book_slots};
     ghost use Rattle.tables_log.specs.Committing.{IsNew, Commits, IsKept, ChangesSlots, RefusedBy};
+    ghost use Rattle.tables_log.specs.Listing.{ListsFound};
     ghost use Rattle.tables_log.specs.Logs.{entry_at, IsNumbered};
     ghost use Rattle.tables_log.specs.Places.{IsInOrder};
     ghost use Rattle.tables_log.specs.Slots.{end_after, confirmed_at, start_fault, started, released, confirmed_up_to};
@@ -169,11 +170,12 @@ impl Book {
     ///
     /// PostgreSQL 15, 7.5 Sorting Rows.
     pub fn rows(&self, table: usize) -> Result<Vec<Row>, AllocError>
-        ensures { IfOk result (λ rows. IsInOrder (book_listed self.now table) rows.items) }
+        ensures shows { IfOk result (λ rows. IsInOrder (book_listed self.now table) rows.items) }
+        ensures found { OnOk result (ListsFound (book_rows self.now table 0) (book_listed self.now table)) }
     {
-        match self.tables.get(table) {
+        match self.table(table) {
             None => Ok(Vec::new(self.alloc)),
-            Some(rows) => rows.rows(self.alloc),
+            Some(rows) => Ok(rows.rows(self.alloc)?),
         }
     }
 
@@ -236,6 +238,13 @@ impl Book {
         }
         slots::confirm(&mut self.slots, slot, position);
         Ok(())
+    }
+
+    /// The rows of the table of this number.
+    fn table(&self, number: usize) -> Option<&TableRows>
+        ensures { option_copied result ≡ slice_get self.now.tables.items number }
+    {
+        self.tables.get(number)
     }
 
     /// The entry of this number.

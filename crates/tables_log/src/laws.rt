@@ -1,6 +1,6 @@
 //! Laws of what a book stands for.
 
-ghost use Rattle.tables_log.specs.StandsFor.{NewStands, CommitsAddOne, SlotsKeepIt, EachIsLogged, BooksAreRight};
+ghost use Rattle.tables_log.specs.StandsFor.{NewStands, CommitsAddOne, SlotsKeepIt, EachIsLogged, BooksAreRight, ListedAreRows};
 
 /// A law, and no code, of the list of transactions that a book stands for. A new book stands for none (`new`); after a
 /// commit it stands for one more (`commits`); and whatever else happens to its slots, or is refused, it stands for the
@@ -15,4 +15,12 @@ pub fn books_stand_for_transactions()
     ensures kept { SlotsKeepIt }
     ensures logged { EachIsLogged }
     ensures rows { BooksAreRight }
+{}
+
+/// A law, and no code: what `Book::rows` answers of a book that stands for a list of transactions is the table, in the
+/// order of rows: each row that is found by the primary key, once, and no other.
+///
+/// PostgreSQL 15, 5.4.4 Primary Keys, 7.5 Sorting Rows.
+pub fn listed_rows_are_the_table()
+    ensures { ListedAreRows }
 {}

@@ -20,4 +20,4 @@ mod truncating;
 pub use book::Book;
 pub use commit::Commit;
 pub use error::{CommandFault, CommitError, StartError, StatusAhead};
-pub use laws::books_stand_for_transactions;
+pub use laws::{books_stand_for_transactions, listed_rows_are_the_table};

@@ -145,6 +145,7 @@ impl<V: Drop> Staged<V> {
     ghost use Rattle.std.specs.Prelude.{◌≡◌, List, None, map, IfOk, OnOk};
     ghost use Rattle.std.specs.Option.{option_map};
     ghost use Rattle.filter_tree.specs.Datum.{Datum};
+    ghost use Rattle.tables_log.specs.Listing.{ListsFound};
     ghost use Rattle.tables_log.specs.Staging.{kept, seen, kept_values, Keeps, Puts, Empties, Settles, Discards};
 
     /// A map without any key.
@@ -182,8 +183,10 @@ impl<V: Drop> Staged<V> {
     }
 
     /// All that is kept, in the order of the keys. The only error is want of memory.
+    #[tactic(auto, using(crate::proofs::ListingLemmas::lists_map))]
     pub(crate) fn values(&self) -> Result<Vec<&V>, AllocError>
-        ensures { IfOk result (λ values. map (λ value. value.now) values.items ≡ kept_values self.now) }
+        ensures shows { IfOk result (λ values. map (λ value. value.now) values.items ≡ kept_values self.now) }
+        ensures found { OnOk result (ListsFound (kept self.now) (kept_values self.now)) }
     {
         let mut values = Vec::new(self.alloc);
         for place in self.base.values() {

@@ -41,6 +41,7 @@ impl TableRows {
     ghost use Rattle.std.specs.Option.{option_map};
     ghost use Rattle.filter_tree.specs.Datum.{Datum};
     ghost use Rattle.table_changes.specs.Tables.{found_at};
+    ghost use Rattle.tables_log.specs.Listing.{ListsFound};
     ghost use Rattle.tables_log.specs.Places.{kept_at, seen_at, are_free, first_values, IsInOrder};
     ghost use Rattle.tables_log.specs.Places.{KeepsRows, PutsOne, PutsRow, EmptiesRows, SettlesRows, DiscardsRows};
 
@@ -80,7 +81,8 @@ impl TableRows {
 
     /// Copies of the rows that are kept, in the order of rows. The only error is want of memory.
     pub(crate) fn rows(&self, alloc: Global) -> Result<Vec<Row>, AllocError>
-        ensures { IfOk result (λ rows. IsInOrder (first_values self.now.maps.items) rows.items) }
+        ensures shows { IfOk result (λ rows. IsInOrder (first_values self.now.maps.items) rows.items) }
+        ensures found { OnOk result (ListsFound (kept_at self.now.maps.items 0) (first_values self.now.maps.items)) }
     {
         let Some(map) = self.maps.first() else {
             return Ok(Vec::new(alloc));

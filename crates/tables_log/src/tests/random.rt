@@ -5,13 +5,19 @@ use std::alloc::{AllocError, Global};
 use std::test::Fail;
 use table_changes::Command;
 
-/// What a command of the test does to the row of this number: 0 puts it in, 1 takes it out, and 2 gives it another
-/// number.
-#[derive(Clone, Copy)]
-struct Deed {
-    kind: u64,
+/// A row of the plain list, which is in the order of rows: by the mark, and then by the number, which is the primary key.
+#[derive(Clone, Copy, PartialEq, Eq, PartialOrd, Ord)]
+struct Plain {
+    mark: bool,
     number: u64,
-    other: u64,
+}
+
+/// What a command of the test does to the row of this number.
+#[derive(Clone, Copy)]
+enum Deed {
+    Insert(Plain),
+    Delete(u64),
+    Update(u64, Plain),
 }
 
 /// The next of a sequence of numbers, by a linear congruence.
@@ -22,16 +28,21 @@ fn next(state: u64) -> u64 {
 }
 
 fn make_deed(state: u64) -> Deed {
-    Deed {
-        kind: (state >> 40) % 3,
-        number: (state >> 20) % 60,
-        other: (state >> 50) % 60,
+    let number = (state >> 20) % 60;
+    let row = Plain {
+        mark: (state >> 32) % 2 == 0,
+        number: (state >> 50) % 60,
+    };
+    match (state >> 40) % 3 {
+        0 => Deed::Insert(row),
+        1 => Deed::Delete(number),
+        _ => Deed::Update(number, row),
     }
 }
 
-fn numbered(alloc: Global, number: u64) -> Result<Row, AllocError> {
-    let number = Value::Int((number % 1_000) as i64);
-    Ok(Row::from_values(vec![in alloc; Value::Null, Value::Null, number]?))
+fn as_row(alloc: Global, plain: Plain) -> Result<Row, AllocError> {
+    let number = Value::Int((plain.number % 1_000) as i64);
+    Ok(Row::from_values(vec![in alloc; Value::Null, Value::Bool(plain.mark), number]?))
 }
 
 fn key(alloc: Global, number: u64) -> Result<Row, AllocError> {
@@ -40,65 +51,74 @@ fn key(alloc: Global, number: u64) -> Result<Row, AllocError> {
 }
 
 fn command(alloc: Global, deed: Deed) -> Result<Command, AllocError> {
-    Ok(match deed.kind {
-        0 => Command::Insert {
+    Ok(match deed {
+        Deed::Insert(row) => Command::Insert {
             table: 0,
-            row: numbered(alloc, deed.number)?,
+            row: as_row(alloc, row)?,
         },
-        1 => Command::Delete {
+        Deed::Delete(number) => Command::Delete {
             table: 0,
-            key: key(alloc, deed.number)?,
+            key: key(alloc, number)?,
         },
-        _ => Command::Update {
+        Deed::Update(number, row) => Command::Update {
             table: 0,
-            key: key(alloc, deed.number)?,
-            row: numbered(alloc, deed.other)?,
+            key: key(alloc, number)?,
+            row: as_row(alloc, row)?,
         },
     })
 }
 
-fn without(alloc: Global, rows: &[u64], number: u64) -> Result<Vec<u64>, AllocError> {
+/// The rows but for the one of this number, or `None` if there is none.
+fn without(alloc: Global, rows: &[Plain], number: u64) -> Result<Option<Vec<Plain>>, AllocError> {
     let mut left = Vec::new(alloc);
     for row in rows {
-        if *row != number {
+        if row.number != number {
             left.push(*row)?;
         }
     }
-    Ok(left)
+    Ok(if left.len() < rows.len() {
+        Some(left)
+    } else {
+        None
+    })
+}
+
+/// The rows with this one, or `None` if there is one of its number.
+fn with(rows: Vec<Plain>, row: Plain) -> Result<Option<Vec<Plain>>, AllocError> {
+    let mut rows = rows;
+    if rows.iter().any(|other| other.number == row.number) {
+        return Ok(None);
+    }
+    rows.push(row)?;
+    Ok(Some(rows))
 }
 
 /// The rows after the deed, or its fault.
 fn done(
     alloc: Global,
-    rows: &[u64],
+    rows: &[Plain],
     deed: Deed,
-) -> Result<Result<Vec<u64>, CommandFault>, AllocError> {
-    let is_there = rows.contains(&deed.number);
-    if deed.kind == 0 && is_there {
-        return Ok(Err(CommandFault::DuplicateKey));
-    }
-    if deed.kind != 0 && !is_there {
+) -> Result<Result<Vec<Plain>, CommandFault>, AllocError> {
+    let (left, row) = match deed {
+        Deed::Insert(row) => (Some(Vec::from_slice(alloc, rows)?), Some(row)),
+        Deed::Delete(number) => (without(alloc, rows, number)?, None),
+        Deed::Update(number, row) => (without(alloc, rows, number)?, Some(row)),
+    };
+    let Some(left) = left else {
         return Ok(Err(CommandFault::NoSuchRow));
-    }
-    let mut left = without(alloc, rows, deed.number)?;
-    if deed.kind == 0 {
-        left.push(deed.number)?;
-    }
-    if deed.kind == 2 {
-        if left.contains(&deed.other) {
-            return Ok(Err(CommandFault::DuplicateKey));
-        }
-        left.push(deed.other)?;
-    }
-    Ok(Ok(left))
+    };
+    let Some(row) = row else {
+        return Ok(Ok(left));
+    };
+    Ok(with(left, row)?.ok_or(CommandFault::DuplicateKey))
 }
 
 /// The rows after the deeds, or the number and the fault of the first that has one.
 fn all_done(
     alloc: Global,
-    rows: &[u64],
+    rows: &[Plain],
     deeds: &[Deed],
-) -> Result<Result<Vec<u64>, (usize, CommandFault)>, AllocError> {
+) -> Result<Result<Vec<Plain>, (usize, CommandFault)>, AllocError> {
     let mut left = Vec::from_slice(alloc, rows)?;
     let mut number = 0usize;
     for deed in deeds {
@@ -111,40 +131,63 @@ fn all_done(
     Ok(Ok(left))
 }
 
-fn has_rows(alloc: Global, book: &Book, rows: &[u64]) -> Result<bool, AllocError> {
-    for number in 0..60 {
-        if book.row(0, &key(alloc, number)?).is_some() != rows.contains(&number) {
+/// Whether the table has these rows, in their order, and finds each by its key.
+fn has_rows(alloc: Global, book: &Book, rows: &[Plain]) -> Result<bool, AllocError> {
+    let found = book.rows(0)?;
+    if found.len() != rows.len() {
+        return Ok(false);
+    }
+    for (row, plain) in found.iter().zip(rows) {
+        let wanted = as_row(alloc, *plain)?;
+        let by_key = book.row(0, &key(alloc, plain.number)?);
+        if *row != wanted || by_key != Some(&wanted) {
             return Ok(false);
         }
     }
-    Ok(book.rows(0)?.len() == rows.len())
+    Ok(true)
+}
+
+/// A list of one to seven deeds, and the state after it.
+fn some_deeds(alloc: Global, state: u64) -> Result<(Vec<Deed>, u64), AllocError> {
+    let mut state = next(state);
+    let mut deeds = Vec::new(alloc);
+    for _ in 0..1 + (state >> 33) % 7 {
+        state = next(state);
+        deeds.push(make_deed(state))?;
+    }
+    Ok((deeds, state))
+}
+
+fn commands(alloc: Global, deeds: &[Deed]) -> Result<Vec<Command>, AllocError> {
+    let mut commands = Vec::new(alloc);
+    for deed in deeds {
+        commands.push(command(alloc, *deed)?)?;
+    }
+    Ok(commands)
 }
 
 #[test]
 fn a_book_does_what_a_plain_list_does(rt: HostRuntime) -> Result<(), Fail> {
     let alloc = rt.alloc();
-    let mut book = book(alloc, MIXED, &["o 0"], 20_000)?;
-    let mut rows: Vec<u64> = Vec::new(alloc);
+    let mut book = book(alloc, MIXED, &["o 0"], 5_200)?;
+    let mut rows: Vec<Plain> = Vec::new(alloc);
     let mut state = 7;
-    for _turn in 0..8_000 {
-        state = next(state);
-        let count = 1 + (state >> 33) % 4;
-        let mut deeds = Vec::new(alloc);
-        let mut commands = Vec::new(alloc);
-        for _ in 0..count {
-            state = next(state);
-            deeds.push(make_deed(state))?;
-            commands.push(command(alloc, make_deed(state))?)?;
-        }
-        let found = commit(&mut book, &commands, 1);
+    let mut given = 0usize;
+    for _turn in 0..5_200 {
+        let (deeds, later) = some_deeds(alloc, state)?;
+        state = later;
+        given = given.saturating_add(deeds.len());
+        let found = commit(&mut book, &commands(alloc, &deeds)?, 1);
         match all_done(alloc, &rows, &deeds)? {
             Ok(next) => {
                 assert!(rt; found.is_ok());
                 rows = next;
+                rows.sort_unstable();
             }
             Err((number, fault)) => assert_eq!(rt; found, Err(CommitError::At(number, fault))),
         }
         assert!(rt; has_rows(alloc, &book, &rows)?);
     }
+    assert!(rt; 20_000 <= given);
     Ok(())
 }

@@ -5,4 +5,4 @@ use Rattle.pgoutput_msgs.proofs.telling.push_changes.Given as goal
 
 abbrev pub invariant-loop-change : goal.invariant-loop-change
 invariant-loop-change l =
-    Says (checked_view l.checked) l.subscriber l.fn.told l.told l.fn.messages.items l.messages.items l.changes (drop l.change-index l.changes)
+    Says (checked_view l.checked) l.subscriber l.fn.told l.told l.fn.spoken l.spoken l.changes (drop l.change-index l.changes)
