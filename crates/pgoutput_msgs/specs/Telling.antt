@@ -1,4 +1,4 @@
--- The messages that tell a subscriber of a commit: PostgreSQL 15, 55.5.2. Logical Replication Protocol Message Flow, and 55.9. Logical Replication Message Formats. Log sequence numbers, OIDs and numbers of transactions are this project's own.
+-- The messages that tell a subscriber of a commit: PostgreSQL 15, 55.5.3. Logical Replication Protocol Message Flow, and 55.9. Logical Replication Message Formats. Log sequence numbers, OIDs and numbers of transactions are this project's own.
 use Rattle.std.specs.Prelude.{ℕ, ◌+◌, ◌*◌, ◌^◌, ◌<◌, length, IfSome, ℤ, negsuc, Bool, true, false, if◌then◌else◌, List, [], ◌∷◌, ◌++◌, map, slice_get, slice_index_or, slice_set, Option, Some, None}
 use Rattle.filter_tree.specs.Datum.{Datum}
 use Rattle.filter_tree.specs.declared.table.ColType.{ColType}

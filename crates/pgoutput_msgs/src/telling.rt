@@ -30,7 +30,7 @@ use tables_log::Commit;
 /// `64 * n`, ends at `64 * n + 64` and is transaction `n + 2`; table j has the OID `16384 + j`. The only error is want of
 /// memory, which leaves `told` as it was.
 ///
-/// PostgreSQL 15, 55.5.2. Logical Replication Protocol Message Flow.
+/// PostgreSQL 15, 55.5.3. Logical Replication Protocol Message Flow.
 #[tactic(auto, using(crate::proofs::RoomLemmas::messages_room))]
 pub fn messages_of(
     alloc: Global,
