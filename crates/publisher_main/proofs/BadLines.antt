@@ -7,7 +7,7 @@ use Rattle.filter_tree.specs.declared.table.Column.{Column}
 use Rattle.filter_tree.specs.declared.validity.RowFault.{RowFault}
 use Rattle.publisher_main.specs.Eval.Carriers.{CarrierOf}
 use Rattle.filter_tree.specs.Memory.{TellsFault}
-use Rattle.sql_reader.specs.Reading.{Fault, fault, fault_or_none}
+use Rattle.sql_reader.specs.Reading.{Fault, fault_or_none}
 use Rattle.sql_reader.specs.Rows.{row_of}
 use Rattle.sql_reader.specs.Wrong.{Wrong, wrong_of}
 use Rattle.sql_reader.specs.declared.error.ReadError.{ReadError}

@@ -33,7 +33,7 @@ use std::io::Write;
 
 /// The lines of a text.
 fn lines_of(alloc: Global, text: &str) -> Result<Vec<&str>, AllocError>
-    ensures { IfOk result (λ lines. texts_view lines.items ≡ parts::lines_of text.now) }
+    ensures { IfOk result (λ lines. texts_view lines.items ≡ parts.lines_of text.now) }
 {
     let mut lines = Vec::new(alloc);
     for line in Lines::new(text) {
@@ -44,10 +44,13 @@ fn lines_of(alloc: Global, text: &str) -> Result<Vec<&str>, AllocError>
 
 /// The refusal that the error of a check is.
 fn refusal_in<'a>(error: TextError) -> Result<Option<CheckError>, Failure<'a>>
-    ensures { result ≡ certificates::refusal_in error }
+    ensures { result ≡ certificates.refusal_in error }
 {
     match error {
-        TextError::Text(line, error) => Err(Failure::Input(InputFault::Certificate { line, error })),
+        TextError::Text(line, error) => Err(Failure::Input(InputFault::Certificate {
+            line,
+            error,
+        })),
         TextError::Check(CheckError::OutOfMemory) => Err(Failure::OutOfMemory),
         TextError::Check(refusal) => Ok(Some(refusal)),
     }
@@ -67,10 +70,10 @@ fn refusal_of<'a>(
     ensures err { IfErr result (IsOfLines (texts_view texts.now)) }
 {
     let plan = plan(alloc, &catalog)?;
-    match check_text(alloc, catalog, plan, texts) {
-        Ok(_) => Ok(None),
-        Err(error) => refusal_in(error),
-    }
+    let Err(error) = check_text(alloc, catalog, plan, texts) else {
+        return Ok(None);
+    };
+    refusal_in(error)
 }
 
 fn write_accepted<'a, W: Write>(alloc: Global, writer: &mut W) -> Result<Status, Failure<'a>>

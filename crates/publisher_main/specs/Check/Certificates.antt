@@ -1,5 +1,5 @@
 -- Why there is no verdict over a sharding by the texts of its certificates: the first line that is none, or want of memory. The format is this project's own.
-use Rattle.std.specs.Prelude.{◌≡◌, ℕ, List, Option, Some, None, Result, Ok, Err}
+use Rattle.std.specs.Prelude.{◌≡◌, ℕ, List, Option, Some, Result, Ok, Err}
 use Rattle.shard_checker.specs.Texts.{text_fault}
 use Rattle.shard_checker.specs.declared.error.CheckError.{CheckError}
 use Rattle.shard_checker.specs.declared.error.CheckError.TheVariants as c

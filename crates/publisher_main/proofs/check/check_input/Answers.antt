@@ -1,4 +1,4 @@
-use Rattle.std.proofs.Common.{rules, ◌≡◌, ◌∙◌, List, Option, Some, None, OnOk, IfErr, sym, ap, subst}
+use Rattle.std.proofs.Common.{rules, ℕ, ◌≡◌, ◌∙◌, List, Option, Some, None, OnOk, IfErr, sym, ap, subst}
 use Rattle.std.specs.Io.KnownBytes.{Appends}
 use Rattle.filter_tree.specs.Expr.{Expr}
 use Rattle.pub_reader.specs.CatalogView.{catalog_view}

@@ -6,4 +6,4 @@ use Rattle.publisher_main.proofs.check.lines_of.Given as goal
 
 -- the lines so far, and those that are left, are all
 abbrev pub invariant-loop-line : goal.invariant-loop-line
-invariant-loop-line l = texts_view l.lines.items ++ lines_left l.line-iterator ≡ parts.lines_of l.text.now
+invariant-loop-line l = texts_view l.lines.items ++ lines_left l.line-iterator ≡ parts.lines_of l.text
