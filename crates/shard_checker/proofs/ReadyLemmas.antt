@@ -137,10 +137,10 @@ roots_masks atoms path steps masks settled (root ∷ roots) (share ∷ shares) h
     ∙ ap (λ ms. share_mask path share ∷ ms) (roots_masks atoms path steps masks settled roots shares h.1)
 
 module _ (subject : Subject) (formulas : Formulas) (known : Known) (masks : List Mask) (path : Path) (ready : IsReady subject formulas known masks path)
-    (settled : IsSettled formulas.steps.items known.atoms.items masks) (node number : ℕ) where
+    (settled : IsSettled formulas.steps.list.items known.atoms.items masks) (node number : ℕ) where
   same_masks : map (mask_in masks) formulas.roots.items ≡ map (share_mask path) subject.shares
-  same_masks = roots_masks subject.atoms path formulas.steps.items masks
-      (subst (λ found. IsSettled formulas.steps.items found masks) ready.knows.masks settled) formulas.roots.items subject.shares ready.prepared.compiled.filters
+  same_masks = roots_masks subject.atoms path formulas.steps.list.items masks
+      (subst (λ found. IsSettled formulas.steps.list.items found masks) ready.knows.masks settled) formulas.roots.items subject.shares ready.prepared.compiled.filters
 
   by_mask : (found : Option ShareOf) → Option CheckError
   by_mask found = owner_refusal subject path node number found

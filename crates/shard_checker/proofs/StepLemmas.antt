@@ -49,7 +49,10 @@ adds_pushed old new number step e n = record {
   });
 }
 
-pub ruleset adding = (adds_pushed)
+pub adds_found : (steps : List Step) (number : ℕ) (step : Step) → slice_get steps number ≡ Some step → Adds steps steps number step
+adds_found steps number step there = record { there = there; extends = record { each = λ k found h. h }; ordered = λ before parts. before }
+
+pub ruleset adding = (adds_pushed, adds_found)
 
 -- ---- a filter
 
@@ -145,17 +148,17 @@ filters_then atoms steps (r ∷ roots) [] root share h last = absurd h
 filters_then atoms steps (r ∷ roots) (s ∷ shares) root share h last = (h.0, filters_then atoms steps roots shares root share h.1 last)
 
 pub filters_more : (atoms : List AtomOf) (shares : List ShareOf) (old new : Formulas) (root : ℕ) (share : ShareOf) → IsCompiled atoms shares old
-    → Compiles atoms old.steps.items new.steps.items root (filter_of share) → new.roots.items ≡ old.roots.items ++ root ∷ [] → IsCompiled atoms (shares ++ share ∷ []) new
+    → Compiles atoms old.steps.list.items new.steps.list.items root (filter_of share) → new.roots.items ≡ old.roots.items ++ root ∷ [] → IsCompiled atoms (shares ++ share ∷ []) new
 filters_more atoms shares old new root share before compiled pushed = record {
   ordered = compiled.ordered before.ordered;
-  filters = subst (λ roots. AreFilters atoms new.steps.items roots (shares ++ share ∷ [])) (sym pushed)
-      (filters_then atoms new.steps.items old.roots.items shares root share (filters_kept atoms old.steps.items new.steps.items compiled.extends old.roots.items shares before.filters) compiled.there);
+  filters = subst (λ roots. AreFilters atoms new.steps.list.items roots (shares ++ share ∷ [])) (sym pushed)
+      (filters_then atoms new.steps.list.items old.roots.items shares root share (filters_kept atoms old.steps.list.items new.steps.list.items compiled.extends old.roots.items shares before.filters) compiled.there);
 }
 
-pub none_compiled : (atoms : List AtomOf) (formulas : Formulas) → formulas.steps.items ≡ [] → formulas.roots.items ≡ [] → IsCompiled atoms [] formulas
+pub none_compiled : (atoms : List AtomOf) (formulas : Formulas) → formulas.steps.list.items ≡ [] → formulas.roots.items ≡ [] → IsCompiled atoms [] formulas
 none_compiled atoms formulas steps roots = record {
   ordered = subst (λ (steps : List Step). IsOrdered steps) (sym steps) (record { each = λ number step h. absurd cc });
-  filters = subst (λ roots. AreFilters atoms formulas.steps.items roots []) (sym roots) tt;
+  filters = subst (λ roots. AreFilters atoms formulas.steps.list.items roots []) (sym roots) tt;
 }
 
 module _ {A : _} (atoms : List AtomOf) (shares : List (Bor (Share A))) (count : ℕ) (share : Bor (Share A)) (formulas : Formulas) where

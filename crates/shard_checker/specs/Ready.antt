@@ -22,7 +22,7 @@ pub record IsPrepared (subject : r.Subject) (formulas : Formulas) : Type 0 where
 pub record IsReady (subject : r.Subject) (formulas : Formulas) (known : Known) (masks : List Mask) (path : Path) : Type 0 where
   pub prepared : IsPrepared subject formulas
   pub knows : IsKnown subject.atoms known path
-  pub sized : length masks ≡ length formulas.steps.items
+  pub sized : length masks ≡ length formulas.steps.list.items
 
 -- ---- the code's
 

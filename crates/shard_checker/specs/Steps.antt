@@ -110,8 +110,8 @@ AreFilters atoms steps roots shares = ⊥
 
 -- the filters of the shares are among the steps
 pub record IsCompiled (atoms : List AtomOf) (shares : List ShareOf) (formulas : Formulas) : Type 0 where
-  pub ordered : IsOrdered formulas.steps.items
-  pub filters : AreFilters atoms formulas.steps.items formulas.roots.items shares
+  pub ordered : IsOrdered formulas.steps.list.items
+  pub filters : AreFilters atoms formulas.steps.list.items formulas.roots.items shares
 
 -- the least number of a share, other than the owner's, whose filter may be true
 abbrev pub second_among : ℕ → ℕ → List Mask → Option ℕ

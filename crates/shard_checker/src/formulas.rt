@@ -6,7 +6,7 @@ ghost use Rattle.replica_identity.specs.Shares.{ShareOf, share_view};
 ghost use Rattle.shard_checker.specs.Owners.{shares_view};
 ghost use Rattle.shard_checker.specs.Steps as spec;
 
-use crate::steps::{Step, add, compile};
+use crate::steps::{Step, Steps, compile};
 use filter_tree::Atom;
 use replica_identity::Share;
 use std::alloc::{AllocError, Allocator, Global};
@@ -14,7 +14,7 @@ use std::alloc::{AllocError, Allocator, Global};
 /// The filters of the shares of a table as steps, and for each share the number of its filter's own step.
 #[derive(Drop)]
 pub struct Formulas {
-    pub steps: Vec<Step>,
+    pub steps: Steps,
     pub roots: Vec<usize>,
 }
 
@@ -22,16 +22,16 @@ pub struct Formulas {
 #[tactic(auto, using(crate::proofs::StepLemmas::compiling))]
 fn compile_share<A: Allocator>(
     atoms: &[&Atom<A>],
-    steps: &mut Vec<Step>,
+    steps: &mut Steps,
     share: &Share<A>,
 ) -> Result<usize, AllocError>
     requires { spec.names_only (atoms_view atoms.now) (spec.filter_of (share_view share.now)) ≡ true }
-    ensures { IfOk result (λ number. spec.Compiles (atoms_view atoms.now) steps.old.items steps.new.items number
+    ensures { IfOk result (λ number. spec.Compiles (atoms_view atoms.now) steps.old.list.items steps.new.list.items number
         (spec.filter_of (share_view share.now))) }
 {
     match share {
-        Share::Nothing => add(steps, Step::Const(false)),
-        Share::Everything => add(steps, Step::Const(true)),
+        Share::Nothing => steps.add(Step::Const(false)),
+        Share::Everything => steps.add(Step::Const(true)),
         Share::Where(filter) => compile(atoms, steps, filter),
     }
 }
@@ -70,7 +70,7 @@ pub fn formulas_of<A: Allocator>(
     ensures { IfOk result (λ formulas. spec.IsCompiled (atoms_view atoms.now) (shares_view shares.now) formulas) }
 {
     let mut formulas = Formulas {
-        steps: Vec::new(alloc),
+        steps: Steps::new(alloc, atoms.len())?,
         roots: Vec::new(alloc),
     };
     for share in shares {

@@ -116,7 +116,7 @@ pub fn check_owner<A: Allocator>(
     number: u32,
 ) -> Result<(), CheckError>
     requires ready { Ready subject.now walk.now }
-    requires settled { IsSettled subject.now.formulas.now.steps.items walk.now.known.atoms.items walk.now.masks.items }
+    requires settled { IsSettled subject.now.formulas.now.steps.list.items walk.now.known.atoms.items walk.now.masks.items }
     ensures { Finds
         (spec.node_refusal trying.is_empty (subject_view subject.now) (Node.Owner number) (path_view walk.now.path.items)
         walk.now.node) result }

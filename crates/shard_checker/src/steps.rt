@@ -1,13 +1,13 @@
 //! Filters as one list of steps, in which each part of a filter is a step.
 
-ghost use Rattle.std.specs.Prelude.{◌≡◌, IfOk, true, Some, slice_get};
+ghost use Rattle.std.specs.Prelude.{◌≡◌, [], IfOk, IfSome, IsTrue, true, slice_get};
 ghost use Rattle.std.specs.List.{list_any};
 ghost use Rattle.filter_tree.specs.Same.{same_atom};
 ghost use Rattle.filter_tree.specs.Shape.{atom_view, atoms_view, expr_view};
 ghost use Rattle.shard_checker.specs.Steps as spec;
 
 use filter_tree::{Atom, Filter, Test, same_atom};
-use std::alloc::{AllocError, Allocator};
+use std::alloc::{AllocError, Allocator, Global};
 
 /// A filter whose parts are named by the numbers of their steps, and whose atom is named by its own number.
 #[derive(Clone, Copy, Debug, PartialEq, Eq)]
@@ -33,48 +33,133 @@ fn number_of<A: Allocator>(atoms: &[&Atom<A>], atom: &Atom<A>) -> usize
     unreachable!()
 }
 
-/// Puts the step after the others.
-#[tactic(auto, using(crate::proofs::StepLemmas::adding))]
-pub fn add(steps: &mut Vec<Step>, step: Step) -> Result<usize, AllocError>
-    ensures { IfOk result (λ number. spec.Adds steps.old.items steps.new.items number step) }
+/// Steps, each of them once, and what finds them again.
+#[derive(Drop)]
+pub struct Steps {
+    pub list: Vec<Step>,
+    /// For each key, the last step with that key.
+    latest: Vec<usize>,
+    /// For each step, the last one before it with its key.
+    earlier: Vec<usize>,
+}
+
+/// What stands for no number.
+const NO_STEP: usize = usize::MAX;
+
+/// The number at a place, or none.
+fn number_at(numbers: &[usize], place: usize) -> usize {
+    numbers.get(place).copied().unwrap_or(NO_STEP)
+}
+
+/// Whether the step has this number.
+fn is_at(list: &[Step], number: usize, step: Step) -> bool
+    ensures { IsTrue result → slice_get list.now number ≡ Some step }
 {
-    let number = steps.len();
-    steps.push(step)?;
-    Ok(number)
+    match list.get(number) {
+        None => false,
+        Some(held) => *held == step,
+    }
+}
+
+/// A number that equal steps share, and few others: that of the atom, or of the last part.
+fn key_of(step: Step) -> usize {
+    match step {
+        Step::Const(_) => 0,
+        Step::Atom(part) | Step::Not(part) | Step::Is(_, part) => part,
+        Step::And(left, right) | Step::Or(left, right) => left.max(right),
+    }
+}
+
+impl Steps {
+    /// No steps, for filters that have so many atoms.
+    pub fn new(alloc: Global, atoms: usize) -> Result<Steps, AllocError>
+        ensures { IfOk result (λ steps. steps.list.items ≡ []) }
+    {
+        Ok(Steps {
+            list: Vec::new(alloc),
+            latest: vec![in alloc; NO_STEP; atoms]?,
+            earlier: Vec::new(alloc),
+        })
+    }
+
+    /// The number of the step, if it is there.
+    fn find(&self, step: Step) -> Option<usize>
+        ensures { IfSome result (λ number. slice_get self.now.list.items number ≡ Some step) }
+    {
+        let mut number = number_at(&self.latest, key_of(step));
+        while number < self.list.len() {
+            if is_at(&self.list, number, step) {
+                return Some(number);
+            }
+            let earlier = number_at(&self.earlier, number);
+            if earlier >= number {
+                return None;
+            }
+            number = earlier;
+        }
+        None
+    }
+
+    /// Puts the step after the others.
+    #[tactic(auto, using(crate::proofs::StepLemmas::adding))]
+    fn push(&mut self, step: Step) -> Result<usize, AllocError>
+        ensures { IfOk result (λ number. spec.Adds self.old.list.items self.new.list.items number step) }
+    {
+        let number = self.list.len();
+        let key = key_of(step);
+        self.list.push(step)?;
+        self.latest.push(NO_STEP)?;
+        self.earlier.push(number_at(&self.latest, key))?;
+        if let Some(latest) = self.latest.get_mut(key) {
+            *latest = number;
+        }
+        Ok(number)
+    }
+
+    /// Puts the step among the others, unless it is there, and gives its number.
+    #[tactic(auto, using(crate::proofs::StepLemmas::adding))]
+    pub fn add(&mut self, step: Step) -> Result<usize, AllocError>
+        ensures { IfOk result (λ number. spec.Adds self.old.list.items self.new.list.items number step) }
+    {
+        match self.find(step) {
+            Some(number) => Ok(number),
+            None => self.push(step),
+        }
+    }
 }
 
 /// Puts the parts of the filter among the steps, and gives the number of the filter's own step.
 #[tactic(auto, using(crate::proofs::StepLemmas::compiling))]
 pub fn compile<A: Allocator>(
     atoms: &[&Atom<A>],
-    steps: &mut Vec<Step>,
+    steps: &mut Steps,
     filter: &Filter<A>,
 ) -> Result<usize, AllocError>
     requires { spec.names_only (atoms_view atoms.now) (expr_view filter.now) ≡ true }
-    ensures { IfOk result (λ number. spec.Compiles (atoms_view atoms.now) steps.old.items steps.new.items number
+    ensures { IfOk result (λ number. spec.Compiles (atoms_view atoms.now) steps.old.list.items steps.new.list.items number
         (expr_view filter.now)) }
 {
     match filter {
-        Filter::Const(known) => add(steps, Step::Const(*known)),
-        Filter::Atom(atom) => add(steps, Step::Atom(number_of(atoms, atom))),
+        Filter::Const(known) => steps.add(Step::Const(*known)),
+        Filter::Atom(atom) => steps.add(Step::Atom(number_of(atoms, atom))),
         Filter::Not(part) => {
             let part = compile(atoms, steps, part)?;
-            add(steps, Step::Not(part))
+            steps.add(Step::Not(part))
         }
         Filter::And(left, right) => {
             let left = compile(atoms, steps, left)?;
             let right = compile(atoms, steps, right)?;
-            add(steps, Step::And(left, right))
+            steps.add(Step::And(left, right))
         }
         Filter::Or(left, right) => {
             let left = compile(atoms, steps, left)?;
             let right = compile(atoms, steps, right)?;
-            add(steps, Step::Or(left, right))
+            steps.add(Step::Or(left, right))
         }
         Filter::Is(test, part) => {
             let test = *test;
             let part = compile(atoms, steps, part)?;
-            add(steps, Step::Is(test, part))
+            steps.add(Step::Is(test, part))
         }
     }
 }

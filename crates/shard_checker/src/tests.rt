@@ -1,5 +1,6 @@
 mod catalogs;
 mod limits;
+mod sharing;
 mod terms;
 mod texts;
 

@@ -48,7 +48,7 @@ pub fn begin<'a, A: Allocator>(
     Ok(Walk {
         path: Vec::new(alloc),
         known: Known::new(alloc, subject.atoms)?,
-        masks: vec![in alloc; NONE; subject.formulas.steps.len()]?,
+        masks: vec![in alloc; NONE; subject.formulas.steps.list.len()]?,
         node: 0,
         is_over: false,
     })
@@ -158,13 +158,17 @@ fn step<'a, A: Allocator>(
 /// Tells of each step of the filters what it may be at the end of the path.
 fn settle<A: Allocator>(subject: &Subject<'_, A>, walk: &mut Walk<'_, A>)
     requires { Ready subject.now walk.old }
-    ensures settled { IsSettled subject.now.formulas.now.steps.items walk.new.known.atoms.items walk.new.masks.items }
+    ensures settled { IsSettled subject.now.formulas.now.steps.list.items walk.new.known.atoms.items walk.new.masks.items }
     ensures ready { Ready subject.now walk.new }
     ensures path { walk.new.path.items ≡ walk.old.path.items }
     ensures node { walk.new.node ≡ walk.old.node }
     ensures due { walk.new.is_over ≡ walk.old.is_over }
 {
-    refresh(&subject.formulas.steps, &walk.known.atoms, &mut walk.masks);
+    refresh(
+        &subject.formulas.steps.list,
+        &walk.known.atoms,
+        &mut walk.masks,
+    );
 }
 
 /// Checks a node at the end of a path, a split's branches apart.

@@ -1,0 +1,5 @@
+use Rattle.shard_checker.proofs.steps.Steps.find.Given as goal
+
+-- numbers fall
+abbrev pub decreases-loop-number : goal.decreases-loop-number
+decreases-loop-number l = l.number
