@@ -2,6 +2,7 @@ pub mod Counting
 pub mod Everywhere
 pub mod Exact
 pub mod Fields
+pub mod GatheringLemmas
 pub mod Messages
 pub mod ReadBackLemmas
 pub mod RelationRules

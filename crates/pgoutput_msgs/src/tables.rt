@@ -5,7 +5,7 @@ ghost use Rattle.pgoutput_msgs.specs.Ranges.{HasTextName, HasTextNames};
 ghost use Rattle.pgoutput_msgs.specs.Telling as spec;
 
 use crate::relation::{Relation, RelationColumn, ReplicaIdentity};
-use filter_tree::{ColType, Identity, Items, Table, Text};
+use filter_tree::{ColType, Column, Identity, Items, Table, Text};
 use replica_identity::covered;
 use std::alloc::{AllocError, Global};
 
@@ -55,6 +55,24 @@ fn copy_of(alloc: Global, text: &Text) -> Result<Text, AllocError>
     Ok(Text::new(copy))
 }
 
+/// The column of this number of the table.
+fn column_of(
+    alloc: Global,
+    table: &Table,
+    number: usize,
+    column: &Column,
+) -> Result<RelationColumn, AllocError>
+    ensures exact { IfOk result (λ made. made ≡ spec.column_of table.now number column.now) }
+    ensures text { IfOk result (λ made. HasTextName made) }
+{
+    Ok(RelationColumn {
+        is_key: covered(table, number),
+        name: copy_of(alloc, &column.name)?,
+        type_oid: type_oid(column.kind),
+        type_modifier: -1,
+    })
+}
+
 fn columns_of(alloc: Global, table: &Table) -> Result<Items<RelationColumn>, AllocError>
     ensures exact { IfOk result (λ columns. columns ≡ spec.columns_from table.now 0 table.now.columns) }
     ensures texts { IfOk result (λ columns. All HasTextName columns) }
@@ -62,12 +80,7 @@ fn columns_of(alloc: Global, table: &Table) -> Result<Items<RelationColumn>, All
     let columns = table.columns.as_slice();
     let mut made = Vec::with_capacity(alloc, columns.len())?;
     for (number, column) in columns.iter().enumerate() {
-        made.push(RelationColumn {
-            is_key: covered(table, number),
-            name: copy_of(alloc, &column.name)?,
-            type_oid: type_oid(column.kind),
-            type_modifier: -1,
-        })?;
+        made.push(column_of(alloc, table, number, column)?)?;
     }
     Ok(Items::from_vec(made))
 }

@@ -27,9 +27,8 @@ pub fn tuple_of<A: Allocator>(alloc: Global, row: &Row<A>) -> Result<Tuple, Allo
 }
 
 /// The cell of a text.
-#[tactic(auto, using(crate::proofs::TextLemmas::text_of_string))]
 fn text_cell(text: String) -> Cell
-    ensures exact { result ≡ Text (string_bytes text) }
+    ensures exact { result ≡ Cell.Text (string_bytes text) }
     ensures text { IsCellText result }
 {
     Cell::Text(Text::new(text))

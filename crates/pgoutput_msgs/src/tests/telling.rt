@@ -108,20 +108,27 @@ fn are(alloc: Global, found: &[Vec<u8>], texts: &[&str]) -> Result<bool, AllocEr
 }
 
 const BEGIN_1: &str = "42 0000000000000040 0000000000000001 00000003";
+
 const END_1: &str = "43 00 0000000000000040 0000000000000080 0000000000000001";
+
 const BEGIN_2: &str = "42 0000000000000080 0000000000000002 00000004";
+
 const END_2: &str = "43 00 0000000000000080 00000000000000c0 0000000000000002";
+
 const BEGIN_3: &str = "42 00000000000000c0 0000000000000003 00000005";
+
 const END_3: &str = "43 00 00000000000000c0 0000000000000100 0000000000000003";
 
 #[test]
 fn an_update_is_a_delete_and_an_insert_where_the_row_changes_its_subscriber(
     rt: HostRuntime,
 ) -> Result<(), Fail> {
-    let relation = "52 00004000 7075626c696300 7400 66 0002 01 696400 00000017 ffffffff 01 726567696f6e00 00000019 ffffffff";
+    let relation =
+        "52 00004000 7075626c696300 7400 66 0002 01 696400 00000017 ffffffff 01 726567696f6e00 00000019 ffffffff";
     let near = "0002 74 00000001 37 74 00000002 6575";
     let far = "0002 74 00000003 313530 74 00000002 6575";
-    let script = "COMMIT INSERT t (7, 'eu'); COMMIT UPDATE t (7) (150, 'eu'), UPDATE t (150) (7, 'eu');";
+    let script =
+        "COMMIT INSERT t (7, 'eu'); COMMIT UPDATE t (7) (150, 'eu'), UPDATE t (150) (7, 'eu');";
     let alloc = rt.alloc();
     let checked = checked(alloc, FULL, &[SPLIT])?;
     let near_insert = format!(in alloc; "49 00004000 4e {near}")?;
@@ -140,17 +147,28 @@ fn an_update_is_a_delete_and_an_insert_where_the_row_changes_its_subscriber(
         END_2,
         "",
     ];
-    let second = ["", BEGIN_2, relation, far_insert.as_str(), far_delete.as_str(), END_2, ""];
+    let second = [
+        "",
+        BEGIN_2,
+        relation,
+        far_insert.as_str(),
+        far_delete.as_str(),
+        END_2,
+        "",
+    ];
     assert!(rt; are(alloc, &told_of(alloc, &checked, script, 0)?, &first)?);
     assert!(rt; are(alloc, &told_of(alloc, &checked, script, 1)?, &second)?);
     Ok(())
 }
 
 #[test]
-fn an_update_under_default_sends_the_old_key_only_if_it_changes(rt: HostRuntime) -> Result<(), Fail> {
+fn an_update_under_default_sends_the_old_key_only_if_it_changes(
+    rt: HostRuntime,
+) -> Result<(), Fail> {
     let alloc = rt.alloc();
     let checked = checked(alloc, DEFAULT, &[SPLIT])?;
-    let script = "COMMIT INSERT t (7, 'eu'); COMMIT UPDATE t (7) (7, 'us'); COMMIT UPDATE t (7) (8, 'us');";
+    let script =
+        "COMMIT INSERT t (7, 'eu'); COMMIT UPDATE t (7) (7, 'us'); COMMIT UPDATE t (7) (8, 'us');";
     let wanted = [
         BEGIN_1,
         "52 00004000 7075626c696300 7400 64 0002 01 696400 00000017 ffffffff 00 726567696f6e00 00000019 ffffffff",
@@ -176,7 +194,8 @@ fn a_truncate_names_the_tables_of_the_subscriber_after_their_relations(
 ) -> Result<(), Fail> {
     let alloc = rt.alloc();
     let checked = checked(alloc, THREE, &["o 0", "o 0", "o 1"])?;
-    let script = "COMMIT TRUNCATE (u, v, t); COMMIT INSERT v (1); COMMIT INSERT t (1), TRUNCATE (t);";
+    let script =
+        "COMMIT TRUNCATE (u, v, t); COMMIT INSERT v (1); COMMIT INSERT t (1), TRUNCATE (t);";
     let first = [
         BEGIN_1,
         "52 00004001 7075626c696300 7500 64 0001 01 696400 00000017 ffffffff",
@@ -295,9 +314,7 @@ fn the_longest_message_is_an_update_of_the_longest_texts(rt: HostRuntime) -> Res
     };
     let update = Command::Update {
         table: 0,
-        key: Row::from_values(
-            vec![in alloc; Value::Text(Text::new("a".repeat(alloc, 65_535)?))]?,
-        ),
+        key: Row::from_values(vec![in alloc; Value::Text(Text::new("a".repeat(alloc, 65_535)?))]?),
         row: longest(alloc, "b")?,
     };
     book.commit(vec![in alloc; insert, update]?.as_slice(), 1)?;
@@ -308,7 +325,10 @@ fn the_longest_message_is_an_update_of_the_longest_texts(rt: HostRuntime) -> Res
     let mut found = Vec::new(alloc);
     push_spelled(alloc, &messages, &mut found)?;
     // eleven bytes, and twice 100 columns of a letter, a length and a text
-    assert_eq!(rt; found.as_slice().get(2).map(|bytes| bytes.len()), Some(11 + 2 * 100 * (1 + 4 + 65_535)));
+    assert_eq!(rt;
+        found.as_slice().get(2).map(|bytes| bytes.len()),
+        Some(11 + 2 * 100 * (1 + 4 + 65_535))
+    );
     messages_are_read_back();
     limited_tables_fit();
     Ok(())
