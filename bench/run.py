@@ -3,8 +3,9 @@
 
     bench/run.py [--program FILE] [--core N] [--first] [--runs N] [PART ..]
 
-The parts are start, large, eval, check, make and instructions; without one, all are run. The program has to be built,
-which the script `pgshard` does. PostgreSQL 15, z3 and valgrind are left out where they are not installed.
+The parts are start, large, eval, check, make, book, messages and instructions; without one, all are run. The program has
+to be built, which the script `pgshard` does; book and messages build programs of their own, and so need `rt`. PostgreSQL
+15, z3 and valgrind are left out where they are not installed.
 """
 
 import argparse
@@ -13,9 +14,11 @@ import pathlib
 import sys
 import tempfile
 
+import book
 import checking
 import evaluation
 import instructions
+import messages
 import sharding
 import starting
 from measuring import BUILT, Setup, machine
@@ -26,6 +29,8 @@ PARTS = {
     "eval": ("eval", lambda setup, _: evaluation.measure(setup)),
     "check": ("check", checking.measure),
     "make": ("make", sharding.measure),
+    "book": ("The book", book.measure),
+    "messages": ("Messages", messages.measure),
     "instructions": ("Instructions", instructions.measure),
 }
 
