@@ -1,23 +1,27 @@
-"""Messages encoded and decoded, beside copies of the same bytes: an Insert of three values, and an Update with its old row."""
+"""Insert messages that are spelled and read a second, and their bytes a second, beside copies of the same bytes."""
 
-import subprocess
-
-from driving import driver
+import drivers
 from measuring import print_table
 
-LIBRARIES = "pgoutput_msgs filter_tree"
-MESSAGES = ("Insert", "Update")
-HEADS = ["Message", "Bytes", "Deed", "ns a message", "million messages/s", "MB/s"]
+# the bytes of a row's text, and how many messages
+SIZES = ((0, 2_000_000), (16, 2_000_000), (1_000, 500_000), (65_535, 10_000))
+PARTS = ("encode", "decode", "copy")
+HEADS = [
+    "Bytes of a message",
+    *(f"{it}, thousand messages/s" for it in PARTS),
+    *(f"{it}, MB/s" for it in PARTS),
+]
 
 
-def row(name, line):
-    deed, turns, size, taken = line[0], *map(int, line[1:])
-    return [name, size, deed, f"{taken / turns:.0f}", f"{1e3 * turns / taken:.1f}", f"{1e3 * turns * size / taken:,.0f}"]
+def message_row(setup, program, size, times):
+    runs = [drivers.told(setup, program, size, times)[0] for _ in range(setup.runs)]
+    middle = len(runs) // 2
+    took = {part: sorted(parts[part][1] for parts in runs)[middle] / 1e9 for part in PARTS}
+    given = runs[0]["encode"][0]
+    rates = [f"{times / took[it] / 1e3:,.0f}" for it in PARTS]
+    return [f"{given // times:,}", *rates, *(f"{given / took[it] / 1e6:,.0f}" for it in PARTS)]
 
 
-def measure(setup, folder):
-    with driver("messages", LIBRARIES) as program, setup.pinned():
-        ran = subprocess.run([str(program)], capture_output=True, text=True, check=True)
-    lines = [line.split() for line in ran.stdout.splitlines()]
-    names = [name for name in MESSAGES for _ in range(len(lines) // len(MESSAGES))]
-    print_table(HEADS, map(row, names, lines))
+def measure(setup, _):
+    with drivers.built("messages") as program:
+        print_table(HEADS, (message_row(setup, program, size, times) for size, times in SIZES))

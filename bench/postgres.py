@@ -9,7 +9,6 @@ import shutil
 import statistics
 import subprocess
 import tempfile
-import time
 
 USER = "postgres"
 
@@ -57,12 +56,6 @@ class Connection:
             times.append(float(told.split()[1]))
         self.ask("\\timing off")
         return statistics.median(times), lines
-
-    def milliseconds_of_script(self, text):
-        """How long many commands take that print nothing, as this process tells it."""
-        start = time.perf_counter()
-        lines = self.ask(text)
-        return 1000 * (time.perf_counter() - start), lines
 
     @contextlib.contextmanager
     def pinned(self, core):

@@ -3,8 +3,9 @@
 
     bench/run.py [--program FILE] [--core N] [--first] [--runs N] [PART ..]
 
-The parts are start, large, eval, check, make, book, messages and instructions; without one, all are run. The program has to be built,
-which the script `pgshard` does. PostgreSQL 15, z3 and valgrind are left out where they are not installed.
+The parts are start, large, eval, check, make, book, messages and instructions; without one, all are run. The program has
+to be built, which the script `pgshard` does; book and messages build programs of their own, and so need `rt`. PostgreSQL
+15, z3 and valgrind are left out where they are not installed.
 """
 
 import argparse
@@ -28,7 +29,7 @@ PARTS = {
     "eval": ("eval", lambda setup, _: evaluation.measure(setup)),
     "check": ("check", checking.measure),
     "make": ("make", sharding.measure),
-    "book": ("The publisher's tables and log", book.measure),
+    "book": ("The book", book.measure),
     "messages": ("Messages", messages.measure),
     "instructions": ("Instructions", instructions.measure),
 }

@@ -188,7 +188,8 @@ fn push_gone(
     requires texts { IsOldText old }
     ensures said { (part : r.PartOf) → old ≡ spec.old_of part → OnOk result (spoken.new
         ≡ spoken.old ++ spec.said tables.now told.old (Some (r.Delete table (Some part)))) }
-    ensures told { (part : r.PartOf) → OnOk result (told.new ≡ spec.told_by told.old (Some (r.Delete table (Some part)))) }
+    ensures told { (part : r.PartOf) → OnOk result (told.new
+        ≡ spec.told_by told.old (Some (r.Delete table (Some part)))) }
 {
     push_relations(alloc, tables, &[table], told, spoken)?;
     spoken.push(Msg::Delete {

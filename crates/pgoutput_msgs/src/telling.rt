@@ -22,13 +22,13 @@ use std::alloc::{AllocError, Global};
 use tables_log::Commit;
 
 /// The messages that tell the subscriber of this number of a commit: Begin, then for each change that is for it the
-/// message of what it gets, and Commit; none if no change is for it. `told` has by a table's number whether its Relation
-/// was sent: one that wasn't comes directly before the first message that names its table, before a Truncate in its
-/// order, and is told from then on. Each message fits its layout, where each table has fewer than 2^15 columns (`room`).
-/// Where the catalog is within its limits, and each name in it has at most 63 bytes, none of which is zero, the bytes that
-/// spell a message are decoded as that message, and there are at most 13,108,011 of them (`sent`). Commit n has the LSN
-/// `64 * n`, ends at `64 * n + 64` and is transaction `n + 2`; table j has the OID `16384 + j`. The only error is want of
-/// memory, which leaves `told` as it was.
+/// message of what it gets, and Commit; none if no change is for it. `told` has by a table's number whether its
+/// Relation was sent: one that wasn't comes directly before the first message that names its table, before a Truncate
+/// in its order, and is told from then on. Each message fits its layout, where each table has fewer than 2^15 columns
+/// (`room`). Where the catalog is within its limits, and each name in it has at most 63 bytes, none of which is zero,
+/// the bytes that spell a message are decoded as that message, and there are at most 13,108,011 of them (`sent`).
+/// Commit n has the LSN `64 * n`, ends at `64 * n + 64` and is transaction `n + 2`; table j has the OID `16384 + j`.
+/// The only error is want of memory, which leaves `told` as it was.
 ///
 /// PostgreSQL 15, 55.5.3. Logical Replication Protocol Message Flow.
 #[tactic(auto, using(crate::proofs::RoomLemmas::messages_room))]
@@ -168,7 +168,8 @@ fn carried_of(
     numbers: &[usize],
 ) -> Result<Vec<usize>, AllocError>
     requires { All IsTableNumber numbers.now }
-    ensures exact { IfOk result (λ carried. carried.items ≡ filter (takes_any (plan_view plan.now) subscriber) numbers.now) }
+    ensures exact { IfOk result (λ carried. carried.items
+        ≡ filter (takes_any (plan_view plan.now) subscriber) numbers.now) }
     ensures within { IfOk result (λ carried. All IsTableNumber carried.items) }
 {
     let mut carried = Vec::new(alloc);

@@ -124,7 +124,6 @@ impl Book {
         ensures within { book_limit self.now ≤ 1000000000 }
         ensures numbered { IsNumbered (book_log self.now) }
     {
-        let _limit = self.limit;
         self.log.len() as u32
     }
 

@@ -119,40 +119,45 @@ const BEGIN_3: &str = "42 00000000000000c0 0000000000000003 00000005";
 
 const END_3: &str = "43 00 00000000000000c0 0000000000000100 0000000000000003";
 
+const FULL_RELATION: &str = concat!(
+    "52 00004000 7075626c696300 7400 66 0002 01 696400 00000017 ffffffff",
+    "01 726567696f6e00 00000019 ffffffff",
+);
+
+const NEAR_INSERT: &str = "49 00004000 4e 0002 74 00000001 37 74 00000002 6575";
+
+const NEAR_DELETE: &str = "44 00004000 4f 0002 74 00000001 37 74 00000002 6575";
+
+const FAR_INSERT: &str = "49 00004000 4e 0002 74 00000003 313530 74 00000002 6575";
+
+const FAR_DELETE: &str = "44 00004000 4f 0002 74 00000003 313530 74 00000002 6575";
+
 #[test]
 fn an_update_is_a_delete_and_an_insert_where_the_row_changes_its_subscriber(
     rt: HostRuntime,
 ) -> Result<(), Fail> {
-    let relation =
-        "52 00004000 7075626c696300 7400 66 0002 01 696400 00000017 ffffffff 01 726567696f6e00 00000019 ffffffff";
-    let near = "0002 74 00000001 37 74 00000002 6575";
-    let far = "0002 74 00000003 313530 74 00000002 6575";
-    let script =
-        "COMMIT INSERT t (7, 'eu'); COMMIT UPDATE t (7) (150, 'eu'), UPDATE t (150) (7, 'eu');";
     let alloc = rt.alloc();
     let checked = checked(alloc, FULL, &[SPLIT])?;
-    let near_insert = format!(in alloc; "49 00004000 4e {near}")?;
-    let near_delete = format!(in alloc; "44 00004000 4f {near}")?;
-    let far_insert = format!(in alloc; "49 00004000 4e {far}")?;
-    let far_delete = format!(in alloc; "44 00004000 4f {far}")?;
+    let script =
+        "COMMIT INSERT t (7, 'eu'); COMMIT UPDATE t (7) (150, 'eu'), UPDATE t (150) (7, 'eu');";
     let first = [
         BEGIN_1,
-        relation,
-        near_insert.as_str(),
+        FULL_RELATION,
+        NEAR_INSERT,
         END_1,
         "",
         BEGIN_2,
-        near_delete.as_str(),
-        near_insert.as_str(),
+        NEAR_DELETE,
+        NEAR_INSERT,
         END_2,
         "",
     ];
     let second = [
         "",
         BEGIN_2,
-        relation,
-        far_insert.as_str(),
-        far_delete.as_str(),
+        FULL_RELATION,
+        FAR_INSERT,
+        FAR_DELETE,
         END_2,
         "",
     ];

@@ -66,22 +66,85 @@ fn rows_come_from_the_last_and_go_from_the_first(rt: HostRuntime) -> Result<(), 
     Ok(())
 }
 
+/// A list of inserts of this length, in whose middle is the command; the answer is the command's number too.
+fn around(
+    alloc: Global,
+    length: usize,
+    command: Command,
+) -> Result<(Vec<Command>, usize), AllocError> {
+    let middle = length / 2;
+    let mut list = Vec::new(alloc);
+    let mut number: i64 = 0;
+    for _ in 0..middle {
+        number = number.saturating_add(1);
+        list.push(put(alloc, number, "a")?)?;
+    }
+    list.push(command)?;
+    for _ in middle.saturating_add(1)..length {
+        number = number.saturating_add(1);
+        list.push(put(alloc, number, "a")?)?;
+    }
+    Ok((list, middle.saturating_add(1)))
+}
+
+/// The command of this number that a table with the rows 1,050 and 1,060 alone refuses, and why.
+fn refused(alloc: Global, number: u64) -> Result<(Command, CommandFault), AllocError> {
+    Ok(match number {
+        0 => (put(alloc, 1_050, "b")?, CommandFault::DuplicateKey),
+        1 => (take(alloc, 1_051)?, CommandFault::NoSuchRow),
+        2 => (change(alloc, 1_051, 1_052)?, CommandFault::NoSuchRow),
+        3 => (change(alloc, 1_050, 1_060)?, CommandFault::DuplicateKey),
+        4 => (
+            Command::Truncate {
+                tables: Vec::new(alloc),
+            },
+            CommandFault::NoTable,
+        ),
+        _ => (
+            Command::Delete {
+                table: 1,
+                key: key(alloc, 1_050)?,
+            },
+            CommandFault::NoTable,
+        ),
+    })
+}
+
+fn change(alloc: Global, number: i64, other: i64) -> Result<Command, AllocError> {
+    Ok(Command::Update {
+        table: 0,
+        key: key(alloc, number)?,
+        row: pair(alloc, other, "b")?,
+    })
+}
+
 #[test]
-fn a_refusal_anywhere_in_a_list_leaves_the_rows(rt: HostRuntime) -> Result<(), Fail> {
+fn a_refusal_in_the_middle_of_a_list_leaves_the_rows(rt: HostRuntime) -> Result<(), Fail> {
     let alloc = rt.alloc();
     let mut book = book(alloc, FULL, &[SPLIT], 10)?;
-    let first = vec![in alloc; put(alloc, 1_050, "a")?]?;
+    let first = vec![in alloc; put(alloc, 1_050, "a")?, put(alloc, 1_060, "a")?]?;
     assert_eq!(rt; commit(&mut book, &first, 1), Ok(1));
-    for length in [1, 2, 3, 100, 999, 1_000] {
-        let mut list = Vec::new(alloc);
-        for number in 1..length {
-            list.push(put(alloc, number, "a")?)?;
+    for length in [1, 2, 3, 10, 100, 999, 1_000] {
+        for kind in 0..6u64 {
+            let (command, fault) = refused(alloc, kind)?;
+            let (list, number) = around(alloc, length, command)?;
+            assert_eq!(rt;
+                commit(&mut book, &list, 1),
+                Err(CommitError::At(number, fault))
+            );
+            let rows = book.rows(0)?;
+            let kept = [pair(alloc, 1_050, "a")?, pair(alloc, 1_060, "a")?];
+            assert!(rt; rows.as_slice() == kept.as_slice());
         }
-        list.push(put(alloc, 1_050, "b")?)?;
-        let refused = CommitError::At(list.len(), CommandFault::DuplicateKey);
-        assert_eq!(rt; commit(&mut book, &list, 1), Err(refused));
-        assert!(rt; has_only(alloc, &book, 1_050, 1_050)?);
     }
+    assert_eq!(rt; book.log_len(), 1);
+    Ok(())
+}
+
+#[test]
+fn a_list_has_at_most_1000_commands(rt: HostRuntime) -> Result<(), Fail> {
+    let alloc = rt.alloc();
+    let mut book = book(alloc, FULL, &[SPLIT], 10)?;
     let mut list = Vec::new(alloc);
     for number in 1..=1_001 {
         list.push(put(alloc, number, "a")?)?;
@@ -91,7 +154,8 @@ fn a_refusal_anywhere_in_a_list_leaves_the_rows(rt: HostRuntime) -> Result<(), F
         Err(CommitError::TooManyCommands)
     );
     let _ = list.pop();
-    assert_eq!(rt; commit(&mut book, &list, 1), Ok(2));
+    assert_eq!(rt; commit(&mut book, &list, 1), Ok(1));
+    assert_eq!(rt; book.rows(0)?.len(), 1_000);
     Ok(())
 }
 

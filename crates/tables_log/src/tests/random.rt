@@ -5,7 +5,8 @@ use std::alloc::{AllocError, Global};
 use std::test::Fail;
 use table_changes::Command;
 
-/// A row of the plain list, which is in the order of rows: by the mark, and then by the number, which is the primary key.
+/// A row of the plain list, which is in the order of rows: by the mark, and then by the number, which is the primary
+/// key.
 #[derive(Clone, Copy, PartialEq, Eq, PartialOrd, Ord)]
 struct Plain {
     mark: bool,

@@ -1,0 +1,51 @@
+"""Programs that drive the crates which the program does not reach, built in a folder that is gone afterwards."""
+
+import contextlib
+import os
+import pathlib
+import shutil
+import subprocess
+import tempfile
+
+from measuring import ROOT
+
+SOURCES = pathlib.Path(__file__).resolve().parent / "drivers"
+NEEDS = {
+    "book": "tables_log shard_checker replica_identity table_changes pub_reader filter_tree",
+    "messages": "pgoutput_msgs filter_tree",
+}
+
+
+def copy_of_repository(folder):
+    """The crates with their kept work, and no second copy of any file."""
+    shutil.copytree(ROOT / "crates", folder / "crates", copy_function=os.link)
+    shutil.copy(ROOT / "crates.txt", folder / "crates.txt")
+    shutil.copy(ROOT / "HANDLES", folder / "HANDLES")
+
+
+@contextlib.contextmanager
+def built(name):
+    """The program of this driver, proved and built over the crates as they are. The sources end in `.in`, since the gate
+    refuses those that no check reads."""
+    with tempfile.TemporaryDirectory(prefix="pgshard_bench_", dir=ROOT.parent) as place:
+        folder, crate = pathlib.Path(place), f"bench_{name}"
+        copy_of_repository(folder)
+        source = folder / "crates" / crate / "src"
+        source.mkdir(parents=True)
+        shutil.copy(SOURCES / f"{name}.rt.in", source / "main.rt")
+        with open(folder / "crates.txt", "a") as lines:
+            lines.write(f"{crate}: {NEEDS[name]}\n")
+        subprocess.run(["rt", "run", "--", "0", "0"], check=True, cwd=source.parent, stdout=subprocess.DEVNULL)
+        yield source.parent / "out" / crate
+
+
+def told(setup, program, *words):
+    """What a driver tells of each of its parts, a count and nanoseconds, and how many bytes it had at most."""
+    with setup.pinned():
+        ran = subprocess.Popen([program, *map(str, words)], stdout=subprocess.PIPE, text=True)
+        lines = ran.stdout.read().splitlines()
+        _, status, used = os.wait4(ran.pid, 0)
+    if status != 0:
+        raise RuntimeError(f"{program} ended with {status}")
+    parts = {part: (int(count), int(nanoseconds)) for part, count, nanoseconds in map(str.split, lines)}
+    return parts, used.ru_maxrss * 1024
