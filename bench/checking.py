@@ -1,8 +1,11 @@
-"""`check` on certificates of up to 1,000,000 nodes, for 32 ranges of a key.
+"""`check` on certificates of up to 1,000,000 nodes, for 32 ranges of a key and for large filters.
 
-Such a certificate tells the ranges apart by halves, as `make` does. After 36 splits, where the first subscriber is found
+A certificate of ranges tells them apart by halves, as `make` does. After 36 splits, where the first subscriber is found
 or no value is left, it splits by further bounds that tell nothing new and only make nodes: as many as are wanted, in a
 tree that is as flat as can be.
+
+In the other catalogs the last subscriber has the whole table, and all others have a large filter that no row passes,
+since it also asks for a remainder by 1 that is 1. Their certificates split by that atom, and then by those of the filter.
 """
 
 import families
@@ -11,7 +14,7 @@ from measuring import print_table, rate
 # A tree has 3 nodes more for each split.
 SIZES = (1_000, 30_001, 1_000_000)
 SUBSCRIBERS = 32
-HEADS = ["Leaves", "Nodes", "Splits on a path", "check, ms", "thousand nodes/s", "Answer"]
+HEADS = ["Filters", "Leaves", "Nodes", "Splits on a path", "check, ms", "thousand nodes/s", "Answer"]
 
 
 def lower(at):
@@ -89,8 +92,52 @@ KINDS = {"o 0": (0, "o 0"), f"o {LAST}": (LAST, f"o {LAST}"), "e 0": (0, "e 0")}
 
 
 def certificate(kind, size):
-    """The certificate of so many nodes."""
+    """The certificate of so many nodes for ranges."""
     return tree_of(size - nodes(tree_of(1, *KINDS[kind])) + 1, *KINDS[kind])
+
+
+def repeated(sharding, times):
+    """The sharding, each of whose conditions is joined by AND with itself so many times."""
+    parts = [it[1:] if it[0] == "and" else (it,) for it in sharding.conditions]
+    return families.Sharding(sharding.columns, [("and", *(part * times)) for part in parts])
+
+
+def whole_and_others(others, atoms, column):
+    """A catalog in which so many subscriptions share a publication whose filter has these atoms, and no row passes."""
+    condition = ("and", ("or", *atoms), ("cmp", ("id", 1), "=", 1))
+    lines = [
+        f"CREATE TABLE t (id integer, {column}, PRIMARY KEY (id));",
+        "ALTER TABLE t REPLICA IDENTITY FULL;",
+        f"CREATE PUBLICATION p0 FOR TABLE t WHERE ({families.condition_text(condition)});",
+        "CREATE PUBLICATION p1 FOR TABLE t;",
+    ]
+    lines += [f"CREATE SUBSCRIPTION s{at} CONNECTION '' PUBLICATION p{1 if at == others else 0};" for at in range(others + 1)]
+    return "\n".join(lines) + "\n"
+
+
+def beside_whole(size, owner, atoms, remainder_term):
+    """The certificate of so many nodes where the last subscriber has the whole table; the atoms are numbered first."""
+    tree = filled(size - 3, list(range(atoms)), f"o {owner}")
+    return f"s {atoms} e {remainder_term} {tree} n {atoms}"
+
+
+BOUNDS = 61
+TEXTS = 52
+SHARED = [("cmp", "id", "<", 100 * (at % BOUNDS)) for at in range(239)]
+LONG = [("cmp", "note", "=", "x" * 65_000 + f"{at:02}") for at in range(TEXTS)]
+
+
+def cases():
+    """What is measured: filters and leaves in words, a catalog, and a certificate."""
+    sharding = families.ranges(SUBSCRIBERS)
+    for words, family in [("ranges", sharding), ("ranges, each atom 8 times", repeated(sharding, 8))]:
+        for kind in KINDS:
+            for size in SIZES:
+                yield words, kind, families.catalog(family), certificate(kind, size)
+    for size in SIZES:
+        catalog = whole_and_others(31, SHARED, "note text")
+        yield "480 nodes that 31 share", "o 31", catalog, beside_whole(size, 31, BOUNDS, 1)
+    yield "52 texts of 65,002 bytes", "o 1", whole_and_others(1, LONG, "note text"), beside_whole(10_000, 1, TEXTS, 1)
 
 
 def depth(tree):
@@ -107,14 +154,13 @@ def depth(tree):
     return deepest
 
 
-def row(setup, folder, kind, size):
+def row(setup, folder, filters, kind, catalog, tree):
     path = folder / "certificate"
-    tree = certificate(kind, size)
-    path.write_text(f"{families.catalog(families.ranges(SUBSCRIBERS))}%%\n{tree}\n")
+    path.write_text(f"{catalog}%%\n{tree}\n")
     words = [setup.program, "check"]
     time = setup.milliseconds(words, path)
-    return [kind, nodes(tree), depth(tree), f"{time:.1f}", rate(nodes(tree), time), setup.answer(words, path).strip()]
+    return [filters, kind, nodes(tree), depth(tree), f"{time:.1f}", rate(nodes(tree), time), setup.answer(words, path).strip()]
 
 
 def measure(setup, folder):
-    print_table(HEADS, (row(setup, folder, kind, size) for kind in KINDS for size in SIZES))
+    print_table(HEADS, (row(setup, folder, *case) for case in cases()))

@@ -26,8 +26,8 @@ fn compile_share<A: Allocator>(
     share: &Share<A>,
 ) -> Result<usize, AllocError>
     requires { spec.names_only (atoms_view atoms.now) (spec.filter_of (share_view share.now)) ≡ true }
-    ensures { IfOk result (λ number. spec.Compiles (atoms_view atoms.now) steps.old.list.items steps.new.list.items number
-        (spec.filter_of (share_view share.now))) }
+    ensures { IfOk result (λ number. spec.Compiles (atoms_view atoms.now) steps.old.list.items steps.new.list.items
+        number (spec.filter_of (share_view share.now))) }
 {
     match share {
         Share::Nothing => steps.add(Step::Const(false)),

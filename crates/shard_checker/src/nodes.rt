@@ -118,8 +118,8 @@ pub fn check_owner<A: Allocator>(
     requires ready { Ready subject.now walk.now }
     requires settled { IsSettled subject.now.formulas.now.steps.list.items walk.now.known.atoms.items walk.now.masks.items }
     ensures { Finds
-        (spec.node_refusal trying.is_empty (subject_view subject.now) (Node.Owner number) (path_view walk.now.path.items)
-        walk.now.node) result }
+        (spec.node_refusal trying.is_empty (subject_view subject.now) (Node.Owner number)
+        (path_view walk.now.path.items) walk.now.node) result }
 {
     let table = subject.table;
     let node = walk.node;

@@ -20,8 +20,8 @@ fn is_second(owner: usize, number: usize, mask: Mask) -> bool
     number != owner && mask.truth
 }
 
-/// The least number of a share, other than the owner's, that may take a row: the share's filter, whose step has the number
-/// that the roots give, may be true.
+/// The least number of a share, other than the owner's, that may take a row: the share's filter, whose step has the
+/// number that the roots give, may be true.
 pub fn second_owner(owner: usize, roots: &[usize], masks: &[Mask]) -> Option<usize>
     ensures { result ≡ second_among owner 0 (map (mask_in masks.now) roots.now) }
 {

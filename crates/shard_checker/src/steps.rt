@@ -136,8 +136,8 @@ pub fn compile<A: Allocator>(
     filter: &Filter<A>,
 ) -> Result<usize, AllocError>
     requires { spec.names_only (atoms_view atoms.now) (expr_view filter.now) ≡ true }
-    ensures { IfOk result (λ number. spec.Compiles (atoms_view atoms.now) steps.old.list.items steps.new.list.items number
-        (expr_view filter.now)) }
+    ensures { IfOk result (λ number. spec.Compiles (atoms_view atoms.now) steps.old.list.items steps.new.list.items
+        number (expr_view filter.now)) }
 {
     match filter {
         Filter::Const(known) => steps.add(Step::Const(*known)),

@@ -83,7 +83,8 @@ fn enter<'a, A: Allocator>(
     requires due { walk.old.is_over ≡ false }
     requires ready { Ready subject.now walk.old }
     ensures path { OnOk result (spec.path_of walk.new ≡ option_map
-        (λ atom. path_view walk.old.path.items ++ (atom, value) ∷ []) (slice_get (subject_view subject.now).atoms number)) }
+        (λ atom. path_view walk.old.path.items ++ (atom, value) ∷ [])
+        (slice_get (subject_view subject.now).atoms number)) }
     ensures node { walk.new.node ≡ walk.old.node }
     ensures ready { OnOk result (Ready subject.now walk.new) }
 {
