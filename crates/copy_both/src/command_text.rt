@@ -1,0 +1,126 @@
+//! The text of a start command.
+
+ghost use Rattle.std.specs.Prelude.{◌≡◌, IfOk};
+ghost use Rattle.std.specs.Option.{option_copied};
+ghost use Rattle.copy_both.specs.CommandText as spec;
+
+use crate::names::split_comma;
+use crate::option_value::option_value;
+use crate::start_command::{StartCommand, StartOption};
+use crate::token::{Token, is_close, is_keyword, name_in, position_in};
+use crate::tokens::tokens_of;
+use filter_tree::{Items, Text};
+use std::alloc::{AllocError, Global};
+
+fn named_option(
+    alloc: Global,
+    name: Option<&str>,
+    text: Option<&str>,
+) -> Result<Option<StartOption>, AllocError>
+    ensures { IfOk result (λ found. found ≡ spec.named_option (option_copied name) (option_copied text)) }
+{
+    let Some(name) = name else {
+        return Ok(None);
+    };
+    let value = option_value(alloc, name, text)?;
+    Ok(Some(StartOption {
+        name: Text::from_str(alloc, name)?,
+        value,
+    }))
+}
+
+/// The option that tokens are: a name, and a value that may be missing.
+fn option_in(alloc: Global, tokens: &[Token]) -> Result<Option<StartOption>, AllocError>
+    ensures { IfOk result (λ found. found ≡ spec.option_in tokens.now) }
+{
+    match tokens {
+        [name] => named_option(alloc, name_in(name), None),
+        [name, Token::Value(text)] => named_option(alloc, name_in(name), Some(text.as_str())),
+        _ => Ok(None),
+    }
+}
+
+/// Options with commas between them.
+fn options_between(
+    alloc: Global,
+    tokens: &[Token],
+) -> Result<Option<Items<StartOption>>, AllocError> {
+    let mut options = Vec::new(alloc);
+    let mut rest = Some(tokens);
+    while let Some(tokens) = rest {
+        let (part, after) = split_comma(tokens);
+        let Some(option) = option_in(alloc, part)? else {
+            return Ok(None);
+        };
+        options.push(option)?;
+        rest = after;
+    }
+    Ok(Some(Items::from_vec(options)))
+}
+
+/// Whether nothing follows, or a semicolon alone.
+fn ends(tokens: &[Token]) -> bool
+    ensures { result ≡ spec.ends tokens.now }
+{
+    matches!(tokens, [] | [Token::Semicolon])
+}
+
+fn listed_options(alloc: Global, tokens: &[Token]) -> Result<Option<Items<StartOption>>, AllocError>
+    ensures { IfOk result (λ options. options ≡ spec.listed_options tokens.now) }
+{
+    let Some(place) = tokens.iter().position(|token| is_close(token)) else {
+        return Ok(None);
+    };
+    if !ends(&tokens[place + 1..]) {
+        return Ok(None);
+    }
+    options_between(alloc, &tokens[..place])
+}
+
+fn options_in(alloc: Global, tokens: &[Token]) -> Result<Option<Items<StartOption>>, AllocError>
+    ensures { IfOk result (λ options. options ≡ spec.options_in tokens.now) }
+{
+    if let [Token::Open, listed @ ..] = tokens {
+        return listed_options(alloc, listed);
+    }
+    if ends(tokens) {
+        Ok(Some(Items::from_vec(Vec::new(alloc))))
+    } else {
+        Ok(None)
+    }
+}
+
+fn command_in(alloc: Global, tokens: &[Token]) -> Result<Option<StartCommand>, AllocError>
+    ensures { IfOk result (λ command. command ≡ spec.command_in tokens.now) }
+{
+    let [start, slot, name, logical, place, options @ ..] = tokens else {
+        return Ok(None);
+    };
+    if !is_keyword(start, "start_replication")
+        || !is_keyword(slot, "slot")
+        || !is_keyword(logical, "logical")
+    {
+        return Ok(None);
+    }
+    let (Some(slot), Some(position)) = (name_in(name), position_in(place)) else {
+        return Ok(None);
+    };
+    let Some(options) = options_in(alloc, options)? else {
+        return Ok(None);
+    };
+    Ok(Some(StartCommand {
+        slot: Text::from_str(alloc, slot)?,
+        position,
+        options,
+    }))
+}
+
+/// The command that a text is, or `None` where it is no command that starts a stream from a logical slot.
+pub fn command_of(alloc: Global, text: &str) -> Result<Option<StartCommand>, AllocError>
+    ensures { IfOk result (λ command. command ≡ spec.command_of text.now) }
+{
+    let Some(tokens) = tokens_of(alloc, text)? else {
+        return Ok(None);
+    };
+    command_in(alloc, tokens.as_slice())
+}
