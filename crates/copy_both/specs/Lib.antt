@@ -2,6 +2,7 @@ pub mod CommandText
 pub mod CommandTokens
 pub mod OptionValues
 pub mod Refusals
+pub mod ShortNames
 pub mod StartAnswers
 pub mod StartOrder
 pub mod StreamLaws
