@@ -143,13 +143,13 @@ run_piece text some e =
     let n_some : 0 < n = first_passes text some e in
     chosen (slice_index rest 0 == 47) _ _ (IsPiece text)
     (λ slash. place_ends text (length (take n text) + 1 + length (take m after)) _ _ (λ v is.
-      let m_some : 0 < m = omega (arith, some_digits (take m after) v is, m_is) in
-      let low = run_ends_ascii after m_some in
-      let slash_there : 0 < length rest = by_length (length rest) (λ none. absurd (no_slash rest none slash)) (λ more. more) in
-      place_ends_ascii text n m (length (take n text) + 1 + length (take m after)) (omega (arith, n_is, m_is)) slash_there low))
+    let m_some : 0 < m = omega (arith, some_digits (take m after) v is, m_is) in
+    let low = run_ends_ascii after m_some in
+    let slash_there : 0 < length rest = by_length (length rest) (λ none. absurd (no_slash rest none slash)) (λ more. more) in
+    place_ends_ascii text n m (length (take n text) + 1 + length (take m after)) (omega (arith, n_is, m_is)) slash_there low))
     (λ other. chosen (is_letter (slice_index (take n text) 0)) _ _ (IsPiece text)
-      (λ letter. subst (EndsAscii text) (sym n_is) (run_ends_ascii text n_some))
-      (λ other. tt))
+    (λ letter. subst (EndsAscii text) (sym n_is) (run_ends_ascii text n_some))
+    (λ other. tt))
 
 mark_ends : (text : List ℕ) → 0 < length text → IsPiece text (mark (slice_index text 0))
 mark_ends text some =

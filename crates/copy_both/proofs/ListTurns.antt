@@ -33,8 +33,8 @@ position_is : {X : Type 0} (p : X → Bool) (xs : List X) (n : ℕ) → position
 position_is p xs n e =
     by_test (nat_lt (position_or_len p xs) (length xs))
     (λ t. let found : Some (position_or_len p xs) ≡ Some n = rw t at e in
-        let same : position_or_len p xs ≡ n = cc in
-        (same, grind (arith, nat_tests)))
+    let same : position_or_len p xs ≡ n = cc in
+    (same, grind (arith, nat_tests)))
     (λ t. let found : None ≡ Some n = rw t at e in absurd cc)
 
 no_position : {X : Type 0} (p : X → Bool) (xs : List X) → position p xs ≡ None → length xs ≤ position_or_len p xs

@@ -121,14 +121,13 @@ text_goes_on quote text rest part after left meant result so_far fewer e lacks s
     let shorter = (lengths text rest part after quote fewer e).1 in
     let one : length left ≡ length after - 1 = ap length left_is ∙ length-drop 1 after in
     let some_after : 0 < length after = nonempty after quote some again in
-    let n : length text - length rest + length part + 2 ≡ length text - length left = omega (arith, (lengths text rest part after quote fewer e).0) in
-    (
+    let n : length text - length rest + length part + 2 ≡ length text - length left = omega (arith, (lengths text rest part after quote fewer e).0) in (
       ap (λ read. after_read read (length text - length left) (quoted quote left)) is
-      ∙ ap (λ rest. after_read (meant ++ part ++ (quote ∷ [])) (length text - length left) (quoted quote rest)) left_is
-      ∙ ap (λ k. after_read (meant ++ part ++ (quote ∷ [])) k (quoted quote (drop 1 after))) (sym n)
-      ∙ sym (goes_on quote part after meant (length text - length rest) some lacks again)
-      ∙ ap (λ left. after_read meant (length text - length rest) (quoted quote left)) (sym e)
-      ∙ so_far,
+          ∙ ap (λ rest. after_read (meant ++ part ++ (quote ∷ [])) (length text - length left) (quoted quote rest)) left_is
+          ∙ ap (λ k. after_read (meant ++ part ++ (quote ∷ [])) k (quoted quote (drop 1 after))) (sym n)
+          ∙ sym (goes_on quote part after meant (length text - length rest) some lacks again)
+          ∙ ap (λ left. after_read meant (length text - length rest) (quoted quote left)) (sym e)
+          ∙ so_far,
       omega arith,
     )
 

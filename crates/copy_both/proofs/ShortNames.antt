@@ -1,7 +1,8 @@
 -- Each name in a command that was read has at most 63 bytes, and so has the name in each refusal.
 use Rattle.std.proofs.Common.{◌≡◌, ℕ, suc, ◌+◌, ◌<◌, ◌≤◌, ◌^◌, Bool, true, false, not, ◌||◌, ◌==◌, if◌then◌else◌, List, [], ◌∷◌, ◌++◌, length, take, drop, Option, Some, None, refl, sym, subst, arith, length-append}
 use Rattle.std.specs.Prelude.{map, nat_lt, position, codes}
-use Rattle.std.specs.List.{list_any, slice_split}
+use Rattle.std.specs.Char.{is_ascii_digit}
+use Rattle.std.specs.List.{list_all, list_any, slice_split}
 use Rattle.std.specs.Option.{option_map}
 use Rattle.std.specs.Str.{bytes_eq}
 use Rattle.std.proofs.lemmas.Bool.Decides.{nat_tests}
@@ -13,7 +14,7 @@ use Rattle.copy_both.specs.declared.token.Token.{Token}
 use Rattle.copy_both.specs.declared.token.Token.TheVariants.{Word, QuotedName, Value, Position, Open, Close, Comma, Semicolon}
 use Rattle.copy_both.specs.CommandText.{named_option, option_in, ends, listed_until, listed_options, no_options, options_in, command_with, has_keywords, command_in, command_with_tokens, command_of}
 use Rattle.copy_both.specs.CommandTokens.{as_name, name_in, position_in, is_comma, is_close, all_of, lone_name, names_in, tokens_of}
-use Rattle.copy_both.specs.OptionValues.{version, publications, publications_in, names_or_wrong, is_left_out, off, given, option_value}
+use Rattle.copy_both.specs.OptionValues.{version, without_zeros, is_off, publications, publications_in, names_or_wrong, is_left_out, off, given, option_value}
 use Rattle.copy_both.specs.Refusals.{RefusalOf, ExpectedQuery, Unreadable, NoSlot, WrongOption, UnsupportedOption, MissingOption, NoPublication, OtherPublications, Ahead, InUse, text_of, CanBeSent}
 use Rattle.copy_both.specs.ShortNames.{IsShort, AreShort, HasShortValue, IsShortOption, AreShortOptions, IsShortCommand}
 use Rattle.copy_both.specs.StartOrder.{OfferOf, or_else, refused, is_wrong, is_named, is_unsupported, has_publications, is_version, option_refusal, options_refusal, missing_refusal, names_of, names_in as names_given, unknown_refusal, same_publications, is_taken, slot_refusal}
@@ -75,10 +76,13 @@ publications_value None = tt
 publications_value (Some tokens) = names_value (names_in tokens) (all_names (slice_split is_comma tokens))
 
 version_value : (text : List ℕ) → HasShortValue (version text)
-version_value text = chosen _ Wrong _ HasShortValue tt (chosen _ Version Unsupported HasShortValue tt tt)
+version_value text =
+    let one : Bool = bytes_eq (without_zeros text) (codes "1") in
+    chosen (length text == 0 || nat_lt 10 (length text) || not (list_all is_ascii_digit text)) Wrong (if one then Version else Unsupported) HasShortValue tt
+    (chosen one Version Unsupported HasShortValue tt tt)
 
 off_value : (text : List ℕ) → HasShortValue (off text)
-off_value text = chosen _ Off Unsupported HasShortValue tt tt
+off_value text = chosen (is_off text) Off Unsupported HasShortValue tt tt
 
 given_value : (name text : List ℕ) → HasShortValue (given name text)
 given_value name text =

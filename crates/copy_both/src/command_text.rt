@@ -73,10 +73,7 @@ fn first_close(tokens: &[Token]) -> Option<usize>
 }
 
 /// Options, and the parenthesis that closes.
-fn listed_options(
-    alloc: Global,
-    tokens: &[Token],
-) -> Result<Option<Items<StartOption>>, AllocError>
+fn listed_options(alloc: Global, tokens: &[Token]) -> Result<Option<Items<StartOption>>, AllocError>
     ensures { IfOk result (λ options. options ≡ spec.listed_options tokens.now) }
 {
     let Some(place) = first_close(tokens) else {

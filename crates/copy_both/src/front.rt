@@ -56,10 +56,7 @@ fn hexadecimal(digits: &str) -> Option<u32>
 fn run_len(bytes: &[u8]) -> usize
     ensures { result ≡ prefix_len spec.is_word_byte bytes.now }
 {
-    bytes
-        .iter()
-        .take_while(|byte| is_word_byte(**byte))
-        .count()
+    bytes.iter().take_while(|byte| is_word_byte(**byte)).count()
 }
 
 /// The longest run of a word's bytes at the front of a text, and the rest of the text.
@@ -89,7 +86,11 @@ fn place(high: &str, after: &str) -> Piece
     ensures { result ≡ spec.place high.now after.now }
 {
     let (low, _) = split_run(after);
-    place_piece(high.len() + 1 + low.len(), hexadecimal(high), hexadecimal(low))
+    place_piece(
+        high.len() + 1 + low.len(),
+        hexadecimal(high),
+        hexadecimal(low),
+    )
 }
 
 fn word(alloc: Global, written: &str) -> Result<Piece, AllocError>

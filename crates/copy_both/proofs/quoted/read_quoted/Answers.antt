@@ -17,12 +17,12 @@ loop-part-preserved c =
     let there : c.loop-part.rest.now ≡ c.in-Some.part.now ++ (c.args.quote ∷ c.in-Some.after.now) = rw c.from.ensures at parts.0 in
     let lacks : Lacks c.args.quote c.in-Some.part.now = rw c.from.ensures at parts.1 in
     let pushed : string_bytes c.push.new.self ≡ string_bytes c.loop-part.meant ++ c.in-Some.part.now ++ (c.args.quote ∷ []) =
-        let ascii : encode_utf8 c.from-in-Some.result ≡ c.from-in-Some.result ∷ [] = c.in_ok-push.ensures.ascii (omega arith) in
-        cc (c.in_ok-push.ensures.bytes, c.in_ok-push_str.ensures.bytes, c.from-in-Some.ensures, ascii) in
+    let ascii : encode_utf8 c.from-in-Some.result ≡ c.from-in-Some.result ∷ [] = c.in_ok-push.ensures.ascii (omega arith) in
+    cc (c.in_ok-push.ensures.bytes, c.in_ok-push_str.ensures.bytes, c.from-in-Some.ensures, ascii) in
     let next =
-        text_goes_on c.args.quote c.args.text.now c.loop-part.rest.now c.in-Some.part.now c.in-Some.after.now c.after_first-rest.result.now
-        (string_bytes c.loop-part.meant) (string_bytes c.push.new.self)
-        c.loop-part.invariant.so_far c.loop-part.invariant.fewer there lacks c.requires.some (search rules) c.after_first-rest.ensures pushed in
+    text_goes_on c.args.quote c.args.text.now c.loop-part.rest.now c.in-Some.part.now c.in-Some.after.now c.after_first-rest.result.now
+    (string_bytes c.loop-part.meant) (string_bytes c.push.new.self)
+    c.loop-part.invariant.so_far c.loop-part.invariant.fewer there lacks c.requires.some (search rules) c.after_first-rest.ensures pushed in
     record { so_far = next.0; fewer = next.1; utf8 = c.after_first-rest.utf8 }
 
 pub returns-clause-value : goal.returns-clause-value
