@@ -3,6 +3,8 @@
 
 mod answer;
 #[cfg(test)]
+mod answer_cases;
+#[cfg(test)]
 mod answer_tests;
 mod command_text;
 mod error_response;
