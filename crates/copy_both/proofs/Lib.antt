@@ -1,5 +1,6 @@
 pub mod CommandTurns
 pub mod Cuts
+pub mod FirstFrames
 pub mod ListTurns
 pub mod Numerals
 pub mod OrderLemmas
