@@ -1,3 +1,12 @@
+pub mod CommandTurns
+pub mod Cuts
+pub mod FirstFrames
+pub mod ListTurns
+pub mod Numerals
 pub mod OrderLemmas
-pub mod StreamLemmas
+pub mod QuotedTurns
 pub mod RefusalLemmas
+pub mod ShortNames
+pub mod StreamLemmas
+pub mod TokenTurns
+pub mod Utf8Texts

@@ -1,4 +1,10 @@
+pub mod CommandText
+pub mod CommandTokens
+pub mod OptionValues
 pub mod Refusals
+pub mod ShortNames
+pub mod StartAnswers
 pub mod StartOrder
 pub mod StreamLaws
 pub mod Streams
+pub mod TokenPlaces

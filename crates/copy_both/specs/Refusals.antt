@@ -2,6 +2,8 @@
 use Rattle.std.specs.Prelude.{ℕ, ◌<◌, ◌+◌, ◌^◌, List, [], ◌∷◌, ◌++◌, length, codes}
 use Rattle.copy_both.specs.declared.refusal.Refusal.{Refusal}
 use Rattle.copy_both.specs.declared.refusal.Refusal.TheVariants as code
+use Rattle.copy_both.specs.declared.sql_state.SqlState.{SqlState}
+use Rattle.copy_both.specs.declared.sql_state.SqlState.TheVariants as state
 use Rattle.copy_frames.specs.Frames.{framed}
 
 -- the names are those of the slot, the option or the publication
@@ -29,18 +31,28 @@ refusal_view (code.OtherPublications slot) = OtherPublications slot.now
 refusal_view code.Ahead = Ahead
 refusal_view (code.InUse slot) = InUse slot.now
 
--- protocol_violation, syntax_error, undefined_object, invalid_parameter_value, feature_not_supported and object_in_use
+abbrev pub state_of : RefusalOf → SqlState
+state_of ExpectedQuery = state.ProtocolViolation
+state_of Unreadable = state.SyntaxError
+state_of (NoSlot slot) = state.UndefinedObject
+state_of (WrongOption option) = state.InvalidParameterValue
+state_of (UnsupportedOption option) = state.FeatureNotSupported
+state_of (MissingOption option) = state.InvalidParameterValue
+state_of (NoPublication publication) = state.UndefinedObject
+state_of (OtherPublications slot) = state.InvalidParameterValue
+state_of Ahead = state.InvalidParameterValue
+state_of (InUse slot) = state.ObjectInUse
+
+abbrev pub code_text : SqlState → List ℕ
+code_text state.ProtocolViolation = codes "08P01"
+code_text state.SyntaxError = codes "42601"
+code_text state.UndefinedObject = codes "42704"
+code_text state.InvalidParameterValue = codes "22023"
+code_text state.FeatureNotSupported = codes "0A000"
+code_text state.ObjectInUse = codes "55006"
+
 abbrev pub code_of : RefusalOf → List ℕ
-code_of ExpectedQuery = codes "08P01"
-code_of Unreadable = codes "42601"
-code_of (NoSlot slot) = codes "42704"
-code_of (WrongOption option) = codes "22023"
-code_of (UnsupportedOption option) = codes "0A000"
-code_of (MissingOption option) = codes "22023"
-code_of (NoPublication publication) = codes "42704"
-code_of (OtherPublications slot) = codes "22023"
-code_of Ahead = codes "22023"
-code_of (InUse slot) = codes "55006"
+code_of refusal = code_text (state_of refusal)
 
 -- a text with a name between double quotes
 abbrev pub naming : List ℕ → List ℕ → List ℕ → List ℕ

@@ -121,10 +121,10 @@ is_taken in_use slot = unwrap_or (slice_get in_use slot) false
 -- the refusals of a command, where the slot is that of the subscription of this number
 abbrev pub slot_refusal : OfferOf → StartCommand → ℕ → List ℕ → Option RefusalOf
 slot_refusal offer command slot taken =
-    or_else (options_refusal [] command.options.items)
-    (or_else (missing_refusal command.options.items)
-    (or_else (unknown_refusal offer.publications (names_in command.options.items))
-    (or_else (refused (not (same_publications offer.publications (names_in command.options.items) taken)) (OtherPublications command.slot))
+    or_else (options_refusal [] command.options)
+    (or_else (missing_refusal command.options)
+    (or_else (unknown_refusal offer.publications (names_in command.options))
+    (or_else (refused (not (same_publications offer.publications (names_in command.options) taken)) (OtherPublications command.slot))
     (or_else (refused (nat_lt offer.log_end command.position) Ahead)
     (refused (is_taken offer.in_use slot) (InUse command.slot))))))
 

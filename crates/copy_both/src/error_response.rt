@@ -4,8 +4,8 @@ ghost use Rattle.std.specs.Prelude.{◌≡◌, ◌++◌, OnOk, OnErr};
 ghost use Rattle.copy_both.specs.Refusals.{CanBeSent, error_response, refusal_view};
 
 use crate::refusal::Refusal;
-use copy_frames::{put, put_int32, put_text};
 use bytes::BytesMut;
+use copy_frames::{put, put_int32, put_text};
 use std::alloc::AllocError;
 
 /// Appends the ErrorResponse of a refusal. The only error is want of memory, which leaves `out` as it was.

@@ -1,7 +1,9 @@
 //! Why a start is refused.
 
 ghost use Rattle.std.specs.Prelude.{◌≡◌, ◌+◌, ◌++◌, [], length};
-ghost use Rattle.copy_both.specs.Refusals.{code_of, text_of, refusal_view};
+ghost use Rattle.copy_both.specs.Refusals.{code_of, state_of, text_of, refusal_view};
+
+use crate::sql_state::SqlState;
 
 /// Why a stream is not started, with the name of the slot, the option or the publication. Each is answered by an
 /// ErrorResponse ("55.8. Error and Notice Message Fields").
@@ -35,22 +37,29 @@ pub struct Words<'a> {
 }
 
 impl<'a> Refusal<'a> {
+    /// What kind of error it is.
+    pub fn state(&self) -> SqlState
+        ensures { result ≡ state_of (refusal_view self.now) }
+    {
+        match self {
+            Refusal::ExpectedQuery => SqlState::ProtocolViolation,
+            Refusal::Unreadable => SqlState::SyntaxError,
+            Refusal::NoSlot(_) | Refusal::NoPublication(_) => SqlState::UndefinedObject,
+            Refusal::WrongOption(_)
+            | Refusal::MissingOption(_)
+            | Refusal::OtherPublications(_)
+            | Refusal::Ahead => SqlState::InvalidParameterValue,
+            Refusal::UnsupportedOption(_) => SqlState::FeatureNotSupported,
+            Refusal::InUse(_) => SqlState::ObjectInUse,
+        }
+    }
+
     /// The code of the error, of five characters ("Appendix A. PostgreSQL Error Codes").
     pub fn code(&self) -> &'static str
         ensures code { result.now ≡ code_of (refusal_view self.now) }
         ensures five { length result.now ≡ 5 }
     {
-        match self {
-            Refusal::ExpectedQuery => "08P01",
-            Refusal::Unreadable => "42601",
-            Refusal::NoSlot(_) | Refusal::NoPublication(_) => "42704",
-            Refusal::WrongOption(_)
-            | Refusal::MissingOption(_)
-            | Refusal::OtherPublications(_)
-            | Refusal::Ahead => "22023",
-            Refusal::UnsupportedOption(_) => "0A000",
-            Refusal::InUse(_) => "55006",
-        }
+        self.state().code()
     }
 
     /// The text: what is wrong, with the name of what is meant.

@@ -8,7 +8,7 @@ pub struct StartCommand {
     pub slot: Text,
     /// A place in the log, in bytes: the commits from there on are asked for.
     pub position: u64,
-    pub options: Vec<StartOption>,
+    pub options: Items<StartOption>,
 }
 
 /// An option of the output plugin ("55.5. Logical Streaming Replication Protocol").

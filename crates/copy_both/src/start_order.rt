@@ -206,7 +206,7 @@ pub struct Offer<'a> {
     pub in_use: &'a [bool],
 }
 
-fn slot_refusal<'a>(
+pub fn slot_refusal<'a>(
     offer: &Offer<'_>,
     command: &'a StartCommand,
     slot: usize,
@@ -246,7 +246,7 @@ pub fn find_slot(subscriptions: &[Subscription], name: &str) -> Option<usize>
         .position(|subscription| name == subscription.name.as_str())
 }
 
-fn publications_at(subscriptions: &[Subscription], slot: usize) -> &[usize]
+pub fn publications_at(subscriptions: &[Subscription], slot: usize) -> &[usize]
     ensures { result.now ≡ spec.publications_at subscriptions.now slot }
 {
     match subscriptions.get(slot) {

@@ -69,7 +69,7 @@ fn command(
     Ok(StartCommand {
         slot: Text::from_str(alloc, slot)?,
         position,
-        options,
+        options: Items::from_vec(options),
     })
 }
 
