@@ -1,3 +1,7 @@
+pub mod FramingLemmas
+pub mod HearingLemmas
 pub mod OrderLemmas
-pub mod StreamLemmas
 pub mod RefusalLemmas
+pub mod SessionLemmas
+pub mod StreamLemmas
+pub mod TableLemmas
