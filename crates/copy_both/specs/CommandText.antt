@@ -1,6 +1,5 @@
 -- The text of a command that starts a stream from a logical slot: `START_REPLICATION SLOT name LOGICAL X/X [( option [value] , .. )] [;]` ("55.4. Streaming Replication Protocol"), with keywords in any case.
-use Rattle.std.specs.Prelude.{ℕ, ◌&&◌, Bool, true, false, if◌then◌else◌, List, [], ◌∷◌, Option, Some, None, codes}
-use Rattle.std.specs.List.{list_any, before_first, after_first}
+use Rattle.std.specs.Prelude.{ℕ, ◌+◌, ◌&&◌, Bool, true, false, if◌then◌else◌, List, [], ◌∷◌, take, drop, position, Option, Some, None, codes}
 use Rattle.copy_both.specs.declared.start_command.StartCommand.{StartCommand}
 use Rattle.copy_both.specs.declared.start_command.StartOption.{StartOption}
 use Rattle.copy_both.specs.declared.token.Token.{Token}
@@ -24,9 +23,13 @@ ends [] = true
 ends (Semicolon ∷ []) = true
 ends _ = false
 
--- after an opening parenthesis: options, and the parenthesis that closes
+-- options, and the parenthesis that closes, whose place this is
+abbrev pub listed_until : Option ℕ → List Token → Option (List StartOption)
+listed_until None tokens = None
+listed_until (Some n) tokens = if ends (drop (n + 1) tokens) then separated option_in (take n tokens) else None
+
 abbrev pub listed_options : List Token → Option (List StartOption)
-listed_options tokens = if list_any is_close tokens && ends (after_first is_close tokens) then separated option_in (before_first is_close tokens) else None
+listed_options tokens = listed_until (position is_close tokens) tokens
 
 abbrev pub no_options : List Token → Option (List StartOption)
 no_options tokens = if ends tokens then Some [] else None
@@ -41,11 +44,14 @@ command_with (Some slot) (Some position) None = None
 command_with (Some slot) None options = None
 command_with None position options = None
 
+abbrev pub has_keywords : Token → Token → Token → Bool
+has_keywords start slot logical =
+    is_keyword (codes "start_replication") start && is_keyword (codes "slot") slot && is_keyword (codes "logical") logical
+
 -- the command that these tokens are
 abbrev pub command_in : List Token → Option StartCommand
 command_in (start ∷ slot ∷ name ∷ logical ∷ place ∷ options) =
-    if is_keyword (codes "start_replication") start && is_keyword (codes "slot") slot && is_keyword (codes "logical") logical
-    then command_with (name_in name) (position_in place) (options_in options) else None
+    if has_keywords start slot logical then command_with (name_in name) (position_in place) (options_in options) else None
 command_in _ = None
 
 abbrev pub command_with_tokens : Option (List Token) → Option StartCommand

@@ -68,7 +68,8 @@ word written = if is_letter (slice_index written 0) then Whole (Word (str_to_asc
 unfoldable pub run : List ℕ → Piece
 run bytes =
     let n = prefix_len is_word_byte bytes in
-    if slice_index bytes n == 47 then place (take n bytes) (drop (n + 1) bytes) else word (take n bytes)
+    let rest = drop n bytes in
+    if slice_index rest 0 == 47 then place (take n bytes) (drop 1 rest) else word (take n bytes)
 
 -- ---- all tokens
 

@@ -7,6 +7,7 @@ pub mod Hearing
 pub mod OptionValues
 pub mod Refusals
 pub mod Sessions
+pub mod ShortNames
 pub mod StartAnswers
 pub mod StartOrder
 pub mod StreamLaws

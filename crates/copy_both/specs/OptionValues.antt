@@ -1,7 +1,8 @@
 -- What the value of an option says ("55.5.1. Logical Streaming Replication Parameters"). Only version 1 of the protocol is there, and what is left out is accepted where it is off.
 use Rattle.std.specs.Prelude.{ℕ, ◌||◌, ◌==◌, Bool, nat_lt, not, if◌then◌else◌, List, length, drop, Option, Some, None, codes}
-use Rattle.std.specs.List.{prefix_len}
-use Rattle.std.specs.Str.{all_ascii_digits, bytes_eq}
+use Rattle.std.specs.Char.{is_ascii_digit}
+use Rattle.std.specs.List.{list_all, prefix_len}
+use Rattle.std.specs.Str.{bytes_eq}
 use Rattle.copy_both.specs.declared.start_command.OptionValue.{OptionValue}
 use Rattle.copy_both.specs.declared.start_command.OptionValue.TheVariants.{Wrong, Unsupported, Version, Publications, Off}
 use Rattle.copy_both.specs.declared.token.Token.{Token}
@@ -14,7 +15,7 @@ without_zeros digits = drop (prefix_len (λ b. b == 48) digits) digits
 -- 1 to 10 digits are a version, whose number is 1
 abbrev pub version : List ℕ → OptionValue
 version text =
-    if length text == 0 || nat_lt 10 (length text) || not (all_ascii_digits text) then Wrong
+    if length text == 0 || nat_lt 10 (length text) || not (list_all is_ascii_digit text) then Wrong
     else (if bytes_eq (without_zeros text) (codes "1") then Version else Unsupported)
 
 abbrev pub names_or_wrong : Option (List (List ℕ)) → OptionValue

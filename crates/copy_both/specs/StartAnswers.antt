@@ -1,6 +1,5 @@
 -- What the first frame of a client is answered: a stream is started from a slot, or the start is refused by an ErrorResponse ("55.4. Streaming Replication Protocol", "55.7. Message Formats").
-use Rattle.std.specs.Prelude.{ℕ, ◌+◌, ◌-◌, ◌&&◌, ◌==◌, if◌then◌else◌, List, ◌++◌, length, take, Option, Some, None}
-use Rattle.std.specs.List.{position_or_len}
+use Rattle.std.specs.Prelude.{ℕ, ◌+◌, ◌==◌, if◌then◌else◌, List, ◌++◌, length, take, position, Option, Some, None}
 use Rattle.std.specs.Str.{is_utf8}
 use Rattle.copy_both.specs.declared.answer.Asked.{Asked}
 use Rattle.copy_both.specs.declared.answer.Asked.TheVariants as code
@@ -14,11 +13,18 @@ pub data AskedOf : Type 0 where
   Stream : ℕ → ℕ → AskedOf
   Refused : RefusalOf → AskedOf
 
--- the text of a Query: the bytes before its first zero byte, which is its last byte, if they are UTF-8
+-- bytes that are UTF-8
+abbrev pub utf8_text : List ℕ → Option (List ℕ)
+utf8_text bytes = if is_utf8 bytes then Some bytes else None
+
+-- where the first zero byte is at this place, the bytes before it, if it is the last byte
+abbrev pub text_until : Option ℕ → List ℕ → Option (List ℕ)
+text_until None body = None
+text_until (Some n) body = if n + 1 == length body then utf8_text (take n body) else None
+
+-- the text of a Query, which is UTF-8, and which a zero byte ends
 abbrev pub text_in : List ℕ → Option (List ℕ)
-text_in body =
-    let n = position_or_len (λ b. b == 0) body in
-    if n + 1 == length body && is_utf8 (take n body) then Some (take n body) else None
+text_in body = text_until (position (λ b. b == 0) body) body
 
 abbrev pub unless_refused : Option RefusalOf → ℕ → ℕ → AskedOf
 unless_refused (Some refusal) slot position = Refused refusal

@@ -1,9 +1,12 @@
 //! What the first frame of a client is answered.
 
-ghost use Rattle.std.specs.Prelude.{◌≡◌, IfOk, OnOk, OnErr};
+ghost use Rattle.std.specs.Prelude.{◌≡◌, ◌==◌, IfOk, OnOk, OnErr, position};
 ghost use Rattle.std.specs.Option.{option_copied};
+ghost use Rattle.copy_both.specs.CommandText.{command_of};
+ghost use Rattle.copy_both.specs.Refusals.{CanBeSent, refusal_view};
+ghost use Rattle.copy_both.specs.ShortNames.{IsShortCommand};
 ghost use Rattle.copy_both.specs.StartAnswers as spec;
-ghost use Rattle.copy_both.specs.StartAnswers.{asked_of, told, sent_after};
+ghost use Rattle.copy_both.specs.StartAnswers.{Refused, asked_at, asked_by, asked_of, told, sent_after};
 ghost use Rattle.copy_both.specs.StartOrder.{offer_view};
 
 use crate::command_text::command_of;
@@ -24,43 +27,107 @@ pub enum Asked {
     Refused(SqlState),
 }
 
-/// The text of a Query: what comes before its only zero byte, which is its last byte, if it is UTF-8.
+/// The bytes as a text, if they are UTF-8.
+fn utf8_text(bytes: &[u8]) -> Option<&str>
+    ensures { option_copied result ≡ spec.utf8_text bytes.now }
+{
+    match str::from_utf8(bytes) {
+        Ok(text) => Some(text),
+        Err(_) => None,
+    }
+}
+
+fn first_zero(body: &[u8]) -> Option<usize>
+    ensures { result ≡ position (λ b. b == 0) body.now }
+{
+    body.iter().position(|byte| *byte == 0)
+}
+
+/// The text of a Query, which is UTF-8, and which a zero byte ends.
 fn text_in(body: &[u8]) -> Option<&str>
     ensures { option_copied result ≡ spec.text_in body.now }
 {
-    let end = body.iter().position(|byte| *byte == 0)?;
+    let Some(end) = first_zero(body) else {
+        return None;
+    };
     if end + 1 != body.len() {
         return None;
     }
-    str::from_utf8(&body[..end]).ok()
+    utf8_text(body.split_at(end).0)
 }
 
-fn refuse(response: &mut BytesMut, refusal: &Refusal<'_>) -> Result<Asked, AllocError> {
+fn refuse(response: &mut BytesMut, refusal: &Refusal<'_>) -> Result<Asked, AllocError>
+    requires { CanBeSent (refusal_view refusal.now) }
+    ensures asked { IfOk result (λ asked. asked ≡ told (Refused (refusal_view refusal.now))) }
+    ensures ok { OnOk result
+        (response.new.items ≡ sent_after response.old.items (Refused (refusal_view refusal.now))) }
+    ensures err { OnErr result (response.new.items ≡ response.old.items) }
+{
     append_error_response(response, refusal)?;
     Ok(Asked::Refused(refusal.state()))
+}
+
+/// Answers a command for the slot of the subscription with this number.
+fn answer_slot(
+    offer: &Offer<'_>,
+    command: &StartCommand,
+    slot: usize,
+    response: &mut BytesMut,
+) -> Result<Asked, AllocError>
+    requires { IsShortCommand command.now }
+    ensures asked { IfOk result
+        (λ asked. asked ≡ told (asked_at (offer_view offer.now) command.now (Some slot))) }
+    ensures ok { OnOk result
+        (response.new.items ≡ sent_after response.old.items (asked_at (offer_view offer.now) command.now (Some slot))) }
+    ensures err { OnErr result (response.new.items ≡ response.old.items) }
+{
+    let taken = publications_at(offer.subscriptions, slot);
+    if let Some(refusal) = slot_refusal(offer, command, slot, taken) {
+        return Ok(refuse(response, &refusal)?);
+    }
+    let position = command.position;
+    Ok(Asked::Stream { slot, position })
 }
 
 fn answer_command(
     offer: &Offer<'_>,
     command: &StartCommand,
     response: &mut BytesMut,
-) -> Result<Asked, AllocError> {
+) -> Result<Asked, AllocError>
+    requires { IsShortCommand command.now }
+    ensures asked { IfOk result (λ asked. asked ≡ told (asked_by (offer_view offer.now) (Some command.now))) }
+    ensures ok { OnOk result
+        (response.new.items ≡ sent_after response.old.items (asked_by (offer_view offer.now) (Some command.now))) }
+    ensures err { OnErr result (response.new.items ≡ response.old.items) }
+{
     let Some(slot) = find_slot(offer.subscriptions, command.slot.as_str()) else {
-        return refuse(response, &Refusal::NoSlot(command.slot.as_str()));
+        return Ok(refuse(response, &Refusal::NoSlot(command.slot.as_str()))?);
     };
-    let taken = publications_at(offer.subscriptions, slot);
-    match slot_refusal(offer, command, slot, taken) {
-        Some(refusal) => refuse(response, &refusal),
-        None => Ok(Asked::Stream {
-            slot,
-            position: command.position,
-        }),
-    }
+    Ok(answer_slot(offer, command, slot, response)?)
+}
+
+/// Answers the text of a Query.
+fn answer_text(
+    alloc: Global,
+    offer: &Offer<'_>,
+    text: &str,
+    response: &mut BytesMut,
+) -> Result<Asked, AllocError>
+    ensures asked { IfOk result (λ asked. asked ≡ told (asked_by (offer_view offer.now) (command_of text.now))) }
+    ensures ok { OnOk result
+        (response.new.items ≡ sent_after response.old.items (asked_by (offer_view offer.now) (command_of text.now))) }
+    ensures err { OnErr result (response.new.items ≡ response.old.items) }
+{
+    let Some(command) = command_of(alloc, text)? else {
+        return Ok(refuse(response, &Refusal::Unreadable)?);
+    };
+    Ok(answer_command(offer, &command, response)?)
 }
 
 /// Answers the first frame of a client, of this kind and body: it starts a stream, or the ErrorResponse that refuses it is
 /// appended to `response` ("55.4. Streaming Replication Protocol"). The only error is want of memory, which leaves
 /// `response` as it was.
+#[tactic(auto, unfolding(crate::specs::StartAnswers::asked_of))]
 pub fn answer_start(
     alloc: Global,
     offer: &Offer<'_>,
@@ -74,13 +141,10 @@ pub fn answer_start(
     ensures err { OnErr result (response.new.items ≡ response.old.items) }
 {
     if kind != b'Q' {
-        return refuse(response, &Refusal::ExpectedQuery);
+        return Ok(refuse(response, &Refusal::ExpectedQuery)?);
     }
     let Some(text) = text_in(body) else {
-        return refuse(response, &Refusal::ExpectedQuery);
+        return Ok(refuse(response, &Refusal::ExpectedQuery)?);
     };
-    match command_of(alloc, text)? {
-        None => refuse(response, &Refusal::Unreadable),
-        Some(command) => answer_command(offer, &command, response),
-    }
+    Ok(answer_text(alloc, offer, text, response)?)
 }

@@ -1,7 +1,8 @@
 //! The text of a start command.
 
-ghost use Rattle.std.specs.Prelude.{◌≡◌, IfOk};
+ghost use Rattle.std.specs.Prelude.{◌≡◌, IfOk, position};
 ghost use Rattle.std.specs.Option.{option_copied};
+ghost use Rattle.copy_both.specs.CommandTokens.{is_close, separated};
 ghost use Rattle.copy_both.specs.CommandText as spec;
 
 use crate::names::split_comma;
@@ -17,16 +18,14 @@ fn named_option(
     name: Option<&str>,
     text: Option<&str>,
 ) -> Result<Option<StartOption>, AllocError>
-    ensures { IfOk result (λ found. found ≡ spec.named_option (option_copied name) (option_copied text)) }
+    ensures { IfOk result (λ found. found ≡ spec.named_option (option_copied name.entry) (option_copied text.entry)) }
 {
     let Some(name) = name else {
         return Ok(None);
     };
     let value = option_value(alloc, name, text)?;
-    Ok(Some(StartOption {
-        name: Text::from_str(alloc, name)?,
-        value,
-    }))
+    let name = Text::from_str(alloc, name)?;
+    Ok(Some(StartOption { name, value }))
 }
 
 /// The option that tokens are: a name, and a value that may be missing.
@@ -44,11 +43,13 @@ fn option_in(alloc: Global, tokens: &[Token]) -> Result<Option<StartOption>, All
 fn options_between(
     alloc: Global,
     tokens: &[Token],
-) -> Result<Option<Items<StartOption>>, AllocError> {
+) -> Result<Option<Items<StartOption>>, AllocError>
+    ensures { IfOk result (λ options. options ≡ separated spec.option_in tokens.now) }
+{
     let mut options = Vec::new(alloc);
     let mut rest = Some(tokens);
-    while let Some(tokens) = rest {
-        let (part, after) = split_comma(tokens);
+    while let Some(left) = rest {
+        let (part, after) = split_comma(left);
         let Some(option) = option_in(alloc, part)? else {
             return Ok(None);
         };
@@ -65,29 +66,75 @@ fn ends(tokens: &[Token]) -> bool
     matches!(tokens, [] | [Token::Semicolon])
 }
 
+fn first_close(tokens: &[Token]) -> Option<usize>
+    ensures { result ≡ position is_close tokens.now }
+{
+    tokens.iter().position(|token| is_close(token))
+}
+
+/// Options, and the parenthesis that closes.
 fn listed_options(alloc: Global, tokens: &[Token]) -> Result<Option<Items<StartOption>>, AllocError>
     ensures { IfOk result (λ options. options ≡ spec.listed_options tokens.now) }
 {
-    let Some(place) = tokens.iter().position(|token| is_close(token)) else {
+    let Some(place) = first_close(tokens) else {
         return Ok(None);
     };
-    if !ends(&tokens[place + 1..]) {
+    if !ends(tokens.split_at(place + 1).1) {
         return Ok(None);
     }
-    options_between(alloc, &tokens[..place])
+    Ok(options_between(alloc, tokens.split_at(place).0)?)
+}
+
+fn no_options(alloc: Global, tokens: &[Token]) -> Option<Items<StartOption>>
+    ensures { result ≡ spec.no_options tokens.now }
+{
+    if ends(tokens) {
+        Some(Items::from_vec(Vec::new(alloc)))
+    } else {
+        None
+    }
 }
 
 fn options_in(alloc: Global, tokens: &[Token]) -> Result<Option<Items<StartOption>>, AllocError>
     ensures { IfOk result (λ options. options ≡ spec.options_in tokens.now) }
 {
     if let [Token::Open, listed @ ..] = tokens {
-        return listed_options(alloc, listed);
+        return Ok(listed_options(alloc, listed)?);
     }
-    if ends(tokens) {
-        Ok(Some(Items::from_vec(Vec::new(alloc))))
-    } else {
-        Ok(None)
-    }
+    Ok(no_options(alloc, tokens))
+}
+
+fn command_with(
+    alloc: Global,
+    slot: Option<&str>,
+    position: Option<u64>,
+    options: Option<Items<StartOption>>,
+) -> Result<Option<StartCommand>, AllocError>
+    ensures { IfOk result (λ found. found ≡ spec.command_with (option_copied slot.entry) position options) }
+{
+    let Some(slot) = slot else {
+        return Ok(None);
+    };
+    let Some(position) = position else {
+        return Ok(None);
+    };
+    let Some(options) = options else {
+        return Ok(None);
+    };
+    let slot = Text::from_str(alloc, slot)?;
+    Ok(Some(StartCommand {
+        slot,
+        position,
+        options,
+    }))
+}
+
+fn has_keywords(start: &Token, slot: &Token, logical: &Token) -> bool
+    ensures { result ≡ spec.has_keywords start.now slot.now logical.now }
+{
+    is_keyword(start, "start_replication")
+        && is_keyword(slot, "slot")
+        && is_keyword(logical, "logical")
 }
 
 fn command_in(alloc: Global, tokens: &[Token]) -> Result<Option<StartCommand>, AllocError>
@@ -96,23 +143,11 @@ fn command_in(alloc: Global, tokens: &[Token]) -> Result<Option<StartCommand>, A
     let [start, slot, name, logical, place, options @ ..] = tokens else {
         return Ok(None);
     };
-    if !is_keyword(start, "start_replication")
-        || !is_keyword(slot, "slot")
-        || !is_keyword(logical, "logical")
-    {
+    if !has_keywords(start, slot, logical) {
         return Ok(None);
     }
-    let (Some(slot), Some(position)) = (name_in(name), position_in(place)) else {
-        return Ok(None);
-    };
-    let Some(options) = options_in(alloc, options)? else {
-        return Ok(None);
-    };
-    Ok(Some(StartCommand {
-        slot: Text::from_str(alloc, slot)?,
-        position,
-        options,
-    }))
+    let options = options_in(alloc, options)?;
+    Ok(command_with(alloc, name_in(name), position_in(place), options)?)
 }
 
 /// The command that a text is, or `None` where it is no command that starts a stream from a logical slot.

@@ -1,6 +1,6 @@
 //! Lists with commas.
 
-ghost use Rattle.std.specs.Prelude.{◌≡◌, ◌<◌, ◌∷◌, [], IfOk, IfSome, length};
+ghost use Rattle.std.specs.Prelude.{◌≡◌, ◌<◌, ◌∷◌, [], IfOk, IfSome, length, position};
 ghost use Rattle.std.specs.List.{slice_split};
 ghost use Rattle.std.specs.Option.{option_copied, option_map_or};
 ghost use Rattle.copy_both.specs.CommandTokens as spec;
@@ -9,16 +9,23 @@ use crate::token::{Token, is_comma, name_in};
 use filter_tree::{Items, Text};
 use std::alloc::{AllocError, Global};
 
+fn first_comma(tokens: &[Token]) -> Option<usize>
+    ensures { result ≡ position spec.is_comma tokens.now }
+{
+    tokens.iter().position(|token| is_comma(token))
+}
+
 /// The tokens before the first comma, and those after it if there is one.
 pub fn split_comma(tokens: &[Token]) -> (&[Token], Option<&[Token]>)
     ensures split { slice_split spec.is_comma tokens.now
         ≡ result.0.now ∷ option_map_or (λ after. slice_split spec.is_comma after.now) result.1 [] }
     ensures fewer { IfSome result.1 (λ after. length after.now < length tokens.now) }
 {
-    match tokens.iter().position(|token| is_comma(token)) {
-        None => (tokens, None),
-        Some(place) => (&tokens[..place], Some(&tokens[place + 1..])),
-    }
+    let Some(place) = first_comma(tokens) else {
+        return (tokens, None);
+    };
+    let (part, after) = tokens.split_at(place);
+    (part, Some(after.split_at(1).1))
 }
 
 fn lone_name(tokens: &[Token]) -> Option<&str>
@@ -36,8 +43,8 @@ pub fn names_in(alloc: Global, tokens: &[Token]) -> Result<Option<Items<Text>>, 
 {
     let mut names = Vec::new(alloc);
     let mut rest = Some(tokens);
-    while let Some(tokens) = rest {
-        let (part, after) = split_comma(tokens);
+    while let Some(left) = rest {
+        let (part, after) = split_comma(left);
         let Some(name) = lone_name(part) else {
             return Ok(None);
         };

@@ -1,6 +1,8 @@
 //! What the value of an option says.
 
-ghost use Rattle.std.specs.Prelude.{◌≡◌, IfOk, codes};
+ghost use Rattle.std.specs.Prelude.{◌≡◌, ◌==◌, ◌≤◌, IfOk, codes, length};
+ghost use Rattle.std.specs.Char.{is_ascii_digit};
+ghost use Rattle.std.specs.List.{list_all, prefix_len};
 ghost use Rattle.std.specs.Option.{option_copied};
 ghost use Rattle.std.specs.Str.{bytes_eq};
 ghost use Rattle.copy_both.specs.OptionValues as spec;
@@ -13,22 +15,31 @@ use std::alloc::{AllocError, Global};
 /// The most digits of a version.
 const VERSION_DIGITS: usize = 10;
 
+fn all_digits(digits: &[u8]) -> bool
+    ensures { result ≡ list_all is_ascii_digit digits.now }
+{
+    digits.iter().all(|byte| byte.is_ascii_digit())
+}
+
+fn zeros(digits: &[u8]) -> usize
+    ensures value { result ≡ prefix_len (λ b. b == 48) digits.now }
+    ensures within { result ≤ length digits.now }
+{
+    digits.iter().take_while(|byte| **byte == b'0').count()
+}
+
 /// Whether digits are `1` after the zeros at their front.
 fn is_one(digits: &[u8]) -> bool
     ensures { result ≡ bytes_eq (spec.without_zeros digits.now) (codes "1") }
 {
-    let zeros = digits.iter().take_while(|byte| **byte == b'0').count();
-    digits.split_at(zeros).1 == b"1".as_slice()
+    digits.split_at(zeros(digits)).1 == b"1".as_slice()
 }
 
 fn version(text: &str) -> OptionValue
     ensures { result ≡ spec.version text.now }
 {
     let digits = text.as_bytes();
-    if digits.is_empty()
-        || VERSION_DIGITS < digits.len()
-        || !digits.iter().all(|byte| byte.is_ascii_digit())
-    {
+    if digits.is_empty() || VERSION_DIGITS < digits.len() || !all_digits(digits) {
         return OptionValue::Wrong;
     }
     if is_one(digits) {
@@ -86,7 +97,7 @@ pub fn option_value(
     name: &str,
     text: Option<&str>,
 ) -> Result<OptionValue, AllocError>
-    ensures { IfOk result (λ value. value ≡ spec.option_value name.now (option_copied text)) }
+    ensures { IfOk result (λ value. value ≡ spec.option_value name.now (option_copied text.entry)) }
 {
     match text {
         None => Ok(OptionValue::Wrong),
