@@ -9,6 +9,7 @@ pub mod QuotedTurns
 pub mod RefusalLemmas
 pub mod SessionLemmas
 pub mod ShortNames
+pub mod StartLemmas
 pub mod StreamLemmas
 pub mod TableLemmas
 pub mod TokenTurns
