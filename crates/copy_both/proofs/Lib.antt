@@ -1,5 +1,6 @@
 pub mod CommandTurns
 pub mod Cuts
+pub mod EarLemmas
 pub mod FramingLemmas
 pub mod HearingLemmas
 pub mod ListTurns

@@ -7,6 +7,8 @@ use Rattle.tables_log.specs.Slots.{released}
 use Rattle.tables_log.specs.declared.book.Book.{Book}
 use Rattle.tables_log.specs.declared.slots.Slot.{Slot}
 use Rattle.copy_frames.specs.declared.fault.FrameFault.{FrameFault}
+use Rattle.copy_frames.specs.declared.fault.FrameFault.TheVariants as frame
+use Rattle.copy_frames.specs.declared.frame.Frame.{Frame}
 use Rattle.copy_frames.specs.Frames.{cut, frames_of}
 use Rattle.copy_frames.specs.Inboxes.{Inbox, with_piece}
 use Rattle.copy_both.specs.Hearing.{HearingOf, Served, with_fault, is_over, frames_heard, then_fault, rest_of}
@@ -52,6 +54,12 @@ fed_by (Some fault) inbox piece = inbox
 abbrev pub fed : Inbox → List ℕ → Inbox
 fed inbox piece = fed_by inbox.fault inbox piece
 
+-- the fault of a length, or want of memory
+abbrev pub length_fault_of : FrameFault → Result (Option FrameFault) LinkFault
+length_fault_of frame.BadLength = Ok (Some frame.BadLength)
+length_fault_of frame.FrameTooLong = Ok (Some frame.FrameTooLong)
+length_fault_of frame.OutOfMemory = Err fault.OutOfMemory
+
 -- what its frames do, and then the fault
 abbrev pub inbox_heard : Served → Inbox → HearingOf → HearingOf
 inbox_heard served inbox h = then_fault inbox.fault (frames_heard served h (frames_of (cut inbox.limit inbox.bytes)))
@@ -72,6 +80,20 @@ first_heard ear book piece sent count =
     let inbox = fed (ear_inbox ear) piece in
     with_fault fault.OutOfMemory
     (frames_heard (served_by ear.session book) (nothing_heard ear book sent) (take count (frames_of (cut inbox.limit inbox.bytes))))
+
+-- ---- frames one after another
+
+abbrev pub frames_in : Inbox → List Frame
+frames_in inbox = frames_of (cut inbox.limit inbox.bytes)
+
+-- memory was refused after some first frames, or this fault is that of the frames
+abbrev pub FailsAmong : LinkFault → Served → List Frame → HearingOf → HearingOf → Type 0
+FailsAmong fault.OutOfMemory served frames old new = (count : ℕ) × (new ≡ frames_heard served old (take count frames))
+FailsAmong other served frames old new = frames_heard served old frames ≡ with_fault other new
+
+abbrev pub HearsFrames : Served → List Frame → HearingOf → HearingOf → Result (Unit {0}) LinkFault → Type 0
+HearsFrames served frames old new (Ok done) = new ≡ frames_heard served old frames
+HearsFrames served frames old new (Err fault) = FailsAmong fault served frames old new
 
 -- ---- what a call leaves
 

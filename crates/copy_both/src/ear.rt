@@ -1,5 +1,8 @@
 //! The half of a connection's end that listens.
 
+ghost use Rattle.std.specs.Prelude.{◌≡◌};
+ghost use Rattle.copy_both.specs.Ears.{length_fault_of};
+
 use crate::heard::Heard;
 use crate::link_fault::LinkFault;
 use crate::session::{Hearing, Session};
@@ -36,15 +39,15 @@ pub struct Ear {
 }
 
 impl Ear {
-    ghost use Rattle.std.specs.Prelude.{◌≡◌, [], false, IfOk, IfErr, OnOk, OnErr, take};
+    ghost use Rattle.std.specs.Prelude.{◌≡◌, [], false, IfOk, IfErr, OnOk};
     ghost use Rattle.std.specs.Arc.{arc_value};
     ghost use Rattle.filter_tree.specs.Memory.{Answers};
     ghost use Rattle.shard_checker.specs.CheckedView.{checked_view};
-    ghost use Rattle.copy_frames.specs.Frames.{cut, frames_of};
     ghost use Rattle.copy_frames.specs.Inboxes.{empty_inbox};
     ghost use Rattle.copy_both.specs.Ears as spec;
     ghost use Rattle.copy_both.specs.Ears.{ear_checked, ear_inbox, ear_phase, ear_started, ear_refusal};
     ghost use Rattle.copy_both.specs.Hearing.{answer_of, is_over};
+    ghost use Rattle.copy_both.specs.Sessions.{served_by, hearing_view, KeepsRest};
     ghost use Rattle.copy_both.specs.Voices.{told_fault};
 
     /// An ear that has heard nothing.
@@ -120,16 +123,31 @@ impl Ear {
         Ok(hearing.heard)
     }
 
-    fn feed(&mut self, piece: &[u8]) -> Result<Option<FrameFault>, LinkFault> {
+    /// Takes the bytes; the answer is the fault of a length, if there is one.
+    #[tactic(auto, using(crate::proofs::EarLemmas::fed_without, crate::proofs::EarLemmas::found_without, crate::proofs::EarLemmas::fed_with, crate::proofs::EarLemmas::found_with, crate::proofs::EarLemmas::fault_found))]
+    fn feed(&mut self, piece: &[u8]) -> Result<Option<FrameFault>, LinkFault>
+        ensures session { self.new.session ≡ self.old.session }
+        ensures phase { self.new.phase ≡ self.old.phase }
+        ensures fed { OnOk result (ear_inbox self.new ≡ spec.fed (ear_inbox self.old) piece.now) }
+        ensures found { IfOk result (λ fault. fault ≡ (ear_inbox self.new).fault) }
+        ensures err { IfErr result (λ fault. fault ≡ LinkFault.OutOfMemory) }
+    {
         match self.frames.feed(piece) {
             Ok(()) => Ok(None),
-            Err(FrameFault::OutOfMemory) => Err(LinkFault::OutOfMemory),
-            Err(fault) => Ok(Some(fault)),
+            Err(fault) => length_fault(fault),
         }
     }
 
-    fn hear_frames(&mut self, book: &mut Book, hearing: &mut Hearing) -> Result<(), LinkFault> {
-        while hearing.heard.ended.is_none() {
+    /// Hears the frames that are there.
+    fn hear_frames(&mut self, book: &mut Book, hearing: &mut Hearing) -> Result<(), LinkFault>
+        ensures kept { KeepsRest self.old.session self.new.session book.old book.new }
+        ensures phase { self.new.phase ≡ self.old.phase }
+        ensures heard { spec.HearsFrames (served_by self.old.session book.old) (spec.frames_in (ear_inbox self.old))
+            (hearing_view self.old.session hearing.old book.old) (hearing_view self.new.session hearing.new book.new) result }
+        ensures left { OnOk result
+            (hearing.new.heard.ended ≡ None → ear_inbox self.new ≡ spec.left_in (ear_inbox self.old)) }
+    {
+        'frames: while hearing.heard.ended.is_none() {
             let Some(frame) = self.frames.next()? else {
                 return Ok(());
             };
@@ -187,5 +205,15 @@ fn check(fault: Option<FrameFault>) -> Result<(), LinkFault> {
         Some(FrameFault::BadLength) => Err(LinkFault::BadLength),
         Some(FrameFault::FrameTooLong) => Err(LinkFault::FrameTooLong),
         Some(FrameFault::OutOfMemory) => Err(LinkFault::OutOfMemory),
+    }
+}
+
+/// The fault of a length; want of memory is an error.
+fn length_fault(fault: FrameFault) -> Result<Option<FrameFault>, LinkFault>
+    ensures { result ≡ length_fault_of fault }
+{
+    match fault {
+        FrameFault::BadLength | FrameFault::FrameTooLong => Ok(Some(fault)),
+        FrameFault::OutOfMemory => Err(LinkFault::OutOfMemory),
     }
 }
