@@ -54,7 +54,7 @@ pub one_long : (head : XLogData) (before now : List ℕ) (all : List Msg) (i : �
     → is_short (spelling_of m) ≡ false → Frames head before now all (drop i all) → framing_answer (map spelling_of all) ≡ Err FrameTooLong
 one_long head before now all i m is within long so_far =
     let fit : are_short all ≡ false =
-        sym so_far.short ∙ ap are_short (from_here all i m within is) ∙ ap (λ b. b && are_short (drop (i + 1) all)) long in
+    sym so_far.short ∙ ap are_short (from_here all i m within is) ∙ ap (λ b. b && are_short (drop (i + 1) all)) long in
     ap (λ b. if b then Ok tt else Err FrameTooLong) fit
 
 pub short_enough : (n : ℕ) → n ≤ 16777187 → nat_le (n + 29) 16777216 ≡ true

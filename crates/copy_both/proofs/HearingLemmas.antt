@@ -51,13 +51,15 @@ pub heard_on : (served : Served) (start now next : HearingOf) (frames : List Fra
     → HeardSome served start now frames (frame ∷ left) → next ≡ frame_heard served now frame → HeardSome served start next frames left
 heard_on served start now next frames frame left some is =
     let n : ℕ = some.0 in
-    let so = some.1 in
-    (suc n, record {
-      now_is = is ∙ ap (λ h. frame_heard served h frame) so.now_is ∙ sym (heard_one served (frames_heard served start (take n frames)) frame)
-          ∙ sym (heard_append served start (take n frames) (frame ∷ []))
-          ∙ ap (frames_heard served start) (sym (take_next n frames frame left so.left_is));
-      left_is = drop_next n frames frame left so.left_is;
-    })
+    let so = some.1 in (
+      suc n,
+      record {
+        now_is = is ∙ ap (λ h. frame_heard served h frame) so.now_is ∙ sym (heard_one served (frames_heard served start (take n frames)) frame)
+            ∙ sym (heard_append served start (take n frames) (frame ∷ []))
+            ∙ ap (frames_heard served start) (sym (take_next n frames frame left so.left_is));
+        left_is = drop_next n frames frame left so.left_is;
+      },
+    )
 
 split_at : (n : ℕ) (xs : List Frame) → take n xs ++ drop n xs ≡ xs
 split_at zero xs = refl

@@ -1,6 +1,5 @@
 pub mod CommandTurns
 pub mod Cuts
-pub mod EarLemmas
 pub mod FramingLemmas
 pub mod HearingLemmas
 pub mod ListTurns

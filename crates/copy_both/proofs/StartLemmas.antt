@@ -32,8 +32,8 @@ pub offer_is : (catalog : Catalog) (served : Served) (publications : List Public
     → offer (map (λ (p : Publication). p.name) publications) subscriptions end in_use ≡ offer_in served in_use
 offer_is catalog served publications subscriptions end in_use of_publications of_subscriptions of_end shown =
     let names : map (λ (p : Publication). p.name) publications ≡ map (λ (p : PublicationOf Expr). p.name) served.checked.catalog.publications =
-        ap (map (λ (p : Publication). p.name)) of_publications ∙ names_same catalog.publications.items
-        ∙ ap (λ (k : CatalogOf Expr). map (λ (p : PublicationOf Expr). p.name) k.publications) shown in
+    ap (map (λ (p : Publication). p.name)) of_publications ∙ names_same catalog.publications.items
+    ∙ ap (λ (k : CatalogOf Expr). map (λ (p : PublicationOf Expr). p.name) k.publications) shown in
     let takers : subscriptions ≡ served.checked.catalog.subscriptions = of_subscriptions ∙ ap (λ (k : CatalogOf Expr). k.subscriptions) shown in
     ap (λ (x : List (List ℕ)). offer x subscriptions end in_use) names
     ∙ ap (λ (x : List Subscription). offer (map (λ (p : PublicationOf Expr). p.name) served.checked.catalog.publications) x end in_use) takers

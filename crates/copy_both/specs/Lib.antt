@@ -1,6 +1,5 @@
 pub mod CommandText
 pub mod CommandTokens
-pub mod Ears
 pub mod Events
 pub mod Framing
 pub mod Hearing

@@ -5,19 +5,13 @@ mod answer;
 #[cfg(test)]
 mod answer_tests;
 mod command_text;
-mod ear;
-#[cfg(test)]
-mod ear_tests;
 mod error_response;
 mod event;
 mod framing;
 mod front;
 mod heard;
 mod laws;
-mod link;
 mod link_fault;
-#[cfg(test)]
-mod link_tests;
 mod names;
 mod option_value;
 mod place;
@@ -37,11 +31,9 @@ mod voice;
 mod voice_tests;
 
 pub use answer::{Asked, answer_start};
-pub use ear::Ear;
 pub use error_response::append_error_response;
 pub use heard::Heard;
 pub use laws::streams_grow;
-pub use link::Link;
 pub use link_fault::LinkFault;
 pub use refusal::{Refusal, Words};
 pub use sql_state::SqlState;

@@ -33,7 +33,12 @@ impl Place {
     ghost use Rattle.copy_both.specs.Voices.{place_view, told_answer, told_fault};
 
     /// Where a connection is that starts at the position, before the Relation of any of so many tables was sent.
-    pub(crate) fn new(alloc: Global, slot: usize, tables: usize, position: u64) -> Result<Place, AllocError>
+    pub(crate) fn new(
+        alloc: Global,
+        slot: usize,
+        tables: usize,
+        position: u64,
+    ) -> Result<Place, AllocError>
         ensures { IfOk result (λ place. place_view place ≡ place_at slot tables position) }
     {
         let told = vec![in alloc; false; tables]?;
@@ -66,13 +71,7 @@ impl Place {
             ++ take_bytes (telling_of (checked_view checked.now)) (place_view self.old) commit.now now) }
         ensures err { OnErr result (out.new.items ≡ out.old.items) }
     {
-        let messages = messages_of(
-            alloc,
-            checked,
-            self.slot,
-            commit,
-            self.told.as_mut_slice(),
-        )?;
+        let messages = messages_of(alloc, checked, self.slot, commit, self.told.as_mut_slice())?;
         let number = commit.number();
         let lsn = 64 * u64::from(number);
         let mut frames = BytesMut::new(alloc);

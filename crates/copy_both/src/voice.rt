@@ -4,7 +4,6 @@ ghost use Rattle.std.specs.Arc.{arc_value};
 ghost use Rattle.shard_checker.specs.CheckedView.{checked_view};
 ghost use Rattle.copy_both.specs.Framing.{AreNarrow};
 
-use crate::heard::Heard;
 use crate::link_fault::LinkFault;
 use crate::place::Place;
 use crate::taken::Taken;
@@ -12,7 +11,6 @@ use bytes::BytesMut;
 use copy_frames::{Keepalive, append_copy_both_response, append_copy_done, append_keepalive};
 use shard_checker::Checked;
 use std::alloc::Global;
-use std::mem;
 use std::sync::Arc;
 use tables_log::Commit;
 
@@ -213,69 +211,6 @@ impl Voice {
             Stage::NotStarted => Ok(()),
             Stage::Closed => Err(LinkFault::Closed),
             Stage::Started(_) => Ok(append_copy_done(&mut self.out)?),
-        }
-    }
-
-    /// Says what replies to what was heard, all of it or nothing: CopyBothResponse to a start, a keepalive with this clock
-    /// to each status that wants a reply, and CopyDone to CopyDone. Any end closes it.
-    pub(crate) fn reply(
-        &mut self,
-        heard: &Heard,
-        started: Option<(usize, u64)>,
-        now: u64,
-    ) -> Result<(), LinkFault> {
-        let waiting = mem::replace(&mut self.out, BytesMut::new(self.alloc));
-        let replied = self.say_replies(heard, started, now);
-        let said = mem::replace(&mut self.out, waiting);
-        let replied = match replied {
-            Ok(()) => self.add(said.as_slice()),
-            Err(fault) => Err(fault),
-        };
-        if replied.is_err() {
-            self.close();
-        }
-        replied
-    }
-
-    fn say_replies(
-        &mut self,
-        heard: &Heard,
-        started: Option<(usize, u64)>,
-        now: u64,
-    ) -> Result<(), LinkFault> {
-        if let (Some(_), Some((slot, position))) = (heard.started, started) {
-            self.start(slot, position)?;
-        }
-        for _ in 0..heard.replies {
-            self.keepalive(now, false)?;
-        }
-        match heard.ended {
-            None => Ok(()),
-            Some(b'c') => self.done(),
-            Some(_) => {
-                self.close();
-                Ok(())
-            }
-        }
-    }
-
-    fn add(&mut self, bytes: &[u8]) -> Result<(), LinkFault> {
-        self.out.extend_from_slice(bytes)?;
-        Ok(())
-    }
-
-    /// Says the response to a start that is refused, and closes.
-    pub(crate) fn refuse(&mut self, response: &[u8]) -> Result<(), LinkFault> {
-        let refused = self.add(response);
-        self.close();
-        refused
-    }
-
-    /// What becomes of the next commit where the stream does not run.
-    pub(crate) fn silence(&self) -> Result<Taken, LinkFault> {
-        match self.stage {
-            Stage::NotStarted | Stage::Started(_) => Ok(Taken::NotStarted),
-            Stage::Closed => Err(LinkFault::Closed),
         }
     }
 

@@ -82,11 +82,7 @@ fn take(
 }
 
 /// A book whose only commit inserts the row.
-fn book_of(
-    alloc: Global,
-    checked: &Arc<Checked, Global>,
-    row: &str,
-) -> Result<Book, Fail>
+fn book_of(alloc: Global, checked: &Arc<Checked, Global>, row: &str) -> Result<Book, Fail>
     requires { IsLimited (checked_view (arc_value checked.now)).catalog }
 {
     let mut book = Book::new(alloc, Arc::try_clone(checked)?, 2)?;

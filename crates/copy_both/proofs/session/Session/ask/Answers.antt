@@ -13,7 +13,7 @@ pub returns-clause-asked : goal.returns-clause-asked
 returns-clause-asked c =
     let served = served_by c.args.self.now c.args.book.now in
     let shown : catalog_view c.catalog-catalog.result.now ≡ (session_checked c.args.self.now).catalog =
-        c.catalog-catalog.ensures.shows ∙ ap (λ (checked : Checked). (checked_view checked).catalog) c.deref.ensures in
+    c.catalog-catalog.ensures.shows ∙ ap (λ (checked : Checked). (checked_view checked).catalog) c.deref.ensures in
     c.in_ok-answer_start.ensures.asked
     ∙ ap (λ (o : OfferOf). told (asked_of o c.args.frame.now.kind c.as_slice.result.now))
     (offer_is c.catalog-catalog.result.now served c.deref-2.result.now c.deref-3.result.now c.end_of.result c.args.in_use.now
@@ -25,7 +25,7 @@ returns-clause-ok c =
     let served = served_by c.args.self.now c.args.book.now in
     let old : List ℕ = c.args.self.now.response.items in
     let shown : catalog_view c.catalog-catalog.result.now ≡ (session_checked c.args.self.now).catalog =
-        c.catalog-catalog.ensures.shows ∙ ap (λ (checked : Checked). (checked_view checked).catalog) c.deref.ensures in
+    c.catalog-catalog.ensures.shows ∙ ap (λ (checked : Checked). (checked_view checked).catalog) c.deref.ensures in
     c.in_ok-answer_start.ensures.ok
     ∙ ap (λ (o : OfferOf). sent_after old (asked_of o c.args.frame.now.kind c.as_slice.result.now))
     (offer_is c.catalog-catalog.result.now served c.deref-2.result.now c.deref-3.result.now c.end_of.result c.args.in_use.now

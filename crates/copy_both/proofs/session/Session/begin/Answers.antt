@@ -29,8 +29,8 @@ returns-in-Err-clause-begun c =
     let is = sym c.in-Stream.is ∙ c.in_ok-state.ensures.asked in
     let later = served_by c.ask.new.self c.start.new.self in
     let same_served : served ≡ later =
-        ap (λ (x : CheckedOf). record { checked = x; commits = length (book_log c.args.book.now) }) (sym c.in_ok-state.ensures.kept.checked)
-        ∙ ap (λ (x : List CommitOf). record { checked = session_checked c.ask.new.self; commits = length x }) (sym c.in-Err.ensures.err.log) in
+    ap (λ (x : CheckedOf). record { checked = x; commits = length (book_log c.args.book.now) }) (sym c.in_ok-state.ensures.kept.checked)
+    ∙ ap (λ (x : List CommitOf). record { checked = session_checked c.ask.new.self; commits = length x }) (sym c.in-Err.ensures.err.log) in
     begins_so (begin_in c.args.self.now c.args.book.now c.args.frame.now)
     (refusing (asked_in c.ask.new.self c.start.new.self c.args.frame.now (every_slot later)))
     (book_slots c.args.book.now) (book_slots c.start.new.self) (book_slots c.start.new.self) c.args.self.now.response.items c.ask.new.self.response.items c.refuse.new.self.response.items c.refuse.result
