@@ -1,12 +1,17 @@
 pub mod CommandTurns
 pub mod Cuts
 pub mod FirstFrames
+pub mod FramingLemmas
+pub mod HearingLemmas
 pub mod ListTurns
 pub mod Numerals
 pub mod OrderLemmas
 pub mod QuotedTurns
 pub mod RefusalLemmas
+pub mod SessionLemmas
 pub mod ShortNames
+pub mod StartLemmas
 pub mod StreamLemmas
+pub mod TableLemmas
 pub mod TokenTurns
 pub mod Utf8Texts

@@ -1,10 +1,16 @@
 pub mod CommandText
 pub mod CommandTokens
+pub mod Events
+pub mod Framing
+pub mod Hearing
 pub mod OptionValues
 pub mod Refusals
+pub mod Sessions
 pub mod ShortNames
 pub mod StartAnswers
 pub mod StartOrder
 pub mod StreamLaws
 pub mod Streams
+pub mod Tellings
 pub mod TokenPlaces
+pub mod Voices

@@ -1,0 +1,173 @@
+-- What becomes of the frames that a client sends, one after another: the first one starts a stream or ends the connection; then statuses confirm the log, until another frame ends the stream ("55.4. Streaming Replication Protocol").
+use Rattle.std.specs.Prelude.{◌≡◌, ℕ, ◌+◌, ◌^◌, ◌-◌, ◌==◌, min, max, nat_lt, Bool, true, false, if◌then◌else◌, List, [], ◌∷◌, ◌++◌, length, map, replicate, Option, Some, None, Result, Ok, Err}
+use Rattle.shard_checker.specs.CheckedView.{CheckedOf}
+use Rattle.tables_log.specs.Slots as slots
+use Rattle.tables_log.specs.Slots.{end_after, confirmed_at, start_fault, confirmed_up_to}
+use Rattle.tables_log.specs.declared.error.StartError.{StartError}
+use Rattle.tables_log.specs.declared.slots.Slot.{Slot}
+use Rattle.copy_frames.specs.declared.fault.FrameFault.{FrameFault}
+use Rattle.copy_frames.specs.declared.fault.FrameFault.TheVariants as frame
+use Rattle.copy_frames.specs.declared.frame.Frame.{Frame}
+use Rattle.copy_frames.specs.declared.status.Status.{Status}
+use Rattle.copy_frames.specs.Frames.{Cut, Rest, Bad, Then, cut, frames_of, fault_in}
+use Rattle.copy_both.specs.Events.{event_of}
+use Rattle.copy_both.specs.Refusals.{state_of, error_response}
+use Rattle.copy_both.specs.StartAnswers.{AskedOf, Stream, Refused, asked_of}
+use Rattle.copy_both.specs.StartOrder.{OfferOf}
+use Rattle.copy_both.specs.declared.event.Event.{Event}
+use Rattle.copy_both.specs.declared.event.Event.TheVariants as event
+use Rattle.copy_both.specs.declared.heard.Heard.{Heard}
+use Rattle.copy_both.specs.declared.link_fault.LinkFault.{LinkFault}
+use Rattle.copy_both.specs.declared.link_fault.LinkFault.TheVariants as fault
+use Rattle.copy_both.specs.declared.sql_state.SqlState.{SqlState}
+use Rattle.copy_both.specs.declared.sql_state.SqlState.TheVariants as state
+
+-- what frames are held against: the catalog, and how many commits the log has
+pub record Served : Type 0 where
+  pub checked : CheckedOf
+  pub commits : ℕ
+
+-- what came of the frames so far: the slot that streams and where the stream starts, what is answered, the sent position, the slots of the book, the response to a start that is refused, and the fault
+pub record HearingOf : Type 0 where
+  pub started : Option (ℕ × ℕ)
+  pub heard : Heard
+  pub sent : ℕ
+  pub slots : List Slot
+  pub response : List ℕ
+  pub fault : Option LinkFault
+
+abbrev pub with_fault : LinkFault → HearingOf → HearingOf
+with_fault fault h = record h { fault = Some fault }
+
+abbrev pub ended_by : ℕ → HearingOf → HearingOf
+ended_by kind h = record h { heard = record h.heard { ended = Some kind } }
+
+-- ---- the first frame
+
+abbrev pub offer_in : Served → List Bool → OfferOf
+offer_in served in_use = record {
+  publications = map (λ p. p.name) served.checked.catalog.publications;
+  subscriptions = served.checked.catalog.subscriptions;
+  log_end = end_after served.commits;
+  in_use = in_use;
+}
+
+-- a stream of this slot starts here, or the start is refused by this error and response
+pub data BeginOf : Type 0 where
+  Begins : ℕ → ℕ → BeginOf
+  Refuses : SqlState → List ℕ → BeginOf
+
+-- refused where the slot can't be had
+abbrev pub refusing : AskedOf → BeginOf
+refusing (Stream slot position) = Refuses state.ObjectInUse []
+refusing (Refused refusal) = Refuses (state_of refusal) (error_response refusal)
+
+abbrev pub unless_fault : Option StartError → ℕ → ℕ → AskedOf → BeginOf
+unless_fault None slot start otherwise = Begins slot start
+unless_fault (Some fault) slot start otherwise = refusing otherwise
+
+-- what is asked for where no slot is in use, and otherwise where each is: that the slot is in use is the last of the refusals
+abbrev pub begin_by : List Slot → ℕ → AskedOf → AskedOf → BeginOf
+begin_by slots end (Refused refusal) otherwise = Refuses (state_of refusal) (error_response refusal)
+begin_by slots end (Stream slot position) otherwise =
+    unless_fault (start_fault slots end slot position) slot (max position (confirmed_at slots slot)) otherwise
+
+abbrev pub every_slot : Served → List Bool
+every_slot served = replicate (length served.checked.catalog.subscriptions) true
+
+unfoldable pub begin_of : Served → List Slot → ℕ → List ℕ → BeginOf
+begin_of served slots kind body =
+    begin_by slots (end_after served.commits) (asked_of (offer_in served []) kind body) (asked_of (offer_in served (every_slot served)) kind body)
+
+-- a stream that has sent nothing has sent up to where it starts, or to 64 where that is 0
+abbrev pub first_sent : ℕ → ℕ
+first_sent start = if start == 0 then 64 else start
+
+abbrev pub begun : BeginOf → HearingOf → HearingOf
+begun (Begins slot start) h = record h {
+  started = Some (slot, start);
+  heard = record h.heard { started = Some start };
+  sent = first_sent start;
+  slots = slots.started h.slots slot;
+}
+begun (Refuses state bytes) h = record h { response = h.response ++ bytes; fault = Some (fault.BadStart state) }
+
+-- Terminate, `X`, ends the connection
+abbrev pub first_heard : Served → Frame → HearingOf → HearingOf
+first_heard served frame h = if frame.kind == 88 then ended_by 88 h else begun (begin_of served h.slots frame.kind frame.body) h
+
+-- ---- the next ones
+
+abbrev pub one_more : Bool → ℕ → ℕ
+one_more true replies = min (replies + 1) (2 ^ 32 - 1)
+one_more false replies = replies
+
+-- the flushed position is confirmed, if that much was sent and the log reaches there
+abbrev pub confirmed_by : Bool → ℕ → Status → HearingOf → HearingOf
+confirmed_by true slot status h = with_fault fault.StatusAhead h
+confirmed_by false slot status h = record h {
+  heard = record h.heard { replies = one_more status.wants_reply h.heard.replies };
+  slots = confirmed_up_to h.slots slot status.flushed;
+}
+
+abbrev pub status_heard : Served → ℕ → Status → HearingOf → HearingOf
+status_heard served slot status h = confirmed_by (nat_lt (min h.sent (end_after served.commits)) status.flushed) slot status h
+
+abbrev pub event_heard : Served → ℕ → Result Event LinkFault → HearingOf → HearingOf
+event_heard served slot (Err fault) h = with_fault fault h
+event_heard served slot (Ok (event.End kind)) h = ended_by kind h
+event_heard served slot (Ok (event.Status status)) h = status_heard served slot status h
+
+abbrev pub next_heard : Served → Frame → Option (ℕ × ℕ) → HearingOf → HearingOf
+next_heard served frame None h = first_heard served frame h
+next_heard served frame (Some started) h = event_heard served started.0 (event_of frame.kind frame.body) h
+
+-- ---- all frames: what comes after a fault or an end isn't read
+
+abbrev pub is_over_by : Option LinkFault → Option ℕ → Bool
+is_over_by (Some fault) kind = true
+is_over_by None (Some kind) = true
+is_over_by None None = false
+
+abbrev pub is_over : HearingOf → Bool
+is_over h = is_over_by h.fault h.heard.ended
+
+abbrev pub unless_over : Bool → HearingOf → HearingOf → HearingOf
+unless_over true h next = h
+unless_over false h next = next
+
+abbrev pub frame_heard : Served → HearingOf → Frame → HearingOf
+frame_heard served h frame = unless_over (is_over h) h (next_heard served frame h.started h)
+
+unfoldable pub frames_heard : Served → HearingOf → List Frame → HearingOf
+frames_heard served h [] = h
+frames_heard served h (frame ∷ frames) = frames_heard served (frame_heard served h frame) frames
+
+abbrev pub link_fault : FrameFault → LinkFault
+link_fault frame.BadLength = fault.BadLength
+link_fault frame.FrameTooLong = fault.FrameTooLong
+link_fault frame.OutOfMemory = fault.OutOfMemory
+
+-- the fault of a length comes after the frames before it
+abbrev pub then_fault : Option FrameFault → HearingOf → HearingOf
+then_fault None h = h
+then_fault (Some fault) h = unless_over (is_over h) h (with_fault (link_fault fault) h)
+
+-- all bytes that are there
+abbrev pub bytes_heard : Served → ℕ → List ℕ → HearingOf → HearingOf
+bytes_heard served limit bytes h = then_fault (fault_in limit bytes) (frames_heard served h (frames_of (cut limit bytes)))
+
+-- the bytes after the last whole frame
+abbrev pub rest_of : Cut → List ℕ
+rest_of (Rest bytes) = bytes
+rest_of (Bad fault bytes) = bytes
+rest_of (Then frame more) = rest_of more
+
+-- ---- what is answered
+
+abbrev pub answer_by : Option LinkFault → Heard → Result Heard LinkFault
+answer_by None heard = Ok heard
+answer_by (Some fault) heard = Err fault
+
+abbrev pub answer_of : HearingOf → Result Heard LinkFault
+answer_of h = answer_by h.fault h.heard

@@ -1,0 +1,138 @@
+-- What a voice is, the half of a connection's end that sends, and what its calls answer, send and leave ("55.4. Streaming Replication Protocol"). A voice that is closed says no more.
+use Rattle.std.specs.Prelude.{◌≡◌, ℕ, ◌+◌, Bool, true, false, if◌then◌else◌, List, [], ◌∷◌, ◌++◌, length, drop, Option, Some, None, Result, Ok, Err}
+use Rattle.std.specs.Arc.{arc_value}
+use Rattle.std.specs.List.{list_all}
+use Rattle.shard_checker.specs.CheckedView.{CheckedOf, checked_view}
+use Rattle.tables_log.specs.Commits.{CommitOf}
+use Rattle.copy_frames.specs.Contents.{copy_both_response, copy_done}
+use Rattle.copy_both.specs.Streams as streams
+use Rattle.copy_both.specs.Streams.{place_at, place_after, take_bytes, keep_bytes}
+use Rattle.copy_both.specs.Tellings.{spelled_for, telling_of, is_short}
+use Rattle.copy_both.specs.declared.link_fault.LinkFault.{LinkFault}
+use Rattle.copy_both.specs.declared.link_fault.LinkFault.TheVariants as fault
+use Rattle.copy_both.specs.declared.place.Place.{Place}
+use Rattle.copy_both.specs.declared.taken.Taken.{Taken}
+use Rattle.copy_both.specs.declared.taken.Taken.TheVariants as taken
+use Rattle.copy_both.specs.declared.voice.Stage.{Stage}
+use Rattle.copy_both.specs.declared.voice.Stage.TheVariants as stage
+use Rattle.copy_both.specs.declared.voice.Voice.{Voice}
+
+pub data StageOf : Type 0 where
+  NotStarted : StageOf
+  Started : streams.Place → StageOf
+  Closed : StageOf
+
+-- ---- views
+
+abbrev pub place_view : Place → streams.Place
+place_view place = record { slot = place.slot; done = place.done; told = place.told.items; sent = place.sent }
+
+abbrev pub stage_view : Stage → StageOf
+stage_view stage.NotStarted = NotStarted
+stage_view (stage.Started place) = Started (place_view place)
+stage_view stage.Closed = Closed
+
+abbrev pub voice_checked : Voice → CheckedOf
+voice_checked voice = checked_view (arc_value voice.checked)
+
+abbrev pub voice_stage : Voice → StageOf
+voice_stage voice = stage_view voice.stage
+
+-- what was said and not passed on
+abbrev pub voice_output : Voice → List ℕ
+voice_output voice = voice.out.items
+
+-- ---- what a call leaves
+
+-- these bytes are said, and the voice is there then
+pub record Says (old new : Voice) (bytes : List ℕ) (stage : StageOf) : Type 0 where
+  pub checked : voice_checked new ≡ voice_checked old
+  pub stage_is : voice_stage new ≡ stage
+  pub output : voice_output new ≡ voice_output old ++ bytes
+
+-- nothing is said, and from now on nothing will be
+pub record Closes (old new : Voice) : Type 0 where
+  pub checked : voice_checked new ≡ voice_checked old
+  pub stage_is : voice_stage new ≡ Closed
+  pub output : voice_output new ≡ voice_output old
+
+-- so many bytes are dropped of those that wait
+pub record Passes (old new : Voice) (count : ℕ) : Type 0 where
+  pub checked : voice_checked new ≡ voice_checked old
+  pub stage_is : voice_stage new ≡ voice_stage old
+  pub output : voice_output new ≡ drop count (voice_output old)
+
+-- where memory is refused no fault is told
+abbrev pub told_fault : LinkFault → Option LinkFault
+told_fault fault.OutOfMemory = None
+told_fault other = Some other
+
+-- ---- start: a voice starts once
+
+abbrev pub start_answer : StageOf → Result (Unit {0}) LinkFault
+start_answer NotStarted = Ok tt
+start_answer (Started place) = Err fault.Closed
+start_answer Closed = Err fault.Closed
+
+abbrev pub first_stage : CheckedOf → ℕ → ℕ → StageOf
+first_stage checked slot position = Started (place_at slot (length checked.catalog.tables) position)
+
+-- ---- a commit is taken up, or nothing is said
+
+-- a commit without a message for the subscriber is skipped; one with a message that no frame can carry is not sent
+abbrev pub told_answer : ℕ → List (List ℕ) → Result Taken LinkFault
+told_answer number [] = Ok (taken.Skipped number)
+told_answer number (first ∷ others) = if list_all is_short (first ∷ others) then Ok (taken.Sent number) else Err fault.FrameTooLong
+
+abbrev pub entry_answer : CheckedOf → StageOf → CommitOf → Result Taken LinkFault
+entry_answer checked NotStarted commit = Ok taken.NotStarted
+entry_answer checked (Started place) commit = told_answer commit.number (spelled_for checked place.slot place.told commit)
+entry_answer checked Closed commit = Err fault.Closed
+
+abbrev pub entry_bytes : CheckedOf → StageOf → CommitOf → ℕ → List ℕ
+entry_bytes checked NotStarted commit clock = []
+entry_bytes checked (Started place) commit clock = take_bytes (telling_of checked) place commit clock
+entry_bytes checked Closed commit clock = []
+
+abbrev pub entry_stage : CheckedOf → StageOf → CommitOf → StageOf
+entry_stage checked NotStarted commit = NotStarted
+entry_stage checked (Started place) commit = Started (place_after (telling_of checked) place commit)
+entry_stage checked Closed commit = Closed
+
+-- ---- keepalive
+
+abbrev pub keep_answer : StageOf → Result Bool LinkFault
+keep_answer NotStarted = Ok false
+keep_answer (Started place) = Ok true
+keep_answer Closed = Err fault.Closed
+
+abbrev pub kept_bytes : StageOf → ℕ → Bool → List ℕ
+kept_bytes NotStarted clock want = []
+kept_bytes (Started place) clock want = keep_bytes place clock want
+kept_bytes Closed clock want = []
+
+-- ---- the end: what has started is ended by CopyDone
+
+abbrev pub done_answer : StageOf → Result (Unit {0}) LinkFault
+done_answer NotStarted = Ok tt
+done_answer (Started place) = Ok tt
+done_answer Closed = Err fault.Closed
+
+abbrev pub done_bytes : StageOf → List ℕ
+done_bytes NotStarted = []
+done_bytes (Started place) = copy_done
+done_bytes Closed = []
+
+-- ---- what is asked of a voice
+
+-- the number of the commit that it takes next
+abbrev pub next_of : StageOf → Option ℕ
+next_of NotStarted = None
+next_of (Started place) = Some (place.done + 1)
+next_of Closed = None
+
+-- the sent position
+abbrev pub sent_of : StageOf → Option ℕ
+sent_of NotStarted = None
+sent_of (Started place) = Some place.sent
+sent_of Closed = None

@@ -1,0 +1,12 @@
+//! What was heard of a client.
+
+/// What was heard in a piece of what a client sends.
+#[derive(Clone, Copy, Debug, PartialEq, Eq)]
+pub struct Heard {
+    /// Where the stream starts in the log, in bytes, if it was started by the piece.
+    pub started: Option<u64>,
+    /// How many statuses wanted a reply, up to `u32::MAX`. Each is replied to by a keepalive.
+    pub replies: u32,
+    /// The kind of the frame that ended the connection: CopyDone, CopyFail or Terminate.
+    pub ended: Option<u8>,
+}

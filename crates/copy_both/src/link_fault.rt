@@ -1,0 +1,54 @@
+//! Why a connection is closed.
+
+use crate::sql_state::SqlState;
+use std::alloc::{AllocError, AllocFailed};
+use thiserror::Error;
+
+/// Why the publisher's end of a connection is closed.
+///
+/// PostgreSQL 15, 55.4. Streaming Replication Protocol.
+#[derive(Clone, Copy, Debug, PartialEq, Eq, Error)]
+pub enum LinkFault {
+    /// The length of a frame is more than the limit: 65,536 towards the publisher, 16,777,216 towards a subscriber.
+    #[error("a frame is longer than the limit")]
+    FrameTooLong,
+    /// The length of a frame is less than 4, or a status has another length than 34 bytes.
+    #[error("the length of a frame is less than 4, or that of a status is not 34")]
+    BadLength,
+    /// This is no kind of frame, or no first byte of CopyData, that a client may send while a stream runs.
+    #[error("a client can't send a frame or data of kind {0} while a stream runs")]
+    Unexpected(u8),
+    /// The start is refused, by an ErrorResponse with this code.
+    #[error("the start is refused: {0:?}")]
+    BadStart(SqlState),
+    /// A status has flushed more than was sent.
+    #[error("a status confirms more than was sent")]
+    StatusAhead,
+    /// The connection was closed before.
+    #[error("the connection is closed")]
+    Closed,
+    #[error("out of memory")]
+    OutOfMemory,
+}
+
+impl From<AllocError> for LinkFault {
+    ghost use Rattle.std.specs.Prelude.{◌≡◌};
+    ghost use Rattle.copy_both.specs.declared.link_fault.LinkFault.TheVariants.{OutOfMemory};
+
+    ghost from_gives = { λ _ fault. fault ≡ OutOfMemory };
+
+    fn from(_: AllocError) -> LinkFault {
+        LinkFault::OutOfMemory
+    }
+}
+
+impl<T: Drop> From<AllocFailed<T>> for LinkFault {
+    ghost use Rattle.std.specs.Prelude.{◌≡◌};
+    ghost use Rattle.copy_both.specs.declared.link_fault.LinkFault.TheVariants.{OutOfMemory};
+
+    ghost from_gives = { λ _ fault. fault ≡ OutOfMemory };
+
+    fn from(_: AllocFailed<T>) -> LinkFault {
+        LinkFault::OutOfMemory
+    }
+}

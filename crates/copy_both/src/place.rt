@@ -1,0 +1,93 @@
+//! Where a connection is in the log.
+
+ghost use Rattle.std.specs.Prelude.{◌<◌, ◌^◌};
+
+use crate::framing::append_messages;
+use crate::link_fault::LinkFault;
+use crate::taken::Taken;
+use bytes::BytesMut;
+use copy_frames::XLogData;
+use pgoutput_msgs::messages_of;
+use shard_checker::Checked;
+use std::alloc::{AllocError, Global};
+use tables_log::Commit;
+
+/// Where a connection is: its slot, how many commits of the log are done, by each table's number whether its Relation
+/// was sent, and the sent position.
+#[derive(Drop)]
+pub(crate) struct Place {
+    pub(crate) slot: usize,
+    pub(crate) done: u64,
+    pub(crate) told: Vec<bool>,
+    pub(crate) sent: u64,
+    ghost within: { done < 2 ^ 60 },
+}
+
+impl Place {
+    ghost use Rattle.std.specs.Prelude.{◌≡◌, ◌+◌, ◌++◌, IfOk, OnOk, OnErr};
+    ghost use Rattle.filter_tree.specs.Memory.{Answers};
+    ghost use Rattle.shard_checker.specs.CheckedView.{checked_view};
+    ghost use Rattle.copy_both.specs.Framing.{AreNarrow};
+    ghost use Rattle.copy_both.specs.Streams.{place_at, place_after, take_bytes};
+    ghost use Rattle.copy_both.specs.Tellings.{spelled_for, telling_of};
+    ghost use Rattle.copy_both.specs.Voices.{place_view, told_answer, told_fault};
+
+    /// Where a connection is that starts at the position, before the Relation of any of so many tables was sent.
+    pub(crate) fn new(
+        alloc: Global,
+        slot: usize,
+        tables: usize,
+        position: u64,
+    ) -> Result<Place, AllocError>
+        ensures { IfOk result (λ place. place_view place ≡ place_at slot tables position) }
+    {
+        let told = vec![in alloc; false; tables]?;
+        let sent = if position == 0 { 64 } else { position };
+        Ok(Place {
+            slot,
+            done: position.saturating_sub(1) / 64,
+            told,
+            sent,
+        })
+    }
+
+    /// Takes the next commit up, whose frames are added to `out`.
+    #[tactic(auto, using(crate::proofs::TableLemmas::narrow_fit))]
+    pub(crate) fn take(
+        &mut self,
+        alloc: Global,
+        checked: &Checked,
+        commit: &Commit,
+        now: u64,
+        out: &mut BytesMut,
+    ) -> Result<Taken, LinkFault>
+        requires narrow { AreNarrow (checked_view checked.now).catalog.tables }
+        requires next { commit.now.number ≡ self.old.done + 1 }
+        ensures answer { Answers (λ taken. taken) told_fault (told_answer commit.now.number
+            (spelled_for (checked_view checked.now) self.old.slot self.old.told.items commit.now)) result }
+        ensures place { OnOk result (place_view self.new
+            ≡ place_after (telling_of (checked_view checked.now)) (place_view self.old) commit.now) }
+        ensures said { OnOk result (out.new.items ≡ out.old.items
+            ++ take_bytes (telling_of (checked_view checked.now)) (place_view self.old) commit.now now) }
+        ensures err { OnErr result (out.new.items ≡ out.old.items) }
+    {
+        let messages = messages_of(alloc, checked, self.slot, commit, self.told.as_mut_slice())?;
+        let number = commit.number();
+        let lsn = 64 * u64::from(number);
+        let mut frames = BytesMut::new(alloc);
+        let head = XLogData {
+            start: lsn,
+            end: lsn,
+            clock: now,
+        };
+        append_messages(alloc, &messages, &head, &mut frames)?;
+        out.extend_from_slice(frames.as_slice())?;
+        self.done += 1;
+        self.sent = lsn + 64;
+        Ok(if messages.is_empty() {
+            Taken::Skipped(number)
+        } else {
+            Taken::Sent(number)
+        })
+    }
+}

@@ -1,0 +1,191 @@
+//! What the frames of a client do, one after another.
+
+ghost use Rattle.std.specs.Prelude.{◌≡◌, length, IfOk, OnOk, OnErr};
+ghost use Rattle.tables_log.specs.BookView.{book_log, book_slots};
+ghost use Rattle.tables_log.specs.Slots.{end_after};
+ghost use Rattle.copy_both.specs.Events.{event_of};
+ghost use Rattle.copy_both.specs.Hearing as spec;
+ghost use Rattle.copy_both.specs.Sessions.{served_by, hearing_view, asked_in, begin_in, Hears, Begins, KeepsRest, IsSameBook, IsSameSession};
+ghost use Rattle.copy_both.specs.StartAnswers.{told, sent_after};
+
+use crate::answer::{Asked, answer_start};
+use crate::event::{Event, event_of};
+use crate::heard::Heard;
+use crate::link_fault::LinkFault;
+use crate::sql_state::SqlState;
+use crate::start_order::Offer;
+use bytes::BytesMut;
+use copy_frames::{Frame, Status};
+use shard_checker::Checked;
+use std::alloc::{AllocError, Global};
+use std::sync::Arc;
+use tables_log::Book;
+
+/// What was agreed with a client: the slot that streams and where in the log the stream starts, in bytes, or the response
+/// to a start that was refused.
+#[derive(Drop)]
+pub(crate) struct Session {
+    pub(crate) alloc: Global,
+    pub(crate) checked: Arc<Checked, Global>,
+    pub(crate) started: Option<(usize, u64)>,
+    pub(crate) response: BytesMut,
+}
+
+/// What was heard in a piece so far, and the sent position.
+#[derive(Clone, Copy)]
+pub(crate) struct Hearing {
+    pub(crate) heard: Heard,
+    pub(crate) sent: u64,
+}
+
+impl Session {
+    /// Hears the next frame.
+    pub(crate) fn hear(
+        &mut self,
+        frame: &Frame,
+        book: &mut Book,
+        hearing: &mut Hearing,
+    ) -> Result<(), LinkFault>
+        ensures kept { KeepsRest self.old self.new book.old book.new }
+        ensures heard { Hears
+            (spec.next_heard (served_by self.old book.old) frame.now self.old.started
+            (hearing_view self.old hearing.old book.old))
+            (hearing_view self.old hearing.old book.old) (hearing_view self.new hearing.new book.new) result }
+    {
+        match self.started {
+            None => self.hear_first(frame, book, hearing),
+            Some((slot, _)) => self.hear_next(slot, frame, book, hearing),
+        }
+    }
+
+    fn hear_first(
+        &mut self,
+        frame: &Frame,
+        book: &mut Book,
+        hearing: &mut Hearing,
+    ) -> Result<(), LinkFault>
+        ensures kept { KeepsRest self.old self.new book.old book.new }
+        ensures heard { Hears
+            (spec.first_heard (served_by self.old book.old) frame.now (hearing_view self.old hearing.old book.old))
+            (hearing_view self.old hearing.old book.old) (hearing_view self.new hearing.new book.new) result }
+    {
+        if frame.kind == b'X' {
+            hearing.heard.ended = Some(b'X');
+            return Ok(());
+        }
+        let (slot, start) = self.begin(frame, book)?;
+        self.started = Some((slot, start));
+        hearing.heard.started = Some(start);
+        hearing.sent = if start == 0 { 64 } else { start };
+        Ok(())
+    }
+
+    /// Takes the slot that the frame asks for; the answer is the slot and where its stream starts.
+    fn begin(&mut self, frame: &Frame, book: &mut Book) -> Result<(usize, u64), LinkFault>
+        ensures kept { KeepsRest self.old self.new book.old book.new }
+        ensures started { self.new.started ≡ self.old.started }
+        ensures begun { Begins (begin_in self.old book.old frame.now) (book_slots book.old) (book_slots book.new)
+            self.old.response.items self.new.response.items result }
+    {
+        match self.ask(frame, book, &[])? {
+            Asked::Refused(state) => Err(LinkFault::BadStart(state)),
+            Asked::Stream { slot, position } => match book.start(slot, position) {
+                Ok(start) => Ok((slot, start)),
+                Err(_) => self.refuse(frame, book),
+            },
+        }
+    }
+
+    /// Refuses a start whose slot can't be had.
+    fn refuse(&mut self, frame: &Frame, book: &Book) -> Result<(usize, u64), LinkFault>
+        ensures kept { IsSameSession self.old self.new }
+        ensures refused { Begins (spec.refusing (asked_in self.old book.now frame.now
+            (spec.every_slot (served_by self.old book.now)))) (book_slots book.now) (book_slots book.now)
+            self.old.response.items self.new.response.items result }
+    {
+        let slots = self.checked.catalog().subscriptions.len();
+        let in_use = vec![in self.alloc; true; slots]?;
+        match self.ask(frame, book, in_use.as_slice())? {
+            Asked::Refused(state) => Err(LinkFault::BadStart(state)),
+            Asked::Stream { .. } => Err(LinkFault::BadStart(SqlState::ObjectInUse)),
+        }
+    }
+
+    /// What the frame asks for, where these slots are in use.
+    fn ask(&mut self, frame: &Frame, book: &Book, in_use: &[bool]) -> Result<Asked, AllocError>
+        ensures kept { IsSameSession self.old self.new }
+        ensures asked { IfOk result (λ asked. asked ≡ told (asked_in self.old book.now frame.now in_use.now)) }
+        ensures ok { OnOk result (self.new.response.items
+            ≡ sent_after self.old.response.items (asked_in self.old book.now frame.now in_use.now)) }
+        ensures err { OnErr result (self.new.response.items ≡ self.old.response.items) }
+    {
+        let catalog = self.checked.catalog();
+        let offer = Offer {
+            publications: &catalog.publications,
+            subscriptions: &catalog.subscriptions,
+            log_end: end_of(book),
+            in_use,
+        };
+        Ok(answer_start(
+            self.alloc,
+            &offer,
+            frame.kind,
+            frame.body.as_slice(),
+            &mut self.response,
+        )?)
+    }
+
+    /// Hears a frame while the stream of this slot runs.
+    fn hear_next(
+        &self,
+        slot: usize,
+        frame: &Frame,
+        book: &mut Book,
+        hearing: &mut Hearing,
+    ) -> Result<(), LinkFault>
+        ensures kept { IsSameBook book.old book.new }
+        ensures heard { Hears
+            (spec.event_heard (served_by self.now book.old) slot (event_of frame.now.kind frame.now.body)
+            (hearing_view self.now hearing.old book.old))
+            (hearing_view self.now hearing.old book.old) (hearing_view self.now hearing.new book.new) result }
+    {
+        match event_of(frame.kind, frame.body.as_slice())? {
+            Event::Status(status) => self.hear_status(slot, &status, book, hearing),
+            Event::End(kind) => {
+                hearing.heard.ended = Some(kind);
+                Ok(())
+            }
+        }
+    }
+
+    /// Confirms what a status says is flushed.
+    fn hear_status(
+        &self,
+        slot: usize,
+        status: &Status,
+        book: &mut Book,
+        hearing: &mut Hearing,
+    ) -> Result<(), LinkFault>
+        ensures kept { IsSameBook book.old book.new }
+        ensures heard { Hears
+            (spec.status_heard (served_by self.now book.old) slot status.now
+            (hearing_view self.now hearing.old book.old))
+            (hearing_view self.now hearing.old book.old) (hearing_view self.now hearing.new book.new) result }
+    {
+        let sent = hearing.sent.min(end_of(book));
+        if book.confirm(slot, status.flushed, sent).is_err() {
+            return Err(LinkFault::StatusAhead);
+        }
+        if status.wants_reply {
+            hearing.heard.replies = hearing.heard.replies.saturating_add(1);
+        }
+        Ok(())
+    }
+}
+
+/// Where the log ends, in bytes.
+fn end_of(book: &Book) -> u64
+    ensures { result ≡ end_after (length (book_log book.now)) }
+{
+    64 * u64::from(book.log_len()) + 64
+}

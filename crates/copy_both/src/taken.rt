@@ -1,0 +1,14 @@
+//! What becomes of the next commit.
+
+/// What becomes of the next commit of the log on a connection.
+#[derive(Clone, Copy, Debug, PartialEq, Eq)]
+pub enum Taken {
+    /// The stream has not started.
+    NotStarted,
+    /// The log has no further commit.
+    Idle,
+    /// The commit of this number has no change for the subscriber.
+    Skipped(u32),
+    /// The messages of the commit of this number are in the output.
+    Sent(u32),
+}

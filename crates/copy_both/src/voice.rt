@@ -1,0 +1,258 @@
+//! The half of a connection's end that sends.
+
+ghost use Rattle.std.specs.Arc.{arc_value};
+ghost use Rattle.shard_checker.specs.CheckedView.{checked_view};
+ghost use Rattle.copy_both.specs.Framing.{AreNarrow};
+
+use crate::link_fault::LinkFault;
+use crate::place::Place;
+use crate::taken::Taken;
+use bytes::BytesMut;
+use copy_frames::{Keepalive, append_copy_both_response, append_copy_done, append_keepalive};
+use shard_checker::Checked;
+use std::alloc::Global;
+use std::sync::Arc;
+use tables_log::Commit;
+
+/// How far a voice is.
+#[derive(Drop)]
+pub(crate) enum Stage {
+    NotStarted,
+    Started(Place),
+    Closed,
+}
+
+/// The half of a connection's end that sends: where it is in the log, the tables whose Relation was sent, and the output
+/// that waits. It needs neither the tables nor the log, so that it may run in a thread of its own.
+///
+/// The first fault closes it, and so does its end; from then on each call that speaks answers `Closed`. What waits stays
+/// as whole frames.
+///
+/// PostgreSQL 15, 55.4. Streaming Replication Protocol.
+#[derive(Drop)]
+pub struct Voice {
+    alloc: Global,
+    checked: Arc<Checked, Global>,
+    stage: Stage,
+    out: BytesMut,
+    ghost narrow: { AreNarrow (checked_view (arc_value checked)).catalog.tables },
+}
+
+impl Voice {
+    ghost use Rattle.std.specs.Prelude.{◌≡◌, ◌≤◌, ◌++◌, [], length, IfSome, OnOk, OnErr};
+    ghost use Rattle.std.specs.Arc.{arc_value};
+    ghost use Rattle.filter_tree.specs.Memory.{Answers};
+    ghost use Rattle.pub_reader.specs.CatalogLimits.{IsLimited};
+    ghost use Rattle.shard_checker.specs.CheckedView.{checked_view};
+    ghost use Rattle.copy_frames.specs.Contents.{copy_both_response};
+    ghost use Rattle.copy_both.specs.Voices as spec;
+    ghost use Rattle.copy_both.specs.Voices.{Says, Closes, told_fault, voice_checked, voice_stage, voice_output};
+
+    /// A voice that has not started and has nothing to say.
+    #[tactic(auto, using(crate::proofs::TableLemmas::limited_narrow))]
+    pub fn new(alloc: Global, checked: Arc<Checked, Global>) -> Voice
+        requires { IsLimited (checked_view (arc_value checked)).catalog }
+        ensures checked { voice_checked result ≡ checked_view (arc_value checked) }
+        ensures stage { voice_stage result ≡ spec.NotStarted }
+        ensures output { voice_output result ≡ [] }
+    {
+        Voice {
+            alloc,
+            checked,
+            stage: Stage::NotStarted,
+            out: BytesMut::new(alloc),
+        }
+    }
+
+    /// Starts the stream of a slot at a position of the log, in bytes: says CopyBothResponse. The commits from there on
+    /// are to be taken.
+    ///
+    /// # Errors
+    ///
+    /// `Closed` where it was started before; `OutOfMemory`. Each closes it.
+    pub fn start(&mut self, slot: usize, position: u64) -> Result<(), LinkFault>
+        ensures answer { Answers (λ done. done) told_fault (spec.start_answer (voice_stage self.old)) result }
+        ensures ok { OnOk result (Says self.old self.new copy_both_response
+            (spec.first_stage (voice_checked self.old) slot position)) }
+        ensures err { OnErr result (Closes self.old self.new) }
+    {
+        let started = self.begin(slot, position);
+        if started.is_err() {
+            self.close();
+        }
+        started
+    }
+
+    fn begin(&mut self, slot: usize, position: u64) -> Result<(), LinkFault>
+        ensures answer { Answers (λ done. done) told_fault (spec.start_answer (voice_stage self.old)) result }
+        ensures ok { OnOk result (Says self.old self.new copy_both_response
+            (spec.first_stage (voice_checked self.old) slot position)) }
+        ensures checked { voice_checked self.new ≡ voice_checked self.old }
+        ensures err { OnErr result (voice_output self.new ≡ voice_output self.old) }
+    {
+        match self.stage {
+            Stage::NotStarted => {}
+            Stage::Started(_) | Stage::Closed => return Err(LinkFault::Closed),
+        }
+        let tables = self.checked.catalog().tables.len();
+        let place = Place::new(self.alloc, slot, tables, position)?;
+        append_copy_both_response(&mut self.out)?;
+        self.stage = Stage::Started(place);
+        Ok(())
+    }
+
+    /// Takes the next commit up: says the messages that tell the subscriber of it, each in an XLogData at the commit's
+    /// position. `now` is the clock, in microseconds since 2000-01-01. A commit without a change for the subscriber is
+    /// skipped. The commit is that of the number `next()`, where there is one.
+    ///
+    /// It takes time for the commit's changes and messages.
+    ///
+    /// # Errors
+    ///
+    /// `Closed`; `FrameTooLong` where a message has more than 16,777,187 bytes; `OutOfMemory`. Each closes it, and nothing
+    /// of the commit is said.
+    pub fn take_entry(&mut self, commit: &Commit, now: u64) -> Result<Taken, LinkFault>
+        requires { IfSome (spec.next_of (voice_stage self.old)) (λ next. commit.now.number ≡ next) }
+        ensures answer { Answers (λ taken. taken) told_fault
+            (spec.entry_answer (voice_checked self.old) (voice_stage self.old) commit.now) result }
+        ensures ok { OnOk result (Says self.old self.new
+            (spec.entry_bytes (voice_checked self.old) (voice_stage self.old) commit.now now)
+            (spec.entry_stage (voice_checked self.old) (voice_stage self.old) commit.now)) }
+        ensures err { OnErr result (Closes self.old self.new) }
+    {
+        let taken = self.tell(commit, now);
+        if taken.is_err() {
+            self.close();
+        }
+        taken
+    }
+
+    fn tell(&mut self, commit: &Commit, now: u64) -> Result<Taken, LinkFault>
+        requires { IfSome (spec.next_of (voice_stage self.old)) (λ next. commit.now.number ≡ next) }
+        ensures answer { Answers (λ taken. taken) told_fault
+            (spec.entry_answer (voice_checked self.old) (voice_stage self.old) commit.now) result }
+        ensures ok { OnOk result (Says self.old self.new
+            (spec.entry_bytes (voice_checked self.old) (voice_stage self.old) commit.now now)
+            (spec.entry_stage (voice_checked self.old) (voice_stage self.old) commit.now)) }
+        ensures checked { voice_checked self.new ≡ voice_checked self.old }
+        ensures err { OnErr result (voice_output self.new ≡ voice_output self.old) }
+    {
+        match &mut self.stage {
+            Stage::NotStarted => Ok(Taken::NotStarted),
+            Stage::Closed => Err(LinkFault::Closed),
+            Stage::Started(place) => {
+                place.take(self.alloc, &self.checked, commit, now, &mut self.out)
+            }
+        }
+    }
+
+    /// Says a keepalive with the sent position and this clock, in microseconds since 2000-01-01, which may want a status.
+    /// The answer is false where the stream has not started: then nothing is said.
+    ///
+    /// # Errors
+    ///
+    /// `Closed`; `OutOfMemory`, which closes it.
+    pub fn keepalive(&mut self, now: u64, want: bool) -> Result<bool, LinkFault>
+        ensures answer { Answers (λ said. said) told_fault (spec.keep_answer (voice_stage self.old)) result }
+        ensures ok { OnOk result (Says self.old self.new (spec.kept_bytes (voice_stage self.old) now want)
+            (voice_stage self.old)) }
+        ensures err { OnErr result (Closes self.old self.new) }
+    {
+        let said = self.keep(now, want);
+        if said.is_err() {
+            self.close();
+        }
+        said
+    }
+
+    fn keep(&mut self, now: u64, want: bool) -> Result<bool, LinkFault>
+        ensures answer { Answers (λ said. said) told_fault (spec.keep_answer (voice_stage self.old)) result }
+        ensures ok { OnOk result (Says self.old self.new (spec.kept_bytes (voice_stage self.old) now want)
+            (voice_stage self.old)) }
+        ensures checked { voice_checked self.new ≡ voice_checked self.old }
+        ensures err { OnErr result (voice_output self.new ≡ voice_output self.old) }
+    {
+        let position = match &self.stage {
+            Stage::NotStarted => return Ok(false),
+            Stage::Closed => return Err(LinkFault::Closed),
+            Stage::Started(place) => place.sent,
+        };
+        let keepalive = Keepalive {
+            position,
+            clock: now,
+            wants_reply: want,
+        };
+        append_keepalive(&mut self.out, &keepalive)?;
+        Ok(true)
+    }
+
+    /// Ends the stream: says CopyDone, where it has started, and closes.
+    ///
+    /// # Errors
+    ///
+    /// `Closed`; `OutOfMemory`.
+    pub fn done(&mut self) -> Result<(), LinkFault>
+        ensures answer { Answers (λ done. done) told_fault (spec.done_answer (voice_stage self.old)) result }
+        ensures ok { OnOk result (Says self.old self.new (spec.done_bytes (voice_stage self.old)) spec.Closed) }
+        ensures err { OnErr result (Closes self.old self.new) }
+    {
+        let ended = self.end();
+        self.close();
+        ended
+    }
+
+    fn end(&mut self) -> Result<(), LinkFault>
+        ensures answer { Answers (λ done. done) told_fault (spec.done_answer (voice_stage self.old)) result }
+        ensures checked { voice_checked self.new ≡ voice_checked self.old }
+        ensures ok { OnOk result (voice_output self.new ≡ voice_output self.old ++ spec.done_bytes (voice_stage self.old)) }
+        ensures err { OnErr result (voice_output self.new ≡ voice_output self.old) }
+    {
+        match self.stage {
+            Stage::NotStarted => Ok(()),
+            Stage::Closed => Err(LinkFault::Closed),
+            Stage::Started(_) => Ok(append_copy_done(&mut self.out)?),
+        }
+    }
+
+    pub(crate) fn close(&mut self)
+        ensures { Closes self.old self.new }
+    {
+        self.stage = Stage::Closed;
+    }
+
+    /// The number of the commit that is to be taken next, where the stream has started.
+    pub fn next(&self) -> Option<u64>
+        ensures { result ≡ spec.next_of (voice_stage self.now) }
+    {
+        match &self.stage {
+            Stage::NotStarted | Stage::Closed => None,
+            Stage::Started(place) => Some(place.done + 1),
+        }
+    }
+
+    /// The sent position, in bytes, where the stream has started: where the last commit that was taken ends; where none
+    /// was, where the stream started, which is 64 for a start at 0.
+    pub fn sent(&self) -> Option<u64>
+        ensures { result ≡ spec.sent_of (voice_stage self.now) }
+    {
+        match &self.stage {
+            Stage::NotStarted | Stage::Closed => None,
+            Stage::Started(place) => Some(place.sent),
+        }
+    }
+
+    /// What waits to be sent.
+    pub fn output(&self) -> &[u8]
+        ensures { result.now ≡ voice_output self.now }
+    {
+        self.out.as_slice()
+    }
+
+    /// Drops so many of the first bytes that wait, without a copy of the others.
+    pub fn passed(&mut self, count: usize)
+        requires { count ≤ length (voice_output self.old) }
+        ensures { spec.Passes self.old self.new count }
+    {
+        self.out.advance(count);
+    }
+}
