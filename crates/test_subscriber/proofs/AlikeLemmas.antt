@@ -55,7 +55,7 @@ same_both (Err a) (Err b) (Ok c) first second = absurd second
 
 -- ---- TRUNCATE
 
-same_table : (one other : Machine) (oid : ℕ) → Alike one other → table_of one oid ≡ table_of other oid
+pub same_table : (one other : Machine) (oid : ℕ) → Alike one other → table_of one oid ≡ table_of other oid
 same_table one other oid alike =
     ap (λ known. if known then one.kept oid else None) (alike.known oid) ∙ ap (λ shape. if other.known oid then shape else None) (alike.kept oid)
 

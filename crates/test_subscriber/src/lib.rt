@@ -2,6 +2,8 @@
 #![tactic(auto)]
 
 mod fault;
+mod frames;
+mod laws;
 mod passes;
 mod phase;
 mod reading;
@@ -11,9 +13,4 @@ mod shape;
 mod table_copy;
 
 pub use fault::SubFault;
-
-#[cfg(test)]
-mod tests {
-    #[test]
-    fn nothing() {}
-}
+pub use laws::machines_hear_alike;

@@ -15,11 +15,11 @@ use std::alloc::Global;
 /// What a subscriber has: how far it is, and its copies of tables.
 #[derive(Drop)]
 pub(crate) struct Replica {
-    alloc: Global,
-    phase: Phase,
-    position: u64,
-    wants_reply: bool,
-    copies: Vec<TableCopy>,
+    pub(crate) alloc: Global,
+    pub(crate) phase: Phase,
+    pub(crate) position: u64,
+    pub(crate) wants_reply: bool,
+    pub(crate) copies: Vec<TableCopy>,
 }
 
 impl Replica {

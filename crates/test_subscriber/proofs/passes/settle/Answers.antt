@@ -1,7 +1,6 @@
 use Rattle.std.proofs.Common.{ap, arith}
 use Rattle.test_subscriber.specs.Copies.{SettlesCopy}
 use Rattle.test_subscriber.specs.declared.shape.TableShape.{TableShape}
-use Rattle.test_subscriber.specs.declared.table_copy.TableCopy.{TableCopy}
 use Rattle.test_subscriber.proofs.CopyLemmas.{begins, goes_on, all_done}
 use Rattle.test_subscriber.proofs.passes.settle.Goals as goal
 

@@ -1,8 +1,7 @@
-use Rattle.std.proofs.Common.{◌≡◌, ◌+◌, length, drop, map, sym, ◌∙◌, ap, arith, ◌++◌, ◌∷◌, []}
+use Rattle.std.proofs.Common.{◌≡◌, ◌+◌, drop, map, sym, ◌∙◌, ap, arith, ◌++◌, ◌∷◌, []}
 use Rattle.std.proofs.lemmas.List.{map-append}
-use Rattle.std.specs.Prelude.{Option, Some, None}
+use Rattle.std.specs.Prelude.{Some, None}
 use Rattle.std.specs.Option.{option_map}
-use Rattle.filter_tree.specs.Datum.{Datum}
 use Rattle.filter_tree.specs.Values.{datum_view}
 use Rattle.filter_tree.specs.declared.table.ColType.TheVariants.{SmallInt}
 use Rattle.pgoutput_msgs.specs.ValueText.{row_in}

@@ -1,6 +1,5 @@
 use Rattle.std.specs.Vec.{with_items}
-use Rattle.test_subscriber.specs.declared.replica.Replica.{Replica}
-use Rattle.std.proofs.Common.{◌≡◌, ℕ, max, ap, subst, sym, ◌∙◌, length, take, drop, ◌++◌, List}
+use Rattle.std.proofs.Common.{ℕ, max, ap, subst, sym, ◌∙◌, length, List}
 use Rattle.test_subscriber.specs.Machine.{Alike}
 use Rattle.test_subscriber.specs.Hearing.{committed}
 use Rattle.test_subscriber.specs.Views.{machine_with, machine_of}

@@ -1,4 +1,4 @@
-use Rattle.std.proofs.Common.{◌≡◌, List, sym, ◌∙◌, subst}
+use Rattle.std.proofs.Common.{List, sym, ◌∙◌, subst}
 use Rattle.test_subscriber.specs.Answers.{Reaches}
 use Rattle.test_subscriber.specs.Hearing.{hear_relation}
 use Rattle.test_subscriber.specs.Views.{machine_with, machine_of}

@@ -1,4 +1,4 @@
-use Rattle.std.proofs.Common.{◌≡◌, true, false, sym, ◌∙◌, subst}
+use Rattle.std.proofs.Common.{◌≡◌, true, sym, ◌∙◌, subst}
 use Rattle.test_subscriber.specs.SameRelation.{same_relation}
 use Rattle.test_subscriber.specs.declared.table_copy.TableCopy.{TableCopy}
 use Rattle.test_subscriber.proofs.CopyLemmas.{read_same, place_within}

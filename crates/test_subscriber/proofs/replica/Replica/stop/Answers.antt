@@ -1,4 +1,4 @@
-use Rattle.std.proofs.Common.{◌≡◌, ap, subst, sym, ◌∙◌, length, take, drop, ◌++◌, List}
+use Rattle.std.proofs.Common.{ap, subst, sym, ◌∙◌, length, List}
 use Rattle.test_subscriber.specs.Machine.{Alike, stopped}
 use Rattle.test_subscriber.specs.Views.{machine_with, machine_of}
 use Rattle.test_subscriber.specs.declared.phase.Phase.TheVariants.{Shut}

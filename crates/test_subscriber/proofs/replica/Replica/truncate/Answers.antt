@@ -1,5 +1,4 @@
-use Rattle.std.proofs.Common.{rules, arith, get_or, drop, ◌+◌}
-use Rattle.test_subscriber.specs.Answers.{Stays}
+use Rattle.std.proofs.Common.{rules, arith}
 use Rattle.test_subscriber.specs.Copies.{RefusedBy}
 use Rattle.test_subscriber.specs.Hearing.{hear_truncate}
 use Rattle.test_subscriber.specs.Machine.{stopped}
