@@ -21,3 +21,4 @@ pub use book::Book;
 pub use commit::Commit;
 pub use error::{CommandFault, CommitError, StartError, StatusAhead};
 pub use laws::{books_stand_for_transactions, listed_rows_are_the_table};
+pub use staged::Staged;

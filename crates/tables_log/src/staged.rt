@@ -149,7 +149,7 @@ impl<V: Drop> Staged<V> {
     ghost use Rattle.tables_log.specs.Staging.{kept, seen, kept_values, Keeps, Puts, Empties, Settles, Discards};
 
     /// A map without any key.
-    pub(crate) fn new(alloc: Global) -> Staged<V>
+    pub fn new(alloc: Global) -> Staged<V>
         ensures kept { (key : List Datum) → kept result key ≡ None }
         ensures seen { (key : List Datum) → seen result key ≡ None }
     {
@@ -162,7 +162,7 @@ impl<V: Drop> Staged<V> {
     }
 
     /// What is seen under the key.
-    pub(crate) fn find(&self, key: &Row) -> Option<&V>
+    pub fn find(&self, key: &Row) -> Option<&V>
         ensures { option_map (λ value. value.now) result ≡ seen self.now key.now }
     {
         match self.overlay.get(key) {
@@ -173,7 +173,7 @@ impl<V: Drop> Staged<V> {
     }
 
     /// What is kept under the key.
-    pub(crate) fn get(&self, key: &Row) -> Option<&V>
+    pub fn get(&self, key: &Row) -> Option<&V>
         ensures { option_map (λ value. value.now) result ≡ kept self.now key.now }
     {
         match self.base.get(key) {
@@ -184,7 +184,7 @@ impl<V: Drop> Staged<V> {
 
     /// All that is kept, in the order of the keys. The only error is want of memory.
     #[tactic(auto, using(crate::proofs::ListingLemmas::lists_map))]
-    pub(crate) fn values(&self) -> Result<Vec<&V>, AllocError>
+    pub fn values(&self) -> Result<Vec<&V>, AllocError>
         ensures shows { IfOk result (λ values. map (λ value. value.now) values.items ≡ kept_values self.now) }
         ensures found { OnOk result (ListsFound (kept self.now) (kept_values self.now)) }
     {
@@ -198,7 +198,7 @@ impl<V: Drop> Staged<V> {
     }
 
     /// Puts the value under the key, or none. What is kept stays. The only error is want of memory.
-    pub(crate) fn stage(&mut self, key: Row, value: Option<V>) -> Result<(), AllocError>
+    pub fn stage(&mut self, key: Row, value: Option<V>) -> Result<(), AllocError>
         ensures keeps { Keeps self.old self.new }
         ensures puts { OnOk result (Puts self.old self.new key value) }
     {
@@ -210,7 +210,7 @@ impl<V: Drop> Staged<V> {
     }
 
     /// Takes every key away. What is kept stays.
-    pub(crate) fn empty(&mut self)
+    pub fn empty(&mut self)
         ensures keeps { Keeps self.old self.new }
         ensures empties { Empties self.new }
     {
@@ -219,7 +219,7 @@ impl<V: Drop> Staged<V> {
     }
 
     /// Keeps what is seen.
-    pub(crate) fn settle(&mut self)
+    pub fn settle(&mut self)
         ensures { Settles self.old self.new }
     {
         if self.emptied {
@@ -231,7 +231,7 @@ impl<V: Drop> Staged<V> {
     }
 
     /// Forgets the changes: what is kept is seen.
-    pub(crate) fn discard(&mut self)
+    pub fn discard(&mut self)
         ensures { Discards self.old self.new }
     {
         sweep(&mut self.base, &mut self.overlay);

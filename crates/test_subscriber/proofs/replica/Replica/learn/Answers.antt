@@ -1,0 +1,20 @@
+use Rattle.std.proofs.Common.{List, sym, ◌∙◌, subst}
+use Rattle.test_subscriber.specs.Answers.{Reaches}
+use Rattle.test_subscriber.specs.Hearing.{hear_relation}
+use Rattle.test_subscriber.specs.Views.{machine_with, machine_of}
+use Rattle.test_subscriber.specs.declared.table_copy.TableCopy.{TableCopy}
+use Rattle.test_subscriber.proofs.RelationLemmas.{unknown_type, learns}
+use Rattle.test_subscriber.proofs.replica.Replica.learn.Goals as goal
+
+pub returns-in_default-clause-fault : goal.returns-in_default-clause-fault
+returns-in_default-clause-fault c =
+    unknown_type c.args.self.now.phase c.args.self.now.position c.args.self.now.wants_reply c.args.self.now.copies.items c.args.relation c.requires
+    (sym c.in_ok-shape.ensures ∙ c.in_default.is)
+
+pub returns-clause-ok : goal.returns-clause-ok
+returns-clause-ok c =
+    subst (λ (xs : List TableCopy). Reaches (machine_with c.args.self.now.phase c.args.self.now.position c.args.self.now.wants_reply xs)
+    (hear_relation c.args.relation (machine_of c.args.self.now)))
+    (sym c.in_ok-push.ensures.items)
+    (learns c.args.self.now.phase c.args.self.now.position c.args.self.now.wants_reply c.args.self.now.copies.items c.args.relation c.requires
+    c.in-Some.shape c.new.result (sym c.in_ok-shape.ensures ∙ c.in-Some.is) c.new.ensures.shape c.new.ensures.known c.new.ensures.kept c.new.ensures.seen)

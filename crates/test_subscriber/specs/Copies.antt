@@ -1,0 +1,55 @@
+-- What calls do to a subscriber's copy of a table, in which the changes of a transaction are staged until it commits: PostgreSQL 15, 3.4. Transactions.
+use Rattle.std.specs.Prelude.{◌≡◌, Bool, false, List, Option, Some, None, Result, Ok, Err}
+use Rattle.filter_tree.specs.Datum.{Datum}
+use Rattle.filter_tree.specs.Memory.{TellsFault}
+use Rattle.tables_log.specs.Staging.{kept, seen}
+use Rattle.test_subscriber.specs.RowChanges.{Found}
+use Rattle.test_subscriber.specs.declared.fault.SubFault.{SubFault}
+use Rattle.test_subscriber.specs.declared.fault.SubFault.TheVariants.{Frame, Msg, OutOfPlace, NoRelation, BadValue, DuplicateKey, Refused, Closed, OutOfMemory}
+use Rattle.test_subscriber.specs.declared.table_copy.TableCopy.{TableCopy}
+
+-- the fault that an error tells, if it tells one
+abbrev pub told : SubFault → Option SubFault
+told (Frame fault) = Some (Frame fault)
+told (Msg fault) = Some (Msg fault)
+told OutOfPlace = Some OutOfPlace
+told (NoRelation oid) = Some (NoRelation oid)
+told BadValue = Some BadValue
+told DuplicateKey = Some DuplicateKey
+told (Refused code) = Some (Refused code)
+told Closed = Some Closed
+told OutOfMemory = None
+
+-- the error is that of the answer, or memory was refused
+abbrev pub RefusedBy : {A : Type 0} → Result A SubFault → SubFault → Type 0
+RefusedBy answer error = TellsFault (told error) answer
+
+-- the rows that are found are those of the answer
+abbrev pub Leaves : Result Found SubFault → Found → Type 0
+Leaves (Ok wanted) found = (key : List Datum) → found key ≡ wanted key
+Leaves (Err fault) found = ⊥
+
+-- all but the changes that are staged
+pub record StaysCopy (old new : TableCopy) : Type 0 where
+  pub shape : new.shape ≡ old.shape
+  pub is_known : new.is_known ≡ old.is_known
+  pub keeps : (key : List Datum) → kept new.rows key ≡ kept old.rows key
+
+-- what was seen of a copy is kept
+pub record SettlesCopy (old new : TableCopy) : Type 0 where
+  pub shape : new.shape ≡ old.shape
+  pub is_known : new.is_known ≡ old.is_known
+  pub keeps : (key : List Datum) → kept new.rows key ≡ seen old.rows key
+  pub sees : (key : List Datum) → seen new.rows key ≡ seen old.rows key
+
+-- what was kept of it is seen, and its Relation has to come again
+pub record ForgetsCopy (old new : TableCopy) : Type 0 where
+  pub shape : new.shape ≡ old.shape
+  pub is_known : new.is_known ≡ false
+  pub keeps : (key : List Datum) → kept new.rows key ≡ kept old.rows key
+  pub sees : (key : List Datum) → seen new.rows key ≡ kept old.rows key
+
+abbrev pub OfEach : (TableCopy → TableCopy → Type 0) → Option TableCopy → Option TableCopy → Type 0
+OfEach Does None None = Unit {0}
+OfEach Does (Some old) (Some new) = Does old new
+OfEach Does old new = ⊥

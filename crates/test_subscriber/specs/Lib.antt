@@ -1,0 +1,10 @@
+pub mod Answers
+pub mod Copies
+pub mod Frames
+pub mod Hearing
+pub mod Machine
+pub mod MachineLaws
+pub mod RowChanges
+pub mod SameRelation
+pub mod Shapes
+pub mod Views

@@ -1,0 +1,57 @@
+//! Why a subscriber stops.
+
+ghost use Rattle.std.specs.Prelude.{◌≡◌};
+ghost use Rattle.test_subscriber.specs.declared.fault.SubFault.TheVariants.{OutOfMemory};
+
+use copy_frames::FrameFault;
+use pgoutput_msgs::MsgError;
+use std::alloc::{AllocError, AllocFailed};
+use thiserror::Error;
+
+/// Why a subscriber stops. After each of these it is closed until it is opened again.
+#[derive(Clone, Copy, Debug, PartialEq, Eq, Error)]
+pub enum SubFault {
+    /// The bytes are not cut into frames, or a frame of the stream is shorter than what it says it carries.
+    #[error("{0}")]
+    Frame(FrameFault),
+    /// A message is none of the protocol.
+    #[error("{0}")]
+    Msg(MsgError),
+    /// A frame or a message that can't come here: a change outside a transaction, a transaction in another one, a Commit
+    /// with another LSN than its Begin, or a Relation other than the one that was kept for its OID.
+    #[error("a frame or a message came where it can't come")]
+    OutOfPlace,
+    /// A change of a table with this OID, whose Relation did not come on this connection.
+    #[error("no Relation came on this connection for the OID {0}")]
+    NoRelation(u32),
+    /// A value that its column's type does not have, a row of another width, or a type that no column here has.
+    #[error("a value is none of its column's type")]
+    BadValue,
+    /// A new row has the values of another row in the columns of the replica identity.
+    #[error("another row has the same values in the columns of the replica identity")]
+    DuplicateKey,
+    /// The publisher refused the start with this SQLSTATE.
+    #[error("the publisher refused to start the stream")]
+    Refused([u8; 5]),
+    /// The connection is closed.
+    #[error("the connection is closed")]
+    Closed,
+    #[error("out of memory")]
+    OutOfMemory,
+}
+
+impl From<AllocError> for SubFault {
+    ghost from_gives = { λ _ e. e ≡ OutOfMemory };
+
+    fn from(_: AllocError) -> SubFault {
+        SubFault::OutOfMemory
+    }
+}
+
+impl<T: Drop> From<AllocFailed<T>> for SubFault {
+    ghost from_gives = { λ _ e. e ≡ OutOfMemory };
+
+    fn from(_: AllocFailed<T>) -> SubFault {
+        SubFault::OutOfMemory
+    }
+}

@@ -1,0 +1,16 @@
+//! The subscriber at the other end of a replication connection: it starts a stream and applies what comes.
+#![tactic(auto)]
+
+mod fault;
+mod frames;
+mod laws;
+mod passes;
+mod phase;
+mod reading;
+mod replica;
+mod same_relation;
+mod shape;
+mod table_copy;
+
+pub use fault::SubFault;
+pub use laws::machines_hear_alike;

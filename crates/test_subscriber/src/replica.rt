@@ -1,0 +1,253 @@
+//! What a subscriber has of tables, and how messages change it.
+
+ghost use Rattle.std.specs.Prelude.{◌≡◌, ℕ, List, IfOk, IfErr, OnOk, OnErr, None, Ok};
+ghost use Rattle.filter_tree.specs.Datum.{Datum};
+
+use crate::fault::SubFault;
+use crate::passes::{forget, settle};
+use crate::phase::Phase;
+use crate::same_relation::same_relation;
+use crate::shape::TableShape;
+use crate::table_copy::TableCopy;
+use pgoutput_msgs::{Msg, OldTuple, Relation, Tuple};
+use std::alloc::Global;
+
+/// What a subscriber has: how far it is, and its copies of tables.
+#[derive(Drop)]
+pub(crate) struct Replica {
+    pub(crate) alloc: Global,
+    pub(crate) phase: Phase,
+    pub(crate) position: u64,
+    pub(crate) wants_reply: bool,
+    pub(crate) copies: Vec<TableCopy>,
+}
+
+impl Replica {
+    ghost use Rattle.std.specs.Prelude.{◌≡◌, ℕ, List, IfOk, IfErr, OnOk, OnErr, Some, None, Ok, false};
+    ghost use Rattle.test_subscriber.specs.declared.fault.SubFault.TheVariants.{NoRelation};
+    ghost use Rattle.test_subscriber.specs.Views.{machine_of, copy_of, known_in, place_of, IsKnownAt};
+    ghost use Rattle.test_subscriber.specs.Answers.{Reaches, Stays};
+    ghost use Rattle.test_subscriber.specs.Copies.{RefusedBy};
+    ghost use Rattle.test_subscriber.specs.Machine.{Alike, stopped, lost, opened};
+    ghost use Rattle.test_subscriber.specs.Hearing.{committed, hear_commit, hear_idle, hear_busy, hear};
+    ghost use Rattle.test_subscriber.specs.Hearing.{hear_relation, hear_insert, hear_update, hear_delete, hear_empty, hear_truncate};
+
+    /// The place of the copy of the table with this OID.
+    fn place_of(&self, oid: u32) -> Option<usize>
+        ensures { result ≡ place_of self.now.copies.items oid }
+    {
+        self.copies
+            .iter()
+            .position(|copy| copy.shape.relation.oid == oid)
+    }
+
+    /// The place of the copy of the table with this OID, if its Relation came on this connection.
+    #[tactic(auto, using(crate::proofs::CopyLemmas::known_here, crate::proofs::CopyLemmas::unknown_here, crate::proofs::CopyLemmas::unknown_nowhere))]
+    fn known_place(&self, oid: u32) -> Result<usize, SubFault>
+        ensures ok { IfOk result (IsKnownAt self.now.copies.items oid) }
+        ensures fault { IfErr result (λ e. e ≡ NoRelation oid) }
+        ensures none { OnErr result (known_in (copy_of self.now.copies.items oid) ≡ false) }
+    {
+        let Some(place) = self.place_of(oid) else {
+            return Err(SubFault::NoRelation(oid));
+        };
+        if !self.copies[place].is_known {
+            return Err(SubFault::NoRelation(oid));
+        }
+        Ok(place)
+    }
+
+    /// Keeps what a new Relation says.
+    fn learn(&mut self, relation: Relation) -> Result<(), SubFault>
+        requires { place_of self.old.copies.items relation.oid ≡ None }
+        ensures ok { OnOk result (Reaches (machine_of self.new) (hear_relation relation (machine_of self.old))) }
+        ensures fault { IfErr result (RefusedBy (hear_relation relation (machine_of self.old))) }
+        ensures stays { OnErr result (Stays (machine_of self.old) (machine_of self.new)) }
+    {
+        let Some(shape) = TableShape::of(self.alloc, relation)? else {
+            return Err(SubFault::BadValue);
+        };
+        self.copies.push(TableCopy::new(self.alloc, shape))?;
+        Ok(())
+    }
+
+    /// Hears the Relation of a table whose copy has this place.
+    fn recognize(&mut self, place: usize, relation: &Relation) -> Result<(), SubFault>
+        requires { place_of self.old.copies.items relation.now.oid ≡ Some place }
+        ensures ok { OnOk result (Reaches (machine_of self.new) (hear_relation relation.now (machine_of self.old))) }
+        ensures fault { IfErr result (RefusedBy (hear_relation relation.now (machine_of self.old))) }
+        ensures stays { OnErr result (Stays (machine_of self.old) (machine_of self.new)) }
+    {
+        if same_relation(&self.copies[place].shape.relation, relation) {
+            self.copies[place].is_known = true;
+            Ok(())
+        } else {
+            Err(SubFault::OutOfPlace)
+        }
+    }
+
+    fn hear_relation(&mut self, relation: Relation) -> Result<(), SubFault>
+        ensures ok { OnOk result (Reaches (machine_of self.new) (hear_relation relation (machine_of self.old))) }
+        ensures fault { IfErr result (RefusedBy (hear_relation relation (machine_of self.old))) }
+        ensures stays { OnErr result (Stays (machine_of self.old) (machine_of self.new)) }
+    {
+        match self.place_of(relation.oid) {
+            None => self.learn(relation),
+            Some(place) => self.recognize(place, &relation),
+        }
+    }
+
+    /// Stages a new row of the table with this OID.
+    fn insert(&mut self, oid: u32, new: &Tuple) -> Result<(), SubFault>
+        ensures ok { OnOk result (Reaches (machine_of self.new) (hear_insert oid new.now (machine_of self.old))) }
+        ensures fault { IfErr result (RefusedBy (hear_insert oid new.now (machine_of self.old))) }
+        ensures stays { Stays (machine_of self.old) (machine_of self.new) }
+    {
+        let place = self.known_place(oid)?;
+        self.copies[place].insert(self.alloc, new)?;
+        Ok(())
+    }
+
+    /// Stages a row of the table with this OID in place of an old one.
+    fn update(&mut self, oid: u32, old: &Option<OldTuple>, new: &Tuple) -> Result<(), SubFault>
+        ensures ok { OnOk result (Reaches (machine_of self.new)
+            (hear_update oid old.now new.now (machine_of self.old))) }
+        ensures fault { IfErr result (RefusedBy (hear_update oid old.now new.now (machine_of self.old))) }
+        ensures stays { Stays (machine_of self.old) (machine_of self.new) }
+    {
+        let place = self.known_place(oid)?;
+        self.copies[place].update(self.alloc, old, new)?;
+        Ok(())
+    }
+
+    /// Stages that a row of the table with this OID is gone.
+    fn delete(&mut self, oid: u32, old: &OldTuple) -> Result<(), SubFault>
+        ensures ok { OnOk result (Reaches (machine_of self.new) (hear_delete oid old.now (machine_of self.old))) }
+        ensures fault { IfErr result (RefusedBy (hear_delete oid old.now (machine_of self.old))) }
+        ensures stays { Stays (machine_of self.old) (machine_of self.new) }
+    {
+        let place = self.known_place(oid)?;
+        self.copies[place].delete(self.alloc, old)?;
+        Ok(())
+    }
+
+    /// Stages that the table with this OID has no rows.
+    fn empty(&mut self, oid: u32) -> Result<(), SubFault>
+        ensures ok { OnOk result (Reaches (machine_of self.new) (hear_empty oid (machine_of self.old))) }
+        ensures fault { IfErr result (RefusedBy (hear_empty oid (machine_of self.old))) }
+        ensures stays { Stays (machine_of self.old) (machine_of self.new) }
+    {
+        let place = self.known_place(oid)?;
+        self.copies[place].empty();
+        Ok(())
+    }
+
+    /// Stages that the tables with these OIDs have no rows.
+    fn truncate(&mut self, oids: &[u32]) -> Result<(), SubFault>
+        ensures ok { OnOk result (Reaches (machine_of self.new) (hear_truncate oids.now (machine_of self.old))) }
+        ensures fault { IfErr result (RefusedBy (hear_truncate oids.now (machine_of self.old))) }
+        ensures stays { Stays (machine_of self.old) (machine_of self.new) }
+    {
+        for oid in oids {
+            self.empty(*oid)?;
+        }
+        Ok(())
+    }
+
+    /// Shows what the transaction changed.
+    fn commit(&mut self, end_lsn: u64)
+        ensures { Alike (machine_of self.new) (committed end_lsn (machine_of self.old)) }
+    {
+        settle(&mut self.copies);
+        self.phase = Phase::Idle;
+        self.position = self.position.max(end_lsn);
+    }
+
+    /// Hears a message between transactions.
+    fn hear_idle(&mut self, message: Msg) -> Result<(), SubFault>
+        ensures ok { OnOk result (Reaches (machine_of self.new) (hear_idle message (machine_of self.old))) }
+        ensures fault { IfErr result (RefusedBy (hear_idle message (machine_of self.old))) }
+        ensures stays { OnErr result (Stays (machine_of self.old) (machine_of self.new)) }
+    {
+        match message {
+            Msg::Begin { final_lsn, .. } => {
+                self.phase = Phase::Busy(final_lsn);
+                Ok(())
+            }
+            Msg::Relation(relation) => self.hear_relation(relation),
+            Msg::Commit { .. }
+            | Msg::Insert { .. }
+            | Msg::Update { .. }
+            | Msg::Delete { .. }
+            | Msg::Truncate { .. } => Err(SubFault::OutOfPlace),
+        }
+    }
+
+    /// Hears a message in a transaction whose Begin had this LSN.
+    fn hear_busy(&mut self, begin: u64, message: Msg) -> Result<(), SubFault>
+        ensures ok { OnOk result (Reaches (machine_of self.new) (hear_busy begin message (machine_of self.old))) }
+        ensures fault { IfErr result (RefusedBy (hear_busy begin message (machine_of self.old))) }
+        ensures stays { OnErr result (Stays (machine_of self.old) (machine_of self.new)) }
+    {
+        match message {
+            Msg::Begin { .. } => Err(SubFault::OutOfPlace),
+            Msg::Commit { lsn, end_lsn, .. } => self.hear_commit(begin, lsn, end_lsn),
+            Msg::Relation(relation) => self.hear_relation(relation),
+            Msg::Insert { relation, new } => self.insert(relation, &new),
+            Msg::Update { relation, old, new } => self.update(relation, &old, &new),
+            Msg::Delete { relation, old } => self.delete(relation, &old),
+            Msg::Truncate { relations, .. } => self.truncate(relations.as_slice()),
+        }
+    }
+
+    /// Hears a Commit in a transaction whose Begin had this LSN.
+    fn hear_commit(&mut self, begin: u64, lsn: u64, end_lsn: u64) -> Result<(), SubFault>
+        ensures ok { OnOk result (Reaches (machine_of self.new) (hear_commit begin lsn end_lsn (machine_of self.old))) }
+        ensures fault { IfErr result (RefusedBy (hear_commit begin lsn end_lsn (machine_of self.old))) }
+        ensures stays { OnErr result (Stays (machine_of self.old) (machine_of self.new)) }
+    {
+        if lsn != begin {
+            return Err(SubFault::OutOfPlace);
+        }
+        self.commit(end_lsn);
+        Ok(())
+    }
+
+    /// Hears a message of the stream. An error leaves what stays after a fault.
+    pub(crate) fn hear(&mut self, message: Msg) -> Result<(), SubFault>
+        ensures ok { OnOk result (Reaches (machine_of self.new) (hear message (machine_of self.old))) }
+        ensures fault { IfErr result (RefusedBy (hear message (machine_of self.old))) }
+        ensures stays { OnErr result (Stays (machine_of self.old) (machine_of self.new)) }
+    {
+        match self.phase {
+            Phase::Shut => Err(SubFault::Closed),
+            Phase::Waiting => Err(SubFault::OutOfPlace),
+            Phase::Idle => self.hear_idle(message),
+            Phase::Busy(begin) => self.hear_busy(begin, message),
+        }
+    }
+
+    /// What a fault leaves.
+    pub(crate) fn stop(&mut self)
+        ensures { Alike (machine_of self.new) (stopped (machine_of self.old)) }
+    {
+        forget(&mut self.copies);
+        self.phase = Phase::Shut;
+    }
+
+    /// What the loss of the connection leaves.
+    pub(crate) fn lose(&mut self)
+        ensures { Alike (machine_of self.new) (lost (machine_of self.old)) }
+    {
+        self.stop();
+        self.wants_reply = false;
+    }
+
+    /// What a new connection begins with.
+    pub(crate) fn open(&mut self)
+        ensures { Alike (machine_of self.new) (opened (machine_of self.old)) }
+    {
+        self.lose();
+        self.phase = Phase::Waiting;
+    }
+}

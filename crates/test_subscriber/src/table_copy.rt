@@ -1,0 +1,179 @@
+//! A subscriber's copy of a table.
+
+ghost use Rattle.std.specs.Prelude.{◌≡◌, IfOk, IfErr, OnOk};
+
+use crate::fault::SubFault;
+use crate::reading::row_of;
+use crate::shape::TableShape;
+use filter_tree::Row;
+use pgoutput_msgs::{OldTuple, Tuple};
+use std::alloc::{AllocError, Global};
+use table_changes::values_at;
+use tables_log::Staged;
+
+/// A subscriber's copy of a table: what its Relation says, whether that came on this connection, and the rows, which are
+/// found by their values in the columns of the replica identity. The changes of a transaction are staged in them.
+#[derive(Drop)]
+pub(crate) struct TableCopy {
+    pub(crate) shape: TableShape,
+    pub(crate) is_known: bool,
+    pub(crate) rows: Staged<Row>,
+}
+
+impl TableCopy {
+    ghost use Rattle.std.specs.Prelude.{◌≡◌, List, None, Ok, true, IfOk, IfErr, OnOk};
+    ghost use Rattle.std.specs.Option.{option_map};
+    ghost use Rattle.filter_tree.specs.Datum.{Datum};
+    ghost use Rattle.pgoutput_msgs.specs.ValueText.{row_in};
+    ghost use Rattle.table_changes.specs.Columns.{values_at};
+    ghost use Rattle.tables_log.specs.Staging.{kept, seen};
+    ghost use Rattle.test_subscriber.specs.RowChanges.{placed, inserted, read_in, key_in, gone_of, replaced, updated, deleted};
+    ghost use Rattle.test_subscriber.specs.Copies.{StaysCopy, Leaves, RefusedBy, SettlesCopy, ForgetsCopy};
+
+    /// The copy of a table without rows, whose Relation came.
+    pub(crate) fn new(alloc: Global, shape: TableShape) -> TableCopy
+        ensures shape { result.shape ≡ shape }
+        ensures known { result.is_known ≡ true }
+        ensures kept { (key : List Datum) → kept result.rows key ≡ None }
+        ensures seen { (key : List Datum) → seen result.rows key ≡ None }
+    {
+        TableCopy {
+            shape,
+            is_known: true,
+            rows: Staged::new(alloc),
+        }
+    }
+
+    /// The row of a tuple.
+    fn read(&self, alloc: Global, tuple: &Tuple) -> Result<Row, SubFault>
+        ensures ok { IfOk result (λ row. read_in self.now.shape tuple.now ≡ Ok row) }
+        ensures fault { IfErr result (RefusedBy (read_in self.now.shape tuple.now)) }
+    {
+        match row_of(alloc, self.shape.kinds.as_slice(), tuple.cells())? {
+            None => Err(SubFault::BadValue),
+            Some(row) => Ok(row),
+        }
+    }
+
+    /// The row's values in the columns of the replica identity. The only error is want of memory.
+    fn key_of(&self, alloc: Global, row: &Row) -> Result<Row, AllocError>
+        ensures { IfOk result (λ key. key ≡ values_at self.now.shape.key row.now) }
+    {
+        Ok(values_at(alloc, self.shape.key.as_slice(), row)?)
+    }
+
+    /// Stages a row under its key, where there is none.
+    fn place(&mut self, key: Row, row: Row) -> Result<(), SubFault>
+        ensures stays { StaysCopy self.old self.new }
+        ensures ok { OnOk result (Leaves (placed (seen self.old.rows) key row) (seen self.new.rows)) }
+        ensures fault { IfErr result (RefusedBy (placed (seen self.old.rows) key row)) }
+    {
+        if self.rows.find(&key).is_some() {
+            return Err(SubFault::DuplicateKey);
+        }
+        self.rows.stage(key, Some(row))?;
+        Ok(())
+    }
+
+    /// Stages a new row.
+    pub(crate) fn insert(&mut self, alloc: Global, new: &Tuple) -> Result<(), SubFault>
+        ensures stays { StaysCopy self.old self.new }
+        ensures ok { OnOk result (Leaves (inserted self.old.shape (seen self.old.rows) new.now) (seen self.new.rows)) }
+        ensures fault { IfErr result (RefusedBy (inserted self.old.shape (seen self.old.rows) new.now)) }
+    {
+        let row = self.read(alloc, new)?;
+        let key = self.key_of(alloc, &row)?;
+        self.place(key, row)?;
+        Ok(())
+    }
+
+    /// The key of the row that an update or a delete is about: of what is sent of the old row.
+    fn key_in(&self, alloc: Global, old: &OldTuple) -> Result<Row, SubFault>
+        ensures ok { IfOk result (λ key. key_in self.now.shape old.now ≡ Ok key) }
+        ensures fault { IfErr result (RefusedBy (key_in self.now.shape old.now)) }
+    {
+        let tuple = match old {
+            OldTuple::Key(tuple) | OldTuple::Full(tuple) => tuple,
+        };
+        let part = self.read(alloc, tuple)?;
+        Ok(self.key_of(alloc, &part)?)
+    }
+
+    /// The key of the row that gives way to this one: of what is sent of the old row, or of the new row where nothing is.
+    fn gone_key(&self, alloc: Global, old: &Option<OldTuple>, row: &Row) -> Result<Row, SubFault>
+        ensures ok { IfOk result (λ key. gone_of self.now.shape old.now row.now ≡ Ok key) }
+        ensures fault { IfErr result (RefusedBy (gone_of self.now.shape old.now row.now)) }
+    {
+        match old {
+            None => Ok(self.key_of(alloc, row)?),
+            Some(old) => self.key_in(alloc, old),
+        }
+    }
+
+    /// Stages the row in place of the one of this key, if there is one.
+    fn replace(&mut self, gone: Row, key: Row, row: Row) -> Result<(), SubFault>
+        ensures stays { StaysCopy self.old self.new }
+        ensures ok { OnOk result (Leaves (replaced (seen self.old.rows) gone key row) (seen self.new.rows)) }
+        ensures fault { IfErr result (RefusedBy (replaced (seen self.old.rows) gone key row)) }
+    {
+        if self.rows.find(&gone).is_none() {
+            return Ok(());
+        }
+        self.rows.stage(gone, None)?;
+        self.place(key, row)?;
+        Ok(())
+    }
+
+    /// Stages a row in place of an old one, which may be missing.
+    pub(crate) fn update(
+        &mut self,
+        alloc: Global,
+        old: &Option<OldTuple>,
+        new: &Tuple,
+    ) -> Result<(), SubFault>
+        ensures stays { StaysCopy self.old self.new }
+        ensures ok { OnOk result (Leaves (updated self.old.shape (seen self.old.rows) old.now new.now)
+            (seen self.new.rows)) }
+        ensures fault { IfErr result (RefusedBy (updated self.old.shape (seen self.old.rows) old.now new.now)) }
+    {
+        let row = self.read(alloc, new)?;
+        let gone = self.gone_key(alloc, old, &row)?;
+        let key = self.key_of(alloc, &row)?;
+        self.replace(gone, key, row)?;
+        Ok(())
+    }
+
+    /// Stages that there is no row of this key.
+    pub(crate) fn delete(&mut self, alloc: Global, old: &OldTuple) -> Result<(), SubFault>
+        ensures stays { StaysCopy self.old self.new }
+        ensures ok { OnOk result (Leaves (deleted self.old.shape (seen self.old.rows) old.now) (seen self.new.rows)) }
+        ensures fault { IfErr result (RefusedBy (deleted self.old.shape (seen self.old.rows) old.now)) }
+    {
+        let key = self.key_in(alloc, old)?;
+        self.rows.stage(key, None)?;
+        Ok(())
+    }
+
+    /// Stages that there are no rows.
+    pub(crate) fn empty(&mut self)
+        ensures stays { StaysCopy self.old self.new }
+        ensures empty { (key : List Datum) → seen self.new.rows key ≡ None }
+    {
+        self.rows.empty();
+    }
+
+    /// Keeps what is staged.
+    pub(crate) fn settle(&mut self)
+        ensures { SettlesCopy self.old self.new }
+    {
+        self.rows.settle();
+    }
+
+    /// Forgets what is staged, and that the Relation came.
+    pub(crate) fn forget(&mut self)
+        ensures { ForgetsCopy self.old self.new }
+    {
+        self.rows.discard();
+        self.is_known = false;
+    }
+}
