@@ -1,17 +1,15 @@
 -- A token ends with an ASCII character, so that the text may be cut after it.
-use Rattle.std.proofs.Common.{◌≡◌, ◌≢◌, ℕ, zero, suc, ◌+◌, ◌-◌, ◌<◌, ◌≤◌, Bool, true, false, not, ◌&&◌, ◌||◌, ◌==◌, if◌then◌else◌, List, [], ◌∷◌, length, get_or, take, drop, Option, Some, None, refl, sym, ap, ◌∙◌, subst, arith, length-drop, get_or-drop, IsUtf8, eqb-true}
+use Rattle.std.proofs.Common.{◌≡◌, ℕ, zero, suc, ◌+◌, ◌-◌, ◌<◌, ◌≤◌, Bool, true, false, ◌==◌, if◌then◌else◌, List, [], ◌∷◌, length, get_or, take, drop, Option, Some, None, refl, sym, ◌∙◌, subst, arith, length-drop, get_or-drop, IsUtf8, eqb-true}
 use Rattle.std.specs.Prelude.{slice_index}
 use Rattle.std.specs.Char.{is_ascii_whitespace}
 use Rattle.std.specs.List.{prefix_len}
 use Rattle.std.specs.Str.{IsCharBoundary}
 use Rattle.std.proofs.lemmas.Bool.Decides.{nat_tests}
-use Rattle.std.proofs.lemmas.Grind.{common_steps}
 use Rattle.std.proofs.lemmas.List.Folds.{length-prefix_len}
 use Rattle.std.proofs.lemmas.List.Sums.{prefix_len_passes, prefix_len-le-length}
 use Rattle.std.proofs.lemmas.Str.{IsCharBoundary-start, IsCharBoundary-after_ascii}
 use Rattle.copy_both.specs.declared.quoted.QuotedText.{QuotedText}
-use Rattle.copy_both.specs.declared.token.Piece.TheVariants.{Blank, Whole, Bad}
-use Rattle.copy_both.specs.CommandTokens.{longer, quoted, is_letter, is_word_byte, hexadecimal, place_piece, place, word, run, mark, front, name_piece, value_piece}
+use Rattle.copy_both.specs.CommandTokens.{longer, quoted, is_letter, is_word_byte, hexadecimal, place_piece, run, mark, front, name_piece, value_piece}
 use Rattle.copy_both.specs.TokenPlaces.{EndsAscii, IsPiece}
 
 pub cut_after : (text : List ℕ) (n : ℕ) → IsUtf8 text → EndsAscii text n → IsCharBoundary text n

@@ -1,11 +1,10 @@
 -- Names of publications, and options one after another.
-use Rattle.std.proofs.Common.{◌≡◌, ℕ, zero, suc, ◌+◌, ◌<◌, ◌≤◌, Bool, true, false, ◌||◌, List, [], ◌∷◌, ◌++◌, length, take, drop, get_or, refl, sym, ap, ◌∙◌}
-use Rattle.std.specs.Prelude.{map, slice_get, if◌then◌else◌, Option, Some, None}
+use Rattle.std.proofs.Common.{◌≡◌, ℕ, zero, suc, ◌+◌, ◌<◌, ◌≤◌, Bool, ◌||◌, List, [], ◌∷◌, ◌++◌, length, take, drop, get_or, refl, sym, ap, ◌∙◌}
+use Rattle.std.specs.Prelude.{map, slice_get, if◌then◌else◌, None}
 use Rattle.std.specs.List.{list_any}
 use Rattle.std.specs.Option.{option_map}
 use Rattle.std.proofs.lemmas.List.{drop_more, drop_all, take_more}
 use Rattle.copy_both.specs.declared.start_command.StartOption.{StartOption}
-use Rattle.copy_both.specs.Refusals.{RefusalOf}
 use Rattle.copy_both.specs.StartOrder.{or_else, option_refusal, options_refusal, has_publications, names_of, names_in, unknown_refusal}
 
 pub any_of_map : {X Y : Type 0} (p : Y → Bool) (f : X → Y) (xs : List X) → list_any p (map f xs) ≡ list_any (λ x. p (f x)) xs

@@ -1,6 +1,6 @@
 -- The fields of an ErrorResponse, one after another.
-use Rattle.std.proofs.Common.{◌≡◌, ℕ, ◌+◌, List, [], ◌∷◌, ◌++◌, length, refl, ap, ◌∙◌, append_assoc, arith, length-append}
-use Rattle.copy_both.specs.Refusals.{field, error_fields}
+use Rattle.std.proofs.Common.{◌≡◌, ℕ, ◌+◌, List, [], ◌∷◌, ◌++◌, length, append_assoc, arith, length-append}
+use Rattle.copy_both.specs.Refusals.{error_fields}
 
 -- the bytes before the code: `SERROR`, a zero byte, `VERROR`, a zero byte and `C`
 abbrev pub severities : List ℕ

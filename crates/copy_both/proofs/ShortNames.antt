@@ -1,5 +1,5 @@
 -- Each name in a command that was read has at most 63 bytes, and so has the name in each refusal.
-use Rattle.std.proofs.Common.{◌≡◌, ℕ, suc, ◌+◌, ◌<◌, ◌≤◌, ◌^◌, Bool, true, false, not, ◌||◌, ◌==◌, if◌then◌else◌, List, [], ◌∷◌, ◌++◌, length, take, drop, Option, Some, None, refl, sym, subst, arith, length-append}
+use Rattle.std.proofs.Common.{◌≡◌, ℕ, ◌+◌, ◌≤◌, Bool, true, false, not, ◌||◌, ◌==◌, if◌then◌else◌, List, [], ◌∷◌, ◌++◌, length, take, drop, Option, Some, None, refl, sym, subst, arith, length-append}
 use Rattle.std.specs.Prelude.{map, nat_lt, position, codes}
 use Rattle.std.specs.Char.{is_ascii_digit}
 use Rattle.std.specs.List.{list_all, list_any, slice_split}
@@ -12,12 +12,12 @@ use Rattle.copy_both.specs.declared.start_command.StartCommand.{StartCommand}
 use Rattle.copy_both.specs.declared.start_command.StartOption.{StartOption}
 use Rattle.copy_both.specs.declared.token.Token.{Token}
 use Rattle.copy_both.specs.declared.token.Token.TheVariants.{Word, QuotedName, Value, Position, Open, Close, Comma, Semicolon}
-use Rattle.copy_both.specs.CommandText.{named_option, option_in, ends, listed_until, listed_options, no_options, options_in, command_with, has_keywords, command_in, command_with_tokens, command_of}
+use Rattle.copy_both.specs.CommandText.{named_option, option_in, ends, listed_until, no_options, options_in, command_with, has_keywords, command_in, command_with_tokens, command_of}
 use Rattle.copy_both.specs.CommandTokens.{as_name, name_in, position_in, is_comma, is_close, all_of, lone_name, names_in, tokens_of}
 use Rattle.copy_both.specs.OptionValues.{version, without_zeros, is_off, publications, publications_in, names_or_wrong, is_left_out, off, given, option_value}
-use Rattle.copy_both.specs.Refusals.{RefusalOf, ExpectedQuery, Unreadable, NoSlot, WrongOption, UnsupportedOption, MissingOption, NoPublication, OtherPublications, Ahead, InUse, text_of, CanBeSent}
+use Rattle.copy_both.specs.Refusals.{RefusalOf, ExpectedQuery, Unreadable, NoSlot, WrongOption, UnsupportedOption, MissingOption, NoPublication, OtherPublications, Ahead, InUse, CanBeSent}
 use Rattle.copy_both.specs.ShortNames.{IsShort, AreShort, HasShortValue, IsShortOption, AreShortOptions, IsShortCommand}
-use Rattle.copy_both.specs.StartOrder.{OfferOf, or_else, refused, is_wrong, is_named, is_unsupported, has_publications, is_version, option_refusal, options_refusal, missing_refusal, names_of, names_in as names_given, unknown_refusal, same_publications, is_taken, slot_refusal}
+use Rattle.copy_both.specs.StartOrder.{OfferOf, or_else, refused, is_wrong, is_named, is_unsupported, has_publications, option_refusal, options_refusal, missing_refusal, names_of, names_in as names_given, unknown_refusal, same_publications, is_taken, slot_refusal}
 
 chosen : {X : Type 0} (b : Bool) (x y : X) (P : X → Type 0) → P x → P y → P (if b then x else y)
 chosen true x y P holds fails = holds

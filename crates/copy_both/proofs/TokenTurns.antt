@@ -1,9 +1,9 @@
 -- The tokens of a text, one after another.
-use Rattle.std.proofs.Common.{◌≡◌, ℕ, zero, suc, ◌+◌, ◌-◌, ◌<◌, ◌≤◌, List, [], ◌∷◌, ◌++◌, length, drop, Option, Some, None, refl, sym, ap, ◌∙◌, arith, append_assoc, append-nil}
+use Rattle.std.proofs.Common.{◌≡◌, ℕ, zero, suc, ◌-◌, ◌<◌, ◌≤◌, List, [], ◌∷◌, ◌++◌, length, drop, Option, Some, None, refl, sym, ap, ◌∙◌, arith, append_assoc}
 use Rattle.std.specs.Option.{option_map}
 use Rattle.copy_both.specs.declared.token.Token.{Token}
 use Rattle.copy_both.specs.declared.token.Piece.TheVariants.{Blank, Whole, Bad}
-use Rattle.copy_both.specs.CommandTokens.{begins, front, tokens_from}
+use Rattle.copy_both.specs.CommandTokens.{front, tokens_from}
 
 -- these tokens come first
 abbrev pub after_tokens : List Token → Option (List Token) → Option (List Token)

@@ -3,7 +3,7 @@ use Rattle.std.specs.Prelude.{ℕ, ◌+◌, ◌&&◌, Bool, true, false, if◌th
 use Rattle.copy_both.specs.declared.start_command.StartCommand.{StartCommand}
 use Rattle.copy_both.specs.declared.start_command.StartOption.{StartOption}
 use Rattle.copy_both.specs.declared.token.Token.{Token}
-use Rattle.copy_both.specs.declared.token.Token.TheVariants.{Word, QuotedName, Value, Position, Open, Close, Comma, Semicolon}
+use Rattle.copy_both.specs.declared.token.Token.TheVariants.{Value, Open, Semicolon}
 use Rattle.copy_both.specs.CommandTokens.{tokens_of, is_close, is_keyword, name_in, position_in, separated}
 use Rattle.copy_both.specs.OptionValues.{option_value}
 

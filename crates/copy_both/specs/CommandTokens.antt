@@ -1,5 +1,5 @@
 -- The tokens of a replication command, and of a list of names: words and quoted names ("4.1.1. Identifiers and Key Words"), strings between single quotes ("4.1.2.1. String Constants"), places in the log ("8.20. pg_lsn Type") and marks. There are no comments.
-use Rattle.std.specs.Prelude.{ℕ, zero, suc, ◌+◌, ◌-◌, ◌*◌, ◌^◌, ◌||◌, ◌&&◌, ◌==◌, Bool, true, false, nat_lt, not, if◌then◌else◌, List, [], ◌∷◌, map, length, take, drop, slice_index, Option, Some, None}
+use Rattle.std.specs.Prelude.{ℕ, zero, suc, ◌+◌, ◌-◌, ◌*◌, ◌^◌, ◌||◌, ◌==◌, Bool, true, false, nat_lt, not, if◌then◌else◌, List, [], ◌∷◌, map, length, take, drop, slice_index, Option, Some, None}
 use Rattle.std.specs.Char.{is_ascii_alphabetic, is_ascii_alphanumeric, is_ascii_hexdigit, is_ascii_whitespace}
 use Rattle.std.specs.List.{list_all, prefix_len, slice_split}
 use Rattle.std.specs.Option.{option_map}

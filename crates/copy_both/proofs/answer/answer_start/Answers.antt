@@ -1,6 +1,5 @@
 use Rattle.std.proofs.Common.{arith, ◌≡◌, ap, ◌∙◌}
-use Rattle.copy_both.specs.StartAnswers.{asked_by, asked_of, told, sent_after}
-use Rattle.copy_both.specs.CommandText.{command_of}
+use Rattle.copy_both.specs.StartAnswers.{told, sent_after}
 use Rattle.copy_both.specs.StartOrder.{offer_view}
 use Rattle.copy_both.proofs.FirstFrames.{query_asks}
 use Rattle.copy_both.proofs.answer.answer_start.Goals as goal

@@ -1,4 +1,4 @@
-use Rattle.std.proofs.Common.{◌≡◌, suc, length, zero, Option, Some, None, Bor, List, ℕ}
+use Rattle.std.proofs.Common.{◌≡◌, suc, length}
 use Rattle.std.specs.Prelude.{map}
 use Rattle.std.specs.Option.{option_map_or}
 use Rattle.copy_both.specs.CommandTokens.{all_of, lone_name, names_in as spec}

@@ -1,4 +1,4 @@
-use Rattle.std.proofs.Common.{rules, arith, ◌≡◌, ◌<◌, ◌++◌, ◌∷◌, [], Some, None, IsUtf8, string_bytes, encode_utf8, ◌∙◌, ap}
+use Rattle.std.proofs.Common.{rules, arith, ◌≡◌, ◌++◌, ◌∷◌, [], Some, None, string_bytes, encode_utf8, ◌∙◌}
 use Rattle.std.proofs.lemmas.Str.Pattern.{split_parts}
 use Rattle.copy_both.proofs.QuotedTurns.{Lacks, text_closes, text_goes_on, text_ends}
 use Rattle.copy_both.proofs.quoted.read_quoted.Goals as goal

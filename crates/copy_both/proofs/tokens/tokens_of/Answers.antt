@@ -1,4 +1,4 @@
-use Rattle.std.proofs.Common.{rules, arith, ◌≡◌, ◌<◌, ◌++◌, ◌∷◌, [], length, drop, Some, None, IsUtf8, ◌∙◌, ap, sym, subst, append-nil}
+use Rattle.std.proofs.Common.{rules, arith, ◌≡◌, ◌<◌, length, drop, Some, IsUtf8, ◌∙◌, ap, sym, subst, append-nil}
 use Rattle.std.proofs.lemmas.Str.{IsUtf8-drop}
 use Rattle.copy_both.specs.declared.token.Piece.TheVariants.{Blank, Whole, Bad}
 use Rattle.copy_both.specs.CommandTokens.{front, tokens_from}
