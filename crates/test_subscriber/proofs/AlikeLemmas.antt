@@ -1,14 +1,13 @@
 -- What machines that are alike do is alike.
-use Rattle.std.proofs.Common.{◌≡◌, ℕ, ◌+◌, ◌<◌, ◌≤◌, Bool, true, false, List, [], ◌∷◌, length, drop, get_or, suc, refl, sym, ◌∙◌, ap, subst, arith, add-one, drop-cons}
-use Rattle.std.specs.Prelude.{Option, Some, None, Result, Ok, Err, ◌==◌, if◌then◌else◌}
+use Rattle.std.proofs.Common.{◌≡◌, ℕ, ◌+◌, ◌<◌, ◌≤◌, List, [], ◌∷◌, length, drop, get_or, refl, sym, ◌∙◌, ap, subst, add-one, drop-cons}
+use Rattle.std.specs.Prelude.{Option, Some, None, Ok, Err, ◌==◌, if◌then◌else◌}
 use Rattle.std.proofs.Math.ListN.{drop_of_length-le}
-use Rattle.filter_tree.specs.Datum.{Datum}
 use Rattle.filter_tree.specs.Memory.{TellsFault}
 use Rattle.table_changes.proofs.TableLemmas.{by_test}
-use Rattle.test_subscriber.specs.Answers.{Reaches, Stays, SameOutcome}
+use Rattle.test_subscriber.specs.Answers.{Reaches, SameOutcome}
 use Rattle.test_subscriber.specs.Copies.{told, RefusedBy}
 use Rattle.test_subscriber.specs.Hearing.{Outcome, table_of, change_of, emptied, hear_empty, empty_rest, hear_truncate}
-use Rattle.test_subscriber.specs.Machine.{Machine, Alike, stopped}
+use Rattle.test_subscriber.specs.Machine.{Machine, Alike}
 use Rattle.test_subscriber.specs.declared.fault.SubFault.{SubFault}
 use Rattle.test_subscriber.specs.declared.shape.TableShape.{TableShape}
 

@@ -1,6 +1,6 @@
 -- What is answered to bytes that spell no message.
-use Rattle.std.proofs.Common.{◌≡◌, ap}
-use Rattle.std.specs.Prelude.{Result, Ok, Err}
+use Rattle.std.proofs.Common.{ap}
+use Rattle.std.specs.Prelude.{Result}
 use Rattle.filter_tree.specs.Memory.{TellsFault}
 use Rattle.pgoutput_msgs.specs.Reading as r
 use Rattle.pgoutput_msgs.specs.declared.error.MsgError.{MsgError}

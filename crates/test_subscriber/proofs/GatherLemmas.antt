@@ -1,5 +1,5 @@
 -- Loops that gather what a list gives item by item, until one gives nothing.
-use Rattle.std.proofs.Common.{◌≡◌, ◌≢◌, ℕ, ◌+◌, ◌<◌, ◌≤◌, Bool, true, false, ◌&&◌, List, [], ◌∷◌, ◌++◌, length, map, refl, sym, ◌∙◌, ap, arith, append_assoc, append-nil, drop, get_or, suc, add-one, drop-cons}
+use Rattle.std.proofs.Common.{◌≡◌, ◌≢◌, ℕ, ◌+◌, ◌<◌, ◌≤◌, Bool, true, false, ◌&&◌, List, [], ◌∷◌, ◌++◌, length, refl, sym, ◌∙◌, ap, arith, append_assoc, append-nil, drop, get_or, suc, add-one, drop-cons}
 use Rattle.std.proofs.Math.ListN.{drop_of_length-le}
 use Rattle.std.specs.Prelude.{Option, Some, None}
 use Rattle.filter_tree.specs.Datum.{Datum}
@@ -8,7 +8,7 @@ use Rattle.pgoutput_msgs.specs.declared.relation.RelationColumn.{RelationColumn}
 use Rattle.pgoutput_msgs.specs.declared.tuple.Cell.{Cell}
 use Rattle.pgoutput_msgs.specs.ValueText.{row_in, row_with, datum_in}
 use Rattle.test_subscriber.specs.SameRelation.{same_column, same_columns}
-use Rattle.test_subscriber.specs.Shapes.{kinds_of, with_kind}
+use Rattle.test_subscriber.specs.Shapes.{with_kind}
 
 -- what was gathered, and then the rest
 abbrev pub after : {A : Type 0} → List A → Option (List A) → Option (List A)

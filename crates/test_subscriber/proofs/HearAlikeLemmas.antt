@@ -1,17 +1,16 @@
 -- Machines that are alike hear a message alike.
-use Rattle.std.proofs.Common.{◌≡◌, ℕ, Bool, true, false, List, refl, sym, ◌∙◌, ap, subst, max}
+use Rattle.std.proofs.Common.{◌≡◌, ℕ, true, false, List, refl, ap, subst, max}
 use Rattle.std.specs.Prelude.{Option, Some, None, Result, Ok, Err, ◌==◌, ◌||◌, is_some, if◌then◌else◌}
 use Rattle.filter_tree.specs.Datum.{Datum}
 use Rattle.filter_tree.specs.Same.{same_cells}
 use Rattle.pgoutput_msgs.specs.declared.message.Msg.{Msg}
 use Rattle.pgoutput_msgs.specs.declared.message.Msg.TheVariants as m
 use Rattle.pgoutput_msgs.specs.declared.relation.Relation.{Relation}
-use Rattle.pgoutput_msgs.specs.declared.tuple.Cell.{Cell}
 use Rattle.pgoutput_msgs.specs.declared.tuple.OldTuple.{OldTuple}
 use Rattle.table_changes.proofs.TableLemmas.{by_test}
 use Rattle.table_changes.specs.Columns.{values_at}
 use Rattle.test_subscriber.specs.Answers.{SameOutcome}
-use Rattle.test_subscriber.specs.Hearing.{Change, Outcome, table_of, change_of, change_in, staged, learn_as, learn_new, hear_relation, hear_commit, hear_idle, hear_busy, hear_in, hear}
+use Rattle.test_subscriber.specs.Hearing.{Change, table_of, change_of, change_in, staged, learn_as, learn_new, hear_relation, hear_commit, hear_idle, hear_busy, hear_in, hear}
 use Rattle.test_subscriber.specs.Machine.{Machine, Alike}
 use Rattle.test_subscriber.specs.RowChanges.{Found, put, placed, replaced, insert_row, inserted, replace_row, update_row, updated, delete_row, deleted, read_in, key_in, gone_of}
 use Rattle.test_subscriber.specs.SameRelation.{same_relation}

@@ -1,14 +1,12 @@
 -- What becomes of a subscriber's machine where copies of tables change.
-use Rattle.std.proofs.Common.{◌≡◌, ℕ, Bool, true, false, List, [], ◌∷◌, ◌++◌, get_or, refl, sym, ◌∙◌, ap, subst}
-use Rattle.std.specs.Prelude.{Option, Some, None, Result, Ok, Err, ◌==◌, slice_get, slice_set, if◌then◌else◌}
-use Rattle.filter_tree.specs.Datum.{Datum}
+use Rattle.std.proofs.Common.{◌≡◌, ℕ, Bool, true, false, List, get_or, refl, sym, ◌∙◌, ap, subst}
+use Rattle.std.specs.Prelude.{Option, Some, None, Result, Ok, Err, ◌==◌, slice_set}
 use Rattle.filter_tree.specs.Memory.{TellsFault}
 use Rattle.table_changes.proofs.TableLemmas.{by_test}
-use Rattle.tables_log.specs.Staging.{kept, seen}
+use Rattle.tables_log.specs.Staging.{seen}
 use Rattle.test_subscriber.specs.Answers.{Reaches, Stays}
 use Rattle.test_subscriber.specs.Copies.{told, RefusedBy, Leaves, StaysCopy}
 use Rattle.test_subscriber.specs.Hearing.{Change, change_of, change_in, staged}
-use Rattle.test_subscriber.specs.Machine.{Machine, Alike, stopped}
 use Rattle.test_subscriber.specs.RowChanges.{Found}
 use Rattle.test_subscriber.specs.Views.{copy_of, IsKnownAt, shape_in, known_in, kept_in, seen_in, machine_with}
 use Rattle.test_subscriber.specs.declared.fault.SubFault.{SubFault}

@@ -1,12 +1,10 @@
 -- What becomes of a subscriber's machine where all copies of tables change, or a new one comes.
-use Rattle.std.proofs.Common.{◌≡◌, ℕ, Bool, true, false, List, [], ◌∷◌, ◌++◌, refl, sym, ◌∙◌, ap, subst, max, length, take, drop}
-use Rattle.std.specs.Prelude.{Option, Some, None, Result, Ok, Err, ◌==◌, ◌||◌, slice_set, if◌then◌else◌}
+use Rattle.std.proofs.Common.{◌≡◌, ℕ, Bool, false, List, [], ◌∷◌, ◌++◌, refl, sym, ◌∙◌, ap, max, length, take, drop}
+use Rattle.std.specs.Prelude.{Option, Some, None}
 use Rattle.filter_tree.specs.Datum.{Datum}
-use Rattle.table_changes.proofs.TableLemmas.{by_test}
-use Rattle.test_subscriber.specs.Answers.{Reaches, Stays}
 use Rattle.test_subscriber.specs.Copies.{OfEach, SettlesCopy, ForgetsCopy}
 use Rattle.test_subscriber.specs.Hearing.{committed}
-use Rattle.test_subscriber.specs.Machine.{Machine, Alike, stopped}
+use Rattle.test_subscriber.specs.Machine.{Alike, stopped}
 use Rattle.test_subscriber.specs.Views.{copy_of, shape_in, known_in, kept_in, seen_in, machine_with}
 use Rattle.test_subscriber.specs.declared.phase.Phase.{Phase}
 use Rattle.test_subscriber.specs.declared.phase.Phase.TheVariants.{Shut, Idle}

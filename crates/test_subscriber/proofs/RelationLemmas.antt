@@ -1,15 +1,15 @@
 -- What becomes of a subscriber's machine where a Relation comes.
 use Rattle.std.proofs.Common.{◌≡◌, ℕ, Bool, true, false, List, [], ◌∷◌, ◌++◌, get_or, refl, sym, ◌∙◌, ap, subst}
-use Rattle.std.specs.Prelude.{Option, Some, None, Result, Ok, Err, ◌==◌, ◌||◌, slice_set, if◌then◌else◌}
+use Rattle.std.specs.Prelude.{Option, Some, None, Ok, Err, ◌==◌, slice_set}
 use Rattle.std.specs.Option.{option_map}
 use Rattle.filter_tree.specs.Datum.{Datum}
 use Rattle.filter_tree.specs.declared.table.ColType.{ColType}
 use Rattle.pgoutput_msgs.specs.declared.relation.Relation.{Relation}
 use Rattle.table_changes.proofs.TableLemmas.{by_test, some_is}
 use Rattle.tables_log.specs.Staging.{kept, seen}
-use Rattle.test_subscriber.specs.Answers.{Reaches, Stays}
+use Rattle.test_subscriber.specs.Answers.{Reaches}
 use Rattle.test_subscriber.specs.Hearing.{learn_as, learn_new, learned, recognized, hear_relation}
-use Rattle.test_subscriber.specs.Machine.{Machine, Alike, stopped}
+use Rattle.test_subscriber.specs.Machine.{Alike}
 use Rattle.test_subscriber.specs.SameRelation.{same_relation}
 use Rattle.test_subscriber.specs.Shapes.{kinds_of, shaped, shape_of}
 use Rattle.test_subscriber.specs.Views.{copy_of, place_of, shape_in, known_in, kept_in, seen_in, machine_with}

@@ -1,5 +1,5 @@
 -- What calls on a subscriber answer and leave, where its machine has an outcome.
-use Rattle.std.specs.Prelude.{◌≡◌, Result, Ok, Err}
+use Rattle.std.specs.Prelude.{◌≡◌, Ok, Err}
 use Rattle.test_subscriber.specs.Hearing.{Outcome}
 use Rattle.test_subscriber.specs.Machine.{Machine, Alike, stopped}
 

@@ -1,5 +1,5 @@
 -- What a subscriber does with the frames of a connection: PostgreSQL 15, 55.4. Streaming Replication Protocol, 55.7. Message Formats (CopyBothResponse, ErrorResponse, CopyData), and 55.8. Error and Notice Message Fields.
-use Rattle.std.specs.Prelude.{ℕ, ◌-◌, ◌==◌, ◌&&◌, ◌||◌, Bool, max, nat_le, if◌then◌else◌, List, [], ◌∷◌, ◌++◌, length, take, drop, slice_index, codes, Option, Some, None, Result, Ok, Err}
+use Rattle.std.specs.Prelude.{ℕ, ◌-◌, ◌==◌, ◌&&◌, ◌||◌, max, nat_le, if◌then◌else◌, List, [], ◌∷◌, ◌++◌, length, take, drop, slice_index, codes, Option, Some, None, Result, Ok, Err}
 use Rattle.std.specs.Str.{bytes_eq}
 use Rattle.copy_frames.specs.Contents.{xlog_data_in, keepalive_in}
 use Rattle.copy_frames.specs.Frames.{Cut, Rest, Bad, Then}

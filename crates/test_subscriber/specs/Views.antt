@@ -1,9 +1,8 @@
 -- What a subscriber's parts show of the machine that applies a stream.
 use Rattle.std.specs.Prelude.{◌≡◌, ℕ, ◌==◌, ◌<◌, Bool, true, false, List, length, Option, Some, None}
 use Rattle.std.specs.List.{find, position}
-use Rattle.filter_tree.specs.Datum.{Datum}
 use Rattle.tables_log.specs.Staging.{kept, seen}
-use Rattle.test_subscriber.specs.Machine.{Machine, Rows}
+use Rattle.test_subscriber.specs.Machine.{Machine}
 use Rattle.test_subscriber.specs.RowChanges.{Found}
 use Rattle.test_subscriber.specs.declared.phase.Phase.{Phase}
 use Rattle.test_subscriber.specs.declared.replica.Replica.{Replica}
