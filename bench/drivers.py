@@ -16,20 +16,37 @@ NEEDS = {
 }
 
 
-def copy_of_repository(folder):
-    """The crates with their kept work, and no second copy of any file."""
-    shutil.copytree(ROOT / "crates", folder / "crates", copy_function=os.link)
-    shutil.copy(ROOT / "crates.txt", folder / "crates.txt")
-    shutil.copy(ROOT / "HANDLES", folder / "HANDLES")
+def stood_on(names):
+    """These crates of the repository and those that they stand on, each with its line of crates.txt."""
+    lines = {}
+    for line in (ROOT / "crates.txt").read_text().splitlines():
+        name, colon, needs = line.partition(":")
+        if colon and not line.startswith("#"):
+            lines[name.split()[0]] = line, needs.split()
+    wanted, left = {}, list(names)
+    while left:
+        name = left.pop()
+        if name in lines and name not in wanted:
+            wanted[name], needs = lines[name]
+            left.extend(needs)
+    return wanted
+
+
+def copy_of_repository(folder, names):
+    """Copies of these crates, with what was proved of them, so that nothing is proved twice."""
+    crates = stood_on(names)
+    for name in crates:
+        shutil.copytree(ROOT / "crates" / name, folder / "crates" / name, symlinks=True)
+    (folder / "crates.txt").write_text("".join(f"{line}\n" for line in crates.values()))
 
 
 @contextlib.contextmanager
 def built(name):
     """The program of this driver, proved and built over the crates as they are. The sources end in `.in`, since the gate
     refuses those that no check reads."""
-    with tempfile.TemporaryDirectory(prefix="pgshard_bench_", dir=ROOT.parent) as place:
+    with tempfile.TemporaryDirectory(prefix="pgshard_bench_") as place:
         folder, crate = pathlib.Path(place), f"bench_{name}"
-        copy_of_repository(folder)
+        copy_of_repository(folder, NEEDS[name].split())
         source = folder / "crates" / crate / "src"
         source.mkdir(parents=True)
         shutil.copy(SOURCES / f"{name}.rt.in", source / "main.rt")
