@@ -56,6 +56,9 @@ impl Book {
 
     /// A book of the catalog's tables, without rows and with an empty log, which may have so many commits, and with a
     /// slot for each subscription, of which nothing is confirmed. The only error is want of memory.
+    ///
+    /// That the catalog is within its limits (`tables`) is known of one that `read_catalog` read, and the check of its
+    /// sharding keeps that catalog.
     #[tactic(auto, using(crate::proofs::BookLemmas::narrow_limited))]
     pub fn new(alloc: Global, checked: Arc<Checked, Global>, limit: u32) -> Result<Book, AllocError>
         requires some { 1 ≤ limit }
