@@ -1,3 +1,8 @@
+ghost use Rattle.std.specs.Prelude.{IfOk};
+ghost use Rattle.std.specs.Arc.{arc_value};
+ghost use Rattle.pub_reader.specs.CatalogLimits.{IsLimited};
+ghost use Rattle.shard_checker.specs.CheckedView.{checked_view};
+
 use crate::tests::{bytes_of, spelled};
 use crate::{Msg, limited_tables_fit, messages_are_read_back, messages_of};
 use filter_tree::{Row, Text, Value};
@@ -41,7 +46,9 @@ fn checked(
     alloc: Global,
     catalog: &str,
     certificates: &[&str],
-) -> Result<Arc<Checked, Global>, Fail> {
+) -> Result<Arc<Checked, Global>, Fail>
+    ensures { IfOk result (λ checked. IsLimited (checked_view (arc_value checked)).catalog) }
+{
     let catalog = read_catalog(alloc, catalog)?;
     let plan = plan(alloc, &catalog)?;
     let checked = check_text(alloc, catalog, plan, certificates)?;
@@ -49,7 +56,9 @@ fn checked(
 }
 
 /// A book in which the transactions of the script are committed, each at the time of its number.
-fn book(alloc: Global, checked: &Arc<Checked, Global>, script: &str) -> Result<Book, Fail> {
+fn book(alloc: Global, checked: &Arc<Checked, Global>, script: &str) -> Result<Book, Fail>
+    requires { IsLimited (checked_view (arc_value checked.now)).catalog }
+{
     let mut book = Book::new(alloc, Arc::try_clone(checked)?, 10)?;
     let lines = read_script(alloc, checked.catalog(), script)?;
     let mut time: u64 = 0;

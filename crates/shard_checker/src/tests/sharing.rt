@@ -144,7 +144,7 @@ fn one_after_another(alloc: Global, last: u32) -> Result<String, AllocError> {
     }
     certificate.push_str(format!(in alloc; "o {last}")?.as_str())?;
     for place in 0..64 {
-        let atom = 63 - place;
+        let atom = 63_u32.saturating_sub(place);
         certificate.push_str(format!(in alloc; " n {atom}")?.as_str())?;
     }
     Ok(certificate)
