@@ -89,7 +89,9 @@ fn told_of(
     checked: &Arc<Checked, Global>,
     script: &str,
     subscriber: usize,
-) -> Result<Vec<Vec<u8>>, Fail> {
+) -> Result<Vec<Vec<u8>>, Fail>
+    requires { IsLimited (checked_view (arc_value checked.now)).catalog }
+{
     let book = book(alloc, checked, script)?;
     let mut told = vec![in alloc; false; checked.catalog().tables.len()]?;
     let mut found = Vec::new(alloc);
