@@ -18,7 +18,7 @@ use Rattle.cert_maker.specs.Owners.{owners_from, IsRight}
 use Rattle.cert_maker.specs.declared.made.Made.{Made}
 use Rattle.cert_maker.specs.declared.made.Made.TheVariants.{Cert, Counter, Unknown, TooLarge, OutOfMemory}
 
--- the owners among shares are the subscribers to whom the row passes
+-- the owners among shares are the subscribers that get the row
 owners_pass : (catalog : CatalogOf Expr) (plan : PlanOf) (number : ℕ) (cells : List Datum) → TakesWhatPasses catalog plan → number < length catalog.tables → (first : ℕ) (subscriptions : List Subscription) →
     owners_from first (table_shares plan number first subscriptions) cells ≡ filter (λ subscriber. passes catalog subscriber number cells) (numbers_from first subscriptions)
 owners_pass catalog plan number cells own within first [] = refl

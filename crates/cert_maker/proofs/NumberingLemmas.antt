@@ -1,4 +1,4 @@
--- A certificate that is accepted is accepted by whatever number of the table: the number stands in refusals alone.
+-- A certificate that is accepted is accepted by whatever number of the table: the number is in refusals alone.
 use Rattle.std.proofs.Common.{◌≡◌, ℕ, Bool, true, false, List, [], ◌∷◌, ◌++◌, refl}
 use Rattle.std.specs.Prelude.{Option, Some, None, if◌then◌else◌, slice_get}
 use Rattle.filter_tree.specs.Expr.{AtomOf}

@@ -1,4 +1,4 @@
--- What an answer of the maker says: of a certificate, that the check of its table accepts it; of a row, that it fits the table and to which subscribers it passes, of whom there is not exactly one. PostgreSQL 15, "Logical Replication", 31.3 Row Filters.
+-- What an answer of the maker says: of a certificate, that the check of its table accepts it; of a row, that it fits the table and which subscribers get it, of which there is not exactly one. PostgreSQL 15, "Logical Replication", 31.3 Row Filters.
 use Rattle.std.specs.Prelude.{◌≡◌, ◌≢◌, ℕ, ◌+◌, List, [], ◌∷◌, length, filter, Some, None, slice_get}
 use Rattle.filter_tree.specs.Datum.{Datum}
 use Rattle.filter_tree.specs.Expr.{Expr}
@@ -44,7 +44,7 @@ abbrev pub numbers_from : ℕ → List Subscription → List ℕ
 numbers_from number [] = []
 numbers_from number (subscription ∷ subscriptions) = number ∷ numbers_from (number + 1) subscriptions
 
--- the subscribers to whom the row of the table passes, in ascending order
+-- the subscribers that get the row of the table, in ascending order
 abbrev pub owners_of : CatalogOf Expr → ℕ → List Datum → List ℕ
 owners_of catalog number cells = filter (λ subscriber. passes catalog subscriber number cells) (numbers_from 0 catalog.subscriptions)
 

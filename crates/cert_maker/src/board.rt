@@ -6,7 +6,7 @@ use crate::problem::{AtomKind, Claim, Problem};
 use filter_tree::{Mask, Tri};
 use std::alloc::{AllocError, Global};
 
-/// How a share stands to the rows at a node.
+/// What is known of a share for the rows at a node.
 #[derive(Clone, Copy, PartialEq, Eq)]
 pub enum Standing {
     /// By the atoms on the path it takes none of them.
@@ -26,7 +26,7 @@ pub struct Board {
     pub facts: Facts,
     pub standings: Vec<Standing>,
     pub votes: Vec<u64>,
-    /// How much was looked at.
+    /// How many nodes of formulas, atoms, terms and columns were looked at.
     pub steps: u64,
 }
 
@@ -97,14 +97,27 @@ impl Board {
         self.steps = self.steps.saturating_add(steps);
     }
 
-    /// Counts the atoms that a claim has, and one more.
+    /// Counts the nodes of a claim's formula.
     pub fn count(&mut self, claim: &Claim) {
-        let atoms = u64::try_from(claim.atoms.len()).unwrap_or(u64::MAX);
-        self.add_steps(atoms.saturating_add(1));
+        self.add_steps(claim.size);
+    }
+
+    /// Counts the nodes of all claims' formulas, and each column, term and atom.
+    pub fn count_all(&mut self, problem: &Problem<'_>) {
+        self.add_steps(problem.breadth());
+        for claim in &problem.claims {
+            self.count(claim);
+        }
     }
 
     /// Finds the facts, and what they leave to each atom.
     pub fn look(&mut self, problem: &Problem<'_>) {
+        // Each atom is looked at four times, and each column and term once.
+        self.add_steps(
+            problem
+                .breadth()
+                .saturating_add(problem.atom_count().saturating_mul(3)),
+        );
         self.facts.find(problem, &self.known);
         for (atom, plain) in problem.atoms.iter().enumerate() {
             let mask = self.facts.expected(&self.known, atom, *plain);
@@ -112,7 +125,7 @@ impl Board {
         }
     }
 
-    /// Finds how each share stands, by what was found of the atoms.
+    /// Finds what is known of each share, by what was found of the atoms.
     pub fn judge(&mut self, problem: &Problem<'_>) {
         for (share, claim) in problem.claims.iter().enumerate() {
             let standing = self.standing(claim);
@@ -125,6 +138,7 @@ impl Board {
         if !claim.formula.mask(&self.known).truth {
             return Standing::Closed;
         }
+        self.count(claim);
         let likely = claim.formula.mask(&self.likely);
         if !likely.truth {
             Standing::Excluded
@@ -135,7 +149,7 @@ impl Board {
         }
     }
 
-    /// How the share of this number stands.
+    /// What is known of the share of this number.
     pub fn standing_of(&self, share: usize) -> Standing {
         self.standings
             .get(share)
@@ -143,7 +157,7 @@ impl Board {
             .unwrap_or(Standing::Closed)
     }
 
-    /// How many shares stand so.
+    /// Of how many shares this is known.
     pub fn how_many(&self, standing: Standing) -> usize {
         let mut found = 0usize;
         for held in &self.standings {
@@ -154,7 +168,7 @@ impl Board {
         found
     }
 
-    /// The first share that stands so.
+    /// The first share of which this is known.
     pub fn first(&self, standing: Standing) -> Option<usize> {
         for (share, held) in self.standings.iter().enumerate() {
             if *held == standing {

@@ -4,7 +4,7 @@ use crate::board::Board;
 use crate::facts::Nullness;
 use crate::numbers::{meets, number_for, range_left};
 use crate::problem::{Problem, number};
-use filter_tree::{ColType, Column, Mask};
+use filter_tree::{ColType, Column};
 use shard_checker::Range;
 use std::alloc::{AllocError, Global};
 
@@ -22,21 +22,21 @@ pub fn empty_text(problem: &Problem<'_>) -> i64 {
 }
 
 /// A text that meets what is known: the empty one, one that no atom names, or one that an atom names.
-fn text_for(problem: &Problem<'_>, known: &[Mask], column: usize) -> Option<i64> {
+fn text_for(problem: &Problem<'_>, board: &mut Board, column: usize) -> Option<i64> {
     let empty = empty_text(problem);
-    if meets(problem, known, column, empty) {
+    if meets(problem, board, column, empty) {
         return Some(empty);
     }
     let unnamed = number(problem.texts.len());
-    if meets(problem, known, column, unnamed) {
+    if meets(problem, board, column, unnamed) {
         return Some(unnamed);
     }
-    named_for(problem, known, column)
+    named_for(problem, board, column)
 }
 
-fn named_for(problem: &Problem<'_>, known: &[Mask], column: usize) -> Option<i64> {
+fn named_for(problem: &Problem<'_>, board: &mut Board, column: usize) -> Option<i64> {
     for (place, _) in problem.texts.iter().enumerate() {
-        if meets(problem, known, column, number(place)) {
+        if meets(problem, board, column, number(place)) {
             return Some(number(place));
         }
     }
@@ -58,15 +58,20 @@ fn whole_range(kind: ColType) -> Range {
 }
 
 /// A value of the column that meets what is known.
-fn choice(problem: &Problem<'_>, board: &Board, place: usize, column: &Column) -> Option<Choice> {
+fn choice(
+    problem: &Problem<'_>,
+    board: &mut Board,
+    place: usize,
+    column: &Column,
+) -> Option<Choice> {
     if board.facts.nullness(place) != Nullness::Present {
         return Some(None);
     }
     match column.kind {
-        ColType::Text => Some(Some(text_for(problem, &board.known, place)?)),
+        ColType::Text => Some(Some(text_for(problem, board, place)?)),
         ColType::SmallInt | ColType::Integer | ColType::BigInt | ColType::Boolean => {
             let range = range_left(problem, board, place, whole_range(column.kind));
-            Some(Some(number_for(problem, &board.known, place, range)?))
+            Some(Some(number_for(problem, board, place, range)?))
         }
     }
 }
@@ -75,7 +80,7 @@ fn choice(problem: &Problem<'_>, board: &Board, place: usize, column: &Column) -
 pub fn choices(
     alloc: Global,
     problem: &Problem<'_>,
-    board: &Board,
+    board: &mut Board,
 ) -> Result<Option<Vec<Choice>>, AllocError> {
     let mut choices = Vec::new(alloc);
     for (place, column) in problem.columns.iter().enumerate() {

@@ -24,7 +24,7 @@ pub struct Weighed {
     pub first: Option<usize>,
 }
 
-/// Where the atom stands among the atoms; if it isn't there, their number.
+/// The place of the atom among the atoms; if it isn't there, their number.
 fn number_of<A: Allocator>(atoms: &[&Atom<A>], atom: &Atom<A>) -> usize {
     for (number, held) in atoms.iter().enumerate() {
         if same_atom(atom, *held) {
@@ -145,6 +145,17 @@ impl Formula {
             Formula::Is(test, part) => {
                 let part = part.weighed(atoms);
                 joined(part.mask.is(*test), part, decided(part.mask))
+            }
+        }
+    }
+
+    /// How many nodes the formula has.
+    pub fn size(&self) -> u64 {
+        match self {
+            Formula::Const(_) | Formula::Atom(_) => 1,
+            Formula::Not(part) | Formula::Is(_, part) => part.size().saturating_add(1),
+            Formula::And(left, right) | Formula::Or(left, right) => {
+                left.size().saturating_add(right.size()).saturating_add(1)
             }
         }
     }

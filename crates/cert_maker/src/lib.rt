@@ -15,8 +15,6 @@ mod problem;
 mod rows;
 mod scores;
 mod search;
-#[cfg(test)]
-mod tests;
 
 pub use made::Made;
 pub use making::make;

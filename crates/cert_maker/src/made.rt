@@ -9,7 +9,7 @@ use split_cert::Cert;
 pub enum Made<'b> {
     /// A certificate that the check accepts. Its nodes are in the arena.
     Cert(Cert<&'b Bump>),
-    /// A row that fits the table, and the numbers of the subscribers to whom it passes, in ascending order, of whom there is
+    /// A row that fits the table, and the numbers of the subscribers that get it, in ascending order, of which there is
     /// not exactly one.
     Counter(Row, Vec<usize>),
     /// Neither was found.

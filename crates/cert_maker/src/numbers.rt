@@ -34,7 +34,7 @@ fn term_number(domain: Domain, number: i64) -> i64 {
 }
 
 /// The value of an atom where its column has this number.
-fn value_of(problem: &Problem<'_>, plain: PlainAtom, number: i64) -> Tri {
+pub fn value_of(problem: &Problem<'_>, plain: PlainAtom, number: i64) -> Tri {
     match plain.kind {
         AtomKind::IsNull => Tri::False,
         AtomKind::Cmp(op, constant) => match problem.terms.get(plain.term) {
@@ -45,9 +45,10 @@ fn value_of(problem: &Problem<'_>, plain: PlainAtom, number: i64) -> Tri {
 }
 
 /// Whether each atom of the column that is known has its value where the column has this number.
-pub fn meets(problem: &Problem<'_>, known: &[Mask], column: usize, number: i64) -> bool {
+pub fn meets(problem: &Problem<'_>, board: &mut Board, column: usize, number: i64) -> bool {
+    board.add_steps(problem.atom_count());
     for (atom, plain) in problem.atoms.iter().enumerate() {
-        if plain.column == column && differs(problem, known, atom, *plain, number) {
+        if plain.column == column && differs(problem, &board.known, atom, *plain, number) {
             return false;
         }
     }
@@ -87,15 +88,20 @@ fn is_in(range: Range, number: i64) -> bool {
 }
 
 /// A number of the range that meets what is known, near to the one of the range that is nearest to zero.
-fn near_number(problem: &Problem<'_>, known: &[Mask], column: usize, range: Range) -> Option<i64> {
+fn near_number(
+    problem: &Problem<'_>,
+    board: &mut Board,
+    column: usize,
+    range: Range,
+) -> Option<i64> {
     let start = nearest(range);
     for far in 0..MAX_FAR {
         let above = start.saturating_add(far);
-        if is_in(range, above) && meets(problem, known, column, above) {
+        if is_in(range, above) && meets(problem, board, column, above) {
             return Some(above);
         }
         let below = start.saturating_sub(far);
-        if is_in(range, below) && meets(problem, known, column, below) {
+        if is_in(range, below) && meets(problem, board, column, below) {
             return Some(below);
         }
     }
@@ -103,9 +109,10 @@ fn near_number(problem: &Problem<'_>, known: &[Mask], column: usize, range: Rang
 }
 
 /// Whether each atom of the term of this number that is known has its value where the column has this number.
-fn term_meets(problem: &Problem<'_>, known: &[Mask], term: usize, number: i64) -> bool {
+fn term_meets(problem: &Problem<'_>, board: &mut Board, term: usize, number: i64) -> bool {
+    board.add_steps(problem.atom_count());
     for (atom, plain) in problem.atoms.iter().enumerate() {
-        if plain.term == term && differs(problem, known, atom, *plain, number) {
+        if plain.term == term && differs(problem, &board.known, atom, *plain, number) {
             return false;
         }
     }
@@ -115,7 +122,7 @@ fn term_meets(problem: &Problem<'_>, known: &[Mask], term: usize, number: i64) -
 /// The first of the numbers from this one, a step apart, whose remainder by a divisor of this size the term may have.
 fn with_remainder(
     problem: &Problem<'_>,
-    known: &[Mask],
+    board: &mut Board,
     term: usize,
     start: i64,
     step: i64,
@@ -123,7 +130,7 @@ fn with_remainder(
 ) -> Option<i64> {
     let mut number = start;
     for _ in 0..size.min(MAX_REMAINDERS) {
-        if term_meets(problem, known, term, number) {
+        if term_meets(problem, board, term, number) {
             return Some(number);
         }
         number = number.checked_add(step)?;
@@ -156,7 +163,7 @@ fn common_step(step: i64, divisor: i64) -> Option<i64> {
 /// stay.
 fn with_remainders(
     problem: &Problem<'_>,
-    known: &[Mask],
+    board: &mut Board,
     column: usize,
     start: i64,
     step: i64,
@@ -165,7 +172,7 @@ fn with_remainders(
     for (term, domain) in problem.terms.iter().enumerate() {
         if let (true, Some(divisor)) = (domain.column == column, domain.divisor) {
             let size = divisor.checked_abs()?;
-            number = with_remainder(problem, known, term, number, step, size)?;
+            number = with_remainder(problem, board, term, number, step, size)?;
             step = common_step(step, size)?;
         }
     }
@@ -175,15 +182,15 @@ fn with_remainders(
 /// A number of the range from this one on, in the direction of the step, that meets what is known.
 fn stepwise(
     problem: &Problem<'_>,
-    known: &[Mask],
+    board: &mut Board,
     column: usize,
     range: Range,
     start: i64,
     step: i64,
 ) -> Option<i64> {
-    let (mut number, step) = with_remainders(problem, known, column, start, step)?;
+    let (mut number, step) = with_remainders(problem, board, column, start, step)?;
     for _ in 0..MAX_ROUNDS {
-        if is_in(range, number) && meets(problem, known, column, number) {
+        if is_in(range, number) && meets(problem, board, column, number) {
             return Some(number);
         }
         number = number.checked_add(step)?;
@@ -194,17 +201,17 @@ fn stepwise(
 /// A number of the range that meets what is known.
 pub fn number_for(
     problem: &Problem<'_>,
-    known: &[Mask],
+    board: &mut Board,
     column: usize,
     range: Range,
 ) -> Option<i64> {
-    let near = near_number(problem, known, column, range);
+    let near = near_number(problem, board, column, range);
     if near.is_some() {
         return near;
     }
-    let above = stepwise(problem, known, column, range, range.least.max(0), 1);
+    let above = stepwise(problem, board, column, range, range.least.max(0), 1);
     if above.is_some() {
         return above;
     }
-    stepwise(problem, known, column, range, range.greatest.min(0), -1)
+    stepwise(problem, board, column, range, range.greatest.min(0), -1)
 }

@@ -34,11 +34,12 @@ pub struct PlainAtom {
     pub twin: Option<usize>,
 }
 
-/// What a subscriber takes, and the numbers of the atoms that decide it.
+/// What a subscriber takes, the numbers of the atoms that decide it, and how many nodes the formula has.
 #[derive(Drop)]
 pub struct Claim {
     pub formula: Formula,
     pub atoms: Vec<usize>,
+    pub size: u64,
 }
 
 /// Which share takes the rows of a table.
@@ -60,7 +61,7 @@ fn text_of<A: Allocator>(atom: &Atom<A>) -> Option<&str> {
     }
 }
 
-/// Where the text stands in the list; if it isn't there, the list's length.
+/// The place of the text in the list; if it isn't there, the list's length.
 fn place_of(texts: &[&str], text: &str) -> usize {
     for (place, held) in texts.iter().enumerate() {
         if *held == text {
@@ -239,6 +240,7 @@ fn claim_of<A: Allocator>(
     let mut numbers = Vec::new(alloc);
     formula.gather(&mut numbers)?;
     Ok(Claim {
+        size: formula.size(),
         formula,
         atoms: numbers,
     })
@@ -275,6 +277,20 @@ impl<'a> Problem<'a> {
             claims: claims_of(alloc, atoms, shares)?,
             texts,
         })
+    }
+
+    /// How many columns, terms and atoms there are.
+    pub fn breadth(&self) -> u64 {
+        let columns = u64::try_from(self.columns.len()).unwrap_or(u64::MAX);
+        let terms = u64::try_from(self.terms.len()).unwrap_or(u64::MAX);
+        columns
+            .saturating_add(terms)
+            .saturating_add(self.atom_count())
+    }
+
+    /// How many atoms there are.
+    pub fn atom_count(&self) -> u64 {
+        u64::try_from(self.atoms.len()).unwrap_or(u64::MAX)
     }
 
     /// The atom of this number.

@@ -1,9 +1,10 @@
 //! Rows, and the simple ones that are tried first.
 
 use crate::choices::{Choice, empty_text};
+use crate::numbers::value_of;
 use crate::owners::is_counter;
-use crate::problem::{AtomKind, Problem, number};
-use filter_tree::{ColType, Column, Row, Table, Text, Value};
+use crate::problem::{AtomKind, PlainAtom, Problem, number};
+use filter_tree::{ColType, Column, Mask, Row, Table, Text, Tri, Value};
 use replica_identity::Share;
 use std::alloc::{AllocError, Global};
 
@@ -39,7 +40,7 @@ fn text_of(alloc: Global, problem: &Problem<'_>, chosen: i64) -> Result<Text, Al
     }
 }
 
-fn value_of(
+fn cell_of(
     alloc: Global,
     problem: &Problem<'_>,
     column: &Column,
@@ -56,11 +57,11 @@ fn value_of(
 }
 
 /// The row of the values that were chosen.
-pub fn row_of(alloc: Global, problem: &Problem<'_>, choices: &[Choice]) -> Result<Row, AllocError> {
+fn row_of(alloc: Global, problem: &Problem<'_>, choices: &[Choice]) -> Result<Row, AllocError> {
     let mut values = Vec::new(alloc);
     for (place, column) in problem.columns.iter().enumerate() {
         let choice = choices.get(place).copied().unwrap_or(None);
-        values.push(value_of(alloc, problem, column, choice)?)?;
+        values.push(cell_of(alloc, problem, column, choice)?)?;
     }
     Ok(Row::from_values(values))
 }
@@ -182,6 +183,67 @@ fn simple_choices(
     Ok(Some(choices))
 }
 
+/// The value of an atom of a column that is null.
+fn value_of_null(plain: PlainAtom) -> Tri {
+    match plain.kind {
+        AtomKind::IsNull => Tri::True,
+        AtomKind::Cmp(..) => Tri::Null,
+    }
+}
+
+/// The value of an atom in the row of these values.
+fn value_with(problem: &Problem<'_>, plain: PlainAtom, choices: &[Choice]) -> Tri {
+    let choice = choices.get(plain.column).copied().unwrap_or(None);
+    match choice {
+        None => value_of_null(plain),
+        Some(chosen) => value_of(problem, plain, chosen),
+    }
+}
+
+/// The values of the atoms in the row of these values.
+fn masks_with(
+    alloc: Global,
+    problem: &Problem<'_>,
+    choices: &[Choice],
+) -> Result<Vec<Mask>, AllocError> {
+    let mut masks = Vec::new(alloc);
+    for plain in &problem.atoms {
+        masks.push(Mask::single(value_with(problem, *plain, choices)))?;
+    }
+    Ok(masks)
+}
+
+/// How many shares take the row, by the values of its atoms.
+fn count_takers(problem: &Problem<'_>, masks: &[Mask]) -> usize {
+    let mut count = 0usize;
+    for claim in &problem.claims {
+        if claim.formula.mask(masks).truth {
+            count = count.saturating_add(1);
+        }
+    }
+    count
+}
+
+/// The row of these values, if it fits the table and not exactly one share takes it. The row is made only where the values
+/// of its atoms tell that.
+pub fn counter_of(
+    alloc: Global,
+    problem: &Problem<'_>,
+    table: &Table,
+    shares: &[&Share],
+    choices: &[Choice],
+) -> Result<Option<Row>, AllocError> {
+    let masks = masks_with(alloc, problem, choices)?;
+    if count_takers(problem, &masks) == 1 {
+        return Ok(None);
+    }
+    let row = row_of(alloc, problem, choices)?;
+    if is_counter(table, shares, &row) {
+        return Ok(Some(row));
+    }
+    Ok(None)
+}
+
 /// A simple row that not one share takes, if there is one among those that are tried.
 pub fn simple_counter(
     alloc: Global,
@@ -194,9 +256,9 @@ pub fn simple_counter(
         match simple_choices(alloc, &values, number)? {
             None => return Ok(None),
             Some(choices) => {
-                let row = row_of(alloc, problem, &choices)?;
-                if is_counter(table, shares, &row) {
-                    return Ok(Some(row));
+                let counter = counter_of(alloc, problem, table, shares, &choices)?;
+                if counter.is_some() {
+                    return Ok(counter);
                 }
             }
         }

@@ -124,6 +124,7 @@ impl Board {
         problem: &Problem<'_>,
         share: usize,
     ) -> Result<Option<usize>, AllocError> {
+        self.add_steps(problem.atom_count().saturating_mul(2));
         self.clear_votes(problem);
         self.vote_all(problem);
         if let Some(atom) = self.most_voted() {

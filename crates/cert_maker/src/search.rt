@@ -3,9 +3,8 @@
 use crate::board::{Board, Standing};
 use crate::choices::choices;
 use crate::masks::{is_sure, mask_at};
-use crate::owners::is_counter;
 use crate::problem::{AtomKind, PlainAtom, Problem};
-use crate::rows::{row_of, simple_counter};
+use crate::rows::{counter_of, simple_counter};
 use crate::scores::Aim;
 use bumpalo::Bump;
 use filter_tree::{Mask, Row, Table, Tri};
@@ -14,15 +13,12 @@ use shard_checker::{numbered_atoms, numbered_terms};
 use split_cert::{Cert, MAX_NODES, MAX_SPLITS};
 use std::alloc::{AllocError, AllocFailed, Global};
 
-/// The most steps of a search. Each time that a share's filter is looked at counts its atoms, and one more; each time that a
-/// row is looked for counts 1,000,000, and as much for each term.
-pub const MAX_STEPS: u64 = 1_000_000_000;
+/// After so many steps a search goes on to no further node. A step is a look at a node of a share's filter, or at an
+/// atom, a term or a column.
+pub const MAX_STEPS: u64 = 400_000_000;
 
 /// After so many nodes splits are no longer chosen with care.
 const CAREFUL_NODES: usize = 20_000;
-
-/// The steps of a look for a row, and again for each term.
-const ROW_STEPS: u64 = 1_000_000;
 
 /// Why the search for a certificate ends without one.
 #[derive(Clone, Copy, Debug)]
@@ -125,7 +121,7 @@ impl<'a, 'q> Search<'a, 'q> {
         Ok(())
     }
 
-    /// A tree for the rows at the end of the path, on which so many splits may still stand.
+    /// A tree for the rows at the end of the path, to which so many splits may still be added.
     #[cycle(tree)]
     fn grow<'b>(&mut self, arena: &'b Bump, may_split: usize) -> Result<Cert<&'b Bump>, Stop> {
         self.count_node()?;
@@ -245,13 +241,10 @@ impl<'a, 'q> Search<'a, 'q> {
 
     /// Looks for a row here, which not one share takes; without one, something that only stands for a leaf.
     fn fault<'b>(&mut self) -> Result<Cert<&'b Bump>, Stop> {
-        let terms = u64::try_from(self.problem.terms.len()).unwrap_or(u64::MAX);
-        self.board
-            .add_steps(ROW_STEPS.saturating_mul(terms.saturating_add(1)));
-        if let Some(chosen) = choices(self.alloc, self.problem, &self.board)? {
-            let row = row_of(self.alloc, self.problem, &chosen)?;
-            if is_counter(self.table, self.shares, &row) {
-                self.counter = Some(row);
+        self.board.count_all(self.problem);
+        if let Some(chosen) = choices(self.alloc, self.problem, &mut self.board)? {
+            self.counter = counter_of(self.alloc, self.problem, self.table, self.shares, &chosen)?;
+            if self.counter.is_some() {
                 return Err(Stop::Counter);
             }
         }

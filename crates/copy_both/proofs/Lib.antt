@@ -4,8 +4,10 @@ pub mod FirstFrames
 pub mod FramingLemmas
 pub mod HearingLemmas
 pub mod ListTurns
+pub mod ListeningLemmas
 pub mod Numerals
 pub mod OrderLemmas
+pub mod QuietLemmas
 pub mod QuotedTurns
 pub mod RefusalLemmas
 pub mod SessionLemmas

@@ -1,9 +1,12 @@
 pub mod CommandText
 pub mod CommandTokens
+pub mod Ears
 pub mod Events
 pub mod Framing
 pub mod Hearing
+pub mod Listening
 pub mod OptionValues
+pub mod Phases
 pub mod Refusals
 pub mod Sessions
 pub mod ShortNames

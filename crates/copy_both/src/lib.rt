@@ -2,11 +2,8 @@
 #![tactic(auto)]
 
 mod answer;
-#[cfg(test)]
-mod answer_cases;
-#[cfg(test)]
-mod answer_tests;
 mod command_text;
+mod ear;
 mod error_response;
 mod event;
 mod framing;
@@ -14,8 +11,10 @@ mod front;
 mod heard;
 mod laws;
 mod link_fault;
+mod listening;
 mod names;
 mod option_value;
+mod phase;
 mod place;
 mod quoted;
 mod refusal;
@@ -23,16 +22,13 @@ mod session;
 mod sql_state;
 mod start_command;
 mod start_order;
-#[cfg(test)]
-mod start_tests;
 mod taken;
 mod token;
 mod tokens;
 mod voice;
-#[cfg(test)]
-mod voice_tests;
 
 pub use answer::{Asked, answer_start};
+pub use ear::Ear;
 pub use error_response::append_error_response;
 pub use heard::Heard;
 pub use laws::streams_grow;

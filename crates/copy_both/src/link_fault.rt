@@ -1,6 +1,7 @@
 //! Why a connection is closed.
 
 use crate::sql_state::SqlState;
+use copy_frames::FrameFault;
 use std::alloc::{AllocError, AllocFailed};
 use thiserror::Error;
 
@@ -50,5 +51,20 @@ impl<T: Drop> From<AllocFailed<T>> for LinkFault {
 
     fn from(_: AllocFailed<T>) -> LinkFault {
         LinkFault::OutOfMemory
+    }
+}
+
+impl From<FrameFault> for LinkFault {
+    ghost use Rattle.std.specs.Prelude.{◌≡◌};
+    ghost use Rattle.copy_both.specs.Hearing.{link_fault};
+
+    ghost from_gives = { λ fault made. made ≡ link_fault fault };
+
+    fn from(fault: FrameFault) -> LinkFault {
+        match fault {
+            FrameFault::BadLength => LinkFault::BadLength,
+            FrameFault::FrameTooLong => LinkFault::FrameTooLong,
+            FrameFault::OutOfMemory => LinkFault::OutOfMemory,
+        }
     }
 }

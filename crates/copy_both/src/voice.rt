@@ -248,11 +248,14 @@ impl Voice {
         self.out.as_slice()
     }
 
-    /// Drops so many of the first bytes that wait, without a copy of the others.
+    /// Drops so many of the first bytes that wait, or all where fewer wait, without a copy of the others.
     pub fn passed(&mut self, count: usize)
-        requires { count ≤ length (voice_output self.old) }
         ensures { spec.Passes self.old self.new count }
     {
-        self.out.advance(count);
+        if count < self.out.len() {
+            self.out.advance(count);
+        } else {
+            self.out.clear();
+        }
     }
 }

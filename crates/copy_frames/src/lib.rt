@@ -12,8 +12,6 @@ mod laws;
 mod numbers;
 mod room;
 mod status;
-#[cfg(test)]
-mod tests;
 mod xlog_data;
 
 pub use copy_mode::{append_copy_both_response, append_copy_done};

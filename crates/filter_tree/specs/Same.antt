@@ -21,7 +21,7 @@ same_datum Missing Missing = true
 same_datum (Known k) (Known l) = same_constant k l
 same_datum _ _ = false
 
--- whether a row has these values, the first of which stands in this column
+-- whether a row has these values, the first of which is in this column
 abbrev pub same_from : ℕ → List Datum → List Datum → Bool
 same_from column [] cells = true
 same_from column (value ∷ values) cells = same_datum value (value_at cells column) && same_from (column + 1) values cells

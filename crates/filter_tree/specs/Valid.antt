@@ -28,12 +28,12 @@ IsOf Boolean (Truth truth) = Unit {0}
 IsOf Text (Bytes bytes) = IsText bytes
 IsOf _ _ = ⊥
 
--- the value may stand in the column: null unless the column is NOT NULL, or a value of its type
+-- the column takes the value: null unless the column is NOT NULL, or a value of its type
 abbrev pub Fits : Column → Datum → Type 0
 Fits column Missing = column.not_null ≡ false
 Fits column (Known constant) = IsOf column.kind constant
 
--- the row is as wide as the table, and each column's value may stand in it
+-- the row is as wide as the table, and each column takes its value
 pub record IsValid (columns : List Column) (cells : List Datum) : Type 0 where
   pub wide : length cells ≡ length columns
   pub fits : (k : ℕ) → IfSome (slice_get columns k) (λ column. Fits column (value_at cells k))

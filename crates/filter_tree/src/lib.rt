@@ -14,8 +14,6 @@ mod order;
 mod possibility;
 mod same;
 mod table;
-#[cfg(test)]
-mod tests;
 mod text;
 mod tri;
 mod validity;

@@ -13,7 +13,7 @@ use crate::tri::Tri;
 use std::alloc::Allocator;
 
 /// The truth values that the filter may have on the rows on which each atom of the path has its value there. Of an
-/// atom that stands twice, the first entry counts.
+/// atom that is there twice, the first entry counts.
 #[tactic(auto, using(crate::proofs::PossibleLemmas::possible_holds))]
 pub fn possible<A: Allocator>(filter: &Filter<A>, path: &[(&Atom<A>, Tri)]) -> Mask
     ensures set { result ≡ possible_of (expr_view filter.now) (path_view path.now) }

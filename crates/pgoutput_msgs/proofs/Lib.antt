@@ -3,11 +3,15 @@ pub mod Everywhere
 pub mod Exact
 pub mod Fields
 pub mod GatheringLemmas
+pub mod IntroducingLemmas
 pub mod Messages
+pub mod OldRowLemmas
 pub mod ReadBackLemmas
+pub mod RecordedLemmas
 pub mod RelationRules
 pub mod RoomLemmas
 pub mod RowLemmas
+pub mod SeenMessageLemmas
 pub mod SentLemmas
 pub mod SpellingLaws
 pub mod TellingLemmas

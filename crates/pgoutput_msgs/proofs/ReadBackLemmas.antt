@@ -1,5 +1,5 @@
 -- Each value of a type is read back from its text, and so each row of such values.
-use Rattle.std.proofs.Common.{◌≡◌, ℕ, suc, ◌+◌, ◌^◌, ◌<◌, ◌≤◌, ℤ, pos, negsuc, Bool, true, false, ◌&&◌, List, [], ◌∷◌, length, Option, Some, None, refl, ap, ◌∙◌, arith}
+use Rattle.std.proofs.Common.{◌≡◌, ℕ, suc, ◌^◌, ◌<◌, ℤ, pos, negsuc, Bool, true, false, ◌&&◌, List, [], ◌∷◌, length, Option, Some, None, refl, ap, ◌∙◌, arith}
 use Rattle.std.specs.Prelude.{int_le, ◌==◌, if◌then◌else◌, option_map, neg_ℤ, slice_get, IfSome, Contains, T}
 use Rattle.std.specs.Fmt.{signed_decimal, decimal}
 use Rattle.std.specs.Int.Signed.{mag}
@@ -100,7 +100,7 @@ null_or_of : (column : Column) (datum : Datum) → Fits column datum → IsNullO
 null_or_of column Missing h = tt
 null_or_of column (Known constant) h = h
 
-are_of : (columns : List Column) (row : List Datum) → length row ≡ length columns
+pub are_of : (columns : List Column) (row : List Datum) → length row ≡ length columns
     → ((k : ℕ) → IfSome (slice_get columns k) (λ column. Fits column (value_at row k))) → AreOf (kinds_of columns) row
 are_of [] [] long fits = tt
 are_of [] (datum ∷ row) long fits = absurd (omega (arith, long))

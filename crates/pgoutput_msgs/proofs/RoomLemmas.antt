@@ -1,5 +1,5 @@
 -- The messages of a commit that can be sent have room in their layouts.
-use Rattle.std.proofs.Common.{◌≡◌, ℕ, suc, ◌+◌, ◌<◌, ◌≤◌, ◌^◌, ℤ, Bool, true, false, Option, Some, None, List, [], ◌∷◌, length, get_or, map, refl, sym, ap, subst, arith, lit<}
+use Rattle.std.proofs.Common.{◌≡◌, ℕ, suc, ◌+◌, ◌<◌, ◌^◌, Bool, true, false, Option, Some, None, List, [], ◌∷◌, length, get_or, map, refl, sym, ap, subst, arith, lit<}
 use Rattle.std.specs.Prelude.{All, IfSome, slice_get}
 use Rattle.std.proofs.lemmas.List.{get_or-map, length-map}
 use Rattle.std.proofs.lemmas.List.Elements.{All-nil}
@@ -13,9 +13,8 @@ use Rattle.tables_log.specs.Sendable.{IsSendableValue, IsSendableRow, IsSendable
 use Rattle.pgoutput_msgs.specs.Ranges.{IsCellWithinRange, IsTupleWithinRange, IsOldWithinRange, IsMaybeOldWithinRange, IsWithinRange}
 use Rattle.pgoutput_msgs.specs.Telling.{TablesFit, columns_from, relation_of, old_of, maybe_old_of, message_of, messages_for, oid_of}
 use Rattle.pgoutput_msgs.specs.ValueText.{cell_of, cells_of}
-use Rattle.pgoutput_msgs.specs.declared.message.Msg.{Msg}
 use Rattle.pgoutput_msgs.specs.declared.message.Msg.TheVariants as m
-use Rattle.pgoutput_msgs.proofs.Everywhere.{Everywhere, all_one, all_messages}
+use Rattle.pgoutput_msgs.proofs.Everywhere.{all_one, all_messages}
 use Rattle.pgoutput_msgs.proofs.RowLemmas.{short_number}
 
 -- ---- rows

@@ -1,6 +1,6 @@
--- Messages that tell of a commit, of a catalog within its limits whose names are plain, are messages that are read back, and are no longer than so many bytes.
-use Rattle.std.proofs.Common.{◌≡◌, ℕ, zero, suc, ◌+◌, ◌*◌, ◌<◌, ◌≤◌, ◌^◌, ℤ, negsuc, Bool, true, false, Option, Some, None, List, [], ◌∷◌, ◌++◌, length, length-append, get_or, map, refl, sym, ap, subst, ◌∙◌, arith, lit<}
-use Rattle.std.specs.Prelude.{All, Contains, FitsSigned, IfSome, slice_get, codes}
+-- Messages that tell of a commit, of a catalog within its limits are messages that are read back, and are no longer than so many bytes.
+use Rattle.std.proofs.Common.{◌≡◌, ℕ, ◌+◌, ◌*◌, ◌<◌, ◌≤◌, ◌^◌, Bool, true, false, Option, Some, None, List, [], ◌∷◌, ◌++◌, length, length-append, get_or, map, refl, sym, ap, subst, ◌∙◌, arith, lit<}
+use Rattle.std.specs.Prelude.{All, IfSome, slice_get, codes}
 use Rattle.std.specs.Int.{w32, cast_unsigned}
 use Rattle.std.specs.List.{flat_map}
 use Rattle.std.specs.Str.{IsUtf8}
@@ -9,28 +9,24 @@ use Rattle.std.proofs.lemmas.List.Concat.{flat_map-cons}
 use Rattle.std.proofs.lemmas.List.Elements.{All-nil, All-cons, All-head, All-tail, All-map}
 use Rattle.std.proofs.lemmas.Option.{slice_get_within, get_or_from_slice_get}
 use Rattle.filter_tree.specs.Datum.{Number, Truth, Bytes, Datum, Missing, Known}
-use Rattle.filter_tree.specs.Expr.{Expr}
 use Rattle.filter_tree.specs.declared.table.ColType.{ColType}
 use Rattle.filter_tree.specs.declared.table.ColType.TheVariants as k
 use Rattle.filter_tree.specs.declared.table.Column.{Column}
 use Rattle.filter_tree.specs.declared.table.Table.{Table}
-use Rattle.pub_reader.specs.CatalogLimits.{IsLimitedTable, IsLimited}
-use Rattle.pub_reader.specs.Catalogs.{CatalogOf}
+use Rattle.pub_reader.specs.CatalogLimits.{IsPlainName, HasPlainName, IsNamed, IsLimitedTable, IsLimited}
 use Rattle.shard_checker.specs.CheckedView.{CheckedOf}
 use Rattle.table_changes.specs.Records as r
 use Rattle.tables_log.specs.Commits.{CommitOf}
 use Rattle.tables_log.specs.Sendable.{IsSendableValue, IsSendableRow, IsSendablePart, IsTableNumber, IsSendableChange, IsSendable}
 use Rattle.pgoutput_msgs.specs.Ranges.{IsCellText, AreTexts, IsOldText, IsMaybeOldText, HasTextName, HasTexts, IsName, IsCell, IsTuple, IsOld, IsMaybeOld, IsColumn, IsOid, IsMessage}
-use Rattle.pgoutput_msgs.specs.Sent.{IsPlainName, HasPlainName, IsNamed, AreNamed, IsSent, IsDecoded, MessagesAreReadBack, LimitedTablesFit}
+use Rattle.pgoutput_msgs.specs.Sent.{IsSent, MessagesAreReadBack, LimitedTablesFit}
 use Rattle.pgoutput_msgs.specs.Spelling.{int8, int32, string, identity_letter, cell_spelling, tuple_spelling, old_spelling, maybe_old_spelling, column_spelling, columns_spelling, spelling_of}
-use Rattle.pgoutput_msgs.specs.Telling.{TablesFit, type_oid_of, identity_of, column_of, columns_from, relation_of, old_of, maybe_old_of, message_of, begin_of, commit_of, messages_for, oid_of}
+use Rattle.pgoutput_msgs.specs.Telling.{type_oid_of, identity_of, column_of, columns_from, relation_of, old_of, maybe_old_of, message_of, begin_of, commit_of, messages_for, oid_of}
 use Rattle.pgoutput_msgs.specs.ValueText.{cell_of, cells_of}
 use Rattle.pgoutput_msgs.specs.declared.message.Msg.{Msg}
 use Rattle.pgoutput_msgs.specs.declared.message.Msg.TheVariants as m
-use Rattle.pgoutput_msgs.specs.declared.relation.RelationColumn.{RelationColumn}
-use Rattle.pgoutput_msgs.specs.declared.tuple.Cell.{Cell}
-use Rattle.pgoutput_msgs.specs.declared.tuple.Cell.TheVariants.{Null, Text}
-use Rattle.pgoutput_msgs.proofs.Everywhere.{Everywhere, all_one, all_messages}
+use Rattle.pgoutput_msgs.specs.declared.tuple.Cell.TheVariants.{Text}
+use Rattle.pgoutput_msgs.proofs.Everywhere.{all_one, all_messages}
 use Rattle.pgoutput_msgs.proofs.RoomLemmas.{length_columns}
 use Rattle.pgoutput_msgs.proofs.RowLemmas.{few_digits}
 use Rattle.pgoutput_msgs.proofs.SpellingLaws.{are_decoded}
@@ -201,14 +197,14 @@ plain_relation number table low few names =
           omega (arith, all, long, few, schema_split, name_split, length-append table.schema (0 ∷ []), length-append table.name (0 ∷ []), names.schema.short, names.name.short);
     }
 
-relation_found : (tables : List Table) (number : ℕ) (found : Option Table) → slice_get tables number ≡ found → length tables ≤ 64 → All IsLimitedTable tables → AreNamed tables
+relation_found : (tables : List Table) (number : ℕ) (found : Option Table) → slice_get tables number ≡ found → length tables ≤ 64 → All IsLimitedTable tables
     → IfSome found (λ table. IsPlain (m.Relation (relation_of number table)))
-relation_found tables number None e few limited named = tt
-relation_found tables number (Some table) e few limited named =
+relation_found tables number None e few limited = tt
+relation_found tables number (Some table) e few limited =
     let within = slice_get_within tables number table e in
     let there = get_or_from_slice_get tables number table table e in
     let narrow : IsLimitedTable table = subst IsLimitedTable there (limited number table within) in
-    plain_relation number table (omega (arith, within, few)) narrow.columns (subst IsNamed there (named number table within))
+    plain_relation number table (omega (arith, within, few)) narrow.columns narrow.named
 
 -- ---- all messages
 
@@ -224,21 +220,21 @@ plain_commit commit h = record {
   short = omega arith;
 }
 
-all_plain : (checked : CheckedOf) (subscriber : ℕ) (told : List Bool) (commit : CommitOf) → IsSendable commit → IsLimited checked.catalog → AreNamed checked.catalog.tables
+all_plain : (checked : CheckedOf) (subscriber : ℕ) (told : List Bool) (commit : CommitOf) → IsSendable commit → IsLimited checked.catalog
     → All IsPlain (messages_for checked subscriber told commit)
-all_plain checked subscriber told commit h limited named =
+all_plain checked subscriber told commit h limited =
     let tables = checked.catalog.tables in
     all_messages IsPlain checked subscriber told commit h
     (record {
-      relations = λ number. relation_found tables number (slice_get tables number) refl limited.tables limited.each_table named;
+      relations = λ number. relation_found tables number (slice_get tables number) refl limited.tables limited.each_table;
       changes = plain_message;
     })
     (plain_begin commit h) (plain_commit commit h)
 
-pub messages_sent : (checked : CheckedOf) (subscriber : ℕ) (told : List Bool) (commit : CommitOf) (messages : List Msg) → IsSendable commit → IsLimited checked.catalog → AreNamed checked.catalog.tables
+pub messages_sent : (checked : CheckedOf) (subscriber : ℕ) (told : List Bool) (commit : CommitOf) (messages : List Msg) → IsSendable commit → IsLimited checked.catalog
     → messages ≡ messages_for checked subscriber told commit → All HasTexts messages → All IsSent messages
-messages_sent checked subscriber told commit messages h limited named are texts =
-    let plain = subst (All IsPlain) (sym are) (all_plain checked subscriber told commit h limited named) in
+messages_sent checked subscriber told commit messages h limited are texts =
+    let plain = subst (All IsPlain) (sym are) (all_plain checked subscriber told commit h limited) in
     λ n d within. record { read_back = (plain n d within).read_back (texts n d within); short = (plain n d within).short }
 
 -- ---- laws

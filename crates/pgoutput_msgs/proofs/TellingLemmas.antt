@@ -15,11 +15,10 @@ use Rattle.tables_log.specs.Sendable.{IsTableNumber, IsSendableChange}
 use Rattle.filter_tree.specs.Datum.{Datum}
 use Rattle.replica_identity.specs.Plans.{PlanOf}
 use Rattle.replica_identity.specs.Transforms.{takes_row, takes_any, out_for}
-use Rattle.std.specs.Prelude.{All, filter, option_map, if◌then◌else◌, slice_get}
+use Rattle.std.specs.Prelude.{All, filter, option_map, if◌then◌else◌}
 use Rattle.std.specs.List.{list_any}
-use Rattle.pgoutput_msgs.specs.Telling.{relation_once, relations_of, told_one, told_all, said, told_by, said_each, told_each, begin_of, commit_of, enclosed, relation_at, relation_of}
+use Rattle.pgoutput_msgs.specs.Telling.{relation_once, relations_of, told_one, told_all, said, told_by, said_each, told_each, begin_of, commit_of, enclosed}
 use Rattle.pgoutput_msgs.specs.declared.message.Msg.{Msg}
-use Rattle.pgoutput_msgs.specs.declared.message.Msg.TheVariants as m
 
 -- the Relations so far, and those of the tables that are left, are those of all
 pub record Introduces (tables : List Table) (told told_now : List Bool) (before now : List Msg) (all left : List ℕ) : Type 0 where

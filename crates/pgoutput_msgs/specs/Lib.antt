@@ -1,8 +1,10 @@
+pub mod Introducing
 pub mod Laws
 pub mod Ranges
 pub mod ReadBack
 pub mod Reading
 pub mod Room
+pub mod SeenMessages
 pub mod Sent
 pub mod Spelling
 pub mod Telling

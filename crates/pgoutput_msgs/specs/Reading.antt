@@ -8,7 +8,6 @@ use Rattle.pgoutput_msgs.specs.declared.error.MsgError.{MsgError}
 use Rattle.pgoutput_msgs.specs.declared.error.MsgError.TheVariants.{Unknown, Toast, BadCount, Short, BadText, Trailing, OutOfMemory}
 use Rattle.pgoutput_msgs.specs.declared.message.Msg.{Msg}
 use Rattle.pgoutput_msgs.specs.declared.message.Msg.TheVariants as m
-use Rattle.pgoutput_msgs.specs.declared.relation.Relation.{Relation}
 use Rattle.pgoutput_msgs.specs.declared.relation.RelationColumn.{RelationColumn}
 use Rattle.pgoutput_msgs.specs.declared.relation.ReplicaIdentity.{ReplicaIdentity}
 use Rattle.pgoutput_msgs.specs.declared.relation.ReplicaIdentity.TheVariants as i

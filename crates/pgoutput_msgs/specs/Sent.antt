@@ -1,8 +1,6 @@
--- What is known of each message that tells a subscriber of a commit: that its spelling is read as that message, and how long it is at most: PostgreSQL 15, 55.9. Logical Replication Message Formats. Names have at most 63 bytes and no zero byte: "SQL Syntax", 4.1.1 Identifiers and Key Words.
-use Rattle.std.specs.Prelude.{◌≡◌, ℕ, ◌≤◌, List, All, Contains, length, Ok}
+-- What is known of each message that tells a subscriber of a commit: that its spelling is read as that message, and how long it is at most: PostgreSQL 15, 55.9. Logical Replication Message Formats.
+use Rattle.std.specs.Prelude.{◌≡◌, ◌≤◌, List, All, length, Ok}
 use Rattle.filter_tree.specs.Expr.{Expr}
-use Rattle.filter_tree.specs.declared.table.Column.{Column}
-use Rattle.filter_tree.specs.declared.table.Table.{Table}
 use Rattle.pub_reader.specs.CatalogLimits.{IsLimited}
 use Rattle.pub_reader.specs.Catalogs.{CatalogOf}
 use Rattle.pgoutput_msgs.specs.Ranges.{IsMessage}
@@ -10,24 +8,6 @@ use Rattle.pgoutput_msgs.specs.Reading.{decoded}
 use Rattle.pgoutput_msgs.specs.Spelling.{spelling_of}
 use Rattle.pgoutput_msgs.specs.Telling.{TablesFit}
 use Rattle.pgoutput_msgs.specs.declared.message.Msg.{Msg}
-
--- ---- names
-
-pub record IsPlainName (name : List ℕ) : Type 0 where
-  pub short : length name ≤ 63
-  pub no_zero : ¬ Contains name 0
-
-abbrev pub HasPlainName : Column → Type 0
-HasPlainName column = IsPlainName column.name
-
--- the table's schema, the table and its columns have such names
-pub record IsNamed (table : Table) : Type 0 where
-  pub schema : IsPlainName table.schema
-  pub name : IsPlainName table.name
-  pub columns : All HasPlainName table.columns
-
-abbrev pub AreNamed : List Table → Type 0
-AreNamed tables = All IsNamed tables
 
 -- ---- messages
 

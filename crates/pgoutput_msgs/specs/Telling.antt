@@ -1,6 +1,5 @@
 -- The messages that tell a subscriber of a commit: PostgreSQL 15, 55.5.3. Logical Replication Protocol Message Flow, and 55.9. Logical Replication Message Formats. Log sequence numbers, OIDs and numbers of transactions are this project's own.
-use Rattle.std.specs.Prelude.{ℕ, ◌+◌, ◌*◌, ◌^◌, ◌<◌, length, IfSome, ℤ, negsuc, Bool, true, false, if◌then◌else◌, List, [], ◌∷◌, ◌++◌, map, slice_get, slice_index_or, slice_set, Option, Some, None}
-use Rattle.filter_tree.specs.Datum.{Datum}
+use Rattle.std.specs.Prelude.{ℕ, ◌+◌, ◌*◌, ◌^◌, ◌<◌, length, IfSome, negsuc, Bool, true, false, List, [], ◌∷◌, ◌++◌, map, slice_get, slice_index_or, slice_set, Option, Some, None}
 use Rattle.filter_tree.specs.declared.table.ColType.{ColType}
 use Rattle.filter_tree.specs.declared.table.ColType.TheVariants as k
 use Rattle.filter_tree.specs.declared.table.Column.{Column}

@@ -1,6 +1,8 @@
-//! Laws of the spellings of messages.
+//! Laws of the spellings of messages, and of the messages that tell of commits.
 
-ghost use Rattle.pgoutput_msgs.specs.ReadBack.{RowsReadBack, ValidRowsReadBack};
+ghost use Rattle.pgoutput_msgs.specs.Introducing.{CommitsIntroduce, CommitsInTurnIntroduce, RecordsAreOfTables, LogsAreOfTables};
+ghost use Rattle.pgoutput_msgs.specs.ReadBack.{RowsReadBack, ValidRowsReadBack, RecordedRowsReadBack};
+ghost use Rattle.pgoutput_msgs.specs.SeenMessages.{MessagesTellWhatIsSeen};
 ghost use Rattle.pgoutput_msgs.specs.Sent.{MessagesAreReadBack, LimitedTablesFit};
 ghost use Rattle.pgoutput_msgs.specs.Laws.{NoneIsProperPrefix, EachSpellsOne, SpellingsAreDecoded, DecodedAreSpellings, NothingMayFollow};
 
@@ -22,10 +24,12 @@ pub fn spellings_are_decoded()
 {}
 
 /// A law, and no code: the tuple of a row whose values are null or of their columns' types is read back as that row,
-/// value by value. So is that of a row that fits its table.
+/// value by value. So is that of a row that fits its table (`valid`), and what is recorded of an old row (`recorded`): as
+/// the row with nulls outside the columns of the replica identity, and under FULL as the row itself.
 pub fn rows_are_read_back()
     ensures rows { RowsReadBack }
     ensures valid { ValidRowsReadBack }
+    ensures recorded { RecordedRowsReadBack }
 {}
 
 /// A law, and no code: what is decoded of the spelling of each message that `messages_of` gives, of a catalog as its
@@ -38,4 +42,27 @@ pub fn messages_are_read_back()
 /// clause `room` of `messages_of` asks.
 pub fn limited_tables_fit()
     ensures { LimitedTablesFit }
+{}
+
+/// A law, and no code: in the messages of a commit (`one`), and of commits one after the other (`all`), each change is of
+/// tables that were told, before the commit or by a Relation that comes before it, and no Relation comes of a table that
+/// was told. Afterwards those tables were told that `messages_of` marks so. It holds where there is a flag for each table
+/// and the changes are of tables that there are, as what commands record (`recorded`) and each log (`logged`) is.
+///
+/// PostgreSQL 15, 55.5.3. Logical Replication Protocol Message Flow.
+pub fn relations_come_once()
+    ensures one { CommitsIntroduce }
+    ensures all { CommitsInTurnIntroduce }
+    ensures recorded { RecordsAreOfTables }
+    ensures logged { LogsAreOfTables }
+{}
+
+/// A law, and no code: without Begin, Commit and Relations the messages of a commit are those of what the subscriber sees
+/// of the commit's commands, in their order: an Insert for a new row alone, a Delete for an old row alone, and an Update
+/// for both, with what is recorded of the old row. So there are none where nothing is seen, and only there. It holds where
+/// a row's identity tells to whom it passes, as in each catalog that was checked.
+///
+/// PostgreSQL 15, "Logical Replication", 31.3.3 UPDATE Transformations.
+pub fn messages_tell_what_is_seen()
+    ensures { MessagesTellWhatIsSeen }
 {}

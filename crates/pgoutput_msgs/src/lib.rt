@@ -18,8 +18,6 @@ mod saying;
 mod spoken;
 mod tables;
 mod telling;
-#[cfg(test)]
-mod tests;
 mod truncate;
 mod tuple;
 mod update;
@@ -29,8 +27,8 @@ pub use decoding::decode;
 pub use encoding::{encode, fits};
 pub use error::MsgError;
 pub use laws::{
-    limited_tables_fit, messages_are_read_back, no_spelling_begins_another, rows_are_read_back,
-    spellings_are_decoded,
+    limited_tables_fit, messages_are_read_back, messages_tell_what_is_seen,
+    no_spelling_begins_another, relations_come_once, rows_are_read_back, spellings_are_decoded,
 };
 pub use message::Msg;
 pub use relation::{Relation, RelationColumn, ReplicaIdentity};

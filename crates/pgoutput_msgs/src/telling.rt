@@ -10,7 +10,7 @@ ghost use Rattle.table_changes.specs.Outs.{got};
 ghost use Rattle.tables_log.specs.Sendable.{IsSendableChange, IsTableNumber};
 ghost use Rattle.pub_reader.specs.CatalogLimits.{IsLimited};
 ghost use Rattle.pgoutput_msgs.specs.Ranges.{IsWithinRange, HasTexts};
-ghost use Rattle.pgoutput_msgs.specs.Sent.{AreNamed, IsSent};
+ghost use Rattle.pgoutput_msgs.specs.Sent.{IsSent};
 ghost use Rattle.pgoutput_msgs.specs.Telling as spec;
 
 use crate::message::Msg;
@@ -25,8 +25,8 @@ use tables_log::Commit;
 /// message of what it gets, and Commit; none if no change is for it. `told` has by a table's number whether its
 /// Relation was sent: one that wasn't comes directly before the first message that names its table, before a Truncate
 /// in its order, and is told from then on. Each message fits its layout, where each table has fewer than 2^15 columns
-/// (`room`). Where the catalog is within its limits, and each name in it has at most 63 bytes, none of which is zero,
-/// the bytes that spell a message are decoded as that message, and there are at most 13,108,011 of them (`sent`).
+/// (`room`). Where the catalog is within its limits, as each that was read is, the bytes that spell a message are decoded
+/// as that message, and there are at most 13,108,011 of them (`sent`).
 /// Commit n has the LSN `64 * n`, ends at `64 * n + 64` and is transaction `n + 2`; table j has the OID `16384 + j`.
 /// The only error is want of memory, which leaves `told` as it was.
 ///
@@ -45,7 +45,7 @@ pub fn messages_of(
     ensures err { OnErr result (told.new ≡ told.old) }
     ensures room { spec.TablesFit (checked_view checked.now).catalog.tables
         → IfOk result (λ messages. All IsWithinRange messages.items) }
-    ensures sent { IsLimited (checked_view checked.now).catalog → AreNamed (checked_view checked.now).catalog.tables
+    ensures sent { IsLimited (checked_view checked.now).catalog
         → IfOk result (λ messages. All IsSent messages.items) }
 {
     let mut after = Vec::from_slice(alloc, told)?;

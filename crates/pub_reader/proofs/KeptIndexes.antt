@@ -1,5 +1,5 @@
 -- Indexes and identities have columns that are there, and there are at most 8 indexes of a table.
-use Rattle.std.proofs.Common.{◌≡◌, ℕ, zero, suc, ◌+◌, ◌<◌, Bool, true, false, List, [], ◌∷◌, ◌++◌, All, length, refl, ap, subst, arith}
+use Rattle.std.proofs.Common.{◌≡◌, ℕ, zero, suc, ◌+◌, ◌<◌, ◌≤◌, Bool, true, false, List, [], ◌∷◌, ◌++◌, All, length, refl, ap, subst, arith}
 use Rattle.std.specs.Prelude.{nat_le, if◌then◌else◌, Option, Some, None, Ok, Err, slice_get}
 use Rattle.std.specs.Option.{is_some}
 use Rattle.std.specs.Str.{bytes_eq}
@@ -22,12 +22,19 @@ use Rattle.sql_reader.specs.Reading.{Fault, ◌>>◌, with_rest, eat, expect, it
 use Rattle.sql_reader.specs.Turns.{link}
 use Rattle.sql_reader.proofs.Keeping.{Gives, then-gives, any-gives, repeat-gives, link-gives}
 use Rattle.sql_reader.proofs.Widths.{room-gives, below}
-use Rattle.pub_reader.specs.CatalogLimits.{IsIndexOf, IsIdentity, IsLimitedTable}
+use Rattle.pub_reader.specs.CatalogLimits.{IsIndexOf, IsIdentity}
 use Rattle.pub_reader.specs.Catalogs.{schema_at, columns_at, indexes_at, identified, indexed}
 use Rattle.pub_reader.specs.Drafts.{DraftOf, find_index, find_relation}
 use Rattle.pub_reader.specs.Identities.{action, identifies, by_index, index_named, using_index, identity_by, identity, replica_identity}
 use Rattle.pub_reader.specs.Indexes.{new_index, method, once_in_index, index_column, index_columns, index_tail, index_body, indexed_table}
 use Rattle.pub_reader.specs.TableNames.{table_number}
+
+-- the limits of a table, without those of its names
+pub record IsSizedTable (table : Table) : Type 0 where
+  pub columns : length table.columns ≤ 100
+  pub indexes : length table.indexes ≤ 8
+  pub indexed : All (IsIndexOf table.columns) table.indexes
+  pub identified : IsIdentity table.columns table.indexes table.identity
 
 -- ---- the columns of an index
 
@@ -142,17 +149,17 @@ length-indexed [] number index = refl
 length-indexed (table ∷ tables) zero index = refl
 length-indexed (table ∷ tables) (suc number) index = ap suc (length-indexed tables number index)
 
-with_identity : (table : Table) (identity : Identity) → IsLimitedTable table → IsIdentity table.columns table.indexes identity → IsLimitedTable (record table { identity = identity })
+with_identity : (table : Table) (identity : Identity) → IsSizedTable table → IsIdentity table.columns table.indexes identity → IsSizedTable (record table { identity = identity })
 with_identity table identity h is = record { columns = h.columns; indexes = h.indexes; indexed = h.indexed; identified = is }
 
-pub identified-limited : (tables : List Table) (number : ℕ) (identity : Identity) → All IsLimitedTable tables
-    → IsIdentity (columns_at tables number) (indexes_at tables number) identity → All IsLimitedTable (identified tables number identity)
+pub identified-limited : (tables : List Table) (number : ℕ) (identity : Identity) → All IsSizedTable tables
+    → IsIdentity (columns_at tables number) (indexes_at tables number) identity → All IsSizedTable (identified tables number identity)
 identified-limited [] number identity h is = h
 identified-limited (table ∷ tables) zero identity h is =
-    All-cons IsLimitedTable (record table { identity = identity }) tables (with_identity table identity (All-head IsLimitedTable table tables h) is) (All-tail IsLimitedTable table tables h)
+    All-cons IsSizedTable (record table { identity = identity }) tables (with_identity table identity (All-head IsSizedTable table tables h) is) (All-tail IsSizedTable table tables h)
 identified-limited (table ∷ tables) (suc number) identity h is =
-    All-cons IsLimitedTable table (identified tables number identity) (All-head IsLimitedTable table tables h)
-    (identified-limited tables number identity (All-tail IsLimitedTable table tables h) is)
+    All-cons IsSizedTable table (identified tables number identity) (All-head IsSizedTable table tables h)
+    (identified-limited tables number identity (All-tail IsSizedTable table tables h) is)
 
 -- an index more changes none of those before it
 still_identifies : (columns : List Column) (indexes : List UniqueIndex) (index : UniqueIndex) (number : ℕ) → identifies columns (slice_get indexes number) ≡ true
@@ -167,8 +174,8 @@ still_identity columns indexes index Default is = tt
 still_identity columns indexes index Full is = tt
 still_identity columns indexes index Nothing is = tt
 
-with_index : (table : Table) (index : UniqueIndex) → IsLimitedTable table → length table.indexes < 8 → IsIndexOf table.columns index
-    → IsLimitedTable (record table { indexes = table.indexes ++ index ∷ [] })
+with_index : (table : Table) (index : UniqueIndex) → IsSizedTable table → length table.indexes < 8 → IsIndexOf table.columns index
+    → IsSizedTable (record table { indexes = table.indexes ++ index ∷ [] })
 with_index table index h room is = record {
   columns = h.columns;
   indexes = omega (arith, length_push table.indexes index);
@@ -176,11 +183,11 @@ with_index table index h room is = record {
   identified = still_identity table.columns table.indexes index table.identity h.identified;
 }
 
-pub indexed-limited : (tables : List Table) (number : ℕ) (index : UniqueIndex) → All IsLimitedTable tables → HasRoom tables number
-    → IsIndexOf (columns_at tables number) index → All IsLimitedTable (indexed tables number index)
+pub indexed-limited : (tables : List Table) (number : ℕ) (index : UniqueIndex) → All IsSizedTable tables → HasRoom tables number
+    → IsIndexOf (columns_at tables number) index → All IsSizedTable (indexed tables number index)
 indexed-limited [] number index h room is = h
 indexed-limited (table ∷ tables) zero index h room is =
-    All-cons IsLimitedTable (record table { indexes = table.indexes ++ index ∷ [] }) tables (with_index table index (All-head IsLimitedTable table tables h) room is) (All-tail IsLimitedTable table tables h)
+    All-cons IsSizedTable (record table { indexes = table.indexes ++ index ∷ [] }) tables (with_index table index (All-head IsSizedTable table tables h) room is) (All-tail IsSizedTable table tables h)
 indexed-limited (table ∷ tables) (suc number) index h room is =
-    All-cons IsLimitedTable table (indexed tables number index) (All-head IsLimitedTable table tables h)
-    (indexed-limited tables number index (All-tail IsLimitedTable table tables h) room is)
+    All-cons IsSizedTable table (indexed tables number index) (All-head IsSizedTable table tables h)
+    (indexed-limited tables number index (All-tail IsSizedTable table tables h) room is)

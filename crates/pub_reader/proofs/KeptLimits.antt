@@ -1,6 +1,6 @@
 -- Each statement keeps the limits of a catalog.
-use Rattle.std.proofs.Common.{◌≡◌, ℕ, ◌<◌, ◌≤◌, List, [], ◌∷◌, ◌++◌, All, length, subst, arith}
-use Rattle.std.specs.Prelude.{nat_le, IfOk, Option, Some, Result, Ok, Err}
+use Rattle.std.proofs.Common.{◌≡◌, ℕ, ◌<◌, ◌≤◌, List, [], ◌∷◌, ◌++◌, All, length, get_or, ap, sym, subst, arith}
+use Rattle.std.specs.Prelude.{nat_le, Option, Some, Ok, Err}
 use Rattle.std.specs.Option.{is_some}
 use Rattle.std.proofs.lemmas.List.{length_push, length-map}
 use Rattle.std.proofs.lemmas.List.Elements.{All-nil, All-push}
@@ -10,22 +10,18 @@ use Rattle.filter_tree.specs.declared.table.UniqueIndex.{UniqueIndex}
 use Rattle.sql_reader.specs.declared.word.Keyword.TheVariants as k
 use Rattle.sql_reader.specs.declared.item.Item.{Item}
 use Rattle.sql_reader.specs.declared.item.Item.TheVariants as i
-use Rattle.sql_reader.specs.declared.error.ReadError.{ReadError}
 use Rattle.sql_reader.specs.declared.name.PlacedName.{PlacedName}
 use Rattle.sql_reader.specs.Columns.{Parts, elements}
 use Rattle.sql_reader.specs.Expressions.{Forms}
 use Rattle.sql_reader.specs.Items.{Items, items_of}
 use Rattle.sql_reader.specs.Names.{name}
-use Rattle.sql_reader.specs.Reading.{Answers, Outcome, with_rest, eat, expect, is_ahead, item_ahead, more_ahead, rest_of}
+use Rattle.sql_reader.specs.Reading.{Outcome, with_rest, eat, expect, is_ahead, item_ahead, more_ahead, rest_of}
 use Rattle.sql_reader.specs.Turns.{each}
-use Rattle.sql_reader.specs.Written.{as_filter}
 use Rattle.sql_reader.proofs.Keeping.{Gives, then-gives, any-gives, repeat-gives, each-gives}
 use Rattle.sql_reader.proofs.Widths.{IsNarrow, room-gives, below, elements-gives}
-use Rattle.pub_reader.specs.declared.catalog.Catalog.{Catalog}
 use Rattle.pub_reader.specs.declared.table_name.NewName.{NewName}
-use Rattle.pub_reader.specs.CatalogLimits.{IsIndexOf, IsIdentity, IsLimitedTable, IsLimited}
+use Rattle.pub_reader.specs.CatalogLimits.{IsIndexOf, IsIdentity, IsNamed, IsLimitedTable, IsLimited}
 use Rattle.pub_reader.specs.Catalogs.{CatalogOf, columns_at, indexes_at, identified, indexed}
-use Rattle.pub_reader.specs.CatalogView.{catalog_view}
 use Rattle.pub_reader.specs.Drafts.{DraftOf, no_draft, resolved, resolved_publication, find_relation, find_publication, find_subscription}
 use Rattle.pub_reader.specs.Identities.{replica_identity, alter_table}
 use Rattle.pub_reader.specs.Indexes.{index_body, indexed_table, create_index}
@@ -36,11 +32,11 @@ use Rattle.pub_reader.specs.Statements.{created_by, created, create, statement_b
 use Rattle.pub_reader.specs.Subscriptions.{new_subscription, subscription_name, subscription_body, create_subscription}
 use Rattle.pub_reader.specs.TableNames.{table_number, new_table, new_named, table_head, new_name}
 use Rattle.pub_reader.specs.Tables.{keyed, table_of, table_tail, table_body, create_table}
-use Rattle.pub_reader.proofs.KeptIndexes.{HasRoom, length-identified, length-indexed, identified-limited, indexed-limited, replica_identity-gives, indexed_table-gives, index_body-gives}
+use Rattle.pub_reader.proofs.KeptIndexes.{IsSizedTable, HasRoom, length-identified, length-indexed, identified-limited, indexed-limited, replica_identity-gives, indexed_table-gives, index_body-gives}
 
 -- the limits, as a catalog keeps them while it is read
 abbrev AreLimited : List Table → Type 0
-AreLimited tables = (length tables ≤ 64) × All IsLimitedTable tables
+AreLimited tables = (length tables ≤ 64) × All IsSizedTable tables
 
 abbrev Limited : {S : Type 0} → DraftOf S → Type 0
 Limited draft = AreLimited draft.tables × ((length draft.publications ≤ 64) × (length draft.subscriptions ≤ 32))
@@ -59,11 +55,11 @@ indexed-within : (tables : List Table) (number : ℕ) (index : UniqueIndex) → 
 indexed-within tables number index h room is = (omega (arith, length-indexed tables number index, h.0), indexed-limited tables number index h.1 room is)
 
 -- a table of at most 100 columns, which has no index yet
-made : (called : NewName) (parts : Parts) → IsNarrow parts → IsLimitedTable (table_of called parts)
+made : (called : NewName) (parts : Parts) → IsNarrow parts → IsSizedTable (table_of called parts)
 made called parts narrow = record { columns = narrow; indexes = omega arith; indexed = All-nil (IsIndexOf parts.columns); identified = tt }
 
-pushed-within : (tables : List Table) (table : Table) → length tables < 64 → AreLimited tables → IsLimitedTable table → AreLimited (tables ++ table ∷ [])
-pushed-within tables table room h is = (pushed 64 tables table room, All-push IsLimitedTable tables table h.1 is)
+pushed-within : (tables : List Table) (table : Table) → length tables < 64 → AreLimited tables → IsSizedTable table → AreLimited (tables ++ table ∷ [])
+pushed-within tables table room h is = (pushed 64 tables table room, All-push IsSizedTable tables table h.1 is)
 
 new_table-gives : (tables : List Table) (called : NewName) (ts : Items) → Gives (λ (u : Unit {0}). length tables < 64) (with_rest (new_table tables called) ts)
 unfolding new_table
@@ -192,29 +188,29 @@ module _ {S : Type 0} (forms : Forms S) where
   unfolding statements
   statements-gives ts =
       repeat-gives Limited (each more_ahead (ended_statement forms)) (each-gives Limited more_ahead (ended_statement forms) ended_statement-gives) no_draft ts
-      ((omega arith, All-nil IsLimitedTable), (omega arith, omega arith))
+      ((omega arith, All-nil IsSizedTable), (omega arith, omega arith))
 
 -- ---- the end of the catalog
 
-resolved-within : {S : Type 0} (draft : DraftOf S) → Limited draft → IsLimited (resolved draft)
-resolved-within draft h = record {
+both_limits : (table : Table) → IsSizedTable table → IsNamed table → IsLimitedTable table
+both_limits table h named = record { columns = h.columns; indexes = h.indexes; indexed = h.indexed; identified = h.identified; named = named }
+
+resolved-within : {S : Type 0} (draft : DraftOf S) → Limited draft → All IsNamed draft.tables → IsLimited (resolved draft)
+resolved-within draft h named = record {
   tables = h.0.0;
-  each_table = h.0.1;
+  each_table = λ n d low. both_limits (get_or draft.tables n d) (h.0.1 n d low) (named n d low);
   publications = omega (arith, length-map draft.publications (resolved_publication draft.tables), h.1.0);
   subscriptions = h.1.1;
 }
 
-finished-within : {S : Type 0} (read : Outcome (DraftOf S)) (catalog : CatalogOf S) → Gives Limited read → finished read ≡ Ok catalog → IsLimited catalog
-finished-within (Err fault) catalog h e = cc
-finished-within (Ok read) catalog h e =
+finished-within : {S : Type 0} (read : Outcome (DraftOf S)) (catalog : CatalogOf S) → Gives Limited read → finished read ≡ Ok catalog → All IsNamed catalog.tables → IsLimited catalog
+finished-within (Err fault) catalog h e named = cc
+finished-within (Ok read) catalog h e named =
     let same : resolved read.0 ≡ catalog = cc in
-    subst IsLimited same (resolved-within read.0 h)
+    let tables : catalog.tables ≡ read.0.tables = ap (λ one. one.tables) (sym same) in
+    subst IsLimited same (resolved-within read.0 h (subst (All IsNamed) tables named))
 
--- a catalog that was read is within the limits
-pub within_limits : {S : Type 0} (forms : Forms S) (text : List ℕ) (catalog : CatalogOf S) → catalog_by forms text ≡ Ok catalog → IsLimited catalog
+-- a catalog that was read, whose names are plain, is within the limits
+pub within_limits : {S : Type 0} (forms : Forms S) (text : List ℕ) (catalog : CatalogOf S) → catalog_by forms text ≡ Ok catalog → All IsNamed catalog.tables → IsLimited catalog
 unfolding catalog_by
-within_limits forms text catalog e = finished-within (statements forms no_draft (items_of text)) catalog (statements-gives forms (items_of text)) e
-
-pub answered-within : (text : List ℕ) (answer : Result Catalog ReadError) → Answers catalog_view (catalog_by as_filter text) answer → IfOk answer (λ catalog. IsLimited (catalog_view catalog))
-answered-within text (Ok catalog) e = within_limits as_filter text (catalog_view catalog) e
-answered-within text (Err error) e = tt
+within_limits forms text catalog e named = finished-within (statements forms no_draft (items_of text)) catalog (statements-gives forms (items_of text)) e named

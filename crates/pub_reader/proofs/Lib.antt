@@ -3,6 +3,7 @@ pub mod CarryingDrafts
 pub mod CarryingObjects
 pub mod KeptIndexes
 pub mod KeptLimits
+pub mod KeptNames
 pub mod Listing
 pub mod Positions
 pub mod StepWords

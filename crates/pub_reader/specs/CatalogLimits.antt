@@ -1,10 +1,11 @@
--- How much a catalog has at most, and that what its tables say of their columns by number is there.
+-- How much a catalog has at most, that what its tables say of their columns by number is there, and how long names are: PostgreSQL 15, "SQL Syntax", 4.1.1 Identifiers and Key Words.
 use Rattle.std.specs.Prelude.{◌≡◌, ◌<◌, ◌≤◌, true, List, All, length, slice_get}
 use Rattle.filter_tree.specs.declared.table.Column.{Column}
 use Rattle.filter_tree.specs.declared.table.Identity.{Identity}
 use Rattle.filter_tree.specs.declared.table.Identity.TheVariants.{Index}
 use Rattle.filter_tree.specs.declared.table.Table.{Table}
 use Rattle.filter_tree.specs.declared.table.UniqueIndex.{UniqueIndex}
+pub use Rattle.sql_tokens.specs.PlainNames.{IsPlainName}
 use Rattle.pub_reader.specs.Catalogs.{CatalogOf}
 use Rattle.pub_reader.specs.Identities.{identifies}
 
@@ -17,12 +18,22 @@ abbrev pub IsIdentity : List Column → List UniqueIndex → Identity → Type 0
 IsIdentity columns indexes (Index number) = identifies columns (slice_get indexes number) ≡ true
 IsIdentity columns indexes _ = Unit {0}
 
--- at most 100 columns and 8 unique indexes
+abbrev pub HasPlainName : Column → Type 0
+HasPlainName column = IsPlainName column.name
+
+-- the table's schema, the table and its columns have names of 1 to 63 bytes, none of which is zero
+pub record IsNamed (table : Table) : Type 0 where
+  pub schema : IsPlainName table.schema
+  pub name : IsPlainName table.name
+  pub columns : All HasPlainName table.columns
+
+-- at most 100 columns and 8 unique indexes, and such names
 pub record IsLimitedTable (table : Table) : Type 0 where
   pub columns : length table.columns ≤ 100
   pub indexes : length table.indexes ≤ 8
   pub indexed : All (IsIndexOf table.columns) table.indexes
   pub identified : IsIdentity table.columns table.indexes table.identity
+  pub named : IsNamed table
 
 -- at most 64 tables, 64 publications and 32 subscriptions
 pub record IsLimited {S : Type 0} (catalog : CatalogOf S) : Type 0 where

@@ -26,8 +26,6 @@ mod step_word;
 mod subscription;
 mod table;
 mod table_name;
-#[cfg(test)]
-mod tests;
 
 pub use catalog::{Catalog, Entry, Operations, Publication, Subscription};
 pub use script::{Line, read_script};

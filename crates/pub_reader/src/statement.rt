@@ -1,11 +1,11 @@
 //! The statements of a catalog.
 
-ghost use Rattle.std.specs.Prelude.{◌<◌, IfOk};
+ghost use Rattle.std.specs.Prelude.{◌<◌, All, IfOk, OnOk};
 ghost use Rattle.sql_reader.specs.Ahead.{to_read};
 ghost use Rattle.sql_reader.specs.Reading.{Reads, Answers};
 ghost use Rattle.sql_reader.specs.Taking.{Takes, TakesSome};
 ghost use Rattle.sql_reader.specs.Written.{as_filter, as_written};
-ghost use Rattle.pub_reader.specs.CatalogLimits.{IsLimited};
+ghost use Rattle.pub_reader.specs.CatalogLimits.{IsLimited, IsNamed};
 ghost use Rattle.pub_reader.specs.CatalogMeaning.{MeansAsWritten};
 ghost use Rattle.pub_reader.specs.CatalogView.{catalog_view};
 ghost use Rattle.pub_reader.specs.DraftView.{draft_view};
@@ -87,8 +87,9 @@ fn ended_statement(r: &mut Reader<'_>, alloc: Global, draft: &mut Draft) -> Resu
 /// Takes statements to the end of a text.
 #[tactic(auto, using(sql_reader::proofs::Turning::turns), unfolding(crate::specs::Statements::statements))]
 fn statements(r: &mut Reader<'_>, alloc: Global, draft: &mut Draft) -> Result<(), ReadError>
-    ensures { Reads (λ _. draft_view draft.new) (spec.statements as_filter (draft_view draft.old) (to_read r.old))
+    ensures reads { Reads (λ _. draft_view draft.new) (spec.statements as_filter (draft_view draft.old) (to_read r.old))
         result (to_read r.new) }
+    ensures named { All IsNamed (draft_view draft.old).tables → OnOk result (All IsNamed (draft_view draft.new).tables) }
 {
     while r.more_ahead()? {
         ended_statement(r, alloc, draft)?;
@@ -100,7 +101,8 @@ fn statements(r: &mut Reader<'_>, alloc: Global, draft: &mut Draft) -> Result<()
 /// and CREATE SUBSCRIPTION, each ended by `;`. A publication's entries are the tables that it names, and then each table
 /// that it carries whole by FOR ALL TABLES or TABLES IN SCHEMA, wherever in the text the table is made. There are at most
 /// 64 tables of at most 100 columns and 8 unique indexes, 64 publications and 32 subscriptions. An identity by an index
-/// names one of the table's, none of whose columns takes a null.
+/// names one of the table's, none of whose columns takes a null. The names of schemas, tables and columns have 1 to 63
+/// bytes, none of which is zero.
 ///
 /// # Errors
 ///

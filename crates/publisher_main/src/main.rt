@@ -2,29 +2,23 @@
 //! and answers questions about it.
 #![tactic(auto)]
 
-mod arguments;
-mod check;
-mod eval;
-mod failure;
-mod input;
-mod make;
-mod names;
-mod output;
-mod parts;
-mod program;
-mod reading;
 #[cfg(test)]
 mod tests;
 
-use crate::failure::Failure;
-use crate::input::Input;
-use program::{report, run};
+ghost use Rattle.std.specs.Prelude.{◌≡◌, ◌⊎◌, IfErr};
+ghost use Rattle.subcommands.specs.Failures.{status_of_failure};
+ghost use Rattle.subcommands.specs.declared.failure.Status.TheVariants.{CommandLine, OutOfMemory};
+
 use std::io::{BufWriter, ErrorKind, Write};
 use std::process::ExitCode;
 use std::{env, io};
+use subcommands::{Failure, Input, report, run};
 
-/// The words of the command line, the program's name first.
-fn words(rt: &HostRuntime) -> Result<Vec<String>, Failure<'static>> {
+/// The words of the command line, the program's name first. They are not UTF-8, or memory runs out.
+fn words(rt: &HostRuntime) -> Result<Vec<String>, Failure<'static>>
+    ensures { IfErr result
+        (λ failure. (status_of_failure failure ≡ CommandLine) ⊎ (status_of_failure failure ≡ OutOfMemory)) }
+{
     let arguments = match env::args(rt) {
         Ok(arguments) => arguments,
         Err(error) if error.kind() == ErrorKind::OutOfMemory => return Err(Failure::OutOfMemory),

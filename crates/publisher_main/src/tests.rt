@@ -1,13 +1,16 @@
 //! Whole runs of the program.
 
+mod checks;
 mod command_lines;
+mod filters;
 mod limits;
+mod makes;
+mod rows;
 mod streams;
 
-use crate::input::Input;
-use crate::program::run;
 use std::alloc::{AllocError, Global};
 use std::io::Read;
+use subcommands::{Input, run};
 
 /// A catalog that cuts a table in two.
 pub const BASE: &str = "CREATE TABLE t (id integer, region text, PRIMARY KEY (id));

@@ -8,8 +8,6 @@ mod part;
 mod planning;
 mod share;
 mod shares;
-#[cfg(test)]
-mod tests;
 mod transforms;
 
 pub use change::{Change, OldPart};

@@ -1,4 +1,5 @@
 pub mod AnyTest
+pub mod BlockLemmas
 pub mod EmptyLemmas
 pub mod ExistingLemmas
 pub mod FactLemmas

@@ -1,11 +1,9 @@
--- The sets of truth values of steps follow from their parts', and so are those of the filters that they stand for.
-use Rattle.std.proofs.Common.{◌≡◌, ℕ, zero, suc, ◌+◌, ◌<◌, ◌≤◌, List, length, refl, sym, ap, subst, ◌∙◌, arith}
-use Rattle.std.specs.Prelude.{◌⊎◌, Some, slice_get, slice_set}
-use Rattle.std.proofs.Common.{inl, inr}
+-- The sets of truth values of steps follow from their parts', and are those of the filters that the steps are.
+use Rattle.std.proofs.Common.{◌≡◌, ℕ, ◌<◌, ◌≤◌, List, refl, ap, ◌∙◌, arith}
+use Rattle.std.specs.Prelude.{Some, slice_get, slice_set}
 use Rattle.std.specs.Option.{option_map}
-use Rattle.std.proofs.lemmas.Option.{slice_get_within, slice_get-map, same_Some, get_or_from_slice_get, slice_get-get_or}
-use Rattle.std.proofs.lemmas.List.{get_or-set_same, get_or-set_other}
-use Rattle.std.proofs.Math.ListN.{get_or}
+use Rattle.std.proofs.lemmas.Option.{slice_get-map, get_or_from_slice_get}
+use Rattle.std.proofs.lemmas.List.{get_or-set_other}
 use Rattle.filter_tree.specs.Expr.{AtomOf, Expr}
 use Rattle.filter_tree.specs.Expr as e
 use Rattle.filter_tree.specs.Logic.{and_of, or_of, not_of, is_of}
@@ -13,7 +11,7 @@ use Rattle.filter_tree.specs.Mask.{lift_one, lift_two}
 use Rattle.filter_tree.specs.Paths.{Path, possible_of}
 use Rattle.filter_tree.specs.declared.mask.Mask.{Mask}
 use Rattle.shard_checker.specs.Knowing.{atom_mask, atom_masks}
-use Rattle.shard_checker.specs.Steps.{Stands, IsFilter, PartsBefore, IsOrdered, mask_in, step_mask, IsSettledBefore, IsSettled}
+use Rattle.shard_checker.specs.Steps.{Stands, IsFilter, PartsBefore, mask_in, step_mask, IsSettled}
 use Rattle.shard_checker.specs.declared.steps.Step.{Step}
 use Rattle.shard_checker.specs.declared.steps.Step.TheVariants.{Const, Atom, Not, And, Or, Is}
 
@@ -21,7 +19,7 @@ set_other : (masks : List Mask) (number part : ℕ) (mask : Mask) → part < num
 set_other masks number part mask h = get_or-set_other masks number part mask _ (omega arith)
 
 -- a step's set doesn't depend on those from its own on
-step_before : (atoms masks : List Mask) (number : ℕ) (mask : Mask) (step : Step) → PartsBefore number step → step_mask atoms (slice_set masks number mask) step ≡ step_mask atoms masks step
+pub step_before : (atoms masks : List Mask) (number : ℕ) (mask : Mask) (step : Step) → PartsBefore number step → step_mask atoms (slice_set masks number mask) step ≡ step_mask atoms masks step
 step_before atoms masks number mask (Const known) h = refl
 step_before atoms masks number mask (Atom place) h = refl
 step_before atoms masks number mask (Not part) h = ap (lift_one not_of) (set_other masks number part mask h)
@@ -33,52 +31,13 @@ step_before atoms masks number mask (Or left right) h =
     ∙ ap (lift_two or_of (mask_in masks left)) (set_other masks number right mask h.1)
 step_before atoms masks number mask (Is test part) h = ap (lift_one (is_of test)) (set_other masks number part mask h)
 
-parts_earlier : (number count : ℕ) (step : Step) → number ≤ count → PartsBefore number step → PartsBefore count step
+pub parts_earlier : (number count : ℕ) (step : Step) → number ≤ count → PartsBefore number step → PartsBefore count step
 parts_earlier number count (Const known) le h = tt
 parts_earlier number count (Atom place) le h = tt
 parts_earlier number count (Not part) le h = omega arith
 parts_earlier number count (And left right) le h = (omega (arith, h.0), omega (arith, h.1))
 parts_earlier number count (Or left right) le h = (omega (arith, h.0), omega (arith, h.1))
 parts_earlier number count (Is test part) le h = omega arith
-
-less_or_same : (number count : ℕ) → number < count + 1 → (number < count) ⊎ (number ≡ count)
-less_or_same zero zero h = inr refl
-less_or_same zero (suc count) h = inl (omega arith)
-less_or_same (suc number) zero h = absurd (omega arith)
-less_or_same (suc number) (suc count) h = elim (less_or_same number count (omega arith)) [ inl less ↦ inl (omega arith) | inr same ↦ inr (ap suc same) ]
-
-pub settled_none : (steps : List Step) (atoms masks : List Mask) → IsSettledBefore 0 steps atoms masks
-settled_none steps atoms masks = record { each = λ number step less h. absurd (omega arith) }
-
-pub settled_more : (count next : ℕ) (steps : List Step) (atoms masks new : List Mask) (step : Step) (mask : Mask) → IsOrdered steps → IsSettledBefore count steps atoms masks
-    → slice_get steps count ≡ Some step → mask ≡ step_mask atoms masks step → new ≡ slice_set masks count mask → count < length masks → next ≡ count + 1
-    → IsSettledBefore next steps atoms new
-settled_more count next steps atoms masks new step mask ordered before got is put within after = record {
-  each = λ number found less h.
-      subst (λ (masks : List Mask). mask_in masks number ≡ step_mask atoms masks found) (sym put)
-      (elim (less_or_same number count (omega arith)) [
-        | inl earlier ↦ set_other masks count number mask earlier ∙ before.each number found earlier h
-            ∙ sym (step_before atoms masks count mask found (parts_earlier number count found (omega arith) (ordered.each number found h)))
-        | inr same ↦
-            let at : slice_get steps count ≡ Some found = subst (λ k. slice_get steps k ≡ Some found) same h in
-            let found_is : step ≡ found = same_Some step found (sym got ∙ at) in
-            subst (λ k. mask_in (slice_set masks count mask) k ≡ step_mask atoms (slice_set masks count mask) found) (sym same)
-            (get_or-set_same masks count mask _ within ∙ is ∙ ap (step_mask atoms masks) found_is
-            ∙ sym (step_before atoms masks count mask found (ordered.each count found at)))
-      ]);
-}
-
--- the same of the step that a loop has come to
-pub settled_on : (count next : ℕ) (steps : List Step) (atoms masks new : List Mask) (default : Step) (mask : Mask) → IsOrdered steps → IsSettledBefore count steps atoms masks
-    → mask ≡ step_mask atoms masks (get_or steps count default) → new ≡ slice_set masks count mask → length masks ≡ length steps → count < length steps → next ≡ count + 1
-    → IsSettledBefore next steps atoms new
-settled_on count next steps atoms masks new default mask ordered before is put sized within after =
-    settled_more count next steps atoms masks new (get_or steps count default) mask ordered before (slice_get-get_or steps count default within) is put (omega arith) after
-
-pub settled_all : (count : ℕ) (steps : List Step) (atoms masks : List Mask) → IsSettledBefore count steps atoms masks → length steps ≤ count → IsSettled steps atoms masks
-settled_all count steps atoms masks before all = record { each = λ number step h. before.each number step (let within = slice_get_within steps number step h in omega arith) h }
-
-pub ruleset settling = (settled_none, settled_on, settled_all)
 
 -- ---- filters
 

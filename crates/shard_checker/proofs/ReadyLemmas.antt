@@ -1,10 +1,10 @@
 -- What a walk keeps of the path, as it enters branches and leaves them, and what it tells of owners.
 use Rattle.std.proofs.Common.{◌≡◌, ℕ, ◌+◌, ◌<◌, true, false, not, ◌&&◌, List, [], ◌∷◌, ◌++◌, length, refl, sym, ap, subst, ◌∙◌, arith, length-append}
-use Rattle.std.specs.Prelude.{◌==◌, if◌then◌else◌, Option, Some, None, Result, slice_get, map}
+use Rattle.std.specs.Prelude.{◌==◌, if◌then◌else◌, Option, Some, None, Result, slice_get, slice_set, map}
 use Rattle.std.specs.Option.{option_map}
 use Rattle.std.specs.Borrow.{Bor}
 use Rattle.std.proofs.lemmas.List.{map-append}
-use Rattle.std.proofs.lemmas.Option.{slice_get-map, same_Some}
+use Rattle.std.proofs.lemmas.Option.{slice_get-map, slice_get_within, same_Some}
 use Rattle.filter_tree.specs.Expr.{AtomOf}
 use Rattle.filter_tree.specs.Paths.{Path, path_view, possible_of}
 use Rattle.filter_tree.specs.Shape.{atom_view}
@@ -13,8 +13,9 @@ use Rattle.filter_tree.specs.declared.mask.Mask.{Mask}
 use Rattle.filter_tree.specs.declared.tri.Tri.{Tri}
 use Rattle.filter_tree.specs.declared.tri.Tri.TheVariants.{True, False, Null}
 use Rattle.replica_identity.specs.Shares.{ShareOf, Nothing, Everything, Where}
+use Rattle.shard_checker.specs.Blocks.{Marks, IsSettledBut, blocks_in}
 use Rattle.shard_checker.specs.Checks.{Finds}
-use Rattle.shard_checker.specs.Knowing.{AreBefore, IsKnown, Learns, TakesBack, atom_masks}
+use Rattle.shard_checker.specs.Knowing.{AreBefore, IsKnown, Learns, TakesBack, atom_masks, met}
 use Rattle.shard_checker.specs.Owners.{is_surely_true, must_take, may_take, second_owner}
 use Rattle.shard_checker.specs.Ready.{IsReady, GoesBack}
 use Rattle.shard_checker.specs.Refusal.{Subject, owner_refusal, second_refusal}
@@ -25,22 +26,35 @@ use Rattle.shard_checker.specs.declared.error.CheckError.TheVariants.{BadIndex, 
 use Rattle.shard_checker.specs.declared.formulas.Formulas.{Formulas}
 use Rattle.shard_checker.specs.declared.known.Before.{Before}
 use Rattle.shard_checker.specs.declared.known.Known.{Known}
+use Rattle.shard_checker.specs.declared.masks.Masks.{Masks}
 use Rattle.shard_checker.specs.declared.steps.Step.{Step}
+use Rattle.shard_checker.specs.declared.users.Users.{Users}
+use Rattle.shard_checker.proofs.BlockLemmas.{marked_atom}
 use Rattle.shard_checker.proofs.KnownLemmas.{known_learned, known_taken_back, was_named}
 use Rattle.shard_checker.proofs.MaskLemmas.{filter_mask}
 use Rattle.shard_checker.proofs.OnwardLemmas.{onward_true, onward_false, onward_null}
 
 -- ---- a branch is entered
 
-pub ready_entered : {A : _} (subject : Subject) (formulas : Formulas) (old new : Known) (masks : List Mask) (entries more : List (Bor (Atom A) × Tri)) (number : ℕ) (atom : Bor (Atom A)) (value : Tri)
-    → IsReady subject formulas old masks (path_view entries) → Some (atom_view atom.now) ≡ slice_get subject.atoms number → Learns old new number value
-    → more ≡ entries ++ (atom, value) ∷ [] → IsReady subject formulas new masks (path_view more)
-ready_entered {A} subject formulas old new masks entries more number atom value ready named learns pushed = record {
+changed_ready : (subject : Subject) (formulas : Formulas) (users : Users) (old new : Known) (was masks : Masks) (path : Path) (number : ℕ) (mask : Mask) (atom : AtomOf)
+    → IsReady subject formulas users old was path → slice_get subject.atoms number ≡ Some atom → new.atoms.items ≡ slice_set old.atoms.items number mask → masks.list.items ≡ was.list.items
+    → Marks was.stale.items masks.stale.items (blocks_in users.of_atoms.items number) → IsSettledBut 0 formulas.steps.list.items new.atoms.items masks
+changed_ready subject formulas users old new was masks path number mask atom ready named put list_same marks =
+    let within : number < length subject.atoms = slice_get_within subject.atoms number atom named in
+    subst (λ (atoms : List Mask). IsSettledBut 0 formulas.steps.list.items atoms masks) (sym put)
+    (marked_atom number formulas.steps.list.items old.atoms.items mask users was masks ready.prepared.used ready.settled list_same marks (omega (arith, within, ready.prepared.sized)))
+
+pub ready_entered : {A : _} (subject : Subject) (formulas : Formulas) (users : Users) (old new : Known) (was masks : Masks) (entries more : List (Bor (Atom A) × Tri)) (number : ℕ) (atom : Bor (Atom A)) (value : Tri)
+    → IsReady subject formulas users old was (path_view entries) → Some (atom_view atom.now) ≡ slice_get subject.atoms number → Learns old new number value
+    → more ≡ entries ++ (atom, value) ∷ [] → masks.list.items ≡ was.list.items → Marks was.stale.items masks.stale.items (blocks_in users.of_atoms.items number)
+    → IsReady subject formulas users new masks (path_view more)
+ready_entered {A} subject formulas users old new was masks entries more number atom value ready named learns pushed list_same marks = record {
   prepared = ready.prepared;
   knows = subst (λ (path : Path). IsKnown subject.atoms new path)
       (sym (map-append (λ (e : Bor (Atom A) × Tri). (atom_view e.0.now, e.1)) entries ((atom, value) ∷ [])) ∙ ap path_view (sym pushed))
       (known_learned subject.atoms old new (path_view entries) number (atom_view atom.now) value ready.prepared.differ ready.knows (sym named) learns);
-  sized = ready.sized;
+  settled = changed_ready subject formulas users old new was masks (path_view entries) number (met (mask_in old.atoms.items number) value) (atom_view atom.now) ready (sym named)
+      learns.masks list_same marks;
 }
 
 pub ruleset entering = (ready_entered)
@@ -56,19 +70,21 @@ not_at_end : (path : Path) (entry : AtomOf × Tri) → path ++ entry ∷ [] ≡ 
 not_at_end [] entry e = cc
 not_at_end (first ∷ path) entry e = cc
 
-module _ {A : _} (subject : Subject) (formulas : Formulas) (was now : Known) (masks : List Mask) (old new : List (Bor (Atom A) × Tri)) (last : Bor (Atom A) × Tri)
-    (ready : IsReady subject formulas was masks (path_view old)) (pops : old ≡ new ++ last ∷ []) where
+module _ {A : _} (subject : Subject) (formulas : Formulas) (users : Users) (was now : Known) (held : Masks) (old new : List (Bor (Atom A) × Tri)) (last : Bor (Atom A) × Tri)
+    (ready : IsReady subject formulas users was held (path_view old)) (pops : old ≡ new ++ last ∷ []) where
   whole : path_view old ≡ path_view new ++ (atom_view last.0.now, last.1) ∷ []
   whole = ap path_view pops ∙ map-append (λ (e : Bor (Atom A) × Tri). (atom_view e.0.now, e.1)) new (last ∷ [])
 
   knew : IsKnown subject.atoms was (path_view new ++ (atom_view last.0.now, last.1) ∷ [])
   knew = subst (λ (path : Path). IsKnown subject.atoms was path) whole ready.knows
 
-  pub back_ready : (before : Before) → TakesBack was now before → IsReady subject formulas now masks (path_view new)
-  back_ready before takes = record {
+  pub back_ready : (before : Before) (masks : Masks) → TakesBack was now before → masks.list.items ≡ held.list.items
+      → Marks held.stale.items masks.stale.items (blocks_in users.of_atoms.items before.number) → IsReady subject formulas users now masks (path_view new)
+  back_ready before masks takes list_same marks = record {
     prepared = ready.prepared;
     knows = known_taken_back subject.atoms was now (path_view new) before (atom_view last.0.now) last.1 knew takes ready.prepared.differ;
-    sized = ready.sized;
+    settled = changed_ready subject formulas users was now held masks (path_view old) before.number before.mask (atom_view last.0.now) ready
+        (was_named subject.atoms was now (path_view new) before (atom_view last.0.now) last.1 knew takes) takes.masks list_same marks;
   }
 
   pub goes_back : (before : Before) → TakesBack was now before → GoesBack subject.atoms (path_view old) (path_view new) before.number last.1
@@ -136,17 +152,17 @@ roots_masks atoms path steps masks settled (root ∷ roots) (share ∷ shares) h
     ap (λ m. m ∷ map (mask_in masks) roots) (filter_mask atoms path steps masks settled root (filter_of share) h.0)
     ∙ ap (λ ms. share_mask path share ∷ ms) (roots_masks atoms path steps masks settled roots shares h.1)
 
-module _ (subject : Subject) (formulas : Formulas) (known : Known) (masks : List Mask) (path : Path) (ready : IsReady subject formulas known masks path)
-    (settled : IsSettled formulas.steps.list.items known.atoms.items masks) (node number : ℕ) where
-  same_masks : map (mask_in masks) formulas.roots.items ≡ map (share_mask path) subject.shares
-  same_masks = roots_masks subject.atoms path formulas.steps.list.items masks
-      (subst (λ found. IsSettled formulas.steps.list.items found masks) ready.knows.masks settled) formulas.roots.items subject.shares ready.prepared.compiled.filters
+module _ (subject : Subject) (formulas : Formulas) (users : Users) (known : Known) (held : Masks) (path : Path) (ready : IsReady subject formulas users known held path)
+    (settled : IsSettled formulas.steps.list.items known.atoms.items held.list.items) (node number : ℕ) where
+  same_masks : map (mask_in held.list.items) formulas.roots.items ≡ map (share_mask path) subject.shares
+  same_masks = roots_masks subject.atoms path formulas.steps.list.items held.list.items
+      (subst (λ found. IsSettled formulas.steps.list.items found held.list.items) ready.knows.masks settled) formulas.roots.items subject.shares ready.prepared.compiled.filters
 
   by_mask : (found : Option ShareOf) → Option CheckError
   by_mask found = owner_refusal subject path node number found
 
-  same_at : option_map (mask_in masks) (slice_get formulas.roots.items number) ≡ option_map (share_mask path) (slice_get subject.shares number)
-  same_at = sym (slice_get-map (mask_in masks) formulas.roots.items number) ∙ ap (λ ms. slice_get ms number) same_masks ∙ slice_get-map (share_mask path) subject.shares number
+  same_at : option_map (mask_in held.list.items) (slice_get formulas.roots.items number) ≡ option_map (share_mask path) (slice_get subject.shares number)
+  same_at = sym (slice_get-map (mask_in held.list.items) formulas.roots.items number) ∙ ap (λ ms. slice_get ms number) same_masks ∙ slice_get-map (share_mask path) subject.shares number
 
   unknown : (found : Option ShareOf) → None ≡ option_map (share_mask path) found → owner_refusal subject path node number found ≡ Some (BadIndex subject.table node)
   unknown None h = refl
@@ -169,18 +185,18 @@ module _ (subject : Subject) (formulas : Formulas) (known : Known) (masks : List
       rw must refl
 
   pub owner_unknown : slice_get formulas.roots.items number ≡ None → owner_refusal subject path node number (slice_get subject.shares number) ≡ Some (BadIndex subject.table node)
-  owner_unknown h = unknown (slice_get subject.shares number) (ap (option_map (mask_in masks)) (sym h) ∙ same_at)
+  owner_unknown h = unknown (slice_get subject.shares number) (ap (option_map (mask_in held.list.items)) (sym h) ∙ same_at)
 
-  pub owner_refused : (root : ℕ) → slice_get formulas.roots.items number ≡ Some root → is_surely_true (mask_in masks root) ≡ false
+  pub owner_refused : (root : ℕ) → slice_get formulas.roots.items number ≡ Some root → is_surely_true (mask_in held.list.items root) ≡ false
       → owner_refusal subject path node number (slice_get subject.shares number) ≡ Some (NotOwner subject.table node)
-  owner_refused root h not_sure = refused (slice_get subject.shares number) (mask_in masks root) (ap (option_map (mask_in masks)) (sym h) ∙ same_at) not_sure
+  owner_refused root h not_sure = refused (slice_get subject.shares number) (mask_in held.list.items root) (ap (option_map (mask_in held.list.items)) (sym h) ∙ same_at) not_sure
 
-  pub owner_found : {X : Type 0} (root : ℕ) (result : Result X CheckError) → slice_get formulas.roots.items number ≡ Some root → is_surely_true (mask_in masks root) ≡ true
-      → Finds (second_refusal subject node (second_among number 0 (map (mask_in masks) formulas.roots.items))) result
+  pub owner_found : {X : Type 0} (root : ℕ) (result : Result X CheckError) → slice_get formulas.roots.items number ≡ Some root → is_surely_true (mask_in held.list.items root) ≡ true
+      → Finds (second_refusal subject node (second_among number 0 (map (mask_in held.list.items) formulas.roots.items))) result
       → Finds (owner_refusal subject path node number (slice_get subject.shares number)) result
   owner_found root result h sure found =
       subst (λ refusal. Finds refusal result)
       (ap (λ ms. second_refusal subject node (second_among number 0 ms)) same_masks ∙ ap (second_refusal subject node) (sym (second_by_masks number 0 subject.shares path))
-      ∙ sym (taken (slice_get subject.shares number) (mask_in masks root) (ap (option_map (mask_in masks)) (sym h) ∙ same_at) sure)) found
+      ∙ sym (taken (slice_get subject.shares number) (mask_in held.list.items root) (ap (option_map (mask_in held.list.items)) (sym h) ∙ same_at) sure)) found
 
 pub ruleset owning = (owner_unknown, owner_refused, owner_found)

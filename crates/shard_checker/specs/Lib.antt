@@ -1,3 +1,4 @@
+pub mod Blocks
 pub mod CatalogRefusal
 pub mod CatalogTruth
 pub mod CheckedView

@@ -81,10 +81,6 @@ step_mask atoms masks (And left right) = lift_two and_of (mask_in masks left) (m
 step_mask atoms masks (Or left right) = lift_two or_of (mask_in masks left) (mask_in masks right)
 step_mask atoms masks (Is test part) = lift_one (is_of test) (mask_in masks part)
 
--- each step before this number has the set that follows from its parts'
-pub record IsSettledBefore (count : ℕ) (steps : List Step) (atoms masks : List Mask) : Type 0 where
-  pub each : (number : ℕ) (step : Step) → number < count → slice_get steps number ≡ Some step → mask_in masks number ≡ step_mask atoms masks step
-
 -- each step has the set that follows from its parts'
 pub record IsSettled (steps : List Step) (atoms masks : List Mask) : Type 0 where
   pub each : (number : ℕ) (step : Step) → slice_get steps number ≡ Some step → mask_in masks number ≡ step_mask atoms masks step

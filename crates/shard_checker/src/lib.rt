@@ -20,10 +20,9 @@ mod sharding;
 mod source;
 mod steps;
 mod subject;
-#[cfg(test)]
-mod tests;
 mod text_error;
 mod texts;
+mod users;
 mod values;
 mod walk;
 

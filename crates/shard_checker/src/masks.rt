@@ -1,12 +1,15 @@
-//! The sets of truth values that steps may have.
+//! The sets of truth values that steps may have, of which only those are computed again that may have changed.
 
-ghost use Rattle.std.specs.Prelude.{◌≡◌, length, slice_set};
+ghost use Rattle.std.specs.Prelude.{◌≡◌, ◌+◌, ◌*◌, ◌≤◌, ◌<◌, ◌/◌, length, replicate, true, false, slice_set, IfOk, IsTrue};
 ghost use Rattle.filter_tree.specs.Logic.{and_of, or_of};
 ghost use Rattle.filter_tree.specs.Mask.{lift_two};
+ghost use Rattle.shard_checker.specs.Blocks as stale_spec;
 ghost use Rattle.shard_checker.specs.Steps as spec;
 
 use crate::steps::Step;
+use crate::users::{BLOCK, Users, blocks_in};
 use filter_tree::{Mask, Tri};
+use std::alloc::{AllocError, Allocator, Global};
 
 /// The set of no truth value.
 pub const NONE: Mask = Mask {
@@ -23,6 +26,13 @@ pub fn mask_at(masks: &[Mask], number: usize) -> Mask
         None => NONE,
         Some(mask) => *mask,
     }
+}
+
+/// Whether the set at a number is this one.
+fn is_at(masks: &[Mask], number: usize, mask: Mask) -> bool
+    ensures { IsTrue result → spec.mask_in masks.now number ≡ mask }
+{
+    mask_at(masks, number) == mask
 }
 
 /// Puts the set in the place of this number, if there is one.
@@ -74,15 +84,132 @@ fn mask_of(step: Step, atoms: &[Mask], masks: &[Mask]) -> Mask
     }
 }
 
-/// Tells of each step what it may be.
-#[tactic(auto, using(crate::proofs::MaskLemmas::settling))]
-pub fn refresh(steps: &[Step], atoms: &[Mask], masks: &mut [Mask])
-    requires ordered { spec.IsOrdered steps.now }
-    requires sized { length masks.old ≡ length steps.now }
-    ensures { spec.IsSettled steps.now atoms.now masks.new }
+/// What each step may be, by its number, and which blocks of steps have to be computed again.
+#[derive(Drop)]
+pub struct Masks {
+    pub list: Vec<Mask>,
+    pub stale: Vec<bool>,
+}
+
+/// Whether the block has to be computed again; one past the last always.
+fn is_stale(stale: &[bool], block: usize) -> bool
+    ensures { result ≡ stale_spec.is_stale stale.now block }
 {
-    for (number, step) in steps.iter().enumerate() {
-        let mask = mask_of(*step, atoms, masks);
-        put(masks, number, mask);
+    stale.get(block).copied().unwrap_or(true)
+}
+
+/// Notes whether the block, if it is there, has to be computed again.
+fn note(stale: &mut [bool], block: usize, is_stale: bool)
+    ensures { stale.new ≡ slice_set stale.old block is_stale }
+{
+    if block < stale.len() {
+        stale[block] = is_stale;
+    }
+}
+
+/// Notes that these blocks have to be computed again.
+fn mark(stale: &mut [bool], blocks: &[usize])
+    ensures { stale_spec.Marks stale.old stale.new blocks.now }
+{
+    for block in blocks {
+        note(stale, *block, true);
+    }
+}
+
+impl Masks {
+    /// Places for so many steps, of which each has to be computed.
+    pub fn new(alloc: Global, steps: usize) -> Result<Masks, AllocError>
+        ensures sized { IfOk result (λ masks. length masks.list.items ≡ steps) }
+        ensures stale { IfOk result (λ masks. masks.stale.items ≡ replicate (steps / 8 + 1) true) }
+    {
+        Ok(Masks {
+            list: vec![in alloc; NONE; steps]?,
+            stale: vec![in alloc; true; steps / BLOCK + 1]?,
+        })
+    }
+
+    /// Puts the set in the place of the step of this number, if there is one.
+    fn put(&mut self, number: usize, mask: Mask)
+        ensures list { self.new.list.items ≡ slice_set self.old.list.items number mask }
+        ensures stale { self.new.stale ≡ self.old.stale }
+    {
+        put(&mut self.list, number, mask);
+    }
+
+    /// Notes that these blocks have to be computed again.
+    pub fn mark(&mut self, blocks: &[usize])
+        ensures list { self.new.list ≡ self.old.list }
+        ensures stale { stale_spec.Marks self.old.stale.items self.new.stale.items blocks.now }
+    {
+        mark(&mut self.stale, blocks);
+    }
+
+    /// Notes that the block was computed.
+    fn unmark(&mut self, block: usize)
+        ensures list { self.new.list ≡ self.old.list }
+        ensures stale { self.new.stale.items ≡ slice_set self.old.stale.items block false }
+    {
+        note(&mut self.stale, block, false);
+    }
+}
+
+/// Computes again what a step may be, and where that is new notes that the steps that it is a part of have to be computed
+/// again.
+#[tactic(auto, using(crate::proofs::BlockLemmas::telling))]
+fn tell(steps: &[Step], users: &Users, atoms: &[Mask], masks: &mut Masks, number: usize)
+    requires there { number < length steps.now }
+    requires ordered { spec.IsOrdered steps.now }
+    requires used { stale_spec.AreUsers steps.now users.now }
+    requires settled { stale_spec.IsSettledBut number steps.now atoms.now masks.old }
+    ensures { stale_spec.IsSettledBut (number + 1) steps.now atoms.now masks.new }
+{
+    let mask = mask_of(steps[number], atoms, &masks.list);
+    if !is_at(&masks.list, number, mask) {
+        masks.put(number, mask);
+        masks.mark(blocks_in(&users.of_steps, number));
+    }
+}
+
+/// Computes again what the steps of a block may be.
+#[tactic(auto, using(crate::proofs::BlockLemmas::telling))]
+fn tell_block(steps: &[Step], users: &Users, atoms: &[Mask], masks: &mut Masks, block: usize)
+    requires there { block * 8 ≤ length steps.now }
+    requires ordered { spec.IsOrdered steps.now }
+    requires used { stale_spec.AreUsers steps.now users.now }
+    requires settled { stale_spec.IsSettledBut (block * 8) steps.now atoms.now masks.old }
+    ensures { stale_spec.IsSettledBut ((block + 1) * 8) steps.now atoms.now masks.new }
+{
+    let start = block * BLOCK;
+    for number in start..steps.len().min(start.saturating_add(BLOCK)) {
+        tell(steps, users, atoms, masks, number);
+    }
+    masks.unmark(block);
+}
+
+/// Computes again what the steps of a block may be, if they have to be computed again.
+#[tactic(auto, using(crate::proofs::BlockLemmas::telling))]
+fn refresh_block(steps: &[Step], users: &Users, atoms: &[Mask], masks: &mut Masks, block: usize)
+    requires there { block * 8 ≤ length steps.now }
+    requires ordered { spec.IsOrdered steps.now }
+    requires used { stale_spec.AreUsers steps.now users.now }
+    requires settled { stale_spec.IsSettledBut (block * 8) steps.now atoms.now masks.old }
+    ensures { stale_spec.IsSettledBut ((block + 1) * 8) steps.now atoms.now masks.new }
+{
+    if is_stale(&masks.stale, block) {
+        tell_block(steps, users, atoms, masks, block);
+    }
+}
+
+/// Tells of each step what it may be.
+#[tactic(auto, using(crate::proofs::BlockLemmas::telling))]
+pub fn refresh(steps: &[Step], users: &Users, atoms: &[Mask], masks: &mut Masks)
+    requires ordered { spec.IsOrdered steps.now }
+    requires used { stale_spec.AreUsers steps.now users.now }
+    requires settled { stale_spec.IsSettledBut 0 steps.now atoms.now masks.old }
+    ensures settled { spec.IsSettled steps.now atoms.now masks.new.list.items }
+    ensures kept { stale_spec.IsSettledBut 0 steps.now atoms.now masks.new }
+{
+    for block in 0..steps.len() / BLOCK + 1 {
+        refresh_block(steps, users, atoms, masks, block);
     }
 }

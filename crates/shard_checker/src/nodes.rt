@@ -96,9 +96,9 @@ fn check_others<A: Allocator>(
     owner: usize,
 ) -> Result<(), CheckError>
     ensures { Finds (second_refusal (subject_view subject.now) walk.now.node
-        (second_among owner 0 (map (mask_in walk.now.masks.items) subject.now.formulas.now.roots.items))) result }
+        (second_among owner 0 (map (mask_in walk.now.masks.list.items) subject.now.formulas.now.roots.items))) result }
 {
-    match second_owner(owner, &subject.formulas.roots, &walk.masks) {
+    match second_owner(owner, &subject.formulas.roots, &walk.masks.list) {
         None => Ok(()),
         Some(subscriber) => Err(CheckError::SecondOwner {
             table: subject.table,
@@ -116,7 +116,8 @@ pub fn check_owner<A: Allocator>(
     number: u32,
 ) -> Result<(), CheckError>
     requires ready { Ready subject.now walk.now }
-    requires settled { IsSettled subject.now.formulas.now.steps.list.items walk.now.known.atoms.items walk.now.masks.items }
+    requires settled { IsSettled subject.now.formulas.now.steps.list.items walk.now.known.atoms.items
+        walk.now.masks.list.items }
     ensures { Finds
         (spec.node_refusal trying.is_empty (subject_view subject.now) (Node.Owner number)
         (path_view walk.now.path.items) walk.now.node) result }
@@ -125,7 +126,7 @@ pub fn check_owner<A: Allocator>(
     let node = walk.node;
     match root_at(&subject.formulas.roots, number) {
         None => Err(CheckError::BadIndex { table, node }),
-        Some(root) if is_surely_true(mask_at(&walk.masks, root)) => check_others(
+        Some(root) if is_surely_true(mask_at(&walk.masks.list, root)) => check_others(
             subject,
             walk,
             number as usize,

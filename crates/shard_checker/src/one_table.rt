@@ -19,6 +19,7 @@ use crate::formulas::formulas_of;
 use crate::numbering::{numbered_atoms, numbered_terms};
 use crate::source::Source;
 use crate::subject::Subject;
+use crate::users::Users;
 use crate::walk::begin;
 use filter_tree::Table;
 use replica_identity::Share;
@@ -54,6 +55,7 @@ pub fn check_table<A: Allocator, C: Source>(
     let atoms = numbered_atoms(alloc, shares)?;
     let terms = numbered_terms(alloc, shares)?;
     let formulas = formulas_of(alloc, &atoms, shares)?;
+    let users = Users::new(alloc, atoms.len(), &formulas.steps.list)?;
     let subject = Subject {
         table: number,
         columns: table.columns.as_slice(),
@@ -61,6 +63,7 @@ pub fn check_table<A: Allocator, C: Source>(
         atoms: &atoms,
         terms: &terms,
         formulas: &formulas,
+        users: &users,
     };
     check_subject(alloc, &subject, cert)
 }

@@ -5,6 +5,7 @@ ghost use Rattle.std.specs.Option.{option_map};
 ghost use Rattle.filter_tree.specs.Shape.{atom_view, atoms_view};
 
 use crate::formulas::Formulas;
+use crate::users::Users;
 use filter_tree::{Atom, Column, Term};
 use replica_identity::Share;
 use std::alloc::Allocator;
@@ -20,6 +21,8 @@ pub struct Subject<'a, A: Allocator> {
     pub terms: &'a [Term],
     /// The shares' filters.
     pub formulas: &'a Formulas,
+    /// What the atoms and the filters' steps are parts of.
+    pub users: &'a Users,
 }
 
 /// The atom of this number.

@@ -15,10 +15,11 @@ ghost use Rattle.shard_checker.specs.Walking as spec;
 
 use crate::error::CheckError;
 use crate::known::Known;
-use crate::masks::{NONE, refresh};
+use crate::masks::{Masks, refresh};
 use crate::nodes::{check_empty, check_never_null, check_owner, check_split};
 use crate::subject::{Subject, atom_at};
-use filter_tree::{Atom, Mask, Tri};
+use crate::users::blocks_in;
+use filter_tree::{Atom, Tri};
 use split_cert::{Cert, Node, NodeReader};
 use std::alloc::{AllocError, Allocator, Global};
 
@@ -29,8 +30,8 @@ pub struct Walk<'a, A: Allocator> {
     pub path: Vec<(&'a Atom<A>, Tri)>,
     /// What the path says of the atoms.
     pub known: Known,
-    /// A place for each step of the filters, for what the step may be.
-    pub masks: Vec<Mask>,
+    /// What each step of the filters may be, and which of them have to be computed again.
+    pub masks: Masks,
     pub node: usize,
     /// Whether no node is due.
     pub is_over: bool,
@@ -48,7 +49,7 @@ pub fn begin<'a, A: Allocator>(
     Ok(Walk {
         path: Vec::new(alloc),
         known: Known::new(alloc, subject.atoms)?,
-        masks: vec![in alloc; NONE; subject.formulas.steps.list.len()]?,
+        masks: Masks::new(alloc, subject.formulas.steps.list.len())?,
         node: 0,
         is_over: false,
     })
@@ -92,6 +93,8 @@ fn enter<'a, A: Allocator>(
         None => walk.is_over = true,
         Some(atom) => {
             walk.known.learn(number, value)?;
+            walk.masks
+                .mark(blocks_in(&subject.users.of_atoms, number as usize));
             extend(&mut walk.path, atom, value)?;
         }
     }
@@ -111,6 +114,8 @@ fn go_back<'a, A: Allocator>(subject: &Subject<'a, A>, walk: &mut Walk<'a, A>) -
 {
     let (_, value) = walk.path.pop()?;
     let before = walk.known.take_back()?;
+    walk.masks
+        .mark(blocks_in(&subject.users.of_atoms, before.number as usize));
     Some((before.number, value))
 }
 
@@ -159,7 +164,8 @@ fn step<'a, A: Allocator>(
 /// Tells of each step of the filters what it may be at the end of the path.
 fn settle<A: Allocator>(subject: &Subject<'_, A>, walk: &mut Walk<'_, A>)
     requires { Ready subject.now walk.old }
-    ensures settled { IsSettled subject.now.formulas.now.steps.list.items walk.new.known.atoms.items walk.new.masks.items }
+    ensures settled { IsSettled subject.now.formulas.now.steps.list.items walk.new.known.atoms.items
+        walk.new.masks.list.items }
     ensures ready { Ready subject.now walk.new }
     ensures path { walk.new.path.items ≡ walk.old.path.items }
     ensures node { walk.new.node ≡ walk.old.node }
@@ -167,6 +173,7 @@ fn settle<A: Allocator>(subject: &Subject<'_, A>, walk: &mut Walk<'_, A>)
 {
     refresh(
         &subject.formulas.steps.list,
+        subject.users,
         &walk.known.atoms,
         &mut walk.masks,
     );

@@ -30,7 +30,7 @@ pub record TakesTree (may_open : ℕ) (here : Here) (text : List ℕ) (t : Tree)
 abbrev TakesBranch : ℕ → Rule Tree → Type 0
 TakesBranch may_open rule = (here : Here) (y : Tree × Here) → rule here ≡ Ok y → TakesTree may_open here (32 ∷ spelling_of y.0) y.0 y.1
 
--- the text of three branches, and what stands behind it
+-- the text of three branches, and what comes after it
 abbrev branch_texts : List ℕ → List ℕ → List ℕ → List ℕ → List ℕ
 branch_texts t f u rest = 32 ∷ (t ++ (32 ∷ (f ++ (32 ∷ (u ++ rest)))))
 
@@ -68,7 +68,7 @@ leaf_takes may_open kind number here behind t y begins spelled one flat numbers 
       numbers = numbers;
     })
 
--- behind a head, where a split's branches are read by a rule
+-- after a head, where a split's branches are read by a rule
 node_takes : (may_open : ℕ) (rule : Rule Tree) (kind : Kind) (number : ℕ) (here behind : Here) (y : Tree × Here) → TakesBranch may_open rule
     → TakesHead (suc may_open) here (record { kind = kind; number = number }) behind → node_of rule kind number behind ≡ Ok y → TakesTree (suc may_open) here (spelling_of y.0) y.0 y.1
 node_takes may_open rule Split number here behind y takes begins e = split_takes may_open rule number here behind y takes begins e
@@ -168,7 +168,7 @@ spelled_is_read t is =
     let read = tree_again t max_splits 0 0 [] is.shallow (omega (arith, is.few)) is.numbers tt in
     ap (λ text. alone (tree max_splits (start text))) (sym (append-nil (spelling_of t))) ∙ rw read refl
 
--- the law: behind it nothing may stand
+-- the law: nothing may come after it
 pub more_is_trailing : (t : Tree) (more : List ℕ) → IsWithinLimits t → certificate_of (spelling_of t ++ 32 ∷ more) ≡ Err (Trailing (length (spelling_of t)))
 unfolding certificate_of
 more_is_trailing t more is =

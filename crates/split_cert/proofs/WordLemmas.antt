@@ -1,4 +1,4 @@
--- Words: what is taken stands in the text, and a word that stands in a text is taken.
+-- Words: what is taken is in the text, and a word that is in a text is taken.
 use Rattle.std.proofs.Common.{◌≡◌, ◌≢◌, ℕ, suc, ◌+◌, ◌^◌, ◌<◌, Bool, true, false, ◌&&◌, ◌==◌, List, [], ◌∷◌, ◌++◌, length, take, Option, Some, None, Result, Ok, Err, refl, sym, ap, subst, ◌∙◌, arith}
 use Rattle.std.specs.Prelude.{if◌then◌else◌, nat_lt}
 use Rattle.std.specs.Char.{is_ascii_digit}
@@ -59,7 +59,7 @@ word_takes here y e =
     let same = unless_ended (length here.rest == 0) Ended (take n here.rest, past n here) y e in
     subst (λ (y : List ℕ × Here). Takes here y.0 y.1) same (record { parts = sym (take-append-drop n here.rest); nodes = refl })
 
--- the bytes have no space, and behind a word nothing stands or a space
+-- the bytes have no space, and after a word nothing comes or a space
 abbrev pub IsWord : List ℕ → Type 0
 IsWord [] = Unit {0}
 IsWord (byte ∷ bytes) = (byte ≢ 32) × IsWord bytes

@@ -1,9 +1,9 @@
--- Numbers as they stand in the text of a certificate: in decimal, of 32 bits, without leading zeros. The format is this project's own.
+-- Numbers in the text of a certificate: in decimal, of 32 bits, without leading zeros. The format is this project's own.
 use Rattle.std.specs.Prelude.{ℕ, ◌+◌, ◌-◌, ◌*◌, ◌^◌, ◌&&◌, nat_lt, if◌then◌else◌, List, [], ◌∷◌, Option, Some, None}
 use Rattle.std.specs.Fmt.{decimal}
 use Rattle.std.specs.Str.{bytes_eq}
 
--- digits read behind a number
+-- digits read after a number
 unfoldable pub number_from : ℕ → List ℕ → ℕ
 number_from n [] = n
 number_from n (digit ∷ digits) = number_from (10 * n + (digit - 48)) digits

@@ -1,4 +1,4 @@
--- How the text of a certificate is read, up to one node's two words: each rule takes bytes from the front of a text, and gives what it reads and where the reader stands behind it, or the first fault. The format is this project's own.
+-- How the text of a certificate is read, up to one node's two words: each rule takes bytes from the front of a text, and gives what it reads and where the reader is after it, or the first fault. The format is this project's own.
 use Rattle.std.specs.Prelude.{◌≡◌, ℕ, ◌+◌, Bool, false, true, not, ◌&&◌, ◌==◌, nat_le, if◌then◌else◌, List, [], ◌∷◌, length, take, drop, Option, Some, None, Result, Ok, Err, IfErr}
 use Rattle.std.specs.List.{prefix_len}
 use Rattle.split_cert.specs.declared.error.CertError.{CertError}
@@ -9,7 +9,7 @@ use Rattle.split_cert.specs.declared.head.Kind.TheVariants.{Split, Owner, Empty,
 use Rattle.split_cert.specs.Numbers.{number_of}
 use Rattle.split_cert.specs.Tree.{max_nodes}
 
--- where a reader stands: the place of the next byte in the text, how many nodes it has read, and the bytes from there on
+-- where a reader is: the place of the next byte in the text, how many nodes it has read, and the bytes from there on
 pub record Here : Type 0 where
   pub place : ℕ
   pub nodes : ℕ
@@ -46,7 +46,7 @@ pure a = λ here. Ok (a, here)
 abbrev pub is_of_word : ℕ → Bool
 is_of_word byte = not (byte == 32)
 
--- how many bytes stand before the next space, or before the end
+-- how many bytes there are before the next space, or before the end
 abbrev pub word_len : List ℕ → ℕ
 word_len bytes = prefix_len is_of_word bytes
 

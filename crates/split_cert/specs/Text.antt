@@ -37,7 +37,7 @@ BeginsWithSplit text = (rest : List ℕ) × (text ≡ letter_of Split ∷ 32 ∷
 unfoldable pub branches : Rule Tree → ℕ → Rule Tree
 branches branch atom = branch >>= (λ if_true. branch >>= (λ if_false. branch >>= (λ if_null. pure (T.Split atom if_true if_false if_null))))
 
--- what stands behind a node's two words
+-- what comes after a node's two words
 abbrev pub node_of : Rule Tree → Kind → ℕ → Rule Tree
 node_of branch Split number = branches branch number
 node_of branch Owner number = pure (T.Owner number)
@@ -56,7 +56,7 @@ tree (suc n) = head (suc n) >>= node (space >> tree n)
 unfoldable pub branch : ℕ → Rule Tree
 branch may_open = space >> tree may_open
 
--- a text has one tree and nothing behind it
+-- a text has one tree and nothing after it
 abbrev pub alone : {A : Type 0} → Outcome A → Result A CertError
 alone (Ok read) = if length read.1.rest == 0 then Ok read.0 else Err (Trailing read.1.place)
 alone (Err fault) = Err fault

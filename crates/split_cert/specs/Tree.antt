@@ -15,7 +15,7 @@ nodes (Owner subscriber) = 1
 nodes (Empty term) = 1
 nodes (NeverNull atom) = 1
 
--- the most splits that stand on a path from the root
+-- the most splits on a path from the root
 abbrev pub splits_deep : Tree → ℕ
 splits_deep (Split atom if_true if_false if_null) = 1 + max (splits_deep if_true) (max (splits_deep if_false) (splits_deep if_null))
 splits_deep (Owner subscriber) = 0

@@ -8,7 +8,7 @@ use crate::error::CertError;
 use crate::head::{Head, Kind, kind_of};
 use crate::number::number_of;
 
-/// Where a reader stands in the text of a certificate. It takes no memory.
+/// Where a reader is in the text of a certificate. It takes no memory.
 #[derive(Clone, Copy)]
 pub(crate) struct Cursor<'a> {
     rest: &'a [u8],

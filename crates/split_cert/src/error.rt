@@ -16,7 +16,7 @@ pub enum CertError {
     /// The text is over where a word or a space is due.
     #[error("the certificate is not whole")]
     Ended,
-    /// The certificate ends here, and something stands behind it.
+    /// The certificate ends here, and something comes after it.
     #[error("something stands behind the certificate, at byte {0}")]
     Trailing(usize),
     /// There are more than 1,000,000 nodes.

@@ -15,8 +15,6 @@ mod node;
 mod node_reader;
 mod number;
 mod reading;
-#[cfg(test)]
-mod tests;
 mod writing;
 
 pub use cert::{Cert, MAX_NODES, MAX_SPLITS};

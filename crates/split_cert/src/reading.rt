@@ -92,7 +92,7 @@ fn certificate<A: Allocator + Clone>(alloc: &A, text: &str) -> Result<Cert<A>, C
 /// 65 nodes, one below the other.
 ///
 /// The text has the nodes in preorder: `s` and an atom, and then the branches where that atom is true, false and null;
-/// `o` and a subscriber; `e` and a term; `n` and an atom. One space stands between two words. Numbers are decimal, at
+/// `o` and a subscriber; `e` and a term; `n` and an atom. One space is between two words. Numbers are decimal, at
 /// most 4294967295, without leading zeros. There are at most 1,000,000 nodes, and at most 64 splits on a path.
 ///
 /// # Errors
@@ -108,7 +108,7 @@ pub fn read_in<A: Allocator + Clone>(alloc: A, text: &str) -> Result<Cert<A>, Ce
     ensures found { IfOk result (λ cert. spec.IsCertificateOf (tree_view cert) text.now) }
     // What `write` gives for a certificate within the limits is read as that certificate.
     ensures only { (tree : Tree) → spec.IsCertificateOf tree text.now → Answers tree_view told (Ok tree) result }
-    // With a space and whatever else behind it, it is refused there.
+    // With a space and whatever else after it, it is refused there.
     ensures trailing { (tree : Tree) (more : List ℕ) → IsWithinLimits tree
         → text.now ≡ spec.spelling_of tree ++ 32 ∷ more
         → Answers tree_view told (Err (Trailing (length (spec.spelling_of tree)))) result }

@@ -4,9 +4,11 @@ pub mod CountingLemmas
 pub mod Cuts
 pub mod Doubling
 pub mod Keeping
+pub mod Leaving
 pub mod Meanings
 pub mod Nesting
 pub mod OrderLemmas
+pub mod PlainNames
 pub mod Required
 pub mod SpelledRows
 pub mod Turning

@@ -20,8 +20,6 @@ mod quoted;
 mod reader;
 mod row;
 mod simple;
-#[cfg(test)]
-mod tests;
 mod token;
 mod truth_test;
 mod word;

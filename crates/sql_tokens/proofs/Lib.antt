@@ -1,6 +1,7 @@
 pub mod CommentTurns
 pub mod QuoteTurns
 pub mod NumberTurns
+pub mod PlainNames
 pub mod Ends
 pub mod Fronts
 pub mod Lexing

@@ -1,5 +1,6 @@
 pub mod Bytes
 pub mod Pieces
+pub mod PlainNames
 pub mod Comments
 pub mod Quotes
 pub mod Numbers

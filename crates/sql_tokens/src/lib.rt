@@ -13,8 +13,6 @@ mod numbers;
 mod quotes;
 mod scan;
 mod signs;
-#[cfg(test)]
-mod tests;
 
 pub use cursor::Tokens;
 pub use kinds::{FaultKind, Operator, Token, TokenFault, TokenKind};

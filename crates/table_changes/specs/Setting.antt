@@ -1,4 +1,4 @@
--- What changes of tables depend on, told apart from the catalog that says it: which tables there are, which rows fit them, their unique keys, what the replica identity records of a row, to whom it passes, and who takes anything of a table: PostgreSQL 15, "Logical Replication", 31.1 Publication and 31.3 Row Filters.
+-- What changes of tables depend on, told apart from the catalog that says it: which tables there are, which rows fit them, their unique keys, what the replica identity records of a row, which subscribers get it, and which take anything of a table: PostgreSQL 15, "Logical Replication", 31.1 Publication and 31.3 Row Filters.
 use Rattle.std.specs.Prelude.{ℕ, Bool, ◌&&◌, List, is_none, Option}
 use Rattle.filter_tree.specs.Datum.{Datum}
 use Rattle.filter_tree.specs.declared.validity.RowFault.{RowFault}
@@ -27,6 +27,6 @@ pub record Setting : Type 0 where
   -- the subscriber takes anything of the table: subscriber, table
   pub carries : ℕ → ℕ → Bool
 
--- the table is there, and the row may stand in it
+-- the table is there, and takes the row
 abbrev pub fits : Setting → ℕ → List Datum → Bool
 fits setting table row = setting.known table && is_none (setting.fault table row)

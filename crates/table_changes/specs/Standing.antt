@@ -1,4 +1,4 @@
--- What laws about changes of tables ask of a setting, beside that each row has a primary key: that a row's identity tells to whom it passes, that identities tell rows apart, and that each row that fits passes to exactly one subscriber: PostgreSQL 15, "Logical Replication", 31.1 Publication and 31.3 Row Filters.
+-- What laws about changes of tables ask of a setting, beside that each row has a primary key: that a row's identity tells which subscribers get it, that identities tell rows apart, and that each row that fits passes to exactly one subscriber: PostgreSQL 15, "Logical Replication", 31.1 Publication and 31.3 Row Filters.
 use Rattle.std.specs.Prelude.{◌≡◌, ◌≢◌, ℕ, true, List, None}
 use Rattle.filter_tree.specs.Datum.{Datum}
 use Rattle.table_changes.specs.Commands.{Command, fault_of, applied}
@@ -14,7 +14,7 @@ Apart setting tables = (table : ℕ) (one other : List Datum) → holds setting.
 abbrev pub AllFit : Setting → Tables → Type 0
 AllFit setting tables = (table : ℕ) (row : List Datum) → holds setting.keys tables table row ≡ true → fits setting table row ≡ true
 
--- What is recorded of an old row tells to whom it passed.
+-- What is recorded of an old row tells which subscribers had it.
 pub record Covered (setting : Setting) : Type 0 where
   -- rows with one identity pass alike
   pub decides : (subscriber table : ℕ) (one other : List Datum) → setting.identity table one ≡ setting.identity table other
@@ -23,7 +23,7 @@ pub record Covered (setting : Setting) : Type 0 where
   pub blanked : (table : ℕ) (row : List Datum) → setting.identity table (setting.blanked table row) ≡ setting.identity table row
   -- of each table something is recorded
   pub recorded : (table : ℕ) → setting.recorded table ≢ Nowhere
-  -- to whom a row passes takes something of its table
+  -- who gets a row takes something of its table
   pub carried : (subscriber table : ℕ) (row : List Datum) → setting.passes subscriber table row ≡ true → setting.carries subscriber table ≡ true
 
 -- A command without a fault leaves no two rows of a table with one identity where there were none.

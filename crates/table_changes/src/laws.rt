@@ -45,7 +45,7 @@ pub fn commands_come_one_by_one()
     ensures recorded { RecordOfOneMore }
 {}
 
-/// A law, and no code, of what is recorded of commands without a fault, where a row's identity tells to whom it passes. A
+/// A law, and no code, of what is recorded of commands without a fault, where a row's identity tells who gets it. A
 /// subscriber gets of each recorded change what it sees of the command in its place, and nothing where it sees nothing
 /// (`each`); so it gets of the whole record what it sees of the commands (`all`).
 ///

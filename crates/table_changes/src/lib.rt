@@ -4,8 +4,6 @@
 mod command;
 mod key;
 mod laws;
-#[cfg(test)]
-mod tests;
 
 pub use command::Command;
 pub use key::{key_of, values_at};

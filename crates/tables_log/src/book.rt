@@ -219,8 +219,8 @@ impl Book {
         slots::release(&mut self.slots, slot);
     }
 
-    /// Confirms the log up to the position for the slot's subscriber, to whom it was sent up to `sent`. A position that
-    /// is not above the confirmed one changes nothing.
+    /// Confirms the log up to the position for the slot's subscriber, which was sent the log up to `sent`. A position
+    /// that is not above the confirmed one changes nothing.
     ///
     /// # Errors
     ///

@@ -13,8 +13,6 @@ mod slots;
 mod staged;
 mod staging;
 mod table_rows;
-#[cfg(test)]
-mod tests;
 mod truncating;
 
 pub use book::Book;

@@ -1,8 +1,11 @@
 pub mod AlikeLemmas
 pub mod CopyLemmas
+pub mod FrameAlikeLemmas
 pub mod FrameLemmas
 pub mod GatherLemmas
 pub mod HearAlikeLemmas
+pub mod IntakeLemmas
 pub mod MachineLemmas
 pub mod PassLemmas
 pub mod RelationLemmas
+pub mod StartQueryLemmas

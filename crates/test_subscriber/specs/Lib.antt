@@ -1,10 +1,14 @@
 pub mod Answers
 pub mod Copies
+pub mod Feeding
 pub mod Frames
 pub mod Hearing
+pub mod Intake
 pub mod Machine
 pub mod MachineLaws
 pub mod RowChanges
 pub mod SameRelation
 pub mod Shapes
+pub mod StartQuery
+pub mod Subscribers
 pub mod Views

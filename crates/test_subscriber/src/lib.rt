@@ -3,6 +3,7 @@
 
 mod fault;
 mod frames;
+mod intake;
 mod laws;
 mod passes;
 mod phase;
@@ -10,7 +11,10 @@ mod reading;
 mod replica;
 mod same_relation;
 mod shape;
+mod start_query;
+mod subscriber;
 mod table_copy;
 
 pub use fault::SubFault;
 pub use laws::machines_hear_alike;
+pub use subscriber::Subscriber;

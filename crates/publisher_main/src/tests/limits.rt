@@ -1,6 +1,6 @@
 //! Inputs at their limits, with ample memory.
 
-use crate::check::tests::{ACCEPTED, Expected, check_of, halves};
+use crate::tests::checks::{ACCEPTED, Expected, check_of, halves};
 use crate::tests::output_of;
 use std::alloc::{AllocError, Global};
 use std::test::Fail;

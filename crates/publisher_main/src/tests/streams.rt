@@ -1,12 +1,10 @@
 //! Long inputs, readers that fail or never end, and writers that fail.
 
-use crate::failure::{Failure, Status};
-use crate::input::Input;
-use crate::program::{report, run};
 use crate::tests::{BASE, output_of};
 use std::io;
 use std::io::{ErrorKind, Read, Write};
 use std::test::Fail;
+use subcommands::{Failure, Input, Status, report, run};
 
 #[test]
 fn inputs_have_two_parts(rt: HostRuntime) -> Result<(), Fail> {
@@ -34,8 +32,8 @@ fn inputs_have_two_parts(rt: HostRuntime) -> Result<(), Fail> {
             ["pgshard", "eval", "t"].as_slice(),
             input.as_slice(),
         )?;
-        assert_eq!(rt; status, expected_status, "{end:?}");
-        assert_eq!(rt; output.as_slice(), expected.as_bytes(), "{end:?}");
+        assert_eq!(rt; status, expected_status);
+        assert_eq!(rt; output.as_slice(), expected.as_bytes());
     }
     Ok(())
 }
@@ -143,7 +141,7 @@ fn reads_have_a_limit(rt: HostRuntime) -> Result<(), Fail> {
         };
         let (status, output) = output_of(rt.alloc(), ["pgshard", "make"].as_slice(), reader)?;
         assert_eq!(rt; (status, output.as_slice()), (3, b"input\n".as_slice()));
-        assert!(rt; reads <= 16_777_217, "{reads}");
+        assert!(rt; reads <= 16_777_217);
     }
     Ok(())
 }
@@ -212,8 +210,8 @@ fn nothing_is_written_behind_a_failed_write(rt: HostRuntime) -> Result<(), Fail>
             Input::new(input.as_bytes()),
             &mut writer,
         );
-        assert_eq!(rt; status, 4, "{word}");
-        assert!(rt; writer.taken.is_empty() && !writer.flushed, "{word}");
+        assert_eq!(rt; status, 4);
+        assert!(rt; writer.taken.is_empty() && !writer.flushed);
     }
     Ok(())
 }
@@ -243,12 +241,8 @@ fn a_failing_writer_stops_a_check(rt: HostRuntime) -> Result<(), Fail> {
             Input::new(input.as_bytes()),
             &mut writer,
         );
-        assert_eq!(rt; status, expected_status, "{input} after {left}");
-        assert_eq!(rt;
-            writer.taken.as_slice(),
-            expected.as_bytes(),
-            "{input} after {left}"
-        );
+        assert_eq!(rt; status, expected_status);
+        assert_eq!(rt; writer.taken.as_slice(), expected.as_bytes());
     }
     Ok(())
 }
@@ -268,7 +262,7 @@ fn failures_have_a_line_and_a_status(rt: HostRuntime) -> Result<(), Fail> {
     for (failure, line, expected) in cases {
         let mut output = Vec::new(rt.alloc());
         let status = report(rt.alloc(), failure, &mut output);
-        assert_eq!(rt; status, expected, "{line}");
+        assert_eq!(rt; status, expected);
         assert_eq!(rt; output.as_slice(), line.as_bytes());
     }
     Ok(())
@@ -319,13 +313,9 @@ fn the_first_bytes_are_written(rt: HostRuntime) -> Result<(), Fail> {
             &mut writer,
         );
         let whole = room >= expected.len();
-        assert_eq!(rt; status, if whole { 0 } else { 4 }, "{room}");
+        assert_eq!(rt; status, if whole { 0 } else { 4 });
         let count = room.min(expected.len());
-        assert_eq!(rt;
-            writer.taken.as_slice(),
-            &expected.as_bytes()[..count],
-            "{room}"
-        );
+        assert_eq!(rt; writer.taken.as_slice(), &expected.as_bytes()[..count]);
     }
     Ok(())
 }
@@ -366,12 +356,8 @@ fn a_failing_writer_is_an_output_fault(rt: HostRuntime) -> Result<(), Fail> {
             Input::new(input.as_bytes()),
             &mut writer,
         );
-        assert_eq!(rt; status, expected_status, "{word} after {left}");
-        assert_eq!(rt;
-            writer.taken.as_slice(),
-            expected.as_bytes(),
-            "{word} after {left}"
-        );
+        assert_eq!(rt; status, expected_status);
+        assert_eq!(rt; writer.taken.as_slice(), expected.as_bytes());
     }
     Ok(())
 }

@@ -1,6 +1,5 @@
-use Rattle.std.proofs.Common.{◌≡◌, ◌++◌, ◌∙◌, ap, List, Bool, arith, rules}
+use Rattle.std.proofs.Common.{◌≡◌, arith, rules}
 use Rattle.std.proofs.lemmas.Grind.{common_steps}
-use Rattle.replica_identity.specs.ChangeView.{change_view}
 use Rattle.shard_checker.specs.CheckedView.{checked_view}
 use Rattle.pgoutput_msgs.specs.Telling.{messages_for}
 use Rattle.pgoutput_msgs.proofs.SentLemmas.{messages_sent}
@@ -10,5 +9,5 @@ pub returns-clause-sent : goal.returns-clause-sent
 returns-clause-sent c =
     let exact : c.in_ok-messages.messages.items ≡ messages_for (checked_view c.args.checked.now) c.args.subscriber c.args.told.now c.args.commit.now =
     first_of (search rules, grind (arith, common_steps)) in
-    λ limited named. messages_sent (checked_view c.args.checked.now) c.args.subscriber c.args.told.now c.args.commit.now c.in_ok-messages.messages.items
-    c.changes.ensures.sendable limited named exact c.in_ok-messages.ensures.texts
+    λ limited. messages_sent (checked_view c.args.checked.now) c.args.subscriber c.args.told.now c.args.commit.now c.in_ok-messages.messages.items
+    c.changes.ensures.sendable limited exact c.in_ok-messages.ensures.texts

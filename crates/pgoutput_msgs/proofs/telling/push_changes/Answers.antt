@@ -1,4 +1,3 @@
-use Rattle.std.proofs.Common.{arith}
 use Rattle.shard_checker.specs.CheckedView.{checked_view}
 use Rattle.pgoutput_msgs.proofs.TellingLemmas.{says_on}
 use Rattle.pgoutput_msgs.proofs.telling.push_changes.Goals as goal

@@ -1,4 +1,4 @@
-use Rattle.std.proofs.Common.{◌≡◌, List, map, refl, sym, subst, ap, ◌∷◌, ◌∙◌, ◌+◌, drop, arith}
+use Rattle.std.proofs.Common.{map, refl, sym, subst, ap, ◌∷◌, ◌∙◌, ◌+◌, drop, arith}
 use Rattle.std.specs.Prelude.{All}
 use Rattle.filter_tree.specs.Values.{datum_view}
 use Rattle.pgoutput_msgs.specs.Ranges.{IsTupleWithinRange, IsCellText}

@@ -1,6 +1,7 @@
-use Rattle.shard_checker.specs.Steps.{IsSettledBefore}
+use Rattle.std.proofs.Common.{◌*◌}
+use Rattle.shard_checker.specs.Blocks.{IsSettledBut}
 use Rattle.shard_checker.proofs.masks.refresh.Given as goal
 
--- the steps so far have the sets that follow from their parts'
-abbrev pub invariant-loop-number : goal.invariant-loop-number
-invariant-loop-number l = IsSettledBefore l.number l.steps l.atoms l.masks
+-- the blocks so far were told
+abbrev pub invariant-loop-block : goal.invariant-loop-block
+invariant-loop-block l = IsSettledBut (l.block * 8) l.steps l.atoms l.masks

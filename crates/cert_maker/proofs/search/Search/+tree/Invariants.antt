@@ -1,7 +1,7 @@
 use Rattle.std.proofs.Common.{◌+◌, ◌*◌}
 use Rattle.cert_maker.proofs.search.Search.+tree.Given as goal
 
--- the splits that may still stand on the path, where a split goes before its branches, and a branch before its tree
+-- the splits that the path may still have, where a split goes before its branches, and a branch before its tree
 abbrev pub decreases-branch : goal.decreases-branch
 decreases-branch l = 3 * l.may_split + 1
 

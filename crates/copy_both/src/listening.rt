@@ -1,0 +1,70 @@
+//! Pieces of what a client sends, heard frame by frame.
+
+ghost use Rattle.std.specs.Prelude.{◌≡◌, IfOk, OnOk, None};
+ghost use Rattle.filter_tree.specs.Memory.{Answers};
+ghost use Rattle.copy_both.specs.Hearing.{answer_of};
+ghost use Rattle.copy_both.specs.Listening.{silence, held_frames, resting, fed, piece_heard, FramesHeard, PieceLeaves};
+ghost use Rattle.copy_both.specs.Sessions.{served_by, hearing_view, KeepsRest};
+ghost use Rattle.copy_both.specs.Voices.{told_fault};
+
+use crate::heard::Heard;
+use crate::link_fault::LinkFault;
+use crate::session::{Hearing, Session};
+use copy_frames::{Deframer, FrameFault};
+use tables_log::Book;
+
+/// Hears the frames that are held, up to a fault or an end.
+fn hear_frames(
+    frames: &mut Deframer,
+    session: &mut Session,
+    book: &mut Book,
+    hearing: &mut Hearing,
+) -> Result<(), LinkFault>
+    requires { hearing.old.heard.ended ≡ None }
+    ensures kept { KeepsRest session.old session.new book.old book.new }
+    ensures heard { FramesHeard (served_by session.old book.old) (hearing_view session.old hearing.old book.old)
+        (hearing_view session.new hearing.new book.new) (held_frames frames.old) result }
+    ensures rest { OnOk result (hearing.new.heard.ended ≡ None → frames.new ≡ resting frames.old) }
+{
+    while hearing.heard.ended.is_none() {
+        let Some(frame) = frames.next()? else {
+            return Ok(());
+        };
+        session.hear(&frame, book, hearing)?;
+    }
+    Ok(())
+}
+
+/// Hears a piece, after what is held.
+pub(crate) fn hear_piece(
+    frames: &mut Deframer,
+    session: &mut Session,
+    piece: &[u8],
+    book: &mut Book,
+    sent: u64,
+) -> Result<Heard, LinkFault>
+    requires { frames.old.fault ≡ None }
+    ensures answer { Answers (λ heard. heard) told_fault
+        (answer_of (piece_heard session.old book.old frames.old piece.now sent)) result }
+    ensures left { PieceLeaves result frames.old piece.now sent session.old session.new book.old book.new }
+    ensures quiet { OnOk result (session.new.response.items ≡ session.old.response.items) }
+    ensures rest { IfOk result (λ heard. heard.ended ≡ None → frames.new ≡ resting (fed frames.old piece.now)) }
+{
+    let fed = frames.feed(piece);
+    if let Err(FrameFault::OutOfMemory) = fed {
+        return Err(LinkFault::OutOfMemory);
+    }
+    let mut hearing = Hearing {
+        heard: Heard {
+            started: None,
+            replies: 0,
+            ended: None,
+        },
+        sent,
+    };
+    hear_frames(frames, session, book, &mut hearing)?;
+    if hearing.heard.ended.is_none() {
+        fed?;
+    }
+    Ok(hearing.heard)
+}

@@ -1,6 +1,0 @@
-use Rattle.pub_reader.specs.CatalogView.{catalog_view}
-use Rattle.publisher_main.proofs.FindingLines.{IsSoFar}
-use Rattle.publisher_main.proofs.make.write_tables.Given as goal
-
-abbrev pub invariant-loop-number : goal.invariant-loop-number
-invariant-loop-number g l = IsSoFar (catalog_view l.catalog) l.number l.all (g.W.Write.contents l.initial.writer) (g.W.Write.contents l.writer)

@@ -1,0 +1,160 @@
+//! The largest catalog. There is memory for it, so that it is not refused for want of it.
+
+use filter_tree::Identity;
+use pub_reader::{Publication, read_catalog};
+use std::alloc::{AllocError, Global};
+use std::test::Fail;
+
+/// A name of 63 bytes.
+fn name(alloc: Global, letter: &str, number: usize) -> Result<String, AllocError> {
+    format!(in alloc; "{}{number:03}", letter.repeat(alloc, 60)?)
+}
+
+/// 8 indexes of a table, each of these columns, of which the last identifies its rows.
+fn indexes(alloc: Global, schema: &str, table: &str, columns: &str) -> Result<String, AllocError> {
+    let mut text = String::new(alloc);
+    for number in 0..8 {
+        let called = name(alloc, "i", number)?;
+        let piece = format!(in alloc;
+            "CREATE UNIQUE INDEX {called} ON {schema}.{table} ({columns});\n"
+        )?;
+        text.push_str(piece.as_str())?;
+    }
+    let last = name(alloc, "i", 7)?;
+    format!(in alloc; "{text}ALTER TABLE {schema}.{table} REPLICA IDENTITY USING INDEX {last};\n")
+}
+
+/// A table of 100 columns, which are all in its key, and in each of its 8 indexes.
+fn table(alloc: Global, number: usize) -> Result<String, AllocError> {
+    let mut columns = String::from_str(alloc, "id integer, region text")?;
+    let mut key = String::from_str(alloc, "id, region")?;
+    for column in 2..100 {
+        let called = name(alloc, "c", column)?;
+        let piece = format!(in alloc; ", {called} boolean NOT NULL")?;
+        columns.push_str(piece.as_str())?;
+        key.push_str(", ")?;
+        key.push_str(called.as_str())?;
+    }
+    let schema = name(alloc, "s", number)?;
+    let called = name(alloc, "t", number)?;
+    format!(in alloc;
+        "CREATE TABLE {schema}.{called} ({columns}, PRIMARY KEY ({key}));\n{}",
+        indexes(alloc, schema.as_str(), called.as_str(), key.as_str())?
+    )
+}
+
+/// A filter for each publication and table. The one of the last publication on the first table has a text of 65,535 bytes,
+/// and those on the last table together have 64 atoms and 1,000 nodes.
+fn filter(alloc: Global, publication: usize, table: usize) -> Result<String, AllocError> {
+    if publication == 63 && table == 0 {
+        return format!(in alloc; "region = '{}'", "a".repeat(alloc, 65_535)?);
+    }
+    if publication == 2 && table == 63 {
+        let same = " OR id = 100".repeat(alloc, 468)?;
+        return format!(in alloc; "id = 101 OR id = 102{same}");
+    }
+    format!(in alloc; "id = {publication}")
+}
+
+/// A publication that names each table with a filter.
+fn publication(alloc: Global, number: usize) -> Result<String, AllocError> {
+    let mut text = format!(in alloc;
+        "CREATE PUBLICATION {} FOR TABLE ",
+        name(alloc, "p", number)?
+    )?;
+    for table in 0..64 {
+        if table > 0 {
+            text.push_str(", ")?;
+        }
+        let schema = name(alloc, "s", table)?;
+        let called = name(alloc, "t", table)?;
+        let piece = format!(in alloc;
+            "{schema}.{called} WHERE ({})",
+            filter(alloc, number, table)?
+        )?;
+        text.push_str(piece.as_str())?;
+    }
+    text.push_str(";\n")?;
+    Ok(text)
+}
+
+/// Names with a comma between each two.
+fn names(alloc: Global, letter: &str) -> Result<String, AllocError> {
+    let mut text = name(alloc, letter, 0)?;
+    for number in 1..64 {
+        text.push_str(", ")?;
+        text.push_str(name(alloc, letter, number)?.as_str())?;
+    }
+    Ok(text)
+}
+
+/// 64 schemas, publications of every table and of every schema, a table in each schema, 62 publications that name each
+/// table with a filter, and 32 subscriptions to all publications. A comment before them makes up 16 MB.
+fn largest_catalog(alloc: Global) -> Result<String, AllocError> {
+    let mut text = format!(in alloc; "--{}\n", " ".repeat(alloc, 15_000_000)?)?;
+    for number in 0..64 {
+        let piece = format!(in alloc; "CREATE SCHEMA {};\n", name(alloc, "s", number)?)?;
+        text.push_str(piece.as_str())?;
+    }
+    let whole = format!(in alloc;
+        "CREATE PUBLICATION {} FOR ALL TABLES;\nCREATE PUBLICATION {} FOR TABLES IN SCHEMA {};\n",
+        name(alloc, "p", 0)?,
+        name(alloc, "p", 1)?,
+        names(alloc, "s")?
+    )?;
+    text.push_str(whole.as_str())?;
+    for number in 0..64 {
+        text.push_str(table(alloc, number)?.as_str())?;
+    }
+    for number in 2..64 {
+        text.push_str(publication(alloc, number)?.as_str())?;
+    }
+    let all = names(alloc, "p")?;
+    let connection = "h".repeat(alloc, 65_535)?;
+    for number in 0..32 {
+        let called = name(alloc, "u", number)?;
+        let piece = format!(in alloc;
+            "CREATE SUBSCRIPTION {called} CONNECTION '{connection}' PUBLICATION {all};\n"
+        )?;
+        text.push_str(piece.as_str())?;
+    }
+    Ok(text)
+}
+
+/// Whether a publication has all 64 tables in their order, each with a filter or each without.
+fn has_all_tables(publication: &Publication, filtered: bool) -> bool {
+    for (table, entry) in publication.entries.iter().enumerate() {
+        if entry.table != table || entry.filter.is_some() != filtered {
+            return false;
+        }
+    }
+    publication.entries.len() == 64
+}
+
+#[test]
+fn reads_the_largest_catalog(rt: HostRuntime) -> Result<(), Fail> {
+    let alloc = rt.alloc();
+    let text = largest_catalog(alloc)?;
+    assert!(rt; text.len() > 16_777_216);
+    let catalog = read_catalog(alloc, text.as_str())?;
+    assert_eq!(rt; catalog.tables.len(), 64);
+    for table in &catalog.tables {
+        assert_eq!(rt; table.columns.len(), 100);
+        assert_eq!(rt; table.key.len(), 100);
+        assert_eq!(rt; table.indexes.len(), 8);
+        for index in table.indexes.as_slice() {
+            assert_eq!(rt; index.name.len(), 63);
+            assert_eq!(rt; index.columns.len(), 100);
+        }
+        assert_eq!(rt; table.identity, Identity::Index(7));
+    }
+    assert_eq!(rt; catalog.publications.len(), 64);
+    for (number, publication) in catalog.publications.iter().enumerate() {
+        assert!(rt; has_all_tables(publication, number >= 2));
+    }
+    assert_eq!(rt; catalog.subscriptions.len(), 32);
+    for subscription in &catalog.subscriptions {
+        assert_eq!(rt; subscription.publications.len(), 64);
+    }
+    Ok(())
+}

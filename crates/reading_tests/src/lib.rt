@@ -1,0 +1,14 @@
+//! Tests of what reads text and evaluates filters, by the public calls of the crates below.
+#![tactic(auto)]
+
+#[cfg(test)]
+mod catalogs;
+mod fault;
+#[cfg(test)]
+mod filters;
+#[cfg(test)]
+mod sql;
+#[cfg(test)]
+mod tokens;
+
+pub use fault::is_error;

@@ -1,0 +1,372 @@
+use sql_tokens::{FaultKind as Fault, Operator, Token, TokenFault, TokenKind as Kind, Tokens};
+use std::alloc::{AllocError, Global};
+use std::process::Abort;
+use std::test::Fail;
+
+/// A text, its tokens by kind, place and length, and the place and kind of the fault that ends it.
+type Case = (
+    &'static str,
+    &'static [(Kind, usize, usize)],
+    Option<(usize, Fault)>,
+);
+
+const CASES: &[Case] = &[
+    // white space: a space, a tab, a newline, a carriage return, a form feed, and no other
+    ("", &[], None),
+    (" \t\n\r\x0c", &[], None),
+    (
+        "a b\tc\nd\re\x0cf",
+        &[
+            (Kind::Word, 0, 1),
+            (Kind::Word, 2, 1),
+            (Kind::Word, 4, 1),
+            (Kind::Word, 6, 1),
+            (Kind::Word, 8, 1),
+            (Kind::Word, 10, 1),
+        ],
+        None,
+    ),
+    ("\x0b", &[], Some((0, Fault::BadToken))),
+    // words
+    ("_a1$ B", &[(Kind::Word, 0, 4), (Kind::Word, 5, 1)], None),
+    (
+        "abc\u{e9}",
+        &[(Kind::Word, 0, 3)],
+        Some((3, Fault::BadToken)),
+    ),
+    ("$a", &[], Some((0, Fault::BadToken))),
+    (
+        "aaaaaaaaaaaaaaaaaaaaaaaaaaaaaaaaaaaaaaaaaaaaaaaaaaaaaaaaaaaaaaa",
+        &[(Kind::Word, 0, 63)],
+        None,
+    ),
+    (
+        "aaaaaaaaaaaaaaaaaaaaaaaaaaaaaaaaaaaaaaaaaaaaaaaaaaaaaaaaaaaaaaaa",
+        &[],
+        Some((0, Fault::NameTooLong)),
+    ),
+    (
+        "b aaaaaaaaaaaaaaaaaaaaaaaaaaaaaaaaaaaaaaaaaaaaaaaaaaaaaaaaaaaaaaaa",
+        &[(Kind::Word, 0, 1)],
+        Some((2, Fault::NameTooLong)),
+    ),
+    // quoted names
+    ("\"A b\"", &[(Kind::QuotedName, 0, 5)], None),
+    ("\"a\"\"b\"", &[(Kind::QuotedName, 0, 6)], None),
+    ("\"\"", &[], Some((0, Fault::BadToken))),
+    ("\"\"\"\"", &[(Kind::QuotedName, 0, 4)], None),
+    ("\"a", &[], Some((0, Fault::BadToken))),
+    (" \"a\"\"", &[], Some((1, Fault::BadToken))),
+    ("\"\u{e9}\"", &[(Kind::QuotedName, 0, 4)], None),
+    ("\"a\0b\"", &[], Some((0, Fault::BadToken))),
+    (
+        "x\"a\"",
+        &[(Kind::Word, 0, 1), (Kind::QuotedName, 1, 3)],
+        None,
+    ),
+    (
+        "\"aaaaaaaaaaaaaaaaaaaaaaaaaaaaaaaaaaaaaaaaaaaaaaaaaaaaaaaaaaaaaaa\"",
+        &[(Kind::QuotedName, 0, 65)],
+        None,
+    ),
+    (
+        "\"aaaaaaaaaaaaaaaaaaaaaaaaaaaaaaaaaaaaaaaaaaaaaaaaaaaaaaaaaaaaaaaa\"",
+        &[],
+        Some((0, Fault::NameTooLong)),
+    ),
+    (
+        "\"aaaaaaaaaaaaaaaaaaaaaaaaaaaaaaaaaaaaaaaaaaaaaaaaaaaaaaaaaaaaaa\"\"\"",
+        &[(Kind::QuotedName, 0, 66)],
+        None,
+    ),
+    (
+        "\"aaaaaaaaaaaaaaaaaaaaaaaaaaaaaaaaaaaaaaaaaaaaaaaaaaaaaaaaaaaaaaa\"\"\"",
+        &[],
+        Some((0, Fault::NameTooLong)),
+    ),
+    (
+        "\"aaaaaaaaaaaaaaaaaaaaaaaaaaaaaaaaaaaaaaaaaaaaaaaaaaaaaaaaaaaaaaaa",
+        &[],
+        Some((0, Fault::BadToken)),
+    ),
+    // numbers
+    ("0", &[(Kind::Number(0), 0, 1)], None),
+    (
+        "007 42",
+        &[(Kind::Number(7), 0, 3), (Kind::Number(42), 4, 2)],
+        None,
+    ),
+    (
+        "9223372036854775807",
+        &[(Kind::Number(9223372036854775807), 0, 19)],
+        None,
+    ),
+    (
+        "00009223372036854775807",
+        &[(Kind::Number(9223372036854775807), 0, 23)],
+        None,
+    ),
+    ("9223372036854775808", &[], Some((0, Fault::NumberTooLarge))),
+    (
+        "99999999999999999999",
+        &[],
+        Some((0, Fault::NumberTooLarge)),
+    ),
+    ("1.", &[], Some((0, Fault::Number))),
+    ("1.5", &[], Some((0, Fault::Number))),
+    ("9223372036854775808.", &[], Some((0, Fault::Number))),
+    ("5a", &[], Some((0, Fault::BadToken))),
+    ("5_", &[], Some((0, Fault::BadToken))),
+    ("9223372036854775808a", &[], Some((0, Fault::BadToken))),
+    ("5$", &[(Kind::Number(5), 0, 1)], Some((1, Fault::BadToken))),
+    (
+        "5\u{e9}",
+        &[(Kind::Number(5), 0, 1)],
+        Some((1, Fault::BadToken)),
+    ),
+    ("5'a'", &[(Kind::Number(5), 0, 1), (Kind::Text, 1, 3)], None),
+    (".5", &[(Kind::Dot, 0, 1), (Kind::Number(5), 1, 1)], None),
+    // string constants
+    ("''", &[(Kind::Text, 0, 2)], None),
+    ("'a''b'", &[(Kind::Text, 0, 6)], None),
+    ("''''", &[(Kind::Text, 0, 4)], None),
+    ("'a\\'", &[(Kind::Text, 0, 4)], None),
+    ("'a", &[], Some((0, Fault::BadToken))),
+    ("'''", &[], Some((0, Fault::BadToken))),
+    ("'a\0'", &[], Some((0, Fault::BadToken))),
+    ("'\u{e9}\u{20ac}'", &[(Kind::Text, 0, 7)], None),
+    ("'-- /* \"'", &[(Kind::Text, 0, 9)], None),
+    ("'a' 'b'", &[(Kind::Text, 0, 3), (Kind::Text, 4, 3)], None),
+    // letters before a quote
+    ("E'a'", &[], Some((0, Fault::StringForm))),
+    ("e''", &[], Some((0, Fault::StringForm))),
+    ("B'1'", &[], Some((0, Fault::StringForm))),
+    ("b'1'", &[], Some((0, Fault::StringForm))),
+    ("X'1f'", &[], Some((0, Fault::StringForm))),
+    ("x'1f'", &[], Some((0, Fault::StringForm))),
+    ("N'a'", &[], Some((0, Fault::StringForm))),
+    ("n'a'", &[], Some((0, Fault::StringForm))),
+    ("U&'a'", &[], Some((0, Fault::StringForm))),
+    ("u&\"a\"", &[], Some((0, Fault::StringForm))),
+    ("E'", &[], Some((0, Fault::StringForm))),
+    (
+        "1 E'a",
+        &[(Kind::Number(1), 0, 1)],
+        Some((2, Fault::StringForm)),
+    ),
+    ("xE'a'", &[(Kind::Word, 0, 2), (Kind::Text, 2, 3)], None),
+    ("E 'a'", &[(Kind::Word, 0, 1), (Kind::Text, 2, 3)], None),
+    ("u'a'", &[(Kind::Word, 0, 1), (Kind::Text, 1, 3)], None),
+    ("aU&'b'", &[(Kind::Word, 0, 2)], Some((2, Fault::Operator))),
+    ("U&a", &[(Kind::Word, 0, 1)], Some((1, Fault::Operator))),
+    ("U &'a'", &[(Kind::Word, 0, 1)], Some((2, Fault::Operator))),
+    // operators
+    (
+        "= <> != < <= > >= % - *",
+        &[
+            (Kind::Operator(Operator::Equal), 0, 1),
+            (Kind::Operator(Operator::NotEqual), 2, 2),
+            (Kind::Operator(Operator::NotEqual), 5, 2),
+            (Kind::Operator(Operator::Less), 8, 1),
+            (Kind::Operator(Operator::LessOrEqual), 10, 2),
+            (Kind::Operator(Operator::Greater), 13, 1),
+            (Kind::Operator(Operator::GreaterOrEqual), 15, 2),
+            (Kind::Operator(Operator::Percent), 18, 1),
+            (Kind::Operator(Operator::Minus), 20, 1),
+            (Kind::Operator(Operator::Star), 22, 1),
+        ],
+        None,
+    ),
+    (
+        "a<5",
+        &[
+            (Kind::Word, 0, 1),
+            (Kind::Operator(Operator::Less), 1, 1),
+            (Kind::Number(5), 2, 1),
+        ],
+        None,
+    ),
+    ("+", &[], Some((0, Fault::Operator))),
+    ("/", &[], Some((0, Fault::Operator))),
+    ("~", &[], Some((0, Fault::Operator))),
+    ("!", &[], Some((0, Fault::Operator))),
+    ("@", &[], Some((0, Fault::Operator))),
+    ("#", &[], Some((0, Fault::Operator))),
+    ("^", &[], Some((0, Fault::Operator))),
+    ("&", &[], Some((0, Fault::Operator))),
+    ("|", &[], Some((0, Fault::Operator))),
+    ("`", &[], Some((0, Fault::Operator))),
+    ("?", &[], Some((0, Fault::Operator))),
+    ("==", &[], Some((0, Fault::Operator))),
+    ("=>", &[], Some((0, Fault::Operator))),
+    ("<>=", &[], Some((0, Fault::Operator))),
+    ("*/", &[], Some((0, Fault::Operator))),
+    ("%-", &[], Some((0, Fault::Operator))),
+    ("@-", &[], Some((0, Fault::Operator))),
+    (
+        "=-1",
+        &[
+            (Kind::Operator(Operator::Equal), 0, 1),
+            (Kind::Operator(Operator::Minus), 1, 1),
+            (Kind::Number(1), 2, 1),
+        ],
+        None,
+    ),
+    (
+        "<=-1",
+        &[
+            (Kind::Operator(Operator::LessOrEqual), 0, 2),
+            (Kind::Operator(Operator::Minus), 2, 1),
+            (Kind::Number(1), 3, 1),
+        ],
+        None,
+    ),
+    (
+        "*-",
+        &[
+            (Kind::Operator(Operator::Star), 0, 1),
+            (Kind::Operator(Operator::Minus), 1, 1),
+        ],
+        None,
+    ),
+    (
+        "=+-",
+        &[(Kind::Operator(Operator::Equal), 0, 1)],
+        Some((1, Fault::Operator)),
+    ),
+    (
+        "=--b\n1",
+        &[
+            (Kind::Operator(Operator::Equal), 0, 1),
+            (Kind::Number(1), 5, 1),
+        ],
+        None,
+    ),
+    (
+        "=/*b*/1",
+        &[
+            (Kind::Operator(Operator::Equal), 0, 1),
+            (Kind::Number(1), 6, 1),
+        ],
+        None,
+    ),
+    // punctuation, and bytes that begin nothing
+    (
+        "(),;.::",
+        &[
+            (Kind::Open, 0, 1),
+            (Kind::Close, 1, 1),
+            (Kind::Comma, 2, 1),
+            (Kind::Semicolon, 3, 1),
+            (Kind::Dot, 4, 1),
+            (Kind::DoubleColon, 5, 2),
+        ],
+        None,
+    ),
+    (":", &[], Some((0, Fault::BadToken))),
+    (":=", &[], Some((0, Fault::BadToken))),
+    (
+        ":::",
+        &[(Kind::DoubleColon, 0, 2)],
+        Some((2, Fault::BadToken)),
+    ),
+    ("[", &[], Some((0, Fault::BadToken))),
+    ("a\\", &[(Kind::Word, 0, 1)], Some((1, Fault::BadToken))),
+    ("\0", &[], Some((0, Fault::BadToken))),
+    ("a\0", &[(Kind::Word, 0, 1)], Some((1, Fault::BadToken))),
+    // comments
+    ("-- a", &[], None),
+    ("-- a\nb", &[(Kind::Word, 5, 1)], None),
+    ("-- a\rb", &[(Kind::Word, 5, 1)], None),
+    ("-- /*\n1", &[(Kind::Number(1), 6, 1)], None),
+    (
+        "b -- a\0\n",
+        &[(Kind::Word, 0, 1)],
+        Some((2, Fault::BadToken)),
+    ),
+    ("/**/", &[], None),
+    ("/***/1", &[(Kind::Number(1), 5, 1)], None),
+    ("/* a */b", &[(Kind::Word, 7, 1)], None),
+    ("/* -- */b", &[(Kind::Word, 8, 1)], None),
+    ("/*\r\n*/b", &[(Kind::Word, 6, 1)], None),
+    ("/* /* */ */b", &[(Kind::Word, 11, 1)], None),
+    ("/*/**/*/b", &[(Kind::Word, 8, 1)], None),
+    ("/*/", &[], Some((0, Fault::BadToken))),
+    (
+        "b /* /* */",
+        &[(Kind::Word, 0, 1)],
+        Some((2, Fault::BadToken)),
+    ),
+    ("/* \0 */", &[], Some((0, Fault::BadToken))),
+    // a statement
+    (
+        "CREATE TABLE t (id int);",
+        &[
+            (Kind::Word, 0, 6),
+            (Kind::Word, 7, 5),
+            (Kind::Word, 13, 1),
+            (Kind::Open, 15, 1),
+            (Kind::Word, 16, 2),
+            (Kind::Word, 19, 3),
+            (Kind::Close, 22, 1),
+            (Kind::Semicolon, 23, 1),
+        ],
+        None,
+    ),
+];
+
+/// Reads a text to its end or fault, twice over there.
+fn check(
+    rt: &impl Abort,
+    text: &str,
+    tokens: &[(Kind, usize, usize)],
+    fault: Option<(usize, Fault)>,
+) {
+    let mut cursor = Tokens::new(text);
+    for (kind, place, length) in tokens {
+        let token = Token {
+            kind: *kind,
+            place: *place,
+            length: *length,
+        };
+        assert_eq!(rt; cursor.next(), Ok(Some(token)));
+    }
+    let end = match fault {
+        None => Ok(None),
+        Some((place, kind)) => Err(TokenFault { place, kind }),
+    };
+    assert_eq!(rt; cursor.next(), end);
+    assert_eq!(rt; cursor.next(), end);
+}
+
+#[test]
+fn cuts_texts(rt: HostRuntime) {
+    for (text, tokens, fault) in CASES {
+        check(&rt, text, tokens, *fault);
+    }
+}
+
+/// A quote, this many letters, and an end.
+fn literal(alloc: Global, letters: usize, end: &str) -> Result<String, AllocError> {
+    let mut text = String::from_str(alloc, "'")?;
+    for _ in 0..letters {
+        text.push('a')?;
+    }
+    text.push_str(end)?;
+    Ok(text)
+}
+
+#[test]
+fn bounds_string_constants(rt: HostRuntime) -> Result<(), Fail> {
+    let text = literal(rt.alloc(), 65_535, "'")?;
+    check(&rt, text.as_str(), &[(Kind::Text, 0, 65_537)], None);
+    let text = literal(rt.alloc(), 65_536, "'")?;
+    check(&rt, text.as_str(), &[], Some((0, Fault::LiteralBytes)));
+    let text = literal(rt.alloc(), 65_534, "'''")?;
+    check(&rt, text.as_str(), &[(Kind::Text, 0, 65_538)], None);
+    let text = literal(rt.alloc(), 65_535, "'''")?;
+    check(&rt, text.as_str(), &[], Some((0, Fault::LiteralBytes)));
+    let text = literal(rt.alloc(), 65_536, "")?;
+    check(&rt, text.as_str(), &[], Some((0, Fault::BadToken)));
+    Ok(())
+}

@@ -1,0 +1,76 @@
+-- Which steps have to be computed again once an atom or a step may be something else: those that it is a part of. Steps are computed again by blocks of eight. Certificates are this project's own, and restate no section of PostgreSQL's documentation.
+use Rattle.std.specs.Prelude.{◌≡◌, ℕ, ◌/◌, ◌<◌, ◌⊎◌, Bool, true, false, List, [], length, Option, Some, None, Contains, slice_get, slice_index_or}
+use Rattle.std.specs.Global.{Vec}
+use Rattle.filter_tree.specs.declared.mask.Mask.{Mask}
+use Rattle.shard_checker.specs.Steps.{mask_in, step_mask}
+use Rattle.shard_checker.specs.declared.masks.Masks.{Masks}
+use Rattle.shard_checker.specs.declared.steps.Step.{Step}
+use Rattle.shard_checker.specs.declared.steps.Step.TheVariants.{Const, Atom, Not, And, Or, Is}
+use Rattle.shard_checker.specs.declared.users.Users.{Users}
+
+-- the block of the step of this number
+abbrev pub block_of : ℕ → ℕ
+block_of number = number / 8
+
+-- ---- the steps that a part has
+
+abbrev pub blocks_at : Option (Vec ℕ) → List ℕ
+blocks_at None = []
+blocks_at (Some blocks) = blocks.items
+
+-- the blocks in the list of this number
+abbrev pub blocks_in : List (Vec ℕ) → ℕ → List ℕ
+blocks_in lists number = blocks_at (slice_get lists number)
+
+-- the block is in the list of this number, where there is one
+abbrev pub IsListed : List (Vec ℕ) → ℕ → ℕ → Type 0
+IsListed lists number block = number < length lists → Contains (blocks_in lists number) block
+
+-- the block is listed for each part of the step
+abbrev pub AreListed : Users → ℕ → Step → Type 0
+AreListed users block (Const known) = Unit {0}
+AreListed users block (Atom place) = IsListed users.of_atoms.items place block
+AreListed users block (Not part) = IsListed users.of_steps.items part block
+AreListed users block (And left right) = IsListed users.of_steps.items left block × IsListed users.of_steps.items right block
+AreListed users block (Or left right) = IsListed users.of_steps.items left block × IsListed users.of_steps.items right block
+AreListed users block (Is test part) = IsListed users.of_steps.items part block
+
+-- each block is listed for the parts of its steps before this number
+pub record AreUsersBefore (count : ℕ) (steps : List Step) (users : Users) : Type 0 where
+  pub each : (number : ℕ) (step : Step) → number < count → slice_get steps number ≡ Some step → AreListed users (block_of number) step
+
+-- there is a list for each step, and each block is listed for the parts of its steps
+pub record AreUsers (steps : List Step) (users : Users) : Type 0 where
+  pub each : (number : ℕ) (step : Step) → slice_get steps number ≡ Some step → AreListed users (block_of number) step
+  pub sized : length users.of_steps.items ≡ length steps
+
+-- the block was put in the list of this number, and all that were listed still are
+pub record Lists (old new : List (Vec ℕ)) (number block : ℕ) : Type 0 where
+  pub listed : IsListed new number block
+  pub kept : (other earlier : ℕ) → IsListed old other earlier → IsListed new other earlier
+  pub sized : length new ≡ length old
+
+-- the block was listed for each part of the step, and all that were listed still are
+pub record ListsParts (old new : Users) (block : ℕ) (step : Step) : Type 0 where
+  pub listed : AreListed new block step
+  pub atoms_kept : (other earlier : ℕ) → IsListed old.of_atoms.items other earlier → IsListed new.of_atoms.items other earlier
+  pub steps_kept : (other earlier : ℕ) → IsListed old.of_steps.items other earlier → IsListed new.of_steps.items other earlier
+  pub atoms_sized : length new.of_atoms.items ≡ length old.of_atoms.items
+  pub steps_sized : length new.of_steps.items ≡ length old.of_steps.items
+
+-- ---- what has to be computed again
+
+-- whether the block has to be computed again; one past the last always
+abbrev pub is_stale : List Bool → ℕ → Bool
+is_stale stale block = slice_index_or stale block true
+
+-- these blocks became stale, and none became fresh
+pub record Marks (old new : List Bool) (blocks : List ℕ) : Type 0 where
+  pub marked : (block : ℕ) → Contains blocks block → is_stale new block ≡ true
+  pub kept : (block : ℕ) → is_stale old block ≡ true → is_stale new block ≡ true
+
+-- each step that is before this number, or in a block that isn't stale, has the set that follows from its parts'
+pub record IsSettledBut (count : ℕ) (steps : List Step) (atoms : List Mask) (masks : Masks) : Type 0 where
+  pub each : (number : ℕ) (step : Step) → slice_get steps number ≡ Some step → (number < count) ⊎ (is_stale masks.stale.items (block_of number) ≡ false)
+      → mask_in masks.list.items number ≡ step_mask atoms masks.list.items step
+  pub sized : length masks.list.items ≡ length steps

@@ -1,0 +1,82 @@
+//! What atoms and steps are parts of.
+
+ghost use Rattle.std.specs.Prelude.{◌≡◌, IfOk, OnOk, length};
+ghost use Rattle.shard_checker.specs.Blocks as spec;
+
+use crate::steps::Step;
+use std::alloc::{AllocError, Allocator, Global};
+
+/// How many steps there are in a block.
+pub const BLOCK: usize = 8;
+
+/// For each atom and for each step, by its number, the blocks of the steps that it is a part of.
+#[derive(Drop)]
+pub struct Users {
+    pub of_atoms: Vec<Vec<usize>>,
+    pub of_steps: Vec<Vec<usize>>,
+}
+
+/// So many empty lists.
+fn empty_lists(alloc: Global, count: usize) -> Result<Vec<Vec<usize>>, AllocError>
+    ensures { IfOk result (λ lists. length lists.items ≡ count) }
+{
+    let mut lists = Vec::with_capacity(alloc, count)?;
+    for _ in 0..count {
+        lists.push(Vec::new(alloc))?;
+    }
+    Ok(lists)
+}
+
+/// The blocks in the list of this number; past the last list none.
+pub fn blocks_in(lists: &[Vec<usize>], number: usize) -> &[usize]
+    ensures { result.now ≡ spec.blocks_in lists.now number }
+{
+    match lists.get(number) {
+        None => &[],
+        Some(blocks) => blocks,
+    }
+}
+
+/// Puts the block in the list of this number, if there is one, unless it is the last one there.
+fn list(lists: &mut [Vec<usize>], number: usize, block: usize) -> Result<(), AllocError>
+    ensures { OnOk result (spec.Lists lists.old lists.new number block) }
+{
+    if number >= lists.len() || blocks_in(lists, number).last() == Some(&block) {
+        return Ok(());
+    }
+    lists[number].push(block)?;
+    Ok(())
+}
+
+impl Users {
+    /// Lists the block for each part of the step.
+    fn add(&mut self, block: usize, step: Step) -> Result<(), AllocError>
+        ensures { OnOk result (spec.ListsParts self.old self.new block step) }
+    {
+        match step {
+            Step::Const(_) => {}
+            Step::Atom(place) => list(&mut self.of_atoms, place, block)?,
+            Step::Not(part) | Step::Is(_, part) => list(&mut self.of_steps, part, block)?,
+            Step::And(left, right) | Step::Or(left, right) => {
+                list(&mut self.of_steps, left, block)?;
+                list(&mut self.of_steps, right, block)?;
+            }
+        }
+        Ok(())
+    }
+
+    /// What so many atoms and these steps are parts of. The only error is want of memory.
+    pub fn new(alloc: Global, atoms: usize, steps: &[Step]) -> Result<Users, AllocError>
+        ensures used { IfOk result (λ users. spec.AreUsers steps.now users) }
+        ensures atoms { IfOk result (λ users. length users.of_atoms.items ≡ atoms) }
+    {
+        let mut users = Users {
+            of_atoms: empty_lists(alloc, atoms)?,
+            of_steps: empty_lists(alloc, steps.len())?,
+        };
+        for (number, step) in steps.iter().enumerate() {
+            users.add(number / BLOCK, *step)?;
+        }
+        Ok(users)
+    }
+}

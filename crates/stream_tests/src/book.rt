@@ -1,0 +1,110 @@
+mod commits;
+mod many;
+mod random;
+mod slots;
+
+use crate::sharding::accepted;
+use filter_tree::Row;
+use pub_reader::{read_catalog, read_row};
+use replica_identity::plan;
+use shard_checker::check;
+use split_cert::read_in;
+use std::alloc::{AllocError, Global};
+use std::sync::Arc;
+use std::test::Fail;
+use table_changes::Command;
+use tables_log::{Book, CommitError};
+
+/// A table of numbered rows, whose rows below 100 go to one subscriber and the others to another.
+const FULL: &str = "CREATE TABLE t (id integer, region text, PRIMARY KEY (id));
+ALTER TABLE t REPLICA IDENTITY FULL;
+CREATE PUBLICATION pa FOR TABLE t WHERE (id < 100);
+CREATE PUBLICATION pb FOR TABLE t WHERE (id >= 100);
+CREATE SUBSCRIPTION s0 CONNECTION '' PUBLICATION pa;
+CREATE SUBSCRIPTION s1 CONNECTION '' PUBLICATION pb;";
+
+/// A table with a unique index, by which its rows are identified.
+const INDEXED: &str = "CREATE TABLE u (id integer, code text NOT NULL, note text, PRIMARY KEY (id));
+CREATE UNIQUE INDEX u_code ON u (code);
+CREATE UNIQUE INDEX u_note ON u (note, id);
+CREATE UNIQUE INDEX u_last ON u (note);
+ALTER TABLE u REPLICA IDENTITY USING INDEX u_code;
+CREATE PUBLICATION pa FOR TABLE u WHERE (code = 'a');
+CREATE PUBLICATION pb FOR TABLE u WHERE (code <> 'a');
+CREATE SUBSCRIPTION s0 CONNECTION '' PUBLICATION pa;
+CREATE SUBSCRIPTION s1 CONNECTION '' PUBLICATION pb;";
+
+/// Two tables that one subscriber takes whole.
+const TWO: &str = "CREATE TABLE t (id integer PRIMARY KEY);
+CREATE TABLE u (id integer PRIMARY KEY);
+CREATE PUBLICATION p FOR ALL TABLES;
+CREATE SUBSCRIPTION s CONNECTION '' PUBLICATION p;";
+
+/// A table whose primary key is its last column.
+const MIXED: &str = "CREATE TABLE v (region text, ok boolean, id integer PRIMARY KEY);
+CREATE PUBLICATION p FOR ALL TABLES;
+CREATE SUBSCRIPTION s CONNECTION '' PUBLICATION p;";
+
+const SPLIT: &str = "s 0 s 1 e 0 o 0 n 1 s 1 o 1 e 0 n 1 n 0";
+
+/// A book of the catalog's tables, for which these certificates are.
+fn book(alloc: Global, catalog: &str, certificates: &[&str], limit: u32) -> Result<Book, Fail> {
+    let checked = accepted(alloc, catalog, certificates)?;
+    let limit = if limit == 0 || limit > 1_000_000_000 {
+        1
+    } else {
+        limit
+    };
+    Ok(Book::new(alloc, checked, limit)?)
+}
+
+fn row(alloc: Global, text: &str) -> Result<Row, Fail> {
+    Ok(read_row(alloc, text)?)
+}
+
+fn insert(alloc: Global, table: usize, text: &str) -> Result<Command, Fail> {
+    Ok(Command::Insert {
+        table,
+        row: row(alloc, text)?,
+    })
+}
+
+fn update(alloc: Global, table: usize, key: &str, text: &str) -> Result<Command, Fail> {
+    Ok(Command::Update {
+        table,
+        key: row(alloc, key)?,
+        row: row(alloc, text)?,
+    })
+}
+
+fn delete(alloc: Global, table: usize, key: &str) -> Result<Command, Fail> {
+    Ok(Command::Delete {
+        table,
+        key: row(alloc, key)?,
+    })
+}
+
+fn truncate(alloc: Global, tables: &[usize]) -> Result<Command, AllocError> {
+    Ok(Command::Truncate {
+        tables: Vec::from_slice(alloc, tables)?,
+    })
+}
+
+/// Whether the table has a row of this key, which is this one.
+fn has(alloc: Global, book: &Book, table: usize, key: &str, wanted: &str) -> Result<bool, Fail> {
+    let wanted = row(alloc, wanted)?;
+    Ok(match book.row(table, &row(alloc, key)?) {
+        None => false,
+        Some(found) => *found == wanted,
+    })
+}
+
+/// Whether the table has no row of this key.
+fn lacks(alloc: Global, book: &Book, table: usize, key: &str) -> Result<bool, Fail> {
+    Ok(book.row(table, &row(alloc, key)?).is_none())
+}
+
+/// The commit's number, or why it is refused.
+fn commit(book: &mut Book, commands: &[Command], time: u64) -> Result<u32, CommitError> {
+    book.commit(commands, time)
+}

@@ -1,0 +1,24 @@
+//! Tests of the book, the messages, the frames and both ends of a connection, by their public calls.
+#![tactic(auto)]
+
+#[cfg(test)]
+mod answer_cases;
+#[cfg(test)]
+mod answers;
+#[cfg(test)]
+mod book;
+#[cfg(test)]
+mod ear;
+#[cfg(test)]
+mod frames;
+#[cfg(test)]
+mod messages;
+mod sharding;
+#[cfg(test)]
+mod start;
+#[cfg(test)]
+mod subscriber;
+#[cfg(test)]
+mod voice;
+
+pub use sharding::accepted;

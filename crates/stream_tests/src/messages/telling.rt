@@ -1,0 +1,339 @@
+ghost use Rattle.std.specs.Prelude.{IfOk};
+ghost use Rattle.std.specs.Arc.{arc_value};
+ghost use Rattle.pub_reader.specs.CatalogLimits.{IsLimited};
+ghost use Rattle.shard_checker.specs.CheckedView.{checked_view};
+
+use crate::messages::{bytes_of, spelled};
+use crate::sharding::accepted;
+use filter_tree::{Row, Text, Value};
+use pgoutput_msgs::{Msg, limited_tables_fit, messages_are_read_back, messages_of};
+use pub_reader::{Step, read_catalog, read_script};
+use replica_identity::plan;
+use shard_checker::{Checked, check_text};
+use std::alloc::{AllocError, Global};
+use std::sync::Arc;
+use std::test::Fail;
+use table_changes::Command;
+use tables_log::{Book, Commit};
+
+/// A table whose rows below 100 go to one subscriber and the others to another.
+const DEFAULT: &str = "CREATE TABLE t (id integer, region text, PRIMARY KEY (id));
+CREATE PUBLICATION pa FOR TABLE t WHERE (id < 100);
+CREATE PUBLICATION pb FOR TABLE t WHERE (id >= 100);
+CREATE SUBSCRIPTION s0 CONNECTION '' PUBLICATION pa;
+CREATE SUBSCRIPTION s1 CONNECTION '' PUBLICATION pb;";
+
+const FULL: &str = concat!(
+    "CREATE TABLE t (id integer, region text, PRIMARY KEY (id));",
+    "ALTER TABLE t REPLICA IDENTITY FULL;",
+    "CREATE PUBLICATION pa FOR TABLE t WHERE (id < 100);",
+    "CREATE PUBLICATION pb FOR TABLE t WHERE (id >= 100);",
+    "CREATE SUBSCRIPTION s0 CONNECTION '' PUBLICATION pa;",
+    "CREATE SUBSCRIPTION s1 CONNECTION '' PUBLICATION pb;",
+);
+
+const SPLIT: &str = "s 0 s 1 e 0 o 0 n 1 s 1 o 1 e 0 n 1 n 0";
+
+/// Three tables, two of which go to one subscriber and the last to another.
+const THREE: &str = "CREATE TABLE t (id integer PRIMARY KEY);
+CREATE TABLE u (id integer PRIMARY KEY);
+CREATE TABLE v (id integer PRIMARY KEY);
+CREATE PUBLICATION pa FOR TABLE t, u;
+CREATE PUBLICATION pb FOR TABLE v;
+CREATE SUBSCRIPTION s0 CONNECTION '' PUBLICATION pa;
+CREATE SUBSCRIPTION s1 CONNECTION '' PUBLICATION pb;";
+
+/// A book in which the transactions of the script are committed, each at the time of its number.
+fn book(alloc: Global, checked: &Arc<Checked, Global>, script: &str) -> Result<Book, Fail>
+    requires { IsLimited (checked_view (arc_value checked.now)).catalog }
+{
+    let mut book = Book::new(alloc, Arc::try_clone(checked)?, 10)?;
+    let lines = read_script(alloc, checked.catalog(), script)?;
+    let mut time: u64 = 0;
+    for line in &lines {
+        if let Step::Commit(commands) = &line.step {
+            time = time.saturating_add(1);
+            book.commit(commands, time)?;
+        }
+    }
+    Ok(book)
+}
+
+/// The bytes of each message.
+fn push_spelled(
+    alloc: Global,
+    messages: &[Msg],
+    found: &mut Vec<Vec<u8>>,
+) -> Result<(), AllocError> {
+    for message in messages {
+        found.push(spelled(alloc, message)?)?;
+    }
+    Ok(())
+}
+
+/// What the subscriber is told of the commits of a script: the bytes of each message, and none at the end of a commit.
+fn told_of(
+    alloc: Global,
+    checked: &Arc<Checked, Global>,
+    script: &str,
+    subscriber: usize,
+) -> Result<Vec<Vec<u8>>, Fail>
+    requires { IsLimited (checked_view (arc_value checked.now)).catalog }
+{
+    let book = book(alloc, checked, script)?;
+    let mut told = vec![in alloc; false; checked.catalog().tables.len()]?;
+    let mut found = Vec::new(alloc);
+    for number in 1..=10 {
+        if let Some(commit) = book.entry(number) {
+            let messages = messages_of(alloc, checked, subscriber, commit, told.as_mut_slice())?;
+            push_spelled(alloc, &messages, &mut found)?;
+            found.push(Vec::new(alloc))?;
+        }
+    }
+    Ok(found)
+}
+
+/// Whether these are the bytes that the texts write.
+fn are(alloc: Global, found: &[Vec<u8>], texts: &[&str]) -> Result<bool, AllocError> {
+    if found.len() != texts.len() {
+        return Ok(false);
+    }
+    for (bytes, text) in found.iter().zip(texts) {
+        if bytes.as_slice() != bytes_of(alloc, text)?.as_slice() {
+            return Ok(false);
+        }
+    }
+    Ok(true)
+}
+
+const BEGIN_1: &str = "42 0000000000000040 0000000000000001 00000003";
+
+const END_1: &str = "43 00 0000000000000040 0000000000000080 0000000000000001";
+
+const BEGIN_2: &str = "42 0000000000000080 0000000000000002 00000004";
+
+const END_2: &str = "43 00 0000000000000080 00000000000000c0 0000000000000002";
+
+const BEGIN_3: &str = "42 00000000000000c0 0000000000000003 00000005";
+
+const END_3: &str = "43 00 00000000000000c0 0000000000000100 0000000000000003";
+
+const FULL_RELATION: &str = concat!(
+    "52 00004000 7075626c696300 7400 66 0002 01 696400 00000017 ffffffff",
+    "01 726567696f6e00 00000019 ffffffff",
+);
+
+const NEAR_INSERT: &str = "49 00004000 4e 0002 74 00000001 37 74 00000002 6575";
+
+const NEAR_DELETE: &str = "44 00004000 4f 0002 74 00000001 37 74 00000002 6575";
+
+const FAR_INSERT: &str = "49 00004000 4e 0002 74 00000003 313530 74 00000002 6575";
+
+const FAR_DELETE: &str = "44 00004000 4f 0002 74 00000003 313530 74 00000002 6575";
+
+#[test]
+fn an_update_is_a_delete_and_an_insert_where_the_row_changes_its_subscriber(
+    rt: HostRuntime,
+) -> Result<(), Fail> {
+    let alloc = rt.alloc();
+    let checked = accepted(alloc, FULL, &[SPLIT])?;
+    let script =
+        "COMMIT INSERT t (7, 'eu'); COMMIT UPDATE t (7) (150, 'eu'), UPDATE t (150) (7, 'eu');";
+    let first = [
+        BEGIN_1,
+        FULL_RELATION,
+        NEAR_INSERT,
+        END_1,
+        "",
+        BEGIN_2,
+        NEAR_DELETE,
+        NEAR_INSERT,
+        END_2,
+        "",
+    ];
+    let second = [
+        "",
+        BEGIN_2,
+        FULL_RELATION,
+        FAR_INSERT,
+        FAR_DELETE,
+        END_2,
+        "",
+    ];
+    assert!(rt; are(alloc, &told_of(alloc, &checked, script, 0)?, &first)?);
+    assert!(rt; are(alloc, &told_of(alloc, &checked, script, 1)?, &second)?);
+    Ok(())
+}
+
+#[test]
+fn an_update_under_default_sends_the_old_key_only_if_it_changes(
+    rt: HostRuntime,
+) -> Result<(), Fail> {
+    let alloc = rt.alloc();
+    let checked = accepted(alloc, DEFAULT, &[SPLIT])?;
+    let script =
+        "COMMIT INSERT t (7, 'eu'); COMMIT UPDATE t (7) (7, 'us'); COMMIT UPDATE t (7) (8, 'us');";
+    let wanted = [
+        BEGIN_1,
+        "52 00004000 7075626c696300 7400 64 0002 01 696400 00000017 ffffffff 00 726567696f6e00 00000019 ffffffff",
+        "49 00004000 4e 0002 74 00000001 37 74 00000002 6575",
+        END_1,
+        "",
+        BEGIN_2,
+        "55 00004000 4e 0002 74 00000001 37 74 00000002 7573",
+        END_2,
+        "",
+        BEGIN_3,
+        "55 00004000 4b 0002 74 00000001 37 6e 4e 0002 74 00000001 38 74 00000002 7573",
+        END_3,
+        "",
+    ];
+    assert!(rt; are(alloc, &told_of(alloc, &checked, script, 0)?, &wanted)?);
+    Ok(())
+}
+
+#[test]
+fn a_truncate_names_the_tables_of_the_subscriber_after_their_relations(
+    rt: HostRuntime,
+) -> Result<(), Fail> {
+    let alloc = rt.alloc();
+    let checked = accepted(alloc, THREE, &["o 0", "o 0", "o 1"])?;
+    let script =
+        "COMMIT TRUNCATE (u, v, t); COMMIT INSERT v (1); COMMIT INSERT t (1), TRUNCATE (t);";
+    let first = [
+        BEGIN_1,
+        "52 00004001 7075626c696300 7500 64 0001 01 696400 00000017 ffffffff",
+        "52 00004000 7075626c696300 7400 64 0001 01 696400 00000017 ffffffff",
+        "54 00000002 00 00004001 00004000",
+        END_1,
+        "",
+        "",
+        BEGIN_3,
+        "49 00004000 4e 0001 74 00000001 31",
+        "54 00000001 00 00004000",
+        END_3,
+        "",
+    ];
+    let second = [
+        BEGIN_1,
+        "52 00004002 7075626c696300 7600 64 0001 01 696400 00000017 ffffffff",
+        "54 00000001 00 00004002",
+        END_1,
+        "",
+        BEGIN_2,
+        "49 00004002 4e 0001 74 00000001 31",
+        END_2,
+        "",
+        "",
+    ];
+    assert!(rt; are(alloc, &told_of(alloc, &checked, script, 0)?, &first)?);
+    assert!(rt; are(alloc, &told_of(alloc, &checked, script, 1)?, &second)?);
+    Ok(())
+}
+
+/// A script of one transaction, which inserts the rows from 1 to this number.
+fn inserts(alloc: Global, count: u32) -> Result<String, AllocError> {
+    let mut script = String::from_str(alloc, "COMMIT ")?;
+    for number in 1..=count {
+        write!(script, "INSERT t ({number}, 'a')")?;
+        script.push_str(if number < count { ", " } else { ";" })?;
+    }
+    Ok(script)
+}
+
+#[test]
+fn a_commit_of_1000_commands_is_told_in_parts(rt: HostRuntime) -> Result<(), Fail> {
+    let alloc = rt.alloc();
+    let checked = accepted(alloc, DEFAULT, &[SPLIT])?;
+    let script = inserts(alloc, 1_000)?;
+    // Begin, the Relation, each insert, Commit, and the end: 99 rows are below 100.
+    for (subscriber, rows) in [(0, 99), (1, 901)] {
+        let found = told_of(alloc, &checked, script.as_str(), subscriber)?;
+        assert_eq!(rt; found.len(), rows + 4);
+    }
+    Ok(())
+}
+
+/// The messages of a commit; after want of memory, which leaves `told`, those of a second try.
+fn told_again(
+    alloc: Global,
+    checked: &Checked,
+    commit: &Commit,
+    told: &mut [bool],
+) -> Result<Vec<Msg>, Fail> {
+    let before = Vec::from_slice(alloc, told)?;
+    match messages_of(alloc, checked, 0, commit, told) {
+        Ok(messages) => Ok(messages),
+        Err(_) if before.as_slice() == told => Ok(messages_of(alloc, checked, 0, commit, told)?),
+        Err(_) => Err(Fail::from("told, but not sent")),
+    }
+}
+
+#[test]
+fn want_of_memory_leaves_what_was_told(rt: HostRuntime) -> Result<(), Fail> {
+    let alloc = rt.alloc();
+    let checked = accepted(alloc, THREE, &["o 0", "o 0", "o 1"])?;
+    let script = "COMMIT INSERT u (1), TRUNCATE (t, u);";
+    let book = book(alloc, &checked, script)?;
+    let Some(commit) = book.entry(1) else {
+        return Err(Fail::from("no commit"));
+    };
+    let mut told = [true, false, false];
+    let messages = told_again(alloc, &checked, commit, &mut told)?;
+    assert_eq!(rt; messages.len(), 5);
+    assert_eq!(rt; told, [true, true, false]);
+    assert_eq!(rt; told_again(alloc, &checked, commit, &mut told)?.len(), 4);
+    Ok(())
+}
+
+/// A row of 100 texts of 65,535 bytes, the first of which are this letter.
+fn longest(alloc: Global, letter: &str) -> Result<Row, AllocError> {
+    let mut values = Vec::new(alloc);
+    values.push(Value::Text(Text::new(letter.repeat(alloc, 65_535)?)))?;
+    for _ in 1..100 {
+        values.push(Value::Text(Text::new("a".repeat(alloc, 65_535)?)))?;
+    }
+    Ok(Row::from_values(values))
+}
+
+/// A catalog of a table of 100 texts under FULL.
+fn wide_catalog(alloc: Global) -> Result<String, AllocError> {
+    let mut text = String::from_str(alloc, "CREATE TABLE t (c0 text PRIMARY KEY")?;
+    for number in 1..100 {
+        write!(text, ", c{number} text")?;
+    }
+    text.push_str("); ALTER TABLE t REPLICA IDENTITY FULL; CREATE PUBLICATION p FOR TABLE t;")?;
+    text.push_str("CREATE SUBSCRIPTION s CONNECTION '' PUBLICATION p;")?;
+    Ok(text)
+}
+
+#[test]
+fn the_longest_message_is_an_update_of_the_longest_texts(rt: HostRuntime) -> Result<(), Fail> {
+    let alloc = rt.alloc();
+    let checked = accepted(alloc, wide_catalog(alloc)?.as_str(), &["o 0"])?;
+    let mut book = Book::new(alloc, Arc::try_clone(&checked)?, 2)?;
+    let insert = Command::Insert {
+        table: 0,
+        row: longest(alloc, "a")?,
+    };
+    let update = Command::Update {
+        table: 0,
+        key: Row::from_values(vec![in alloc; Value::Text(Text::new("a".repeat(alloc, 65_535)?))]?),
+        row: longest(alloc, "b")?,
+    };
+    book.commit(vec![in alloc; insert, update]?.as_slice(), 1)?;
+    let Some(commit) = book.entry(1) else {
+        return Err(Fail::from("no commit"));
+    };
+    let messages = messages_of(alloc, &checked, 0, commit, &mut [true])?;
+    let mut found = Vec::new(alloc);
+    push_spelled(alloc, &messages, &mut found)?;
+    // eleven bytes, and twice 100 columns of a letter, a length and a text
+    assert_eq!(rt;
+        found.as_slice().get(2).map(|bytes| bytes.len()),
+        Some(11 + 2 * 100 * (1 + 4 + 65_535))
+    );
+    messages_are_read_back();
+    limited_tables_fit();
+    Ok(())
+}

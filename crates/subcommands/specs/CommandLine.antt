@@ -1,0 +1,111 @@
+-- What the words of a command line ask, as the crate `clap` reads words: the subcommand `eval`, and for it a table's name and the flag `--insert`, in any order, or the subcommand `check` or `make`, and nothing for it; or the help or the version.
+use Rattle.std.specs.Prelude.{◌≡◌, ◌≢◌, ◌⊎◌, true, List, Option, Some, codes}
+use Rattle.clap.specs.Words.{App, IsAmong, Row, Rule, Text, fault_of, first_of, new_app, new_rule, one_of, subcommand_of, with_rule, with_subcommand}
+use Rattle.clap.specs.Simple.{on_top}
+use Rattle.clap.specs.declared.builder.action.ArgAction.TheVariants.{Set, SetTrue}
+use Rattle.clap.specs.declared.error.kind.ErrorKind.{ErrorKind}
+use Rattle.clap.specs.declared.error.kind.ErrorKind.TheVariants as kind
+use Rattle.subcommands.specs.declared.arguments.Asked.{Asked}
+use Rattle.subcommands.specs.declared.arguments.Asked.TheVariants.{Help, Answer}
+use Rattle.subcommands.specs.declared.arguments.RowOutput.{RowOutput}
+use Rattle.subcommands.specs.declared.arguments.RowOutput.TheVariants.{Answers, Insert}
+use Rattle.subcommands.specs.declared.arguments.Request.{Request}
+use Rattle.subcommands.specs.declared.arguments.Request.TheVariants.{Eval, Check, Make}
+use Rattle.subcommands.specs.declared.failure.Failure.{Failure}
+use Rattle.subcommands.specs.declared.failure.Failure.TheVariants as f
+
+abbrev pub table_rule : Rule
+table_rule = record (new_rule (codes "TABLE")) { required = true; action = Some Set }
+
+abbrev pub insert_rule : Rule
+insert_rule = record (new_rule (codes "insert")) { long = Some (codes "insert"); action = Some SetTrue }
+
+abbrev pub eval : App
+eval = with_rule (with_rule (new_app (codes "eval")) table_rule) insert_rule
+
+abbrev pub check : App
+check = new_app (codes "check")
+
+abbrev pub make : App
+make = new_app (codes "make")
+
+abbrev pub bare : App
+bare = on_top (λ top. record top { has_version = true; propagate_version = true; subcommand_required = true }) (new_app (codes "pgshard"))
+
+abbrev pub pgshard : App
+pgshard = with_subcommand (with_subcommand (with_subcommand bare eval.top) check.top) make.top
+
+-- ---- what is asked of the input
+
+-- the arguments of `eval` are this table's name, and `--insert` if the message is wanted
+pub record HasArguments (found : List Row) (word : Text) (wanted : RowOutput) : Type 0 where
+  pub named : first_of (codes "TABLE") found ≡ Some word
+  pub with_flag : one_of (codes "insert") found ≡ Some (codes "true") → wanted ≡ Insert
+  pub without_flag : one_of (codes "insert") found ≡ Some (codes "false") → wanted ≡ Answers
+
+abbrev pub IsEval : List Row → Request → Type 0
+IsEval found (Eval table wanted) = HasArguments found table.now wanted
+IsEval found Check = ⊥
+IsEval found Make = ⊥
+
+-- what is taken is `eval` with its arguments
+pub record TakesEval (taken : Option (Text × List Row)) (word : Text) (wanted : RowOutput) : Type 0 where
+  pub found : List Row
+  pub is : taken ≡ Some (codes "eval", found)
+  pub arguments : HasArguments found word wanted
+
+-- what is taken is the subcommand of this name
+pub record Takes (taken : Option (Text × List Row)) (name : Text) : Type 0 where
+  pub found : List Row
+  pub is : taken ≡ Some (name, found)
+
+abbrev pub IsTaken : Option (Text × List Row) → Request → Type 0
+IsTaken taken (Eval table wanted) = TakesEval taken table.now wanted
+IsTaken taken Check = Takes taken (codes "check")
+IsTaken taken Make = Takes taken (codes "make")
+
+abbrev pub IsRequest : List Text → Request → Type 0
+IsRequest words request = IsTaken (subcommand_of pgshard words) request
+
+-- ---- what else the words may be
+
+-- The words ask for the help or the version. At `help` clap may answer either with help or that there is no such subcommand.
+abbrev pub AsksHelp : List Text → Type 0
+AsksHelp words = IsAmong kind.DisplayHelp (fault_of pgshard words) ⊎ IsAmong kind.DisplayVersion (fault_of pgshard words)
+
+-- clap finds this fault in the words, which is no call for the help or the version
+pub record IsFaulty (words : List Text) : Type 0 where
+  pub found : ErrorKind
+  pub is : IsAmong found (fault_of pgshard words)
+  pub no_help : found ≢ kind.DisplayHelp
+  pub no_version : found ≢ kind.DisplayVersion
+
+-- clap finds a fault in the words, or they ask nothing
+abbrev pub IsMisworded : List Text → Type 0
+IsMisworded words = IsFaulty words ⊎ ((request : Request) → IsRequest words request → ⊥)
+
+abbrev pub IsAsking : List Text → Asked → Type 0
+IsAsking words (Help text) = AsksHelp words
+IsAsking words (Answer request) = IsRequest words request
+
+-- reading the words stops because they ask nothing, or for want of memory
+abbrev pub IsOfWords : List Text → Failure → Type 0
+IsOfWords words (f.CommandLine text) = IsMisworded words
+IsOfWords words f.OutOfMemory = Unit {0}
+IsOfWords words _ = ⊥
+
+-- ---- an error of clap
+
+-- it is a call for the help or the version
+abbrev pub IsHelpKind : ErrorKind → Type 0
+IsHelpKind found = (found ≡ kind.DisplayHelp) ⊎ (found ≡ kind.DisplayVersion)
+
+abbrev pub IsHelp : Asked → Type 0
+IsHelp (Help text) = Unit {0}
+IsHelp (Answer request) = ⊥
+
+-- it is a fault of the words, or want of memory
+abbrev pub IsOfError : ErrorKind → Failure → Type 0
+IsOfError found (f.CommandLine text) = (found ≢ kind.OutOfMemory) × (found ≢ kind.DisplayHelp) × (found ≢ kind.DisplayVersion)
+IsOfError found f.OutOfMemory = Unit {0}
+IsOfError found _ = ⊥

@@ -1,0 +1,84 @@
+-- What a run of the program writes, and its exit status: an output that is right for the words of its command line and for its input, or where the writer fails the first bytes of one.
+use Rattle.std.specs.Prelude.{◌≡◌, ℕ, ◌⊎◌, List, [], ◌∷◌, ◌++◌, Option, Result, Ok, Err, codes}
+use Rattle.std.specs.Io.KnownBytes.{Appends}
+use Rattle.subcommands.specs.CommandLine.{AsksHelp, IsMisworded}
+use Rattle.subcommands.specs.Failures.{failure_lines, fault_line, number_of, status_of_failure}
+use Rattle.subcommands.specs.Output.{WritesFirst, text_of}
+use Rattle.subcommands.specs.Requests.{AnswersWords, BeginsWords, IsReason}
+use Rattle.subcommands.specs.declared.failure.Failure.{Failure}
+use Rattle.subcommands.specs.declared.failure.Failure.TheVariants as f
+use Rattle.subcommands.specs.declared.failure.InputFault.{InputFault}
+use Rattle.subcommands.specs.declared.failure.Status.{Status}
+use Rattle.subcommands.specs.declared.failure.Status.TheVariants.{Done, Refused, CommandLine, Input, Output, OutOfMemory}
+
+module _ (words : List (List ℕ)) (known : Option (List ℕ)) where
+  -- before its first line nothing is known of an answer
+  abbrev pub IsCutShort : List (List ℕ) → Type 0
+  IsCutShort lines = (lines ≡ []) ⊎ BeginsWords words known lines
+
+  -- ---- the right outputs, where no write fails
+
+  -- Status 0 or 1: the answer. 0: the help or the version, where the words ask for it. 2: a line, and what is wrong with the words.
+  -- 3: the line of a fault of the input. 5: the first lines of the answer, and the line of want of memory.
+  pub data IsOutput : Status → List ℕ → Type 0 where
+    Answered : (lines : List (List ℕ)) (status : Status) → AnswersWords words known lines status → IsOutput status (text_of lines)
+    Shown : (text : List ℕ) → AsksHelp words → IsOutput Done text
+    Misworded : (text : List ℕ) → IsMisworded words → IsOutput CommandLine (text_of (codes "command line" ∷ text ∷ []))
+    Rejected : (fault : InputFault) → IsReason words known fault → IsOutput Input (text_of (fault_line fault ∷ []))
+    CutShort : (lines : List (List ℕ)) → IsCutShort lines → IsOutput OutOfMemory (text_of (lines ++ codes "out of memory" ∷ []))
+
+  -- ---- what is written
+
+  pub record WritesOutput (old new : Option (List ℕ)) (status : Status) : Type 0 where
+    pub text : List ℕ
+    pub is : IsOutput status text
+    pub appends : Appends old new text
+
+  pub record WritesFirstOutput (old new : Option (List ℕ)) : Type 0 where
+    pub status : Status
+    pub text : List ℕ
+    pub is : IsOutput status text
+    pub first : WritesFirst text old new
+
+  -- where the writer fails, the first bytes of an output, and else the whole of one that is right for the status
+  abbrev pub IsOutcome : Option (List ℕ) → Option (List ℕ) → Status → Type 0
+  IsOutcome old new Output = WritesFirstOutput old new
+  IsOutcome old new Done = WritesOutput old new Done
+  IsOutcome old new Refused = WritesOutput old new Refused
+  IsOutcome old new CommandLine = WritesOutput old new CommandLine
+  IsOutcome old new Input = WritesOutput old new Input
+  IsOutcome old new OutOfMemory = WritesOutput old new OutOfMemory
+
+  -- the same of the number of a status
+  pub record IsRun (old new : Option (List ℕ)) (number : ℕ) : Type 0 where
+    pub status : Status
+    pub numbered : number ≡ number_of status
+    pub outcome : IsOutcome old new status
+
+  -- ---- before a failure is reported
+
+  pub record WritesCutShort (old new : Option (List ℕ)) : Type 0 where
+    pub lines : List (List ℕ)
+    pub begun : IsCutShort lines
+    pub appends : Appends old new (text_of lines)
+
+  abbrev pub IsEnding : Option (List ℕ) → Option (List ℕ) → Result Status Failure → Type 0
+  IsEnding old new (Ok status) = WritesOutput old new status
+  IsEnding old new (Err (f.CommandLine text)) = IsMisworded words × (new ≡ old)
+  IsEnding old new (Err (f.Input fault)) = IsReason words known fault × (new ≡ old)
+  IsEnding old new (Err f.Output) = WritesFirstOutput old new
+  IsEnding old new (Err f.OutOfMemory) = WritesCutShort old new
+
+-- a text is written, and the status is this; or the first bytes of it are, where the writer fails
+abbrev pub IsWritten : List ℕ → Status → Option (List ℕ) → Option (List ℕ) → Status → Type 0
+IsWritten text told old new status = ((status ≡ told) × Appends old new text) ⊎ ((status ≡ Output) × WritesFirst text old new)
+
+abbrev pub Reports : Failure → Option (List ℕ) → Option (List ℕ) → Status → Type 0
+Reports failure old new status = IsWritten (text_of (failure_lines failure)) (status_of_failure failure) old new status
+
+-- A failure is reported, or want of memory in its place. Where the writer failed before, nothing more is written.
+abbrev pub IsReport : Failure → Option (List ℕ) → Option (List ℕ) → Status → Type 0
+IsReport (f.CommandLine why) old new status = Reports (f.CommandLine why) old new status ⊎ Reports f.OutOfMemory old new status
+IsReport (f.Input fault) old new status = Reports (f.Input fault) old new status ⊎ Reports f.OutOfMemory old new status
+IsReport f.OutOfMemory old new status = Reports f.OutOfMemory old new status
+IsReport f.Output old new status = (status ≡ Output) × (new ≡ old)

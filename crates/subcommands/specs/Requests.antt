@@ -1,0 +1,81 @@
+-- What the words of a command line ask of the input, and which lines answer it.
+use Rattle.std.specs.Prelude.{◌≡◌, ℕ, ◌⊎◌, List, [], Option, IfSome, Result}
+use Rattle.subcommands.specs.Check.Checking as checking
+use Rattle.subcommands.specs.CommandLine.{IsRequest}
+use Rattle.subcommands.specs.Eval.Evaluation as evaluation
+use Rattle.subcommands.specs.Make.Making as making
+use Rattle.subcommands.specs.Output.{Ends}
+use Rattle.subcommands.specs.declared.arguments.Request.{Request}
+use Rattle.subcommands.specs.declared.arguments.Request.TheVariants.{Eval, Check, Make}
+use Rattle.subcommands.specs.declared.failure.Failure.{Failure}
+use Rattle.subcommands.specs.declared.failure.Failure.TheVariants as f
+use Rattle.subcommands.specs.declared.failure.InputFault.{InputFault}
+use Rattle.subcommands.specs.declared.failure.InputFault.TheVariants as i
+use Rattle.subcommands.specs.declared.failure.Status.{Status}
+
+-- ---- of a request and its input
+
+-- the lines are the answer, and the status says whether it is a refusal
+abbrev pub IsAnswer : Request → List ℕ → List (List ℕ) → Status → Type 0
+IsAnswer (Eval table wanted) input lines status = evaluation.IsEvaluation wanted input table.now [] lines status
+IsAnswer Check input lines status = checking.IsCheck input lines status
+IsAnswer Make input lines status = making.IsMaking input 0 lines status
+
+-- the lines are the first of an answer, and some are missing; before the first line nothing is known of the input
+abbrev pub IsBegun : Request → List ℕ → List (List ℕ) → Type 0
+IsBegun (Eval table wanted) input lines = (lines ≡ []) ⊎ evaluation.IsBegunEvaluation wanted input table.now lines
+IsBegun Check input lines = lines ≡ []
+IsBegun Make input lines = (lines ≡ []) ⊎ making.IsBegunMaking input lines
+
+-- the input has this fault
+abbrev pub IsFault : Request → List ℕ → InputFault → Type 0
+IsFault (Eval table wanted) input fault = evaluation.IsFault input table.now fault
+IsFault Check input fault = checking.IsFault input fault
+IsFault Make input fault = making.IsFault input fault
+
+-- the request is answered of this input, as far as memory and the writer go, or the input has a fault and nothing is written
+abbrev pub EndsRequest : Request → List ℕ → Option (List ℕ) → Option (List ℕ) → Result Status Failure → Type 0
+EndsRequest request input old new result = Ends (IsAnswer request input) (IsBegun request input) (IsFault request input) old new result
+
+-- ---- of the words and what the reader gives
+
+-- the input, where the reader's bytes are known
+abbrev pub IsInput : Option (List ℕ) → List ℕ → Type 0
+IsInput known input = IfSome known (λ bytes. input ≡ bytes)
+
+-- what is asked, and of which input
+pub record IsAsked (words : List (List ℕ)) (known : Option (List ℕ)) (request : Request) (input : List ℕ) : Type 0 where
+  pub asks : IsRequest words request
+  pub given : IsInput known input
+
+pub record AnswersWords (words : List (List ℕ)) (known : Option (List ℕ)) (lines : List (List ℕ)) (status : Status) : Type 0 where
+  pub request : Request
+  pub input : List ℕ
+  pub asked : IsAsked words known request input
+  pub answer : IsAnswer request input lines status
+
+pub record BeginsWords (words : List (List ℕ)) (known : Option (List ℕ)) (lines : List (List ℕ)) : Type 0 where
+  pub request : Request
+  pub input : List ℕ
+  pub asked : IsAsked words known request input
+  pub begun : IsBegun request input lines
+
+pub record HasFault (words : List (List ℕ)) (known : Option (List ℕ)) (fault : InputFault) : Type 0 where
+  pub request : Request
+  pub input : List ℕ
+  pub asked : IsAsked words known request input
+  pub is : IsFault request input fault
+
+-- The input has this fault. A reader may fail at any time, so that an input that is not read has nothing said of it.
+abbrev pub IsReason : List (List ℕ) → Option (List ℕ) → InputFault → Type 0
+IsReason words known i.Unread = Unit {0}
+IsReason words known i.Parts = HasFault words known i.Parts
+IsReason words known (i.Catalog error) = HasFault words known (i.Catalog error)
+IsReason words known (i.Table name) = HasFault words known (i.Table name)
+IsReason words known (i.Certificate line error) = HasFault words known (i.Certificate line error)
+
+-- reading the input stops because it is not read, or for want of memory
+abbrev pub IsOfReading : Failure → Type 0
+IsOfReading (f.Input i.Unread) = Unit {0}
+IsOfReading f.OutOfMemory = Unit {0}
+IsOfReading _ = ⊥

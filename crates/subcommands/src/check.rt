@@ -1,0 +1,125 @@
+//! `check`: whether a sharding is sound, by the certificates of its tables.
+
+ghost use Rattle.std.specs.Prelude.{◌≡◌, IfErr, IfOk, IfSome, OnOk, None, codes};
+ghost use Rattle.std.specs.Io.KnownBytes.{Appends};
+ghost use Rattle.pub_reader.specs.CatalogView.{catalog_view};
+ghost use Rattle.replica_identity.specs.Plans.{plan_of};
+ghost use Rattle.shard_checker.specs.CatalogTruth.{ShardingIsWrong};
+ghost use Rattle.shard_checker.specs.Sound.{IsSound};
+ghost use Rattle.shard_checker.specs.Texts.{text_fault, texts_view, trees_in};
+ghost use Rattle.subcommands.specs.Check.Certificates as certificates;
+ghost use Rattle.subcommands.specs.Check.Certificates.{IsOfLines};
+ghost use Rattle.subcommands.specs.Check.Checking as spec;
+ghost use Rattle.subcommands.specs.Check.Refusals.{refused_line};
+ghost use Rattle.subcommands.specs.Output.{StopsText, ended};
+ghost use Rattle.subcommands.specs.Parts as parts;
+ghost use Rattle.subcommands.specs.Requests.{EndsRequest};
+ghost use Rattle.subcommands.specs.declared.arguments.Request.TheVariants.{Check};
+ghost use Rattle.subcommands.specs.declared.failure.Status.TheVariants.{Done, Refused};
+
+pub mod refusals;
+
+use crate::check::refusals::push_refusal;
+use crate::failure::{Failure, InputFault, Status};
+use crate::output::write_line;
+use crate::parts::{Lines, two_parts};
+use pub_reader::{Catalog, read_catalog};
+use replica_identity::plan;
+use shard_checker::{CheckError, TextError, check_text};
+use std::alloc::{AllocError, Global};
+use std::io::Write;
+
+/// The lines of a text.
+fn lines_of(alloc: Global, text: &str) -> Result<Vec<&str>, AllocError>
+    ensures { IfOk result (λ lines. texts_view lines.items ≡ parts.lines_of text.now) }
+{
+    let mut lines = Vec::new(alloc);
+    for line in Lines::new(text) {
+        lines.push(line)?;
+    }
+    Ok(lines)
+}
+
+/// The refusal that the error of a check is.
+fn refusal_in<'a>(error: TextError) -> Result<Option<CheckError>, Failure<'a>>
+    ensures { result ≡ certificates.refusal_in error }
+{
+    match error {
+        TextError::Text(line, error) => Err(Failure::Input(InputFault::Certificate {
+            line,
+            error,
+        })),
+        TextError::Check(CheckError::OutOfMemory) => Err(Failure::OutOfMemory),
+        TextError::Check(refusal) => Ok(Some(refusal)),
+    }
+}
+
+/// The first reason to refuse the sharding of a catalog by the texts of certificates, if there is one.
+fn refusal_of<'a>(
+    alloc: Global,
+    catalog: Catalog,
+    texts: &[&str],
+) -> Result<Option<CheckError>, Failure<'a>>
+    ensures read { OnOk result (text_fault 1 (texts_view texts.now) ≡ None) }
+    ensures sound { IfOk result (λ refusal. refusal ≡ None → IsSound (catalog_view catalog)) }
+    ensures first { IfOk result (spec.IsFirstRefusal (catalog_view catalog) (trees_in (texts_view texts.now))) }
+    ensures wrong { IfOk result (λ refusal. IfSome refusal (ShardingIsWrong (catalog_view catalog)
+        (plan_of (catalog_view catalog)) (trees_in (texts_view texts.now)))) }
+    ensures err { IfErr result (IsOfLines (texts_view texts.now)) }
+{
+    let plan = plan(alloc, &catalog)?;
+    let Err(error) = check_text(alloc, catalog, plan, texts) else {
+        return Ok(None);
+    };
+    refusal_in(error)
+}
+
+fn write_accepted<'a, W: Write>(alloc: Global, writer: &mut W) -> Result<Status, Failure<'a>>
+    ensures status { IfOk result (λ status. status ≡ Done) }
+    ensures written { OnOk result (Appends (W.contents writer.old) (W.contents writer.new) (ended (codes "accepted"))) }
+    ensures stopped { IfErr result (StopsText (ended (codes "accepted")) (W.contents writer.old)
+        (W.contents writer.new)) }
+{
+    let mut line = String::from_str(alloc, "accepted")?;
+    write_line(&mut line, writer)?;
+    Ok(Status::Done)
+}
+
+fn write_refused<'a, W: Write>(
+    alloc: Global,
+    catalog: &Catalog,
+    refusal: CheckError,
+    writer: &mut W,
+) -> Result<Status, Failure<'a>>
+    ensures status { IfOk result (λ status. status ≡ Refused) }
+    ensures written { OnOk result (Appends (W.contents writer.old) (W.contents writer.new)
+        (ended (refused_line (catalog_view catalog.now) refusal))) }
+    ensures stopped { IfErr result (StopsText (ended (refused_line (catalog_view catalog.now) refusal))
+        (W.contents writer.old) (W.contents writer.new)) }
+{
+    let mut line = String::new(alloc);
+    push_refusal(&mut line, catalog, refusal)?;
+    write_line(&mut line, writer)?;
+    Ok(Status::Refused)
+}
+
+/// Answers an input: a catalog, a line `%%`, and the texts of the certificates of its tables, one a line in the order of the
+/// tables. The check takes the catalog, so that for the names in a refusal its text is read once more.
+pub fn check_input<'a, W: Write>(
+    alloc: Global,
+    input: &str,
+    writer: &mut W,
+) -> Result<Status, Failure<'a>>
+    ensures { EndsRequest Check input.now (W.contents writer.old) (W.contents writer.new) result }
+{
+    let (text, lines) = two_parts(input).ok_or(InputFault::Parts)?;
+    let catalog = read_catalog(alloc, text)?;
+    let texts = lines_of(alloc, lines)?;
+    match refusal_of(alloc, catalog, texts.as_slice())? {
+        None => write_accepted(alloc, writer),
+        Some(refusal) => {
+            let catalog = read_catalog(alloc, text)?;
+            write_refused(alloc, &catalog, refusal, writer)
+        }
+    }
+}

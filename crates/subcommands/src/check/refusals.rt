@@ -1,0 +1,119 @@
+//! The words of a refused sharding.
+
+ghost use Rattle.std.specs.Prelude.{◌≡◌, ◌++◌, [], OnOk};
+ghost use Rattle.std.specs.String.{string_bytes};
+ghost use Rattle.pub_reader.specs.CatalogView.{catalog_view};
+ghost use Rattle.subcommands.specs.Check.Refusals as spec;
+ghost use Rattle.subcommands.specs.Names.{spaced};
+
+use crate::names::{column_name, publication_name, push_table, push_word, subscriber_name};
+use filter_tree::Table;
+use pub_reader::Catalog;
+use shard_checker::{CheckError, Operation};
+use std::alloc::AllocError;
+
+fn operation_word(operation: Operation) -> &'static str
+    ensures { result.now ≡ spec.operation_word operation }
+{
+    match operation {
+        Operation::Insert => "insert",
+        Operation::Update => "update",
+        Operation::Delete => "delete",
+        Operation::Truncate => "truncate",
+    }
+}
+
+/// The name of a refusal, without its arguments.
+fn refusal_name(error: CheckError) -> &'static str
+    ensures { result.now ≡ spec.refusal_name error }
+{
+    match error {
+        CheckError::PublishMissing { .. } => "PublishMissing",
+        CheckError::NoIdentity { .. } => "NoIdentity",
+        CheckError::UnknownTable { .. } => "UnknownTable",
+        CheckError::NotCovered { .. } => "NotCovered",
+        CheckError::CertCount => "CertCount",
+        CheckError::BadIndex { .. } => "BadIndex",
+        CheckError::NotEmpty { .. } => "NotEmpty",
+        CheckError::MayBeNull { .. } => "MayBeNull",
+        CheckError::NotOwner { .. } => "NotOwner",
+        CheckError::SecondOwner { .. } => "SecondOwner",
+        CheckError::OutOfMemory => "OutOfMemory",
+    }
+}
+
+/// Writes a table, and the number of a node of its certificate.
+fn push_node(
+    line: &mut String,
+    tables: &[Table],
+    table: usize,
+    node: usize,
+) -> Result<(), AllocError>
+    ensures { OnOk result (string_bytes line.new ≡ string_bytes line.old ++ spaced
+        (spec.node_words tables.now table node)) }
+{
+    push_table(line, tables, table)?;
+    write!(line, " {node}")
+}
+
+/// Writes the arguments of a refusal, with a space before each.
+fn push_arguments(line: &mut String, catalog: &Catalog, error: CheckError) -> Result<(), AllocError>
+    ensures { OnOk result (string_bytes line.new ≡ string_bytes line.old ++ spaced
+        (spec.arguments_of (catalog_view catalog.now) error)) }
+{
+    let tables = catalog.tables.as_slice();
+    let publications = catalog.publications.as_slice();
+    match error {
+        CheckError::PublishMissing {
+            publication,
+            operation,
+        } => {
+            push_word(line, publication_name(publications, publication))?;
+            push_word(line, operation_word(operation))
+        }
+        CheckError::NoIdentity { table } => push_table(line, tables, table),
+        CheckError::UnknownTable { publication, table } => {
+            push_word(line, publication_name(publications, publication))?;
+            push_table(line, tables, table)
+        }
+        CheckError::NotCovered {
+            publication,
+            table,
+            column,
+        } => {
+            push_word(line, publication_name(publications, publication))?;
+            push_table(line, tables, table)?;
+            push_word(line, column_name(tables, table, column))
+        }
+        CheckError::BadIndex { table, node }
+        | CheckError::NotEmpty { table, node }
+        | CheckError::MayBeNull { table, node }
+        | CheckError::NotOwner { table, node } => push_node(line, tables, table, node),
+        CheckError::SecondOwner {
+            table,
+            node,
+            subscriber,
+        } => {
+            push_node(line, tables, table, node)?;
+            push_word(
+                line,
+                subscriber_name(catalog.subscriptions.as_slice(), subscriber),
+            )
+        }
+        CheckError::CertCount | CheckError::OutOfMemory => Ok(()),
+    }
+}
+
+/// Writes a refusal on an empty line: `refused`, its name, and its arguments as the catalog names them.
+pub fn push_refusal(
+    line: &mut String,
+    catalog: &Catalog,
+    error: CheckError,
+) -> Result<(), AllocError>
+    requires { string_bytes line.old ≡ [] }
+    ensures { OnOk result (string_bytes line.new ≡ spec.refused_line (catalog_view catalog.now) error) }
+{
+    line.push_str("refused")?;
+    push_word(line, refusal_name(error))?;
+    push_arguments(line, catalog, error)
+}

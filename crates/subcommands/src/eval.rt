@@ -1,0 +1,124 @@
+//! `eval`: a line for each row of a table.
+
+ghost use Rattle.std.specs.Prelude.{◌≡◌, [], IfOk, OnOk};
+ghost use Rattle.std.specs.String.{string_bytes};
+ghost use Rattle.filter_tree.specs.Valid.{IsValid};
+ghost use Rattle.subcommands.specs.Eval.BadRows.{is_answered};
+ghost use Rattle.subcommands.specs.Eval.Printing.{IsLineIn, WritesRowsIn, told_in};
+ghost use Rattle.subcommands.specs.Parts.{lines_of};
+ghost use Rattle.subcommands.specs.Requests.{EndsRequest};
+ghost use Rattle.subcommands.specs.declared.arguments.Request.TheVariants.{Eval};
+
+pub mod answers;
+pub mod bad_row;
+pub mod carriers;
+pub mod hexadecimal;
+pub mod inserts;
+pub mod tables;
+
+use crate::arguments::RowOutput;
+use crate::eval::answers::push_answers;
+use crate::eval::bad_row::table_row;
+use crate::eval::carriers::carriers_of;
+use crate::eval::inserts::push_insert;
+use crate::eval::tables::{CatalogTable, find_table};
+use crate::failure::{Failure, InputFault, Status};
+use crate::output::write_line;
+use crate::parts::{Lines, two_parts};
+use filter_tree::Row;
+use pub_reader::read_catalog;
+use std::alloc::{AllocError, Global};
+use std::io::Write;
+
+/// Writes what is wanted of a row on an empty line.
+fn push_told(
+    alloc: Global,
+    line: &mut String,
+    carried: CatalogTable<'_>,
+    wanted: RowOutput,
+    row: &Row,
+) -> Result<(), AllocError>
+    requires empty { string_bytes line.old ≡ [] }
+    requires fits { IsValid carried.table.now.columns row.now }
+    ensures { OnOk result (string_bytes line.new ≡ told_in wanted carried.entry row.now) }
+{
+    match wanted {
+        RowOutput::Answers => push_answers(line, carried.carriers, row),
+        RowOutput::Insert => push_insert(alloc, line, carried, row),
+    }
+}
+
+/// Writes the line of a row on an empty line, and tells whether the row has an answer.
+#[tactic(auto, using(crate::proofs::BadLines::bad_told))]
+fn push_line(
+    alloc: Global,
+    line: &mut String,
+    carried: CatalogTable<'_>,
+    wanted: RowOutput,
+    text: &str,
+) -> Result<bool, AllocError>
+    requires { string_bytes line.old ≡ [] }
+    ensures answered { IfOk result (λ answered. answered ≡ is_answered carried.entry.table.now.columns text.now) }
+    ensures line { OnOk result (IsLineIn wanted carried.entry text.now (string_bytes line.new)) }
+{
+    match table_row(alloc, carried.table, text) {
+        Ok(row) => {
+            push_told(alloc, line, carried, wanted, &row)?;
+            Ok(true)
+        }
+        Err(bad) => {
+            if bad.is_out_of_memory() {
+                return Err(AllocError);
+            }
+            write!(line, "{bad}")?;
+            Ok(false)
+        }
+    }
+}
+
+/// Writes a line for each row: what is wanted of it, or why it is not read or does not fit.
+pub fn write_rows<'a, W: Write>(
+    alloc: Global,
+    carried: CatalogTable<'_>,
+    wanted: RowOutput,
+    rows: &str,
+    writer: &mut W,
+) -> Result<Status, Failure<'a>>
+    ensures { WritesRowsIn wanted carried.entry (lines_of rows.now) (W.contents writer.old) (W.contents writer.new)
+        result }
+{
+    let mut status = Status::Done;
+    let mut line = String::new(alloc);
+    for row in Lines::new(rows) {
+        line.clear();
+        if !push_line(alloc, &mut line, carried, wanted, row)? {
+            status = Status::Refused;
+        }
+        write_line(&mut line, writer)?;
+    }
+    Ok(status)
+}
+
+/// Answers an input: a catalog, a line `%%`, and rows of the table that a word names, one a line.
+pub fn evaluate<'a, W: Write>(
+    alloc: Global,
+    word: &'a str,
+    wanted: RowOutput,
+    input: &str,
+    writer: &mut W,
+) -> Result<Status, Failure<'a>>
+    ensures { EndsRequest (Eval word.entry wanted) input.now (W.contents writer.old) (W.contents writer.new) result }
+{
+    let (catalog, rows) = two_parts(input).ok_or(InputFault::Parts)?;
+    let catalog = read_catalog(alloc, catalog)?;
+    let Some(number) = find_table(catalog.tables.as_slice(), word) else {
+        return Err(Failure::Input(InputFault::Table(word)));
+    };
+    let carriers = carriers_of(alloc, catalog.publications.as_slice(), number)?;
+    let carried = CatalogTable {
+        number,
+        table: &catalog.tables[number],
+        carriers: carriers.as_slice(),
+    };
+    write_rows(alloc, carried, wanted, rows, writer)
+}

@@ -1,0 +1,19 @@
+//! The subcommands of `pgshard`, over any reader and writer: they read a sharding of PostgreSQL tables, written as a catalog
+//! of publications with row filters, and answer questions about it.
+#![tactic(auto)]
+
+mod arguments;
+mod check;
+mod eval;
+mod failure;
+mod input;
+mod make;
+mod names;
+mod output;
+mod parts;
+mod program;
+mod reading;
+
+pub use failure::{Failure, InputFault, Status};
+pub use input::Input;
+pub use program::{report, run};

@@ -1,0 +1,29 @@
+-- What it leaves to take a piece into a deframer, and to hear what that holds: PostgreSQL 15, 55.7. Message Formats.
+use Rattle.std.specs.Prelude.{◌≡◌, List, ℕ, ◌++◌, Option, None}
+use Rattle.copy_frames.specs.Frames.{Cut, fault_in}
+use Rattle.copy_frames.specs.Inboxes.{Inbox, with_piece}
+use Rattle.copy_frames.specs.declared.fault.FrameFault.{FrameFault}
+use Rattle.test_subscriber.specs.Feeding.{rest_of, length_fault}
+use Rattle.test_subscriber.specs.Frames.{Heard}
+use Rattle.test_subscriber.specs.Machine.{Machine, Alike}
+
+-- the piece is held, and its fault is that of the first length that no frame may have
+pub record TakesPiece (old : Inbox) (piece : List ℕ) (new : Inbox) (fault : Option FrameFault) : Type 0 where
+  pub inbox : new ≡ with_piece old piece
+  pub fault_is : fault ≡ fault_in old.limit (old.bytes ++ piece)
+
+-- all is heard that was cut, up to the fault of a length, and what comes after the frames is held
+pub record HearsHeld (cut : Cut) (heard : Heard) (old new : Inbox) (machine : Machine) : Type 0 where
+  pub fault : heard.fault ≡ length_fault cut
+  pub reached : Alike machine heard.machine
+  pub held : new.bytes ≡ rest_of cut
+  pub limit : new.limit ≡ old.limit
+  pub inbox_fault : new.fault ≡ old.fault
+
+-- the same where there is no fault
+pub record HearsPiece (cut : Cut) (heard : Heard) (old new : Inbox) (machine : Machine) : Type 0 where
+  pub fault : heard.fault ≡ None
+  pub reached : Alike machine heard.machine
+  pub held : new.bytes ≡ rest_of cut
+  pub limit : new.limit ≡ old.limit
+  pub inbox_fault : new.fault ≡ None

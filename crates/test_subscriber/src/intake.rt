@@ -1,0 +1,73 @@
+//! The frames of bytes that come in pieces.
+
+ghost use Rattle.std.specs.Prelude.{◌≡◌, ◌++◌, IfOk, IfErr, OnOk, None, Err};
+ghost use Rattle.copy_frames.specs.Frames.{cut};
+ghost use Rattle.test_subscriber.specs.Copies.{told};
+ghost use Rattle.test_subscriber.specs.Feeding.{StopsFor, hear_while};
+ghost use Rattle.test_subscriber.specs.Frames.{hear_cut};
+ghost use Rattle.test_subscriber.specs.Intake.{HearsHeld, HearsPiece, TakesPiece};
+ghost use Rattle.test_subscriber.specs.Machine.{stopped};
+ghost use Rattle.test_subscriber.specs.Views.{machine_of};
+ghost use Rattle.test_subscriber.specs.declared.fault.SubFault.TheVariants.{Closed, OutOfMemory};
+ghost use Rattle.test_subscriber.specs.declared.phase.Phase.TheVariants.{Shut};
+
+use crate::fault::SubFault;
+use crate::phase::Phase;
+use crate::replica::Replica;
+use copy_frames::{Deframer, FrameFault};
+
+/// Takes a piece. The answer is the fault of a length, which comes after the frames before it.
+fn take_piece(inbox: &mut Deframer, piece: &[u8]) -> Result<Option<FrameFault>, SubFault>
+    requires { inbox.old.fault ≡ None }
+    ensures ok { IfOk result (TakesPiece inbox.old piece.now inbox.new) }
+    ensures err { IfErr result (λ e. e ≡ OutOfMemory) }
+{
+    match inbox.feed(piece) {
+        Ok(()) => Ok(None),
+        Err(FrameFault::BadLength) => Ok(Some(FrameFault::BadLength)),
+        Err(FrameFault::FrameTooLong) => Ok(Some(FrameFault::FrameTooLong)),
+        Err(FrameFault::OutOfMemory) => Err(SubFault::OutOfMemory),
+    }
+}
+
+/// Hears each frame that is held whole.
+fn hear_held(replica: &mut Replica, inbox: &mut Deframer) -> Result<(), SubFault>
+    ensures ok { OnOk result (HearsHeld (cut inbox.old.limit inbox.old.bytes)
+        (hear_cut (cut inbox.old.limit inbox.old.bytes) (machine_of replica.old)) inbox.old inbox.new
+        (machine_of replica.new)) }
+    ensures stops { IfErr result (λ e. StopsFor (told e)
+        (hear_cut (cut inbox.old.limit inbox.old.bytes) (machine_of replica.old))
+        (cut inbox.old.limit inbox.old.bytes) (machine_of replica.old) (stopped (machine_of replica.new))) }
+{
+    while let Some(frame) = inbox.next()? {
+        replica.hear_frame(&frame)?;
+    }
+    Ok(())
+}
+
+/// Takes a piece where there is a connection, and hears each frame that is whole then.
+pub(crate) fn hear_piece(
+    replica: &mut Replica,
+    inbox: &mut Deframer,
+    piece: &[u8],
+) -> Result<(), SubFault>
+    requires { inbox.old.fault ≡ None }
+    ensures ok { OnOk result (HearsPiece (cut inbox.old.limit (inbox.old.bytes ++ piece.now))
+        (hear_while replica.old.phase (cut inbox.old.limit (inbox.old.bytes ++ piece.now)) (machine_of replica.old))
+        inbox.old inbox.new (machine_of replica.new)) }
+    ensures stops { IfErr result (λ e. StopsFor (told e)
+        (hear_while replica.old.phase (cut inbox.old.limit (inbox.old.bytes ++ piece.now)) (machine_of replica.old))
+        (cut inbox.old.limit (inbox.old.bytes ++ piece.now)) (machine_of replica.old)
+        (stopped (machine_of replica.new))) }
+    ensures closed { replica.old.phase ≡ Shut → result ≡ Err Closed }
+{
+    if replica.phase == Phase::Shut {
+        return Err(SubFault::Closed);
+    }
+    let fault = take_piece(inbox, piece)?;
+    hear_held(replica, inbox)?;
+    match fault {
+        None => Ok(()),
+        Some(fault) => Err(SubFault::Frame(fault)),
+    }
+}
