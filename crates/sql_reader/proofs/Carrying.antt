@@ -19,7 +19,7 @@ use Rattle.sql_reader.specs.declared.column.FoundColumn.{FoundColumn}
 use Rattle.sql_reader.specs.declared.truth_test.Asked.{Asked}
 use Rattle.sql_reader.specs.declared.truth_test.Asked.TheVariants as a
 use Rattle.sql_reader.specs.declared.truth_test.TruthTest.{TruthTest}
-use Rattle.sql_reader.specs.Expressions.{column, column_part, number_part, cast_or_none, string_part, truth_part, simple_by, simple, no_cast, no_operator, test_or_none, tested, primary, divisor, divisor_or_none, term, side, right_side, right_side_by, right_side_or_none, comparison, test, negation, one_more_negation, conjunction, one_more_conjunction, disjunction, after_not, in_parentheses, nested, expression}
+use Rattle.sql_reader.specs.Expressions.{column, column_part, number_part, cast_or_none, string_part, truth_part, simple_by, simple, no_cast, no_operator, test_or_none, tested, primary, divisor, divisor_or_none, term, side, right_side, right_side_by, right_side_or_none, comparison, predicate, negation, one_more_negation, conjunction, one_more_conjunction, disjunction, after_not, in_parentheses, nested, expression}
 use Rattle.sql_reader.specs.Items.{Items, size}
 use Rattle.sql_reader.specs.Numbers.{placed_number}
 use Rattle.sql_reader.specs.Operands.{Forms, OperandOf, OfTerm, OfLiteral, OfFormula, PartOf, part, verdict_map, truth, true_or_clash, wanted, negated, joined, dividend, divided, remainder, comparison_by, fits, fitting, compared, compared_part, asking, answered, negated_if, tested as tested_part}
@@ -331,14 +331,14 @@ module _ {S T : Type 0} (from : Forms S) (to : Forms T) (h : S → T) (carries :
         then-carried (part_map h) (part_map h) (side from columns below ts) (side to columns other ts) _ _ (side-carried ts)
         (λ left ts2. right_side_by-carried left (comparison_by (item_ahead ts2)) ts2)
 
-    test-carried : (ts : Items) → test to columns other ts ≡ mapped (part_map h) (test from columns below ts)
-    unfolding test
-    test-carried ts =
+    predicate-carried : (ts : Items) → predicate to columns other ts ≡ mapped (part_map h) (predicate from columns below ts)
+    unfolding predicate
+    predicate-carried ts =
         then-carried (part_map h) (part_map h) (comparison from columns below ts) (comparison to columns other ts) _ _ (comparison-carried ts) (λ asked_part ts2. tested-carried asked_part ts2)
 
     negation-carried : (ts : Items) → negation to columns other ts ≡ mapped (part_map h) (negation from columns below ts)
     unfolding negation
-    negation-carried ts = by_test (is_ahead (i.Keyword k.Not) ts) (λ e. rw e (alike true ts)) (λ e. rw e (test-carried ts))
+    negation-carried ts = by_test (is_ahead (i.Keyword k.Not) ts) (λ e. rw e (alike true ts)) (λ e. rw e (predicate-carried ts))
 
     one_more_negation-carried : (left : PartOf S) (ts : Items) → one_more_negation to columns other (part_map h left) ts ≡ mapped (part_map h) (one_more_negation from columns below left ts)
     unfolding one_more_negation

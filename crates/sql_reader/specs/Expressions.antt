@@ -239,11 +239,11 @@ module _ {S : Type 0} (forms : Forms S) (columns : List Column) where
   unfoldable pub comparison : Below → Rule (PartOf S)
   comparison below = side below >>= right_side_or_none below
 
-  unfoldable pub test : Below → Rule (PartOf S)
-  test below = comparison below >>= tested forms
+  unfoldable pub predicate : Below → Rule (PartOf S)
+  predicate below = comparison below >>= tested forms
 
   unfoldable pub negation : Below → Rule (PartOf S)
-  negation below ts = if is_ahead (i.Keyword k.Not) ts then below true ts else test below ts
+  negation below ts = if is_ahead (i.Keyword k.Not) ts then below true ts else predicate below ts
 
   unfoldable pub after_not : Below → Rule (PartOf S)
   after_not below = do

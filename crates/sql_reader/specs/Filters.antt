@@ -39,8 +39,8 @@ right_side_or_none columns depth = rules.right_side_or_none as_filter columns (n
 abbrev pub comparison : List Column → ℕ → Rule (PartOf Expr)
 comparison columns depth = rules.comparison as_filter columns (nested columns depth)
 
-abbrev pub test : List Column → ℕ → Rule (PartOf Expr)
-test columns depth = rules.test as_filter columns (nested columns depth)
+abbrev pub predicate : List Column → ℕ → Rule (PartOf Expr)
+predicate columns depth = rules.predicate as_filter columns (nested columns depth)
 
 abbrev pub negation : List Column → ℕ → Rule (PartOf Expr)
 negation columns depth = rules.negation as_filter columns (nested columns depth)

@@ -79,7 +79,7 @@ pub enum Omitted {
     Literal,
     #[error("an order of texts or truth values")]
     Order,
-    #[error("a test of constants alone")]
+    #[error("a condition on constants alone")]
     Constant,
     #[error("a comparison of two columns")]
     TwoColumns,

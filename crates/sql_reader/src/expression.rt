@@ -203,14 +203,14 @@ fn comparison(
 
 /// Takes a comparison with a test after it or none.
 #[cycle(expression)]
-#[tactic(auto, unfolding(crate::specs::Expressions::test))]
-fn test(
+#[tactic(auto, unfolding(crate::specs::Expressions::predicate))]
+fn predicate(
     r: &mut Reader<'_>,
     alloc: Global,
     columns: &[Column],
     depth: u32,
 ) -> Result<Part, ReadError>
-    ensures { TakesSome part_view (filters.test columns.now depth) r.old result r.new }
+    ensures { TakesSome part_view (filters.predicate columns.now depth) r.old result r.new }
 {
     let part = comparison(r, alloc, columns, depth)?;
     Ok(tested(r, alloc, part)?)
@@ -249,7 +249,7 @@ fn negation(
     if r.is(Item::Keyword(Keyword::Not)) {
         return Ok(after_not(r, alloc, columns, depth)?);
     }
-    test(r, alloc, columns, depth)
+    predicate(r, alloc, columns, depth)
 }
 
 /// Takes one more part of an AND.

@@ -24,8 +24,8 @@ decreases-one_more_negation l = 16 * l.depth + 12
 abbrev pub decreases-negation : goal.decreases-negation
 decreases-negation l = 16 * l.depth + 11
 
-abbrev pub decreases-test : goal.decreases-test
-decreases-test l = 16 * l.depth + 10
+abbrev pub decreases-predicate : goal.decreases-predicate
+decreases-predicate l = 16 * l.depth + 10
 
 abbrev pub decreases-comparison : goal.decreases-comparison
 decreases-comparison l = 16 * l.depth + 9
