@@ -9,7 +9,7 @@ mod written_rows;
 use self::row_cases::ROWS;
 use crate::fault::is_error;
 use filter_tree::{Row, Value};
-use sql_reader::{ErrorKind, ReadError, read_row};
+use sql_reader::{ErrorKind, read_row};
 use std::alloc::{AllocError, Global};
 use std::test::Fail;
 

@@ -7,7 +7,7 @@ use filter_tree::{Row, Tri, Value, copy_in, eval};
 use pub_reader::{Catalog, read_catalog, read_row};
 use replica_identity::{Share, plan};
 use split_cert::Cert;
-use std::alloc::{AllocError, Global};
+use std::alloc::Global;
 use std::test::Fail;
 
 /// The table `t` with these columns, and for each of the filters, with semicolons between them, a subscriber of its

@@ -5,12 +5,8 @@ mod slots;
 
 use crate::sharding::accepted;
 use filter_tree::Row;
-use pub_reader::{read_catalog, read_row};
-use replica_identity::plan;
-use shard_checker::check;
-use split_cert::read_in;
+use pub_reader::read_row;
 use std::alloc::{AllocError, Global};
-use std::sync::Arc;
 use std::test::Fail;
 use table_changes::Command;
 use tables_log::{Book, CommitError};

@@ -1,6 +1,5 @@
 //! What a connection says, byte by byte.
 
-ghost use Rattle.std.specs.Prelude.{IfOk};
 ghost use Rattle.std.specs.Arc.{arc_value};
 ghost use Rattle.pub_reader.specs.CatalogLimits.{IsLimited};
 ghost use Rattle.shard_checker.specs.CheckedView.{checked_view};
@@ -8,9 +7,8 @@ ghost use Rattle.shard_checker.specs.CheckedView.{checked_view};
 use crate::sharding::accepted;
 use copy_both::{LinkFault, Taken, Voice};
 use filter_tree::Row;
-use pub_reader::{read_catalog, read_row};
-use replica_identity::plan;
-use shard_checker::{Checked, check_text};
+use pub_reader::read_row;
+use shard_checker::Checked;
 use std::alloc::Global;
 use std::process::Abort;
 use std::sync::Arc;

@@ -3,7 +3,7 @@ use crate::takers::{both_take, takes_one_alone};
 use filter_tree::{Filter, Identity, Items, Op, Row, Text, Value};
 use pub_reader::{Catalog, Entry, Operations, Publication, Subscription};
 use replica_identity::{Share, plan};
-use shard_checker::{CheckError, Checked, Operation, check, shares_in};
+use shard_checker::{CheckError, Operation, check, shares_in};
 use split_cert::Cert;
 use std::alloc::{AllocError, Global};
 use std::test::Fail;

@@ -1,4 +1,3 @@
-ghost use Rattle.std.specs.Prelude.{IfOk};
 ghost use Rattle.std.specs.Arc.{arc_value};
 ghost use Rattle.pub_reader.specs.CatalogLimits.{IsLimited};
 ghost use Rattle.shard_checker.specs.CheckedView.{checked_view};
@@ -7,9 +6,8 @@ use crate::messages::{bytes_of, spelled};
 use crate::sharding::accepted;
 use filter_tree::{Row, Text, Value};
 use pgoutput_msgs::{Msg, limited_tables_fit, messages_are_read_back, messages_of};
-use pub_reader::{Step, read_catalog, read_script};
-use replica_identity::plan;
-use shard_checker::{Checked, check_text};
+use pub_reader::{Step, read_script};
+use shard_checker::Checked;
 use std::alloc::{AllocError, Global};
 use std::sync::Arc;
 use std::test::Fail;
