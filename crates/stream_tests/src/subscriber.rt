@@ -1,6 +1,7 @@
 //! A subscriber whose bytes come in pieces.
 
 use copy_frames::FrameFault;
+use pub_reader::read_row;
 use std::alloc::{AllocError, Global};
 use std::test::Fail;
 use test_subscriber::{SubFault, Subscriber};
@@ -14,6 +15,10 @@ const STREAM: &[u8] = b"W\0\0\0\x07\0\0\0\
     d\0\0\0\x32w\0\0\0\0\0\0\0\x40\0\0\0\0\0\0\0\x40\0\0\0\0\0\0\0\x04I\0\0\x40\0N\0\x02t\0\0\0\x017t\0\0\0\x02eu\
     d\0\0\0\x37w\0\0\0\0\0\0\0\x40\0\0\0\0\0\0\0\x40\0\0\0\0\0\0\0\x04C\0\0\0\0\0\0\0\0\x40\0\0\0\0\0\0\0\x80\
     \0\0\0\0\0\0\0\x01";
+
+/// The Insert of the row (3, NULL) into `public.t`, as XLogData.
+const SECOND_INSERT: &[u8] = b"d\0\0\0\x2cw\0\0\0\0\0\0\0\x40\0\0\0\0\0\0\0\x40\0\0\0\0\0\0\0\x04\
+    I\0\0\x40\0N\0\x02t\0\0\0\x013n";
 
 /// What a subscriber of the slot `s0` and the publication `pa` sends first.
 const START: &[u8] = b"Q\0\0\0\x5aSTART_REPLICATION SLOT \"s0\" LOGICAL 0/0 (proto_version '1', \
@@ -47,6 +52,26 @@ fn the_position_is_that_of_the_commit_once_it_is_whole(rt: HostRuntime) -> Resul
                 .as_slice()
         );
     }
+    Ok(())
+}
+
+#[test]
+fn rows_are_shown_in_their_order_once_they_are_committed(rt: HostRuntime) -> Result<(), Fail> {
+    let mut subscriber = subscriber(rt.alloc())?;
+    subscriber.open()?;
+    // the Commit is the last 56 bytes
+    let (changes, commit) = STREAM.split_at(185usize.min(STREAM.len()));
+    subscriber.feed(changes)?;
+    subscriber.feed(SECOND_INSERT)?;
+    assert!(rt; subscriber.rows(16_384)?.is_empty());
+    subscriber.feed(commit)?;
+    let rows = subscriber.rows(16_384)?;
+    let expected = [
+        read_row(rt.alloc(), "(3, NULL)")?,
+        read_row(rt.alloc(), "(7, 'eu')")?,
+    ];
+    assert!(rt; rows.as_slice() == expected.as_slice());
+    assert!(rt; subscriber.rows(16_385)?.is_empty());
     Ok(())
 }
 

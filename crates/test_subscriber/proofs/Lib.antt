@@ -5,6 +5,7 @@ pub mod FrameLemmas
 pub mod GatherLemmas
 pub mod HearAlikeLemmas
 pub mod IntakeLemmas
+pub mod ListedLemmas
 pub mod MachineLemmas
 pub mod PassLemmas
 pub mod RelationLemmas

@@ -1,6 +1,7 @@
 -- What is seen of a subscriber, and what its calls leave: PostgreSQL 15, 31.2. Subscription, and 55.4. Streaming Replication Protocol.
 use Rattle.std.specs.Prelude.{◌≡◌, ℕ, Bool, false, List, [], ◌++◌, drop, map, None, Result, Ok, Err}
 use Rattle.std.specs.String.{string_bytes}
+use Rattle.filter_tree.specs.Datum.{Datum}
 use Rattle.copy_frames.specs.Contents.{copy_data, status_body}
 use Rattle.copy_frames.specs.Frames.{Cut, cut}
 use Rattle.copy_frames.specs.declared.status.Status.{Status}
@@ -9,7 +10,7 @@ use Rattle.test_subscriber.specs.Feeding.{limit, rest_of, hear_while, StopsFor}
 use Rattle.test_subscriber.specs.Frames.{Heard}
 use Rattle.test_subscriber.specs.Machine.{Machine, Alike, lost, opened}
 use Rattle.test_subscriber.specs.StartQuery.{start_query, Asks}
-use Rattle.test_subscriber.specs.Views.{machine_of}
+use Rattle.test_subscriber.specs.Views.{machine_of, copy_of, listed_in}
 use Rattle.test_subscriber.specs.declared.fault.SubFault.{SubFault}
 use Rattle.test_subscriber.specs.declared.fault.SubFault.TheVariants.{Closed}
 use Rattle.test_subscriber.specs.declared.phase.Phase.{Phase}
@@ -34,6 +35,10 @@ sub_slot subscriber = string_bytes subscriber.slot
 
 abbrev pub sub_publications : Subscriber → List (List ℕ)
 sub_publications subscriber = map string_bytes subscriber.publications.items
+
+-- its rows of the table with this OID, in the order of their keys
+abbrev pub sub_listed : Subscriber → ℕ → List (List Datum)
+sub_listed subscriber oid = listed_in (copy_of subscriber.replica.copies.items oid)
 
 -- before its first connection
 abbrev pub first_machine : Machine

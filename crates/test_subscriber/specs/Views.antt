@@ -1,7 +1,8 @@
 -- What a subscriber's parts show of the machine that applies a stream.
-use Rattle.std.specs.Prelude.{◌≡◌, ℕ, ◌==◌, ◌<◌, Bool, true, false, List, length, Option, Some, None}
+use Rattle.std.specs.Prelude.{◌≡◌, ℕ, ◌==◌, ◌<◌, Bool, true, false, List, [], length, Option, Some, None}
 use Rattle.std.specs.List.{find, position}
-use Rattle.tables_log.specs.Staging.{kept, seen}
+use Rattle.filter_tree.specs.Datum.{Datum}
+use Rattle.tables_log.specs.Staging.{kept, kept_values, seen}
 use Rattle.test_subscriber.specs.Machine.{Machine}
 use Rattle.test_subscriber.specs.RowChanges.{Found}
 use Rattle.test_subscriber.specs.declared.phase.Phase.{Phase}
@@ -37,6 +38,11 @@ kept_in (Some copy) key = kept copy.rows key
 abbrev pub seen_in : Option TableCopy → Found
 seen_in None key = None
 seen_in (Some copy) key = seen copy.rows key
+
+-- all rows that are kept, in the order of their keys
+abbrev pub listed_in : Option TableCopy → List (List Datum)
+listed_in None = []
+listed_in (Some copy) = kept_values copy.rows
 
 -- with these copies of tables
 abbrev pub machine_with : Phase → ℕ → Bool → List TableCopy → Machine

@@ -9,8 +9,9 @@ use crate::phase::Phase;
 use crate::same_relation::same_relation;
 use crate::shape::TableShape;
 use crate::table_copy::TableCopy;
+use filter_tree::Row;
 use pgoutput_msgs::{Msg, OldTuple, Relation, Tuple};
-use std::alloc::Global;
+use std::alloc::{AllocError, Global};
 
 /// What a subscriber has: how far it is, and its copies of tables.
 #[derive(Drop)]
@@ -25,12 +26,26 @@ pub(crate) struct Replica {
 impl Replica {
     ghost use Rattle.std.specs.Prelude.{◌≡◌, ℕ, List, IfOk, IfErr, OnOk, OnErr, Some, None, Ok, false};
     ghost use Rattle.test_subscriber.specs.declared.fault.SubFault.TheVariants.{NoRelation};
-    ghost use Rattle.test_subscriber.specs.Views.{machine_of, copy_of, known_in, place_of, IsKnownAt};
+    ghost use Rattle.tables_log.specs.Listing.{ListsFound};
+    ghost use Rattle.tables_log.specs.Places.{IsInOrder};
+    ghost use Rattle.test_subscriber.specs.Views.{machine_of, copy_of, known_in, listed_in, place_of, IsKnownAt};
     ghost use Rattle.test_subscriber.specs.Answers.{Reaches, Stays};
     ghost use Rattle.test_subscriber.specs.Copies.{RefusedBy};
     ghost use Rattle.test_subscriber.specs.Machine.{Alike, stopped, lost, opened};
     ghost use Rattle.test_subscriber.specs.Hearing.{committed, hear_commit, hear_idle, hear_busy, hear};
     ghost use Rattle.test_subscriber.specs.Hearing.{hear_relation, hear_insert, hear_update, hear_delete, hear_empty, hear_truncate};
+
+    /// Copies of the rows that are kept of the table with this OID, in the order of rows. The only error is want of memory.
+    pub(crate) fn rows(&self, oid: u32) -> Result<Vec<Row>, AllocError>
+        ensures shows { IfOk result (λ rows. IsInOrder (listed_in (copy_of self.now.copies.items oid)) rows.items) }
+        ensures found { OnOk result
+            (ListsFound ((machine_of self.now).rows oid) (listed_in (copy_of self.now.copies.items oid))) }
+    {
+        match self.place_of(oid) {
+            None => Ok(Vec::new(self.alloc)),
+            Some(place) => Ok(self.copies[place].kept_rows(self.alloc)?),
+        }
+    }
 
     /// The place of the copy of the table with this OID.
     fn place_of(&self, oid: u32) -> Option<usize>

@@ -9,7 +9,8 @@ use crate::replica::Replica;
 use crate::start_query::append_start;
 use bytes::BytesMut;
 use copy_frames::{Deframer, Status, append_status};
-use std::alloc::Global;
+use filter_tree::Row;
+use std::alloc::{AllocError, Global};
 
 /// The length of a frame, which counts itself and not the kind, is at most this.
 const LIMIT: u32 = 16_777_216;
@@ -34,13 +35,15 @@ pub struct Subscriber {
 }
 
 impl Subscriber {
-    ghost use Rattle.std.specs.Prelude.{◌≡◌, [], IfErr, OnOk, OnErr, Err, Ok, map};
+    ghost use Rattle.std.specs.Prelude.{◌≡◌, [], IfErr, IfOk, OnOk, OnErr, Err, Ok, map};
     ghost use Rattle.std.specs.String.{string_bytes};
+    ghost use Rattle.tables_log.specs.Listing.{ListsFound};
+    ghost use Rattle.tables_log.specs.Places.{IsInOrder};
     ghost use Rattle.test_subscriber.specs.Copies.{RefusedBy};
     ghost use Rattle.test_subscriber.specs.Machine.{Alike};
     ghost use Rattle.test_subscriber.specs.StartQuery.{start_query};
     ghost use Rattle.test_subscriber.specs.Subscribers as spec;
-    ghost use Rattle.test_subscriber.specs.Subscribers.{sub_machine, sub_held, sub_output, sub_slot, sub_publications};
+    ghost use Rattle.test_subscriber.specs.Subscribers.{sub_machine, sub_held, sub_output, sub_slot, sub_publications, sub_listed};
     ghost use Rattle.test_subscriber.specs.declared.fault.SubFault.TheVariants.{Closed};
     ghost use Rattle.test_subscriber.specs.declared.phase.Phase.TheVariants.{Shut};
 
@@ -192,6 +195,18 @@ impl Subscriber {
         } else {
             self.output.clear();
         }
+    }
+
+    /// Copies of the rows of the table with this OID, as the last applied transaction left them, in their order: NULL
+    /// first, numbers by their size, FALSE before TRUE, texts byte by byte, by the first column in which the rows differ.
+    /// There are none of a table of which no Relation came. The only error is want of memory.
+    ///
+    /// PostgreSQL 15, 7.5 Sorting Rows.
+    pub fn rows(&self, oid: u32) -> Result<Vec<Row>, AllocError>
+        ensures shows { IfOk result (λ rows. IsInOrder (sub_listed self.now oid) rows.items) }
+        ensures found { OnOk result (ListsFound ((sub_machine self.now).rows oid) (sub_listed self.now oid)) }
+    {
+        self.replica.rows(oid)
     }
 
     /// The place in the log, in bytes, up to which all is applied: where the last applied transaction ends, or that of a

@@ -1,11 +1,11 @@
 //! A subscriber's copy of a table.
 
-ghost use Rattle.std.specs.Prelude.{◌≡◌, IfOk, IfErr, OnOk};
+ghost use Rattle.std.specs.Prelude.{◌≡◌, map, IfOk, IfErr, OnOk};
 
 use crate::fault::SubFault;
 use crate::reading::row_of;
 use crate::shape::TableShape;
-use filter_tree::Row;
+use filter_tree::{Row, copy_row};
 use pgoutput_msgs::{OldTuple, Tuple};
 use std::alloc::{AllocError, Global};
 use table_changes::values_at;
@@ -20,13 +20,26 @@ pub(crate) struct TableCopy {
     pub(crate) rows: Staged<Row>,
 }
 
+/// Copies of the rows. The only error is want of memory.
+fn copies(alloc: Global, rows: &[&Row]) -> Result<Vec<Row>, AllocError>
+    ensures { IfOk result (λ copies. copies.items ≡ map (λ row. row.now) rows.now) }
+{
+    let mut copies = Vec::with_capacity(alloc, rows.len())?;
+    for row in rows {
+        copies.push(copy_row(alloc, row)?)?;
+    }
+    Ok(copies)
+}
+
 impl TableCopy {
     ghost use Rattle.std.specs.Prelude.{◌≡◌, List, None, Ok, true, IfOk, IfErr, OnOk};
     ghost use Rattle.std.specs.Option.{option_map};
     ghost use Rattle.filter_tree.specs.Datum.{Datum};
     ghost use Rattle.pgoutput_msgs.specs.ValueText.{row_in};
     ghost use Rattle.table_changes.specs.Columns.{values_at};
-    ghost use Rattle.tables_log.specs.Staging.{kept, seen};
+    ghost use Rattle.tables_log.specs.Listing.{ListsFound};
+    ghost use Rattle.tables_log.specs.Places.{IsInOrder};
+    ghost use Rattle.tables_log.specs.Staging.{kept, kept_values, seen};
     ghost use Rattle.test_subscriber.specs.RowChanges.{placed, inserted, read_in, key_in, gone_of, replaced, updated, deleted};
     ghost use Rattle.test_subscriber.specs.Copies.{StaysCopy, Leaves, RefusedBy, SettlesCopy, ForgetsCopy};
 
@@ -42,6 +55,17 @@ impl TableCopy {
             is_known: true,
             rows: Staged::new(alloc),
         }
+    }
+
+    /// Copies of the rows that are kept, in the order of rows. The only error is want of memory.
+    pub(crate) fn kept_rows(&self, alloc: Global) -> Result<Vec<Row>, AllocError>
+        ensures shows { IfOk result (λ rows. IsInOrder (kept_values self.now.rows) rows.items) }
+        ensures found { OnOk result (ListsFound (kept self.now.rows) (kept_values self.now.rows)) }
+    {
+        let kept = self.rows.values()?;
+        let mut rows = copies(alloc, &kept)?;
+        rows.sort_unstable();
+        Ok(rows)
     }
 
     /// The row of a tuple.
