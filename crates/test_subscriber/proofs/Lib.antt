@@ -1,5 +1,6 @@
 pub mod AlikeLemmas
 pub mod CopyLemmas
+pub mod FeedingLemmas
 pub mod FrameAlikeLemmas
 pub mod FrameLemmas
 pub mod GatherLemmas

@@ -1,6 +1,7 @@
 pub mod Answers
 pub mod Copies
 pub mod Feeding
+pub mod FeedingLaws
 pub mod Frames
 pub mod Hearing
 pub mod Intake

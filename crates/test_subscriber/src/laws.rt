@@ -1,5 +1,6 @@
 //! Laws of what a subscriber does.
 
+ghost use Rattle.test_subscriber.specs.FeedingLaws.{PiecesAreFedAsOne};
 ghost use Rattle.test_subscriber.specs.MachineLaws.{HearAlike};
 
 /// A law, and no code: machines that are alike, which keep, know and show the same at each OID and key, are alike after a
@@ -7,4 +8,10 @@ ghost use Rattle.test_subscriber.specs.MachineLaws.{HearAlike};
 #[tactic(auto, using(crate::proofs::HearAlikeLemmas::hear_alike))]
 pub fn machines_hear_alike()
     ensures { HearAlike }
+{}
+
+/// A law, and no code: what `feed` leaves of two pieces, one after the other and both without a fault, is what it leaves
+/// of them as one piece. So it is of any pieces into which bytes are cut.
+pub fn pieces_are_fed_as_one()
+    ensures { PiecesAreFedAsOne }
 {}

@@ -16,5 +16,5 @@ mod subscriber;
 mod table_copy;
 
 pub use fault::SubFault;
-pub use laws::machines_hear_alike;
+pub use laws::{machines_hear_alike, pieces_are_fed_as_one};
 pub use subscriber::Subscriber;

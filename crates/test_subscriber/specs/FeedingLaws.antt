@@ -1,0 +1,8 @@
+-- That to feed a subscriber pieces is to feed them at once ("55.7. Message Formats").
+use Rattle.std.specs.Prelude.{ℕ, List, ◌++◌}
+use Rattle.test_subscriber.specs.Subscribers.{Feeds}
+use Rattle.test_subscriber.specs.declared.subscriber.Subscriber.{Subscriber}
+
+-- what two pieces leave, neither of which has a fault, is what they leave as one piece
+abbrev pub PiecesAreFedAsOne : Type 0
+PiecesAreFedAsOne = (old between new : Subscriber) (first second : List ℕ) → Feeds old first between → Feeds between second new → Feeds old (first ++ second) new
