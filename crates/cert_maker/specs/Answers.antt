@@ -19,7 +19,7 @@ use Rattle.cert_maker.specs.declared.made.Made.TheVariants.{Cert, Counter, Unkno
 -- a fact about the certificate, where the answer is one
 abbrev pub IfCert : Made → (Tree → Type 0) → Type 0
 IfCert (Cert cert) Fact = Fact (tree_view cert)
-IfCert (Counter cells owners) Fact = Unit {0}
+IfCert (Counter row owners) Fact = Unit {0}
 IfCert Unknown Fact = Unit {0}
 IfCert TooLarge Fact = Unit {0}
 IfCert OutOfMemory Fact = Unit {0}
@@ -27,7 +27,7 @@ IfCert OutOfMemory Fact = Unit {0}
 -- a fact about the row and the owners, where the answer is a counterexample
 abbrev pub IfCounter : Made → (List Datum → List ℕ → Type 0) → Type 0
 IfCounter (Cert cert) Fact = Unit {0}
-IfCounter (Counter cells owners) Fact = Fact cells owners.items
+IfCounter (Counter row owners) Fact = Fact row owners.items
 IfCounter Unknown Fact = Unit {0}
 IfCounter TooLarge Fact = Unit {0}
 IfCounter OutOfMemory Fact = Unit {0}
@@ -46,14 +46,14 @@ numbers_from number (subscription ∷ subscriptions) = number ∷ numbers_from (
 
 -- the subscribers that get the row of the table, in ascending order
 abbrev pub owners_of : CatalogOf Expr → ℕ → List Datum → List ℕ
-owners_of catalog number cells = filter (λ subscriber. passes catalog subscriber number cells) (numbers_from 0 catalog.subscriptions)
+owners_of catalog number row = filter (λ subscriber. passes catalog subscriber number row) (numbers_from 0 catalog.subscriptions)
 
 -- the row shows that the table of this number is not sharded well: it fits the table, and not exactly one subscriber takes it
-pub record IsCounter (catalog : CatalogOf Expr) (plan : PlanOf) (number : ℕ) (cells : List Datum) (owners : List ℕ) : Type 0 where
+pub record IsCounter (catalog : CatalogOf Expr) (plan : PlanOf) (number : ℕ) (row : List Datum) (owners : List ℕ) : Type 0 where
   pub table : Table
   pub there : slice_get catalog.tables number ≡ Some table
-  pub valid : IsValid table.columns cells
-  pub passing : plan ≡ plan_of catalog → owners ≡ owners_of catalog number cells
+  pub valid : IsValid table.columns row
+  pub passing : plan ≡ plan_of catalog → owners ≡ owners_of catalog number row
   pub not_one : length owners ≢ 1
 
 -- what the answer for the table of this number says is so

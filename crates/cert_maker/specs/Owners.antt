@@ -12,13 +12,13 @@ use Rattle.cert_maker.specs.declared.made.Made.{Made}
 
 -- the numbers of the shares that take the row, where the first share has this number
 abbrev pub owners_from : ℕ → List ShareOf → List Datum → List ℕ
-owners_from number [] cells = []
-owners_from number (share ∷ shares) cells = if takes share cells then number ∷ owners_from (number + 1) shares cells else owners_from (number + 1) shares cells
+owners_from number [] row = []
+owners_from number (share ∷ shares) row = if takes share row then number ∷ owners_from (number + 1) shares row else owners_from (number + 1) shares row
 
 -- the row fits the table, and its owners are not one
-pub record IsCounterOf (table : Table) (shares : List ShareOf) (cells : List Datum) (owners : List ℕ) : Type 0 where
-  pub valid : IsValid table.columns cells
-  pub all : owners ≡ owners_from 0 shares cells
+pub record IsCounterOf (table : Table) (shares : List ShareOf) (row : List Datum) (owners : List ℕ) : Type 0 where
+  pub valid : IsValid table.columns row
+  pub all : owners ≡ owners_from 0 shares row
   pub not_one : length owners ≢ 1
 
 -- the certificate is within the limits on those that are read, and the check accepts it

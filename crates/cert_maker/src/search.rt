@@ -239,7 +239,7 @@ impl<'a, 'q> Search<'a, 'q> {
         self.split_by(atom)
     }
 
-    /// Looks for a row here, which not one share takes; without one, something that only stands for a leaf.
+    /// Looks for a row here that no share takes, or several; without one, something that only fills a leaf.
     fn fault<'b>(&mut self) -> Result<Cert<&'b Bump>, Stop> {
         self.board.count_all(self.problem);
         if let Some(chosen) = choices(self.alloc, self.problem, &mut self.board)? {

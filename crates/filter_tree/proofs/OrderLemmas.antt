@@ -7,9 +7,9 @@ use Rattle.std.specs.FinMap.{IsAntisymmetric, nat_cmp-IsAntisymmetric, int_cmp-I
 use Rattle.std.specs.declared.cmp.Ordering.{Ordering}
 use Rattle.std.specs.declared.cmp.Ordering.TheVariants.{Less, Equal, Greater}
 use Rattle.filter_tree.specs.Datum.{Constant, Number, Truth, Bytes, Missing, Known}
-use Rattle.filter_tree.specs.Order.{rank_of, number_of, truth_of, bytes_of, datum_cmp, cells_cmp, OrdersValues, TiesSameRows}
-use Rattle.filter_tree.specs.Same.{same_cells}
-use Rattle.filter_tree.proofs.SameLemmas.{equal_from_same_cells, same_cells_of_equal}
+use Rattle.filter_tree.specs.Order.{rank_of, number_of, truth_of, bytes_of, datum_cmp, row_cmp, OrdersValues, TiesSameRows}
+use Rattle.filter_tree.specs.Same.{same_row}
+use Rattle.filter_tree.proofs.SameLemmas.{equal_from_same_row, same_row_of_equal}
 
 -- ---- total
 
@@ -17,8 +17,8 @@ pub datum_total : IsTotalOrder datum_cmp
 datum_total = then_total (on_total rank_of nat_cmp_total) (then_total (on_total number_of int_cmp_total)
     (then_total (on_total truth_of bool_cmp_total) (on_total bytes_of nat_list_cmp_total)))
 
-pub cells_total : IsTotalOrder cells_cmp
-cells_total = lists_total datum_total
+pub row_total : IsTotalOrder row_cmp
+row_total = lists_total datum_total
 
 -- ---- two values of one kind
 
@@ -70,11 +70,11 @@ datum_tie (Known (Bytes s)) (Known (Truth q)) e = absurd cc
 datum_tie (Known (Bytes s)) (Known (Bytes t)) e =
     ap (λ bytes. Known (Bytes bytes)) (slice_cmp-IsAntisymmetric nat_cmp-IsAntisymmetric s t e)
 
-pub cells_tie : IsAntisymmetric cells_cmp
-cells_tie = slice_cmp-IsAntisymmetric datum_tie
+pub row_tie : IsAntisymmetric row_cmp
+row_tie = slice_cmp-IsAntisymmetric datum_tie
 
 pub ties_same_rows : TiesSameRows
-ties_same_rows one other = both_ways (eq_by_cmp cells_cmp one other) (same_cells one other)
-    (λ tied. same_cells_of_equal one other (cells_tie one other ((Equal-is (cells_cmp one other)).0 tied)))
-    (λ same. let equal : one ≡ other = equal_from_same_cells one other same in
-    (Equal-is (cells_cmp one other)).1 (subst (λ row. cells_cmp one row ≡ Equal) equal (tied_itself cells_total one)))
+ties_same_rows one other = both_ways (eq_by_cmp row_cmp one other) (same_row one other)
+    (λ tied. same_row_of_equal one other (row_tie one other ((Equal-is (row_cmp one other)).0 tied)))
+    (λ same. let equal : one ≡ other = equal_from_same_row one other same in
+    (Equal-is (row_cmp one other)).1 (subst (λ row. row_cmp one row ≡ Equal) equal (tied_itself row_total one)))

@@ -57,42 +57,42 @@ two_has f left right a b h k =
     ∙ any_of_three (λ x. list_any (λ y. member left x && (member right y && same_tri (f x y) (f a b))) all_three) a outer
 
 -- a value that the path has is the atom's
-first_value_is : (cells : List Datum) (atom : AtomOf) (path : Path) (value : Tri) → Agrees cells path
-    → first_value atom path ≡ Some value → atom_meaning atom cells ≡ value
-first_value_is cells atom [] value agrees h = absurd cc
-first_value_is cells atom (entry ∷ path) value agrees h = by_test (same_atom atom entry.0)
+first_value_is : (row : List Datum) (atom : AtomOf) (path : Path) (value : Tri) → Agrees row path
+    → first_value atom path ≡ Some value → atom_meaning atom row ≡ value
+first_value_is row atom [] value agrees h = absurd cc
+first_value_is row atom (entry ∷ path) value agrees h = by_test (same_atom atom entry.0)
     (λ same. let e : atom ≡ entry.0 = same_atom_is atom entry.0 same in
     let found : Some entry.1 ≡ Some value = rw same at h in
     let this : entry.1 ≡ value = cc in
-    ap (λ c. atom_meaning c cells) e ∙ (agrees.0 ∙ this))
+    ap (λ c. atom_meaning c row) e ∙ (agrees.0 ∙ this))
     (λ differs. let later : first_value atom path ≡ Some value = rw differs at h in
-    first_value_is cells atom path value agrees.1 later)
+    first_value_is row atom path value agrees.1 later)
 
 missing_open : (column : _) (value : Datum) → member (open_mask (IsNull column)) (is_missing value) ≡ true
 missing_open column Missing = refl
 missing_open column (Known constant) = refl
 
-open_has : (cells : List Datum) (atom : AtomOf) → member (open_mask atom) (atom_meaning atom cells) ≡ true
-open_has cells (Cmp term op constant) = member_where (λ _. true) _
-open_has cells (IsNull column) = missing_open column (value_at cells column)
+open_has : (row : List Datum) (atom : AtomOf) → member (open_mask atom) (atom_meaning atom row) ≡ true
+open_has row (Cmp term op constant) = member_where (λ _. true) _
+open_has row (IsNull column) = missing_open column (value_at row column)
 
-known_has : (cells : List Datum) (atom : AtomOf) (known : Option Tri)
-    → ((value : Tri) → known ≡ Some value → atom_meaning atom cells ≡ value)
-    → member (known_or_open known atom) (atom_meaning atom cells) ≡ true
-known_has cells atom (Some value) h = rw (h value refl) (single_has value)
-known_has cells atom None h = open_has cells atom
+known_has : (row : List Datum) (atom : AtomOf) (known : Option Tri)
+    → ((value : Tri) → known ≡ Some value → atom_meaning atom row ≡ value)
+    → member (known_or_open known atom) (atom_meaning atom row) ≡ true
+known_has row atom (Some value) h = rw (h value refl) (single_has value)
+known_has row atom None h = open_has row atom
 
-pub possible_holds : (filter : Expr) (path : Path) (cells : List Datum) → Agrees cells path
-    → member (possible_of filter path) (meaning filter cells) ≡ true
-possible_holds (Const known) path cells h = single_has (tri_of known)
-possible_holds (Atom atom) path cells h =
-    known_has cells atom (first_value atom path) (λ value. first_value_is cells atom path value h)
-possible_holds (Not part) path cells h = one_has not_of (possible_of part path) (meaning part cells) (possible_holds part path cells h)
-possible_holds (And left right) path cells h =
-    two_has and_of (possible_of left path) (possible_of right path) (meaning left cells) (meaning right cells) (possible_holds left path cells h) (possible_holds right path cells h)
-possible_holds (Or left right) path cells h =
-    two_has or_of (possible_of left path) (possible_of right path) (meaning left cells) (meaning right cells) (possible_holds left path cells h) (possible_holds right path cells h)
-possible_holds (Is test part) path cells h = one_has (is_of test) (possible_of part path) (meaning part cells) (possible_holds part path cells h)
+pub possible_holds : (filter : Expr) (path : Path) (row : List Datum) → Agrees row path
+    → member (possible_of filter path) (meaning filter row) ≡ true
+possible_holds (Const known) path row h = single_has (tri_of known)
+possible_holds (Atom atom) path row h =
+    known_has row atom (first_value atom path) (λ value. first_value_is row atom path value h)
+possible_holds (Not part) path row h = one_has not_of (possible_of part path) (meaning part row) (possible_holds part path row h)
+possible_holds (And left right) path row h =
+    two_has and_of (possible_of left path) (possible_of right path) (meaning left row) (meaning right row) (possible_holds left path row h) (possible_holds right path row h)
+possible_holds (Or left right) path row h =
+    two_has or_of (possible_of left path) (possible_of right path) (meaning left row) (meaning right row) (possible_holds left path row h) (possible_holds right path row h)
+possible_holds (Is test part) path row h = one_has (is_of test) (possible_of part path) (meaning part row) (possible_holds part path row h)
 
 open_has_true : (atom : AtomOf) → member (open_mask atom) True ≡ true
 open_has_true (Cmp term op constant) = refl

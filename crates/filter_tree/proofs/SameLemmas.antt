@@ -9,7 +9,7 @@ use Rattle.std.specs.Cmp.{unsigned_Decides, signed_Decides, booleans_Decides}
 use Rattle.std.proofs.lemmas.Slice.Eq.{bytes_eq-Decides}
 use Rattle.filter_tree.specs.Datum.{Constant, Number, Truth, Bytes, Datum, Missing, Known, value_at}
 use Rattle.filter_tree.specs.Expr.{AtomOf, Cmp, IsNull}
-use Rattle.filter_tree.specs.Same.{same_constant, same_datum, same_from, same_cells, same_term, same_op, same_atom}
+use Rattle.filter_tree.specs.Same.{same_constant, same_datum, same_from, same_row, same_term, same_op, same_atom}
 use Rattle.filter_tree.specs.declared.filter.Term.{Term}
 use Rattle.filter_tree.specs.declared.filter.Term.TheVariants.{Col, Mod}
 use Rattle.filter_tree.specs.declared.filter.Op.{Op}
@@ -104,43 +104,43 @@ same_atom_of_equal c d e = subst (λ x. same_atom c x ≡ true) e (same_atom_sel
 -- ---- rows
 
 -- the values from a column on, where there is one
-drop_from : (cells : List Datum) (column : ℕ) → column < length cells
-    → drop column cells ≡ value_at cells column ∷ drop (column + 1) cells
-drop_from cells column h = rw (add-one, unwrap_or-slice_get cells column Missing) (drop-cons cells column Missing h)
+drop_from : (row : List Datum) (column : ℕ) → column < length row
+    → drop column row ≡ value_at row column ∷ drop (column + 1) row
+drop_from row column h = rw (add-one, unwrap_or-slice_get row column Missing) (drop-cons row column Missing h)
 
-same_from_is : (cells : List Datum) (column : ℕ) (values : List Datum) → column + length values ≡ length cells
-    → same_from column values cells ≡ true → values ≡ drop column cells
-same_from_is cells column [] h same = let past : length cells ≤ column = omega arith in sym (drop_of_length-le cells past)
-same_from_is cells column (value ∷ values) h same =
-    let both : (same_datum value (value_at cells column) ≡ true) × (same_from (column + 1) values cells ≡ true) = both_true _ _ same in
-    let inside : column < length cells = omega arith in
-    let width : column + 1 + length values ≡ length cells = omega arith in
-    let here : value ≡ value_at cells column = same_datum_is _ _ both.0 in
-    let later : values ≡ drop (column + 1) cells = same_from_is cells (column + 1) values width both.1 in
-    let split = drop_from cells column inside in
+same_from_is : (row : List Datum) (column : ℕ) (values : List Datum) → column + length values ≡ length row
+    → same_from column values row ≡ true → values ≡ drop column row
+same_from_is row column [] h same = let past : length row ≤ column = omega arith in sym (drop_of_length-le row past)
+same_from_is row column (value ∷ values) h same =
+    let both : (same_datum value (value_at row column) ≡ true) × (same_from (column + 1) values row ≡ true) = both_true _ _ same in
+    let inside : column < length row = omega arith in
+    let width : column + 1 + length values ≡ length row = omega arith in
+    let here : value ≡ value_at row column = same_datum_is _ _ both.0 in
+    let later : values ≡ drop (column + 1) row = same_from_is row (column + 1) values width both.1 in
+    let split = drop_from row column inside in
     cc
 
-same_from_self : (cells : List Datum) (column : ℕ) (values : List Datum) → column + length values ≡ length cells
-    → values ≡ drop column cells → same_from column values cells ≡ true
-same_from_self cells column [] h e = refl
-same_from_self cells column (value ∷ values) h e =
-    let inside : column < length cells = omega arith in
-    let width : column + 1 + length values ≡ length cells = omega arith in
-    let split = drop_from cells column inside in
-    let here : value ≡ value_at cells column = cc in
-    let later : values ≡ drop (column + 1) cells = cc in
-    let same : same_datum value (value_at cells column) ≡ true = subst (λ v. same_datum value v ≡ true) here (same_datum_self value) in
-    let rest = same_from_self cells (column + 1) values width later in
+same_from_self : (row : List Datum) (column : ℕ) (values : List Datum) → column + length values ≡ length row
+    → values ≡ drop column row → same_from column values row ≡ true
+same_from_self row column [] h e = refl
+same_from_self row column (value ∷ values) h e =
+    let inside : column < length row = omega arith in
+    let width : column + 1 + length values ≡ length row = omega arith in
+    let split = drop_from row column inside in
+    let here : value ≡ value_at row column = cc in
+    let later : values ≡ drop (column + 1) row = cc in
+    let same : same_datum value (value_at row column) ≡ true = subst (λ v. same_datum value v ≡ true) here (same_datum_self value) in
+    let rest = same_from_self row (column + 1) values width later in
     rw (same, rest) refl
 
-pub equal_from_same_cells : (one other : List Datum) → same_cells one other ≡ true → one ≡ other
-equal_from_same_cells one other h =
+pub equal_from_same_row : (one other : List Datum) → same_row one other ≡ true → one ≡ other
+equal_from_same_row one other h =
     let both : (nat_eq (length one) (length other) ≡ true) × (same_from 0 one other ≡ true) = both_true _ _ h in
     let width : length one ≡ length other = (unsigned_Decides _ _).0 both.0 in
     same_from_is other 0 one (omega arith) both.1
 
-pub same_cells_of_equal : (one other : List Datum) → one ≡ other → same_cells one other ≡ true
-same_cells_of_equal one other e =
+pub same_row_of_equal : (one other : List Datum) → one ≡ other → same_row one other ≡ true
+same_row_of_equal one other e =
     let width : nat_eq (length one) (length other) ≡ true = (unsigned_Decides _ _).1 (ap length e) in
-    let cells : same_from 0 one other ≡ true = same_from_self other 0 one (omega (arith, ap length e)) e in
-    rw width cells
+    let row : same_from 0 one other ≡ true = same_from_self other 0 one (omega (arith, ap length e)) e in
+    rw width row

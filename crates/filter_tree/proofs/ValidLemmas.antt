@@ -124,28 +124,28 @@ first_of_none : (f g : Option RowFault) → first_of f g ≡ None → (f ≡ Non
 first_of_none None g h = (refl, h)
 first_of_none (Some f) g h = absurd cc
 
-columns_fit : (cells : List Datum) (number : ℕ) (columns : List Column) → columns_fault number columns cells ≡ None
-    → (k : ℕ) → IfSome (slice_get columns k) (λ column. Fits column (value_at cells (number + k)))
-columns_fit cells number [] h k = tt
-columns_fit cells number (column ∷ columns) h zero =
-    let fault = value_fault number column (value_at cells number) in
-    let both : (fault ≡ None) × (columns_fault (number + 1) columns cells ≡ None) = first_of_none _ _ h in
+columns_fit : (row : List Datum) (number : ℕ) (columns : List Column) → columns_fault number columns row ≡ None
+    → (k : ℕ) → IfSome (slice_get columns k) (λ column. Fits column (value_at row (number + k)))
+columns_fit row number [] h k = tt
+columns_fit row number (column ∷ columns) h zero =
+    let fault = value_fault number column (value_at row number) in
+    let both : (fault ≡ None) × (columns_fault (number + 1) columns row ≡ None) = first_of_none _ _ h in
     let e : number ≡ number + 0 = omega arith in
-    subst (λ i. Fits column (value_at cells i)) e (value_fits number column _ both.0)
-columns_fit cells number (column ∷ columns) h (suc k) =
-    let fault = value_fault number column (value_at cells number) in
-    let both : (fault ≡ None) × (columns_fault (number + 1) columns cells ≡ None) = first_of_none _ _ h in
+    subst (λ i. Fits column (value_at row i)) e (value_fits number column _ both.0)
+columns_fit row number (column ∷ columns) h (suc k) =
+    let fault = value_fault number column (value_at row number) in
+    let both : (fault ≡ None) × (columns_fault (number + 1) columns row ≡ None) = first_of_none _ _ h in
     let e : number + 1 + k ≡ number + suc k = omega arith in
-    subst (λ i. IfSome (slice_get columns k) (λ column. Fits column (value_at cells i))) e (columns_fit cells (number + 1) columns both.1 k)
+    subst (λ i. IfSome (slice_get columns k) (λ column. Fits column (value_at row i))) e (columns_fit row (number + 1) columns both.1 k)
 
-fit_columns : (cells : List Datum) (number : ℕ) (columns : List Column)
-    → ((k : ℕ) → IfSome (slice_get columns k) (λ column. Fits column (value_at cells (number + k)))) → columns_fault number columns cells ≡ None
-fit_columns cells number [] fits = refl
-fit_columns cells number (column ∷ columns) fits =
+fit_columns : (row : List Datum) (number : ℕ) (columns : List Column)
+    → ((k : ℕ) → IfSome (slice_get columns k) (λ column. Fits column (value_at row (number + k)))) → columns_fault number columns row ≡ None
+fit_columns row number [] fits = refl
+fit_columns row number (column ∷ columns) fits =
     let e : number + 0 ≡ number = omega arith in
-    let here = fits_value number column _ (subst (λ i. Fits column (value_at cells i)) e (fits 0)) in
-    let later = fit_columns cells (number + 1) columns (λ k. let f : number + suc k ≡ number + 1 + k = omega arith in
-    subst (λ i. IfSome (slice_get columns k) (λ column. Fits column (value_at cells i))) f (fits (suc k))) in
+    let here = fits_value number column _ (subst (λ i. Fits column (value_at row i)) e (fits 0)) in
+    let later = fit_columns row (number + 1) columns (λ k. let f : number + suc k ≡ number + 1 + k = omega arith in
+    subst (λ i. IfSome (slice_get columns k) (λ column. Fits column (value_at row i))) f (fits (suc k))) in
     cc
 
 -- a test of the width that goes before another fault
@@ -153,18 +153,18 @@ width_passed : (b : Bool) (later : Option RowFault) → (if b then later else So
 width_passed true later h = (refl, h)
 width_passed false later h = absurd cc
 
-pub valid_from_no_fault : (columns : List Column) (cells : List Datum) → row_fault columns cells ≡ None → IsValid columns cells
-valid_from_no_fault columns cells h =
-    let both = width_passed (length cells == length columns) (columns_fault 0 columns cells) h in
+pub valid_from_no_fault : (columns : List Column) (row : List Datum) → row_fault columns row ≡ None → IsValid columns row
+valid_from_no_fault columns row h =
+    let both = width_passed (length row == length columns) (columns_fault 0 columns row) h in
     record {
       wide = eqb-true _ _ both.0;
       fits = λ k. let e : 0 + k ≡ k = omega arith in
-          subst (λ i. IfSome (slice_get columns k) (λ column. Fits column (value_at cells i))) e (columns_fit cells 0 columns both.1 k);
+          subst (λ i. IfSome (slice_get columns k) (λ column. Fits column (value_at row i))) e (columns_fit row 0 columns both.1 k);
     }
 
-pub no_fault_from_valid : (columns : List Column) (cells : List Datum) → IsValid columns cells → row_fault columns cells ≡ None
-no_fault_from_valid columns cells h =
-    let wide : (length cells == length columns) ≡ true = (unsigned_Decides _ _).1 h.wide in
-    let fits = fit_columns cells 0 columns (λ k. let e : k ≡ 0 + k = omega arith in
-    subst (λ i. IfSome (slice_get columns k) (λ column. Fits column (value_at cells i))) e (h.fits k)) in
+pub no_fault_from_valid : (columns : List Column) (row : List Datum) → IsValid columns row → row_fault columns row ≡ None
+no_fault_from_valid columns row h =
+    let wide : (length row == length columns) ≡ true = (unsigned_Decides _ _).1 h.wide in
+    let fits = fit_columns row 0 columns (λ k. let e : k ≡ 0 + k = omega arith in
+    subst (λ i. IfSome (slice_get columns k) (λ column. Fits column (value_at row i))) e (h.fits k)) in
     rw wide fits

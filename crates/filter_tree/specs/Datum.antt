@@ -14,4 +14,4 @@ pub data Datum : Type 0 where
 
 -- the value of a column, which is null past the row's end
 abbrev pub value_at : List Datum → ℕ → Datum
-value_at cells column = unwrap_or (slice_get cells column) Missing
+value_at row column = unwrap_or (slice_get row column) Missing

@@ -30,8 +30,8 @@ remainder_of (Known (Number n)) divisor = Known (Number (int_rem n divisor))
 remainder_of value divisor = value
 
 abbrev pub term_value : Term → List Datum → Datum
-term_value (Col column) cells = value_at cells column
-term_value (Mod column divisor) cells = remainder_of (value_at cells column) divisor
+term_value (Col column) row = value_at row column
+term_value (Mod column divisor) row = remainder_of (value_at row column) divisor
 
 -- `IS NULL`, which is never null itself
 abbrev pub is_missing : Datum → Tri
@@ -39,14 +39,14 @@ is_missing Missing = True
 is_missing (Known value) = False
 
 abbrev pub atom_meaning : AtomOf → List Datum → Tri
-atom_meaning (Cmp term op constant) cells = compare_of op (term_value term cells) constant
-atom_meaning (IsNull column) cells = is_missing (value_at cells column)
+atom_meaning (Cmp term op constant) row = compare_of op (term_value term row) constant
+atom_meaning (IsNull column) row = is_missing (value_at row column)
 
 -- what a filter says of a row
 abbrev pub meaning : Expr → List Datum → Tri
-meaning (Const known) cells = tri_of known
-meaning (Atom atom) cells = atom_meaning atom cells
-meaning (Not part) cells = not_of (meaning part cells)
-meaning (And left right) cells = and_of (meaning left cells) (meaning right cells)
-meaning (Or left right) cells = or_of (meaning left cells) (meaning right cells)
-meaning (Is test part) cells = is_of test (meaning part cells)
+meaning (Const known) row = tri_of known
+meaning (Atom atom) row = atom_meaning atom row
+meaning (Not part) row = not_of (meaning part row)
+meaning (And left right) row = and_of (meaning left row) (meaning right row)
+meaning (Or left right) row = or_of (meaning left row) (meaning right row)
+meaning (Is test part) row = is_of test (meaning part row)

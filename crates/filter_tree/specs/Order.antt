@@ -5,7 +5,7 @@ use Rattle.std.specs.Cmp.Lexicographic.{slice_cmp}
 use Rattle.std.specs.declared.cmp.Ordering.{Ordering}
 use Rattle.std.specs.declared.cmp.Ordering.TheVariants.{Less}
 use Rattle.filter_tree.specs.Datum.{Constant, Number, Truth, Bytes, Datum, Missing, Known}
-use Rattle.filter_tree.specs.Same.{same_cells}
+use Rattle.filter_tree.specs.Same.{same_row}
 
 -- Null comes before all else. No column has values of two kinds; between them the order is numbers, truth values, texts.
 abbrev pub rank_of : Datum → ℕ
@@ -33,8 +33,8 @@ datum_cmp = then_cmp (on rank_of nat_cmp) (then_cmp (on number_of int_cmp)
     (then_cmp (on truth_of bool_cmp) (on bytes_of (slice_cmp nat_cmp))))
 
 -- by the first column in which they differ; a row that another one begins with comes before that one
-abbrev pub cells_cmp : List Datum → List Datum → Ordering
-cells_cmp = slice_cmp datum_cmp
+abbrev pub row_cmp : List Datum → List Datum → Ordering
+row_cmp = slice_cmp datum_cmp
 
 -- ---- laws
 
@@ -47,4 +47,4 @@ pub record OrdersValues : Type 0 where
 
 -- Exactly the same rows tie.
 abbrev pub TiesSameRows : Type 0
-TiesSameRows = (one other : List Datum) → eq_by_cmp cells_cmp one other ≡ same_cells one other
+TiesSameRows = (one other : List Datum) → eq_by_cmp row_cmp one other ≡ same_row one other

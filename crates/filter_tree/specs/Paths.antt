@@ -21,8 +21,8 @@ path_view entries = map (λ entry. (atom_view entry.0.now, entry.1)) entries
 
 -- each atom has its value on the row
 abbrev pub Agrees : List Datum → Path → Type 0
-Agrees cells [] = Unit {0}
-Agrees cells (entry ∷ path) = (atom_meaning entry.0 cells ≡ entry.1) × Agrees cells path
+Agrees row [] = Unit {0}
+Agrees row (entry ∷ path) = (atom_meaning entry.0 row ≡ entry.1) × Agrees row path
 
 -- the value of an atom that the path has first
 abbrev pub first_value : AtomOf → Path → Option Tri

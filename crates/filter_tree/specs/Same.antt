@@ -23,11 +23,11 @@ same_datum _ _ = false
 
 -- whether a row has these values, the first of which is in this column
 abbrev pub same_from : ℕ → List Datum → List Datum → Bool
-same_from column [] cells = true
-same_from column (value ∷ values) cells = same_datum value (value_at cells column) && same_from (column + 1) values cells
+same_from column [] row = true
+same_from column (value ∷ values) row = same_datum value (value_at row column) && same_from (column + 1) values row
 
-abbrev pub same_cells : List Datum → List Datum → Bool
-same_cells one other = nat_eq (length one) (length other) && same_from 0 one other
+abbrev pub same_row : List Datum → List Datum → Bool
+same_row one other = nat_eq (length one) (length other) && same_from 0 one other
 
 abbrev pub same_term : Term → Term → Bool
 same_term (Col c) (Col d) = nat_eq c d

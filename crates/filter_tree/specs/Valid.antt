@@ -34,9 +34,9 @@ Fits column Missing = column.not_null ≡ false
 Fits column (Known constant) = IsOf column.kind constant
 
 -- the row is as wide as the table, and each column takes its value
-pub record IsValid (columns : List Column) (cells : List Datum) : Type 0 where
-  pub wide : length cells ≡ length columns
-  pub fits : (k : ℕ) → IfSome (slice_get columns k) (λ column. Fits column (value_at cells k))
+pub record IsValid (columns : List Column) (row : List Datum) : Type 0 where
+  pub wide : length row ≡ length columns
+  pub fits : (k : ℕ) → IfSome (slice_get columns k) (λ column. Fits column (value_at row k))
 
 -- ---- the first fault
 
@@ -69,13 +69,13 @@ first_of (Some fault) later = Some fault
 
 -- the first fault in these columns, the first of which has this number
 abbrev pub columns_fault : ℕ → List Column → List Datum → Option RowFault
-columns_fault number [] cells = None
-columns_fault number (column ∷ columns) cells =
-    first_of (value_fault number column (value_at cells number)) (columns_fault (number + 1) columns cells)
+columns_fault number [] row = None
+columns_fault number (column ∷ columns) row =
+    first_of (value_fault number column (value_at row number)) (columns_fault (number + 1) columns row)
 
 -- the first fault of a row: its width, or else the first in the order of the columns
 abbrev pub row_fault : List Column → List Datum → Option RowFault
-row_fault columns cells = if length cells == length columns then columns_fault 0 columns cells else Some Width
+row_fault columns row = if length row == length columns then columns_fault 0 columns row else Some Width
 
 -- what `valid` answers
 abbrev pub verdict_of : Option RowFault → Result (Unit {0}) RowFault

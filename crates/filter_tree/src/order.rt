@@ -6,7 +6,7 @@ ghost use Rattle.std.specs.Cmp.Rules.{comparing};
 ghost use Rattle.std.specs.FinMap.{IsAntisymmetric};
 ghost use Rattle.std.specs.Ordering.{on, eq_by_cmp, as_partial_cmp};
 ghost use Rattle.std.proofs.Common.{rules};
-ghost use Rattle.filter_tree.specs.Order.{rank_of, datum_cmp, cells_cmp, OrdersValues, TiesSameRows};
+ghost use Rattle.filter_tree.specs.Order.{rank_of, datum_cmp, row_cmp, OrdersValues, TiesSameRows};
 ghost use Rattle.filter_tree.specs.Values.{datum_view};
 
 use crate::value::{Row, Value};
@@ -74,7 +74,7 @@ fn rank<A: Allocator>(value: &Value<A>) -> u8
 }
 
 impl<A: Allocator> PartialEq for Row<A> {
-    ghost eq = { eq_by_cmp cells_cmp };
+    ghost eq = { eq_by_cmp row_cmp };
 
     ghost laws = { Prim.search (comparing, rules) depth 9 };
 
@@ -88,7 +88,7 @@ impl<A: Allocator> Eq for Row<A> {
 }
 
 impl<A: Allocator> PartialOrd for Row<A> {
-    ghost partial_cmp = { as_partial_cmp cells_cmp };
+    ghost partial_cmp = { as_partial_cmp row_cmp };
 
     ghost laws = { Prim.search (comparing, rules) depth 9 };
 
@@ -101,7 +101,7 @@ impl<A: Allocator> PartialOrd for Row<A> {
 ///
 /// PostgreSQL 15, 7.5 Sorting Rows.
 impl<A: Allocator> Ord for Row<A> {
-    ghost cmp = { cells_cmp };
+    ghost cmp = { row_cmp };
 
     ghost total = { Prim.search (comparing, rules) depth 9 };
 
@@ -117,10 +117,10 @@ impl<A: Allocator> Ord for Row<A> {
 /// A law, and no code, of the order of rows: it is total (`total`), so that an ordered map may have rows as its keys; what
 /// it ties is equal (`equal`), and it ties exactly the same rows (`ties`); and two values are in the order that PostgreSQL
 /// gives those of a column (`values`).
-#[tactic(auto, using(crate::proofs::OrderLemmas::cells_total, crate::proofs::OrderLemmas::cells_tie, crate::proofs::OrderLemmas::ties_same_rows, crate::proofs::OrderLemmas::orders_values))]
+#[tactic(auto, using(crate::proofs::OrderLemmas::row_total, crate::proofs::OrderLemmas::row_tie, crate::proofs::OrderLemmas::ties_same_rows, crate::proofs::OrderLemmas::orders_values))]
 pub fn rows_are_ordered()
-    ensures total { IsTotalOrder cells_cmp }
-    ensures equal { IsAntisymmetric cells_cmp }
+    ensures total { IsTotalOrder row_cmp }
+    ensures equal { IsAntisymmetric row_cmp }
     ensures ties { TiesSameRows }
     ensures values { OrdersValues }
 {}

@@ -17,8 +17,8 @@ use std::alloc::Allocator;
 #[tactic(auto, using(crate::proofs::PossibleLemmas::possible_holds))]
 pub fn possible<A: Allocator>(filter: &Filter<A>, path: &[(&Atom<A>, Tri)]) -> Mask
     ensures set { result ≡ possible_of (expr_view filter.now) (path_view path.now) }
-    ensures sound { (cells : List Datum) → Agrees cells (path_view path.now)
-        → IsTrue (member result (meaning (expr_view filter.now) cells)) }
+    ensures sound { (row : List Datum) → Agrees row (path_view path.now)
+        → IsTrue (member result (meaning (expr_view filter.now) row)) }
 {
     mask_of(filter, path)
 }

@@ -2,7 +2,7 @@ ghost use Rattle.std.specs.Prelude.{◌≡◌, ◌↔◌, IsTrue};
 ghost use Rattle.filter_tree.specs.Datum.{value_at};
 ghost use Rattle.filter_tree.specs.Values.{datum_view, constant_view};
 ghost use Rattle.filter_tree.specs.Shape.{atom_view};
-ghost use Rattle.filter_tree.specs.Same.{same_constant, same_datum, same_term, same_op, same_atom, same_cells};
+ghost use Rattle.filter_tree.specs.Same.{same_constant, same_datum, same_term, same_op, same_atom, same_row};
 
 use crate::filter::{Atom, Op, Term};
 use crate::value::{Literal, Row, Value};
@@ -27,15 +27,15 @@ pub fn same_atom<A: Allocator, B: Allocator>(one: &Atom<A>, other: &Atom<B>) -> 
 }
 
 /// Whether two rows have the same values in the same order.
-#[tactic(auto, using(crate::proofs::SameLemmas::equal_from_same_cells, crate::proofs::SameLemmas::same_cells_of_equal))]
+#[tactic(auto, using(crate::proofs::SameLemmas::equal_from_same_row, crate::proofs::SameLemmas::same_row_of_equal))]
 pub fn same_row<A: Allocator, B: Allocator>(one: &Row<A>, other: &Row<B>) -> bool
     ensures { IsTrue result ↔ (one.now ≡ other.now) }
 {
-    has_cells_of(one, other)
+    has_values_of(one, other)
 }
 
-fn has_cells_of<A: Allocator, B: Allocator>(one: &Row<A>, other: &Row<B>) -> bool
-    ensures { result ≡ same_cells one.now other.now }
+fn has_values_of<A: Allocator, B: Allocator>(one: &Row<A>, other: &Row<B>) -> bool
+    ensures { result ≡ same_row one.now other.now }
 {
     if one.len() != other.len() {
         return false;

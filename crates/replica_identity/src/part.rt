@@ -38,8 +38,8 @@ fn agree(one: &Row, other: &Row, columns: &[usize]) -> bool
 }
 
 /// A copy of the value, or null.
-fn cell(alloc: Global, is_recorded: bool, value: &Value) -> Result<Value, AllocError>
-    ensures { IfOk result (λ cell. datum_view cell ≡ (if is_recorded then datum_view value.now else Missing)) }
+fn recorded(alloc: Global, is_recorded: bool, value: &Value) -> Result<Value, AllocError>
+    ensures { IfOk result (λ copy. datum_view copy ≡ (if is_recorded then datum_view value.now else Missing)) }
 {
     if is_recorded {
         Ok(copy_value(&alloc, value)?)
@@ -53,11 +53,11 @@ fn blanked(alloc: Global, columns: &[usize], row: &Row) -> Result<Row, AllocErro
     ensures { IfOk result (λ blanked. blanked ≡ blanked_from columns.now 0 row.now) }
 {
     let values = row.values();
-    let mut cells = Vec::with_capacity(alloc, values.len())?;
+    let mut kept = Vec::with_capacity(alloc, values.len())?;
     for (column, value) in values.iter().enumerate() {
-        cells.push(cell(alloc, columns.contains(&column), value)?)?;
+        kept.push(recorded(alloc, columns.contains(&column), value)?)?;
     }
-    Ok(Row::from_values(cells))
+    Ok(Row::from_values(kept))
 }
 
 /// What is recorded of the old row, where these columns identify rows.

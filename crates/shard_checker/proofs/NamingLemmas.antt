@@ -14,7 +14,7 @@ use Rattle.shard_checker.specs.Steps.{names_only, all_name_only, filter_of}
 use Rattle.shard_checker.proofs.KnownLemmas.{none_of, other_way}
 use Rattle.shard_checker.proofs.Testing.{by_test, two_true, right_true, left_true}
 
--- ---- no atom stands twice
+-- ---- no atom is there twice
 
 differ_then : (atoms : List AtomOf) (atom : AtomOf) → Differ atoms → list_any (same_atom atom) atoms ≡ false → Differ (atoms ++ atom ∷ [])
 differ_then [] atom h new = (refl, tt)

@@ -18,7 +18,7 @@ use Rattle.filter_tree.specs.declared.table.ColType.{ColType}
 use Rattle.filter_tree.specs.declared.table.ColType.TheVariants.{SmallInt, Integer, BigInt, Boolean, Text}
 use Rattle.filter_tree.specs.declared.table.Column.{Column}
 use Rattle.shard_checker.specs.Domain.{kind_in, kind_at, greatest_remainder, whole_range, range_within, range_of, IsIn, IsInDomain}
-use Rattle.shard_checker.specs.Rows.{IsOfType, MayStand, IsTyped}
+use Rattle.shard_checker.specs.Rows.{IsOfType, MayHold, IsTyped}
 use Rattle.shard_checker.proofs.Testing.{by_test}
 
 -- ---- remainders
@@ -99,61 +99,61 @@ in_range kind column number divisor fits = by_test (int_eq divisor (pos 0))
 -- ---- values of terms
 
 -- a term's value on a row, of the term's domain
-pub record HasKnown (kind : ColType) (term : Term) (cells : List Datum) : Type 0 where
+pub record HasKnown (kind : ColType) (term : Term) (row : List Datum) : Type 0 where
   pub value : Constant
-  pub is : term_value term cells ≡ Known value
+  pub is : term_value term row ≡ Known value
   pub in_domain : IsInDomain kind term value
 
-of_number : (kind : ColType) (cells : List Datum) (column : ℕ) (divisor number : ℤ) → value_at cells column ≡ Known (Number number) → IsWithin kind number
+of_number : (kind : ColType) (row : List Datum) (column : ℕ) (divisor number : ℤ) → value_at row column ≡ Known (Number number) → IsWithin kind number
     → (IsIn (range_of kind (Mod column divisor)) (int_rem number divisor) → IsInDomain kind (Mod column divisor) (Number (int_rem number divisor)))
-    → HasKnown kind (Mod column divisor) cells
-of_number kind cells column divisor number is fits domain =
+    → HasKnown kind (Mod column divisor) row
+of_number kind row column divisor number is fits domain =
     record { value = Number (int_rem number divisor); is = ap (λ v. remainder_of v divisor) is; in_domain = domain (in_range kind column number divisor fits) }
 
-known_of : (kind : ColType) (term : Term) (cells : List Datum) (value : Constant) → value_at cells (column_of term) ≡ Known value → IsOfType kind value → HasKnown kind term cells
-known_of SmallInt (Col column) cells (Number n) is fits = record { value = Number n; is = is; in_domain = in_whole SmallInt n fits }
-known_of Integer (Col column) cells (Number n) is fits = record { value = Number n; is = is; in_domain = in_whole Integer n fits }
-known_of BigInt (Col column) cells (Number n) is fits = record { value = Number n; is = is; in_domain = in_whole BigInt n fits }
-known_of SmallInt (Mod column divisor) cells (Number n) is fits = of_number SmallInt cells column divisor n is fits (λ h. h)
-known_of Integer (Mod column divisor) cells (Number n) is fits = of_number Integer cells column divisor n is fits (λ h. h)
-known_of BigInt (Mod column divisor) cells (Number n) is fits = of_number BigInt cells column divisor n is fits (λ h. h)
-known_of Boolean (Col column) cells (Truth b) is fits = record { value = Truth b; is = is; in_domain = tt }
-known_of Boolean (Mod column divisor) cells (Truth b) is fits = record { value = Truth b; is = ap (λ v. remainder_of v divisor) is; in_domain = tt }
-known_of Text (Col column) cells (Bytes s) is fits = record { value = Bytes s; is = is; in_domain = tt }
-known_of Text (Mod column divisor) cells (Bytes s) is fits = record { value = Bytes s; is = ap (λ v. remainder_of v divisor) is; in_domain = tt }
-known_of SmallInt term cells (Truth b) is fits = absurd fits
-known_of SmallInt term cells (Bytes s) is fits = absurd fits
-known_of Integer term cells (Truth b) is fits = absurd fits
-known_of Integer term cells (Bytes s) is fits = absurd fits
-known_of BigInt term cells (Truth b) is fits = absurd fits
-known_of BigInt term cells (Bytes s) is fits = absurd fits
-known_of Boolean term cells (Number n) is fits = absurd fits
-known_of Boolean term cells (Bytes s) is fits = absurd fits
-known_of Text term cells (Number n) is fits = absurd fits
-known_of Text term cells (Truth b) is fits = absurd fits
+known_of : (kind : ColType) (term : Term) (row : List Datum) (value : Constant) → value_at row (column_of term) ≡ Known value → IsOfType kind value → HasKnown kind term row
+known_of SmallInt (Col column) row (Number n) is fits = record { value = Number n; is = is; in_domain = in_whole SmallInt n fits }
+known_of Integer (Col column) row (Number n) is fits = record { value = Number n; is = is; in_domain = in_whole Integer n fits }
+known_of BigInt (Col column) row (Number n) is fits = record { value = Number n; is = is; in_domain = in_whole BigInt n fits }
+known_of SmallInt (Mod column divisor) row (Number n) is fits = of_number SmallInt row column divisor n is fits (λ h. h)
+known_of Integer (Mod column divisor) row (Number n) is fits = of_number Integer row column divisor n is fits (λ h. h)
+known_of BigInt (Mod column divisor) row (Number n) is fits = of_number BigInt row column divisor n is fits (λ h. h)
+known_of Boolean (Col column) row (Truth b) is fits = record { value = Truth b; is = is; in_domain = tt }
+known_of Boolean (Mod column divisor) row (Truth b) is fits = record { value = Truth b; is = ap (λ v. remainder_of v divisor) is; in_domain = tt }
+known_of Text (Col column) row (Bytes s) is fits = record { value = Bytes s; is = is; in_domain = tt }
+known_of Text (Mod column divisor) row (Bytes s) is fits = record { value = Bytes s; is = ap (λ v. remainder_of v divisor) is; in_domain = tt }
+known_of SmallInt term row (Truth b) is fits = absurd fits
+known_of SmallInt term row (Bytes s) is fits = absurd fits
+known_of Integer term row (Truth b) is fits = absurd fits
+known_of Integer term row (Bytes s) is fits = absurd fits
+known_of BigInt term row (Truth b) is fits = absurd fits
+known_of BigInt term row (Bytes s) is fits = absurd fits
+known_of Boolean term row (Number n) is fits = absurd fits
+known_of Boolean term row (Bytes s) is fits = absurd fits
+known_of Text term row (Number n) is fits = absurd fits
+known_of Text term row (Truth b) is fits = absurd fits
 
 past_from_none : (columns : List Column) (column : ℕ) → slice_get columns column ≡ None → length columns ≤ column
 past_from_none [] column none = omega arith
 past_from_none (first ∷ columns) zero none = absurd cc
 past_from_none (first ∷ columns) (suc column) none = let shorter = past_from_none columns column none in omega arith
 
-missing_past : (columns : List Column) (cells : List Datum) (column : ℕ) → IsTyped columns cells → length columns ≤ column → value_at cells column ≡ Missing
-missing_past columns cells column valid past =
-    let short : length cells ≤ column = omega (arith, valid.wide) in
-    rw (slice_get_past cells column short) refl
+missing_past : (columns : List Column) (row : List Datum) (column : ℕ) → IsTyped columns row → length columns ≤ column → value_at row column ≡ Missing
+missing_past columns row column valid past =
+    let short : length row ≤ column = omega (arith, valid.wide) in
+    rw (slice_get_past row column short) refl
 
 -- the value of a column that isn't null
-column_known : (columns : List Column) (found : Option Column) (term : Term) (cells : List Datum) (value : Constant) → IfSome found (λ column. MayStand column (Known value))
-    → (found ≡ None → value_at cells (column_of term) ≡ Missing) → value_at cells (column_of term) ≡ Known value → HasKnown (kind_in found) term cells
-column_known columns None term cells value fits past is = let gone = past refl in absurd cc
-column_known columns (Some column) term cells value fits past is = known_of column.kind term cells value is fits
+column_known : (columns : List Column) (found : Option Column) (term : Term) (row : List Datum) (value : Constant) → IfSome found (λ column. MayHold column (Known value))
+    → (found ≡ None → value_at row (column_of term) ≡ Missing) → value_at row (column_of term) ≡ Known value → HasKnown (kind_in found) term row
+column_known columns None term row value fits past is = let gone = past refl in absurd cc
+column_known columns (Some column) term row value fits past is = known_of column.kind term row value is fits
 
-pub known_in_domain : (columns : List Column) (term : Term) (cells : List Datum) (value : Constant) → IsTyped columns cells → value_at cells (column_of term) ≡ Known value
-    → HasKnown (kind_at columns (column_of term)) term cells
-known_in_domain columns term cells value valid is =
-    column_known columns (slice_get columns (column_of term)) term cells value
-    (subst (λ v. IfSome (slice_get columns (column_of term)) (λ column. MayStand column v)) is (valid.fits (column_of term)))
-    (λ none. missing_past columns cells (column_of term) valid (past_from_none columns (column_of term) none))
+pub known_in_domain : (columns : List Column) (term : Term) (row : List Datum) (value : Constant) → IsTyped columns row → value_at row (column_of term) ≡ Known value
+    → HasKnown (kind_at columns (column_of term)) term row
+known_in_domain columns term row value valid is =
+    column_known columns (slice_get columns (column_of term)) term row value
+    (subst (λ v. IfSome (slice_get columns (column_of term)) (λ column. MayHold column v)) is (valid.fits (column_of term)))
+    (λ none. missing_past columns row (column_of term) valid (past_from_none columns (column_of term) none))
     is
 
 -- ---- each domain has a value

@@ -32,7 +32,7 @@ by_first : {P : Type 0} (one next : Option CheckError) (error : CheckError) → 
 by_first None next error h at_one at_next = at_next h
 by_first (Some one) next error h at_one at_next = at_one h
 
--- a refusal that stands under a test
+-- a refusal that holds under a test
 under_test : (b : Bool) (refusal : Option CheckError) (error : CheckError) → (if b then refusal else None) ≡ Some error → (b ≡ true) × (refusal ≡ Some error)
 under_test true refusal error h = (refl, h)
 under_test false refusal error h = absurd cc

@@ -1,11 +1,11 @@
--- A row that fits a table may stand in it.
+-- A row that fits a table may be in it.
 use Rattle.std.specs.Prelude.{Option, Some, None, IfSome, List, slice_get}
 use Rattle.filter_tree.specs.Datum.{Constant, Number, Truth, Bytes, Datum, Missing, Known, value_at}
 use Rattle.filter_tree.specs.Valid.{IsOf, Fits, IsValid}
 use Rattle.filter_tree.specs.declared.table.ColType.{ColType}
 use Rattle.filter_tree.specs.declared.table.ColType.TheVariants.{SmallInt, Integer, BigInt, Boolean, Text}
 use Rattle.filter_tree.specs.declared.table.Column.{Column}
-use Rattle.shard_checker.specs.Rows.{IsOfType, MayStand, IsTyped}
+use Rattle.shard_checker.specs.Rows.{IsOfType, MayHold, IsTyped}
 
 of_type : (kind : ColType) (constant : Constant) → IsOf kind constant → IsOfType kind constant
 of_type SmallInt (Number number) is = is
@@ -24,13 +24,13 @@ of_type Boolean (Bytes bytes) is = absurd is
 of_type Text (Number number) is = absurd is
 of_type Text (Truth truth) is = absurd is
 
-may_stand : (column : Column) (value : Datum) → Fits column value → MayStand column value
-may_stand column Missing fits = fits
-may_stand column (Known constant) fits = of_type column.kind constant fits
+may_hold : (column : Column) (value : Datum) → Fits column value → MayHold column value
+may_hold column Missing fits = fits
+may_hold column (Known constant) fits = of_type column.kind constant fits
 
-in_place : (found : Option Column) (value : Datum) → IfSome found (λ column. Fits column value) → IfSome found (λ column. MayStand column value)
+in_place : (found : Option Column) (value : Datum) → IfSome found (λ column. Fits column value) → IfSome found (λ column. MayHold column value)
 in_place None value fits = tt
-in_place (Some column) value fits = may_stand column value fits
+in_place (Some column) value fits = may_hold column value fits
 
-pub typed_of_valid : (columns : List Column) (cells : List Datum) → IsValid columns cells → IsTyped columns cells
-typed_of_valid columns cells valid = record { wide = valid.wide; fits = λ k. in_place (slice_get columns k) (value_at cells k) (valid.fits k) }
+pub typed_of_valid : (columns : List Column) (row : List Datum) → IsValid columns row → IsTyped columns row
+typed_of_valid columns row valid = record { wide = valid.wide; fits = λ k. in_place (slice_get columns k) (value_at row k) (valid.fits k) }

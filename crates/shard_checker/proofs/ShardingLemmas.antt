@@ -120,7 +120,7 @@ all_covered tables subscriptions number (publication ∷ publications) h (suc k)
 
 -- each row that fits the table of this number has one owner
 abbrev HasOwners : (ℕ → List s.ShareOf) → ℕ → Table → Type 0
-HasOwners shares number table = (cells : List Datum) → IsTyped table.columns cells → HasOneOwner (shares number) cells
+HasOwners shares number table = (row : List Datum) → IsTyped table.columns row → HasOneOwner (shares number) row
 
 all_owned : (plan : PlanOf) (subscriptions : List Subscription) (number : ℕ) (tables : List Table) (trees : List Tree) → length trees ≡ length tables
     → certificates_refusal is_empty plan subscriptions number tables trees ≡ None
@@ -148,31 +148,31 @@ no_share plan table number (first ∷ subscriptions) zero h = absurd cc
 no_share plan table number (first ∷ subscriptions) (suc k) h = no_share plan table (number + 1) subscriptions k h
 
 -- a subscriber takes what passes to it
-takes_by : (catalog : CatalogOf Expr) (plan : PlanOf) → TakesWhatPasses catalog plan → (table : ℕ) → table < length catalog.tables → (cells : List Datum)
+takes_by : (catalog : CatalogOf Expr) (plan : PlanOf) → TakesWhatPasses catalog plan → (table : ℕ) → table < length catalog.tables → (row : List Datum)
     (subscriber : ℕ) (found : Option Subscription) → slice_get catalog.subscriptions subscriber ≡ found
-    → s.takes (share_in (table_shares plan table 0 catalog.subscriptions) subscriber) cells ≡ passes catalog subscriber table cells
-takes_by catalog plan same table there cells subscriber None e =
-    ap (λ share. s.takes share cells) (no_share plan table 0 catalog.subscriptions subscriber e)
-    ∙ sym (ap (λ found. list_any (carries table cells) (listed_by catalog.publications found)) e)
-takes_by catalog plan same table there cells subscriber (Some subscription) e =
-    ap (λ share. s.takes share cells) (share_there plan table 0 catalog.subscriptions subscriber subscription e ∙ ap (λ n. share_at plan n table) (zero_more subscriber))
-    ∙ same.same subscriber table there cells
+    → s.takes (share_in (table_shares plan table 0 catalog.subscriptions) subscriber) row ≡ passes catalog subscriber table row
+takes_by catalog plan same table there row subscriber None e =
+    ap (λ share. s.takes share row) (no_share plan table 0 catalog.subscriptions subscriber e)
+    ∙ sym (ap (λ found. list_any (carries table row) (listed_by catalog.publications found)) e)
+takes_by catalog plan same table there row subscriber (Some subscription) e =
+    ap (λ share. s.takes share row) (share_there plan table 0 catalog.subscriptions subscriber subscription e ∙ ap (λ n. share_at plan n table) (zero_more subscriber))
+    ∙ same.same subscriber table there row
 
-one_owner : (catalog : CatalogOf Expr) (plan : PlanOf) → TakesWhatPasses catalog plan → (table : ℕ) → table < length catalog.tables → (cells : List Datum)
-    → HasOneOwner (table_shares plan table 0 catalog.subscriptions) cells → RowHasOneOwner catalog table cells
-one_owner catalog plan same table there cells owned = record {
+one_owner : (catalog : CatalogOf Expr) (plan : PlanOf) → TakesWhatPasses catalog plan → (table : ℕ) → table < length catalog.tables → (row : List Datum)
+    → HasOneOwner (table_shares plan table 0 catalog.subscriptions) row → RowHasOneOwner catalog table row
+one_owner catalog plan same table there row owned = record {
   owner = owned.owner;
-  takes_it = sym (takes_by catalog plan same table there cells owned.owner (slice_get catalog.subscriptions owned.owner) refl) ∙ owned.takes_it;
-  no_other = λ other h. owned.no_other other (takes_by catalog plan same table there cells other (slice_get catalog.subscriptions other) refl ∙ h);
+  takes_it = sym (takes_by catalog plan same table there row owned.owner (slice_get catalog.subscriptions owned.owner) refl) ∙ owned.takes_it;
+  no_other = λ other h. owned.no_other other (takes_by catalog plan same table there row other (slice_get catalog.subscriptions other) refl ∙ h);
 }
 
 table_there : (catalog : CatalogOf Expr) (plan : PlanOf) → TakesWhatPasses catalog plan → (number : ℕ) (found : Option Table) → slice_get catalog.tables number ≡ found
     → IfSome found (HasOwners (λ n. table_shares plan n 0 catalog.subscriptions) (0 + number))
-    → IfSome found (λ table. (cells : List Datum) → IsTyped table.columns cells → RowHasOneOwner catalog number cells)
+    → IfSome found (λ table. (row : List Datum) → IsTyped table.columns row → RowHasOneOwner catalog number row)
 table_there catalog plan same number None e owned = tt
-table_there catalog plan same number (Some table) e owned = λ cells valid.
-    one_owner catalog plan same number (slice_get_within catalog.tables number table e) cells
-    (subst (λ n. HasOneOwner (table_shares plan n 0 catalog.subscriptions) cells) (zero_more number) (owned cells valid))
+table_there catalog plan same number (Some table) e owned = λ row valid.
+    one_owner catalog plan same number (slice_get_within catalog.tables number table e) row
+    (subst (λ n. HasOneOwner (table_shares plan n 0 catalog.subscriptions) row) (zero_more number) (owned row valid))
 
 counted : (b : Bool) (error : CheckError) → (if b then None else Some error) ≡ None → b ≡ true
 counted true error h = refl

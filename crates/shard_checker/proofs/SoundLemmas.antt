@@ -33,30 +33,30 @@ use Rattle.shard_checker.proofs.Testing.{by_test, by_either, not_true, clash}
 
 -- ---- nodes that say that a term is empty
 
-missing_found : (columns : List Column) (cells : List Datum) (term : Term) (path : Path) → Agrees cells path → value_at cells (column_of term) ≡ Missing
+missing_found : (columns : List Column) (row : List Datum) (term : Term) (path : Path) → Agrees row path → value_at row (column_of term) ≡ Missing
     → has_value (kind_at columns (column_of term)) term path ≡ true
-missing_found columns cells term path agrees missing =
+missing_found columns row term path agrees missing =
     let some = some_member (kind_at columns (column_of term)) term in
-    value_found (kind_at columns (column_of term)) term path some.value some.in_domain (all_left cells term (Some some.value) path agrees (missing_term term cells missing))
+    value_found (kind_at columns (column_of term)) term path some.value some.in_domain (all_left row term (Some some.value) path agrees (missing_term term row missing))
 
-known_found : (columns : List Column) (cells : List Datum) (term : Term) (path : Path) (value : Constant) → IsTyped columns cells → Agrees cells path
-    → value_at cells (column_of term) ≡ Known value → has_value (kind_at columns (column_of term)) term path ≡ true
-known_found columns cells term path value valid agrees is =
-    let known = known_in_domain columns term cells value valid is in
-    value_found (kind_at columns (column_of term)) term path known.value known.in_domain (value_left cells term known.value path agrees known.is)
+known_found : (columns : List Column) (row : List Datum) (term : Term) (path : Path) (value : Constant) → IsTyped columns row → Agrees row path
+    → value_at row (column_of term) ≡ Known value → has_value (kind_at columns (column_of term)) term path ≡ true
+known_found columns row term path value valid agrees is =
+    let known = known_in_domain columns term row value valid is in
+    value_found (kind_at columns (column_of term)) term path known.value known.in_domain (value_left row term known.value path agrees known.is)
 
-some_found : (columns : List Column) (cells : List Datum) (term : Term) (path : Path) (value : Datum) → IsTyped columns cells → Agrees cells path
-    → value_at cells (column_of term) ≡ value → has_value (kind_at columns (column_of term)) term path ≡ true
-some_found columns cells term path Missing valid agrees is = missing_found columns cells term path agrees is
-some_found columns cells term path (Known value) valid agrees is = known_found columns cells term path value valid agrees is
+some_found : (columns : List Column) (row : List Datum) (term : Term) (path : Path) (value : Datum) → IsTyped columns row → Agrees row path
+    → value_at row (column_of term) ≡ value → has_value (kind_at columns (column_of term)) term path ≡ true
+some_found columns row term path Missing valid agrees is = missing_found columns row term path agrees is
+some_found columns row term path (Known value) valid agrees is = known_found columns row term path value valid agrees is
 
 -- no row that fits the columns agrees with a path that leaves a term empty
-empty_is : (columns : List Column) (cells : List Datum) (term : Term) (path : Path) → IsTyped columns cells → Agrees cells path → is_empty columns term path ≡ true → ⊥
-empty_is columns cells term path valid agrees h =
+empty_is : (columns : List Column) (row : List Datum) (term : Term) (path : Path) → IsTyped columns row → Agrees row path → is_empty columns term path ≡ true → ⊥
+empty_is columns row term path valid agrees h =
     by_either (is_null (column_of term) path && is_present columns (column_of term) path) (not (has_value (kind_at columns (column_of term)) term path)) h
     (λ torn. let both = both_true (is_null (column_of term) path) (is_present columns (column_of term) path) torn in
-    present_is columns cells (column_of term) path valid agrees both.1 (null_is cells (column_of term) path agrees both.0))
-    (λ none. clash (has_value (kind_at columns (column_of term)) term path) (some_found columns cells term path (value_at cells (column_of term)) valid agrees refl) (not_true _ none))
+    present_is columns row (column_of term) path valid agrees both.1 (null_is row (column_of term) path agrees both.0))
+    (λ none. clash (has_value (kind_at columns (column_of term)) term path) (some_found columns row term path (value_at row (column_of term)) valid agrees refl) (not_true _ none))
 
 -- a test that decides whether there is a refusal
 passed : (b : Bool) (error : CheckError) → (if b then None else Some error) ≡ None → b ≡ true
@@ -66,13 +66,13 @@ passed false error h = absurd cc
 empty_sound : (subject : Subject) (path : Path) (node : ℕ) (found : Option Term) → empty_refusal is_empty subject path node found ≡ None → IsSound subject.columns subject.shares path
 empty_sound subject path node None h = absurd cc
 empty_sound subject path node (Some term) h = record {
-  one_owner = λ cells valid agrees. absurd (empty_is subject.columns cells term path valid agrees (passed (is_empty subject.columns term path) (NotEmpty subject.table node) h));
+  one_owner = λ row valid agrees. absurd (empty_is subject.columns row term path valid agrees (passed (is_empty subject.columns term path) (NotEmpty subject.table node) h));
 }
 
 never_null_sound : (subject : Subject) (path : Path) (node : ℕ) (found : Option AtomOf) → never_null_refusal subject path node found ≡ None → IsSound subject.columns subject.shares path
 never_null_sound subject path node None h = absurd cc
 never_null_sound subject path node (Some atom) h = record {
-  one_owner = λ cells valid agrees. absurd (never_null_is subject.columns cells atom path valid agrees (passed (is_never_null subject.columns atom path) (MayBeNull subject.table node) h));
+  one_owner = λ row valid agrees. absurd (never_null_is subject.columns row atom path valid agrees (passed (is_never_null subject.columns atom path) (MayBeNull subject.table node) h));
 }
 
 -- ---- nodes that name an owner
@@ -88,20 +88,20 @@ surely_true mask Null sure has =
     let rest = both_true (not mask.falsity) (not mask.null) both.1 in
     absurd (clash mask.null has (not_true mask.null rest.1))
 
-must_take_is : (share : ShareOf) (cells : List Datum) (path : Path) → Agrees cells path → must_take share path ≡ true → takes share cells ≡ true
-must_take_is Nothing cells path agrees h = absurd cc
-must_take_is Everything cells path agrees h = refl
-must_take_is (Where filter) cells path agrees h = surely_true (possible_of filter path) (meaning filter cells) h (possible_holds filter path cells agrees)
+must_take_is : (share : ShareOf) (row : List Datum) (path : Path) → Agrees row path → must_take share path ≡ true → takes share row ≡ true
+must_take_is Nothing row path agrees h = absurd cc
+must_take_is Everything row path agrees h = refl
+must_take_is (Where filter) row path agrees h = surely_true (possible_of filter path) (meaning filter row) h (possible_holds filter path row agrees)
 
 has_true : (mask : Mask) (value : Tri) → member mask value ≡ true → is_true value ≡ true → mask.truth ≡ true
 has_true mask True has holds = has
 has_true mask False has holds = absurd cc
 has_true mask Null has holds = absurd cc
 
-may_take_is : (share : ShareOf) (cells : List Datum) (path : Path) → Agrees cells path → takes share cells ≡ true → may_take share path ≡ true
-may_take_is Nothing cells path agrees h = absurd cc
-may_take_is Everything cells path agrees h = refl
-may_take_is (Where filter) cells path agrees h = has_true (possible_of filter path) (meaning filter cells) (possible_holds filter path cells agrees) h
+may_take_is : (share : ShareOf) (row : List Datum) (path : Path) → Agrees row path → takes share row ≡ true → may_take share path ≡ true
+may_take_is Nothing row path agrees h = absurd cc
+may_take_is Everything row path agrees h = refl
+may_take_is (Where filter) row path agrees h = has_true (possible_of filter path) (meaning filter row) (possible_holds filter path row agrees) h
 
 first_is_not : (owner number : ℕ) (share : ShareOf) (path : Path) (rest : Option ℕ) → (if is_second owner number share path then Some number else rest) ≡ None
     → (is_second owner number share path ≡ false) × (rest ≡ None)
@@ -137,19 +137,19 @@ owner_sound subject path node owner (Some share) e h =
     let alone = no_refusal subject node (second_owner owner 0 subject.shares path) both.1 in
     let is : share_in subject.shares owner ≡ share = get_or_from_slice_get subject.shares owner share Nothing e in
     record {
-      one_owner = λ cells valid agrees. record {
+      one_owner = λ row valid agrees. record {
         owner = owner;
-        takes_it = ap (λ s. takes s cells) is ∙ must_take_is share cells path agrees both.0;
-        no_other = λ other h. let there = no_second owner 0 subject.shares path alone other (may_take_is (share_in subject.shares other) cells path agrees h) in omega arith;
+        takes_it = ap (λ s. takes s row) is ∙ must_take_is share row path agrees both.0;
+        no_other = λ other h. let there = no_second owner 0 subject.shares path alone other (may_take_is (share_in subject.shares other) row path agrees h) in omega arith;
       };
     }
 
 -- ---- splits
 
-agrees_longer : (cells : List Datum) (path : Path) (atom : AtomOf) (value : Tri) → Agrees cells path → atom_meaning atom cells ≡ value
-    → Agrees cells (path ++ (atom, value) ∷ [])
-agrees_longer cells [] atom value agrees is = (is, tt)
-agrees_longer cells (entry ∷ path) atom value agrees is = (agrees.0, agrees_longer cells path atom value agrees.1 is)
+agrees_longer : (row : List Datum) (path : Path) (atom : AtomOf) (value : Tri) → Agrees row path → atom_meaning atom row ≡ value
+    → Agrees row (path ++ (atom, value) ∷ [])
+agrees_longer row [] atom value agrees is = (is, tt)
+agrees_longer row (entry ∷ path) atom value agrees is = (agrees.0, agrees_longer row path atom value agrees.1 is)
 
 first_none : (one next : Option CheckError) → first_of one next ≡ None → (one ≡ None) × (next ≡ None)
 first_none None next h = (refl, h)
@@ -158,10 +158,10 @@ first_none (Some error) next h = absurd cc
 -- a row goes to the branch of the value that the atom has on it
 one_branch : (columns : List Column) (shares : List ShareOf) (path : Path) (atom : AtomOf)
     → IsSound columns shares (path ++ (atom, True) ∷ []) → IsSound columns shares (path ++ (atom, False) ∷ []) → IsSound columns shares (path ++ (atom, Null) ∷ [])
-    → (cells : List Datum) (value : Tri) → IsTyped columns cells → Agrees cells path → atom_meaning atom cells ≡ value → HasOneOwner shares cells
-one_branch columns shares path atom if_true if_false if_null cells True valid agrees is = if_true.one_owner cells valid (agrees_longer cells path atom True agrees is)
-one_branch columns shares path atom if_true if_false if_null cells False valid agrees is = if_false.one_owner cells valid (agrees_longer cells path atom False agrees is)
-one_branch columns shares path atom if_true if_false if_null cells Null valid agrees is = if_null.one_owner cells valid (agrees_longer cells path atom Null agrees is)
+    → (row : List Datum) (value : Tri) → IsTyped columns row → Agrees row path → atom_meaning atom row ≡ value → HasOneOwner shares row
+one_branch columns shares path atom if_true if_false if_null row True valid agrees is = if_true.one_owner row valid (agrees_longer row path atom True agrees is)
+one_branch columns shares path atom if_true if_false if_null row False valid agrees is = if_false.one_owner row valid (agrees_longer row path atom False agrees is)
+one_branch columns shares path atom if_true if_false if_null row Null valid agrees is = if_null.one_owner row valid (agrees_longer row path atom Null agrees is)
 
 split_sound : (subject : Subject) (path : Path) (node : ℕ) (found : Option AtomOf) (if_true if_false if_null : Path → Option CheckError)
     → ((longer : Path) → if_true longer ≡ None → IsSound subject.columns subject.shares longer)
@@ -173,9 +173,9 @@ split_sound subject path node (Some atom) if_true if_false if_null at_true at_fa
     let both = first_none (if_true (path ++ (atom, True) ∷ [])) (first_of (if_false (path ++ (atom, False) ∷ [])) (if_null (path ++ (atom, Null) ∷ []))) h in
     let rest = first_none (if_false (path ++ (atom, False) ∷ [])) (if_null (path ++ (atom, Null) ∷ [])) both.1 in
     record {
-      one_owner = λ cells valid agrees. one_branch subject.columns subject.shares path atom
+      one_owner = λ row valid agrees. one_branch subject.columns subject.shares path atom
           (at_true (path ++ (atom, True) ∷ []) both.0) (at_false (path ++ (atom, False) ∷ []) rest.0) (at_null (path ++ (atom, Null) ∷ []) rest.1)
-          cells (atom_meaning atom cells) valid agrees refl;
+          row (atom_meaning atom row) valid agrees refl;
     }
 
 pub refusal_sound : (subject : Subject) (tree : Tree) (path : Path) (node : ℕ) → refusal is_empty subject tree path node ≡ None → IsSound subject.columns subject.shares path
@@ -194,5 +194,5 @@ refusal_sound subject (NeverNull index) path node h = never_null_sound subject p
 
 -- a certificate without a refusal
 pub certificate_sound : (number : ℕ) (table : Table) (shares : List ShareOf) (tree : Tree) → first_refusal is_empty number table shares tree ≡ None
-    → (cells : List Datum) → IsTyped table.columns cells → HasOneOwner shares cells
-certificate_sound number table shares tree h cells valid = (refusal_sound (subject_of number table.columns shares) tree [] 0 h).one_owner cells valid tt
+    → (row : List Datum) → IsTyped table.columns row → HasOneOwner shares row
+certificate_sound number table shares tree h row valid = (refusal_sound (subject_of number table.columns shares) tree [] 0 h).one_owner row valid tt

@@ -148,10 +148,10 @@ takes_alike catalog plan sound own subscriber number (Some table) one other ther
 value_kept : (columns : List ℕ) (number : ℕ) (row : List Datum) (place : ℕ) → has columns (number + place) ≡ true
     → value_at (blanked_from columns number row) place ≡ value_at row place
 value_kept columns number [] place h = refl
-value_kept columns number (cell ∷ cells) zero h =
-    ap (λ b. if b then cell else Missing) (subst (λ n. has columns n ≡ true) (at_zero number) h)
-value_kept columns number (cell ∷ cells) (suc place) h =
-    value_kept columns (number + 1) cells place (subst (λ n. has columns n ≡ true) (at_next number place) h)
+value_kept columns number (value ∷ values) zero h =
+    ap (λ b. if b then value else Missing) (subst (λ n. has columns n ≡ true) (at_zero number) h)
+value_kept columns number (value ∷ values) (suc place) h =
+    value_kept columns (number + 1) values place (subst (λ n. has columns n ≡ true) (at_next number place) h)
 
 values_kept : (columns part : List ℕ) (row : List Datum) → ((column : ℕ) → has part column ≡ true → has columns column ≡ true)
     → values_at part (blanked_from columns 0 row) ≡ values_at part row
@@ -331,7 +331,7 @@ one_owner catalog plan own number within row one = record {
 
 one_of_fitting : (catalog : CatalogOf Expr) (plan : PlanOf) → TakesWhatPasses catalog plan → (number : ℕ) → number < length catalog.tables
     → (found : Option Table) (row : List Datum) → slice_get catalog.tables number ≡ found → is_none (fault_in found row) ≡ true
-    → IfSome found (λ table. (cells : List Datum) → IsTyped table.columns cells → RowHasOneOwner catalog number cells) → PassesToOne (setting_of catalog plan) number row
+    → IfSome found (λ table. (row : List Datum) → IsTyped table.columns row → RowHasOneOwner catalog number row) → PassesToOne (setting_of catalog plan) number row
 one_of_fitting catalog plan own number within None row there h sound = absurd (is_there catalog.tables number within there)
 one_of_fitting catalog plan own number within (Some table) row there h sound =
     one_owner catalog plan own number within row (sound row (typed_of_valid table.columns row (valid_from_no_fault table.columns row (no_fault (row_fault table.columns row) h))))

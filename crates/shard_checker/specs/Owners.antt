@@ -16,10 +16,10 @@ abbrev pub share_in : List ShareOf → ℕ → ShareOf
 share_in shares number = slice_index_or shares number Nothing
 
 -- exactly one share takes the row
-pub record HasOneOwner (shares : List ShareOf) (cells : List Datum) : Type 0 where
+pub record HasOneOwner (shares : List ShareOf) (row : List Datum) : Type 0 where
   pub owner : ℕ
-  pub takes_it : takes (share_in shares owner) cells ≡ true
-  pub no_other : (other : ℕ) → takes (share_in shares other) cells ≡ true → other ≡ owner
+  pub takes_it : takes (share_in shares owner) row ≡ true
+  pub no_other : (other : ℕ) → takes (share_in shares other) row ≡ true → other ≡ owner
 
 -- the set has true, and nothing else
 abbrev pub is_surely_true : Mask → Bool

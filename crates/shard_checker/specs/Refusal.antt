@@ -87,6 +87,6 @@ refusal is_empty subject (NeverNull index) path node = never_null_refusal subjec
 abbrev pub first_refusal : Test → ℕ → Table → List ShareOf → Tree → Option CheckError
 first_refusal is_empty number table shares tree = refusal is_empty (subject_of number table.columns shares) tree [] 0
 
--- each row that may stand in the columns and agrees with the path has one owner
+-- each row that may be in the columns and agrees with the path has one owner
 pub record IsSound (columns : List Column) (shares : List ShareOf) (path : Path) : Type 0 where
-  pub one_owner : (cells : List Datum) → IsTyped columns cells → Agrees cells path → HasOneOwner shares cells
+  pub one_owner : (row : List Datum) → IsTyped columns row → Agrees row path → HasOneOwner shares row

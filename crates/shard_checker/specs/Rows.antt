@@ -1,4 +1,4 @@
--- Which rows may stand in a table: as wide as it, with a null only where the column takes one and otherwise a value of the column's type. A text may be of any length, also longer than those that are read. "8.1 Numeric Types" and "5.4 Constraints".
+-- Which rows may be in a table: as wide as it, with a null only where the column takes one and otherwise a value of the column's type. A text may be of any length, also longer than those that are read. "8.1 Numeric Types" and "5.4 Constraints".
 use Rattle.std.specs.Prelude.{◌≡◌, ℕ, false, List, length, IfSome, slice_get}
 use Rattle.filter_tree.specs.Datum.{Constant, Number, Truth, Bytes, Datum, Missing, Known, value_at}
 use Rattle.filter_tree.specs.Valid.{IsWithin}
@@ -15,11 +15,11 @@ IsOfType Boolean (Truth truth) = Unit {0}
 IsOfType Text (Bytes bytes) = Unit {0}
 IsOfType _ _ = ⊥
 
--- the value may stand in the column
-abbrev pub MayStand : Column → Datum → Type 0
-MayStand column Missing = column.not_null ≡ false
-MayStand column (Known constant) = IsOfType column.kind constant
+-- the value may be in the column
+abbrev pub MayHold : Column → Datum → Type 0
+MayHold column Missing = column.not_null ≡ false
+MayHold column (Known constant) = IsOfType column.kind constant
 
-pub record IsTyped (columns : List Column) (cells : List Datum) : Type 0 where
-  pub wide : length cells ≡ length columns
-  pub fits : (k : ℕ) → IfSome (slice_get columns k) (λ column. MayStand column (value_at cells k))
+pub record IsTyped (columns : List Column) (row : List Datum) : Type 0 where
+  pub wide : length row ≡ length columns
+  pub fits : (k : ℕ) → IfSome (slice_get columns k) (λ column. MayHold column (value_at row k))

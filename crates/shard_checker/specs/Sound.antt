@@ -1,4 +1,4 @@
--- When the sharding of a catalog is sound: each row that may stand in its table passes to exactly one subscriber, and what is taken publishes the operations and names the columns by which rows move between subscribers. PostgreSQL 15, "Logical Replication", 31.1 Publication and 31.3 Row Filters.
+-- When the sharding of a catalog is sound: each row that may be in its table passes to exactly one subscriber, and what is taken publishes the operations and names the columns by which rows move between subscribers. PostgreSQL 15, "Logical Replication", 31.1 Publication and 31.3 Row Filters.
 use Rattle.std.specs.Prelude.{◌≡◌, ℕ, ◌==◌, Bool, true, false, List, Option, Some, None, IfSome, slice_get}
 use Rattle.std.specs.List.{list_any, list_all}
 use Rattle.filter_tree.specs.Datum.{Datum}
@@ -20,10 +20,10 @@ abbrev pub is_taken : List Subscription → ℕ → Bool
 is_taken subscriptions publication = list_any (is_listed publication) subscriptions
 
 -- exactly one subscriber has the row of the table
-pub record RowHasOneOwner (catalog : CatalogOf Expr) (table : ℕ) (cells : List Datum) : Type 0 where
+pub record RowHasOneOwner (catalog : CatalogOf Expr) (table : ℕ) (row : List Datum) : Type 0 where
   pub owner : ℕ
-  pub takes_it : passes catalog owner table cells ≡ true
-  pub no_other : (other : ℕ) → passes catalog other table cells ≡ true → other ≡ owner
+  pub takes_it : passes catalog owner table row ≡ true
+  pub no_other : (other : ℕ) → passes catalog other table row ≡ true → other ≡ owner
 
 pub record PublishesChanges (publishes : Operations) : Type 0 where
   pub inserts : publishes.insert ≡ true
@@ -42,8 +42,8 @@ entry_is_covered tables entry = is_covered_by (slice_get tables entry.table) ent
 
 -- Tables and publications by their numbers.
 pub record IsSound (catalog : CatalogOf Expr) : Type 0 where
-  -- each row that may stand in a table passes to exactly one subscriber
-  pub one_owner : (number : ℕ) → IfSome (slice_get catalog.tables number) (λ table. (cells : List Datum) → IsTyped table.columns cells → RowHasOneOwner catalog number cells)
+  -- each row that may be in a table passes to exactly one subscriber
+  pub one_owner : (number : ℕ) → IfSome (slice_get catalog.tables number) (λ table. (row : List Datum) → IsTyped table.columns row → RowHasOneOwner catalog number row)
   -- each publication that is taken publishes insert, update, delete and truncate
   pub publishes : (number : ℕ) → is_taken catalog.subscriptions number ≡ true → IfSome (slice_get catalog.publications number) (λ publication. PublishesChanges publication.publishes)
   -- and carries only tables that are there, by filters that name only columns of their replica identities

@@ -83,7 +83,7 @@ fn check_tree<A: Allocator, B: Allocator>(
     Ok(())
 }
 
-/// Checks that each row that may stand in the table, with texts of any length, is taken by exactly one of the shares, as
+/// Checks that each row that may be in the table, with texts of any length, is taken by exactly one of the shares, as
 /// the certificate says it is. The error is that of the first node, in the order in which a certificate is written, that
 /// says something that isn't so, or `OutOfMemory`; the table's number in it is 0. Any certificate is answered. Its depth
 /// takes stack.
@@ -98,7 +98,7 @@ pub fn check_one<A: Allocator, B: Allocator>(
     cert: &Cert<B>,
 ) -> Result<(), CheckError>
     ensures sound { OnOk result
-        ((cells : List Datum) → IsTyped table.now.columns cells → HasOneOwner (shares_view shares.now) cells) }
+        ((row : List Datum) → IsTyped table.now.columns row → HasOneOwner (shares_view shares.now) row) }
     ensures exact { (test : Test) → IsEmptiness test →
         Checks (spec.first_refusal test 0 table.now (shares_view shares.now) (tree_view cert.now)) result }
     ensures wrong { IfRefused result (CertificateIsWrong 0 table.now (shares_view shares.now) (tree_view cert.now)) }

@@ -142,7 +142,7 @@ fn check_sharding<A: Allocator>(
     Ok(())
 }
 
-/// Checks that the sharding of the catalog is sound: that each row that may stand in its table, with texts of any length,
+/// Checks that the sharding of the catalog is sound: that each row that may be in its table, with texts of any length,
 /// passes to exactly one subscriber, as the certificates of the tables, in their order, say it does; that each publication
 /// that a subscription takes publishes insert, update, delete and truncate, and carries only tables that are there, by
 /// filters that name only columns of their replica identities; and that each table's replica identity tells its rows
@@ -157,7 +157,7 @@ fn check_sharding<A: Allocator>(
 /// table whose replica identity doesn't tell its rows apart; a table that isn't there, or a column that a filter names and
 /// the replica identity lacks, by publications that are taken, their entries, and columns in the order of first
 /// appearance; another number of certificates than of tables; and then that of the first certificate, as `check_one` has
-/// it, with the table's number. `OutOfMemory` may stand in place of these, but of none of the first two sorts (`memory`).
+/// it, with the table's number. `OutOfMemory` may come in place of these, but of none of the first two sorts (`memory`).
 /// What an error says of what it names is so (`wrong`). With an error the catalog and the plan are dropped.
 ///
 /// PostgreSQL 15, "Logical Replication", 31.3 Row Filters.

@@ -148,7 +148,7 @@ fn has_named_number<A: Allocator>(range: Range, term: Term, path: &[(&Atom<A>, T
 
 /// Whether a number of the range is left to the term.
 ///
-/// Numbers between which no atom's constant stands are left or not together, so the least one of the range and those at
+/// Numbers with no constant of an atom between them are left or not together, so the least one of the range and those at
 /// the constants and directly after them speak for all.
 fn has_number<A: Allocator>(range: Range, term: Term, path: &[(&Atom<A>, Tri)]) -> bool
     ensures { result ≡ trying.has_number range term (path_view path.now) }

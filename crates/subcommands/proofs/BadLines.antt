@@ -24,11 +24,11 @@ module _ (wanted : RowOutput) (number : ℕ) (carriers : List CarrierOf) (column
   unreadable_line error (Some wrong) outcome line is known tells same =
       subst (λ (o : Result (List Datum) Fault). IsLineOf wanted number carriers columns o line) (sym tells) (record { error = error; tells = (refl, is); is = same })
 
-  invalid_line : (cells : List Datum) (wrong : RowFault) (outcome : Result (List Datum) Fault) (line : List ℕ) → outcome ≡ Ok cells → row_fault columns cells ≡ Some wrong
+  invalid_line : (row : List Datum) (wrong : RowFault) (outcome : Result (List Datum) Fault) (line : List ℕ) → outcome ≡ Ok row → row_fault columns row ≡ Some wrong
       → line ≡ bad_line (Invalid wrong) → IsLineOf wanted number carriers columns outcome line
-  invalid_line cells wrong outcome line read bad same =
+  invalid_line row wrong outcome line read bad same =
       subst (λ (o : Result (List Datum) Fault). IsLineOf wanted number carriers columns o line) (sym read)
-      (same ∙ sym (ap (λ (f : Option RowFault). line_by f (told wanted number cells carriers)) bad))
+      (same ∙ sym (ap (λ (f : Option RowFault). line_by f (told wanted number row carriers)) bad))
 
   -- a row that has no answer has the line of its fault
   pub bad_told : (text line : List ℕ) (bad : BadRow) → IsReading columns text (Err bad) → is_out_of_memory bad ≡ false → line ≡ bad_line bad → IsLine wanted number carriers columns text line

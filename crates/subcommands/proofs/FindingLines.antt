@@ -31,7 +31,7 @@ use Rattle.subcommands.specs.declared.failure.Status.{Status}
 finding_is_true : (catalog : CatalogOf Expr) (plan : PlanOf) (number : ℕ) (made : Made) → plan ≡ plan_of catalog
     → IfCert made (IsAccepted catalog plan number) → IfCounter made (IsCounter catalog plan number) → IsTrueOf catalog number (finding_view made)
 finding_is_true catalog plan number (Cert cert) own accepted counter = subst (λ (p : PlanOf). IsAccepted catalog p number (tree_view cert)) own accepted
-finding_is_true catalog plan number (Counter cells owners) own accepted counter = subst (λ (p : PlanOf). IsCounter catalog p number cells owners.items) own counter
+finding_is_true catalog plan number (Counter row owners) own accepted counter = subst (λ (p : PlanOf). IsCounter catalog p number row owners.items) own counter
 finding_is_true catalog plan number Unknown own accepted counter = tt
 finding_is_true catalog plan number TooLarge own accepted counter = tt
 finding_is_true catalog plan number OutOfMemory own accepted counter = tt

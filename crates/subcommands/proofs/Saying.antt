@@ -24,19 +24,19 @@ with_said-join ([] ∷ pieces) said full = absurd (omega arith)
 with_said-join ((byte ∷ first) ∷ []) said full = refl
 with_said-join ((byte ∷ first) ∷ next ∷ pieces) said full = sym (join-next (byte ∷ first) (next ∷ pieces) said)
 
-said_starts_full : (cells : List Datum) (carriers : List CarrierOf) → StartsFull (map (said_by cells) carriers)
-said_starts_full cells [] = tt
-said_starts_full cells (carrier ∷ carriers) = omega (arith, length-append carrier.name (61 ∷ word_of (answer_of cells carrier.filter)))
+said_starts_full : (row : List Datum) (carriers : List CarrierOf) → StartsFull (map (said_by row) carriers)
+said_starts_full row [] = tt
+said_starts_full row (carrier ∷ carriers) = omega (arith, length-append carrier.name (61 ∷ word_of (answer_of row carrier.filter)))
 
-line_of-append : (cells : List Datum) (carriers : List CarrierOf) (next : CarrierOf) → with_said (line_of cells carriers) (said_by cells next) ≡ line_of cells (carriers ++ next ∷ [])
-line_of-append cells carriers next =
-    with_said-join (map (said_by cells) carriers) (said_by cells next) (said_starts_full cells carriers)
-    ∙ ap (join_with_byte 32) (sym (map-append (said_by cells) carriers (next ∷ [])))
+line_of-append : (row : List Datum) (carriers : List CarrierOf) (next : CarrierOf) → with_said (line_of row carriers) (said_by row next) ≡ line_of row (carriers ++ next ∷ [])
+line_of-append row carriers next =
+    with_said-join (map (said_by row) carriers) (said_by row next) (said_starts_full row carriers)
+    ∙ ap (join_with_byte 32) (sym (map-append (said_by row) carriers (next ∷ [])))
 
 -- the line of one more carrier of a list
-pub line_of-next : (cells : List Datum) (carriers : List Carrier) (i : ℕ) (next : Carrier) → i < length carriers → next ≡ get_or carriers i next
-    → line_of cells (map carrier_view (take (i + 1) carriers)) ≡ with_said (line_of cells (map carrier_view (take i carriers))) (said_by cells (carrier_view next))
-line_of-next cells carriers i next within e =
+pub line_of-next : (row : List Datum) (carriers : List Carrier) (i : ℕ) (next : Carrier) → i < length carriers → next ≡ get_or carriers i next
+    → line_of row (map carrier_view (take (i + 1) carriers)) ≡ with_said (line_of row (map carrier_view (take i carriers))) (said_by row (carrier_view next))
+line_of-next row carriers i next within e =
     let front = take i carriers in
     let more : take (i + 1) carriers ≡ front ++ next ∷ [] = take_more carriers i next within ∙ ap (λ p. front ++ p ∷ []) (sym e) in
-    ap (λ c. line_of cells (map carrier_view c)) more ∙ ap (line_of cells) (map-append carrier_view front (next ∷ [])) ∙ sym (line_of-append cells (map carrier_view front) (carrier_view next))
+    ap (λ c. line_of row (map carrier_view c)) more ∙ ap (line_of row) (map-append carrier_view front (next ∷ [])) ∙ sym (line_of-append row (map carrier_view front) (carrier_view next))

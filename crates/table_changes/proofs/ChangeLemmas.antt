@@ -4,9 +4,9 @@ use Rattle.std.specs.Prelude.{Option, Some, None, ◌==◌, is_none, is_some}
 use Rattle.std.specs.List.{list_any}
 use Rattle.std.specs.Cmp.{unsigned_Decides}
 use Rattle.filter_tree.specs.Datum.{Datum}
-use Rattle.filter_tree.specs.Same.{same_cells}
+use Rattle.filter_tree.specs.Same.{same_row}
 use Rattle.filter_tree.specs.declared.validity.RowFault.{RowFault}
-use Rattle.filter_tree.proofs.SameLemmas.{both_true, equal_from_same_cells}
+use Rattle.filter_tree.proofs.SameLemmas.{both_true, equal_from_same_row}
 use Rattle.table_changes.specs.Changes.{is_this, is_named, stands_after, BeginsWell}
 use Rattle.table_changes.specs.Commands.{Command, Insert, Update, Delete, Truncate, CommandFault, NoTable, NoSuchRow, DuplicateKey, unless, unless_unfit, named, all_known, fault_of, applied, all_applied, numbered, first_fault}
 use Rattle.table_changes.specs.Setting.{Setting, fits}
@@ -134,9 +134,9 @@ fits_by setting table row known fit = rw (known, fit) refl
 
 this_fits : (setting : Setting) (table : ℕ) (row : List Datum) (other : ℕ) (another : List Datum) → is_this table row other another ≡ true → fits setting table row ≡ true → fits setting other another ≡ true
 this_fits setting table row other another h fit =
-    let both = both_true (table == other) (same_cells row another) h in
+    let both = both_true (table == other) (same_row row another) h in
     subst (λ t. fits setting t another ≡ true) ((unsigned_Decides table other).0 both.0)
-    (subst (λ r. fits setting table r ≡ true) (equal_from_same_cells row another both.1) fit)
+    (subst (λ r. fits setting table r ≡ true) (equal_from_same_row row another both.1) fit)
 
 -- a row that is there after a command was there before, or fits its table
 came_from : {P : Type 0} (setting : Setting) (tables : Tables) (command : Command) → fault_of setting tables command ≡ None → (table : ℕ) (row : List Datum)

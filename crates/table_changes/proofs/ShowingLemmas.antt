@@ -4,8 +4,8 @@ use Rattle.std.specs.Prelude.{Option, Some, None, nat_eq, filter, filter_map, op
 use Rattle.std.specs.List.{list_any, cons_option}
 use Rattle.filter_tree.specs.Datum.{Datum}
 use Rattle.filter_tree.specs.Lists.{distinct}
-use Rattle.filter_tree.specs.Same.{same_cells}
-use Rattle.filter_tree.proofs.SameLemmas.{equal_from_same_cells}
+use Rattle.filter_tree.specs.Same.{same_row}
+use Rattle.filter_tree.proofs.SameLemmas.{equal_from_same_row}
 use Rattle.table_changes.specs.Commands.{Command, Insert, Update, Delete, Truncate, named, fault_of, applied, first_fault}
 use Rattle.table_changes.specs.Outs as o
 use Rattle.table_changes.specs.Outs.{asked, out_by, out_gone, stands_for, got, as_recorded}
@@ -78,9 +78,9 @@ record TellsOld (setting : Setting) (table : ℕ) (old new : List Datum) : Type 
   gone : (subscriber : ℕ) → setting.passes subscriber table old ≡ true → setting.passes subscriber table new ≡ false → part ≡ part_of setting table old None
 
 by_columns : (setting : Setting) → Covered setting → (table : ℕ) (old new : List Datum) → setting.recorded table ≡ Columns → (b : Bool)
-    → same_cells (setting.identity table old) (setting.identity table new) ≡ b → TellsOld setting table old new
+    → same_row (setting.identity table old) (setting.identity table new) ≡ b → TellsOld setting table old new
 by_columns setting covered table old new h true same =
-    let one : setting.identity table old ≡ setting.identity table new = equal_from_same_cells (setting.identity table old) (setting.identity table new) same in
+    let one : setting.identity table old ≡ setting.identity table new = equal_from_same_row (setting.identity table old) (setting.identity table new) same in
     record {
       part = None;
       is = ap (λ as_it. part_by as_it (setting.identity table) (setting.blanked table) old (Some new)) h
@@ -98,7 +98,7 @@ by_columns setting covered table old new h false differs = record {
 
 old_by : (setting : Setting) → Covered setting → (table : ℕ) (old new : List Datum) (as_it : Recorded) → setting.recorded table ≡ as_it → TellsOld setting table old new
 old_by setting covered table old new Columns h =
-    by_columns setting covered table old new h (same_cells (setting.identity table old) (setting.identity table new)) refl
+    by_columns setting covered table old new h (same_row (setting.identity table old) (setting.identity table new)) refl
 old_by setting covered table old new Whole h = record {
   part = Some (r.Full old);
   is = ap (λ as_it. part_by as_it (setting.identity table) (setting.blanked table) old (Some new)) h;

@@ -4,8 +4,8 @@ use Rattle.std.specs.Prelude.{Option, Some, None, ◌==◌, is_none, is_some, sl
 use Rattle.std.specs.List.{list_any}
 use Rattle.std.specs.Cmp.{unsigned_Decides}
 use Rattle.filter_tree.specs.Datum.{Datum}
-use Rattle.filter_tree.specs.Same.{same_cells}
-use Rattle.filter_tree.proofs.SameLemmas.{both_true, equal_from_same_cells, same_cells_of_equal}
+use Rattle.filter_tree.specs.Same.{same_row}
+use Rattle.filter_tree.proofs.SameLemmas.{both_true, equal_from_same_row, same_row_of_equal}
 use Rattle.table_changes.specs.Changes.{is_this, StayWhereTheyBelong}
 use Rattle.table_changes.specs.Keys.{UniqueKey, Keys, value_in, key_at, HasPrimaryKeys}
 use Rattle.table_changes.specs.Tables.{Tables, is_row, is_own, put, put_in, take_out, emptied, found_at, is_free_from, is_free, holds, Stands}
@@ -38,11 +38,11 @@ some_is one other h = cc
 
 pub row_found : (found : Option (List Datum)) (row : List Datum) → is_row found row ≡ true → found ≡ Some row
 row_found None row h = absurd cc
-row_found (Some found) row h = ap Some (equal_from_same_cells found row h)
+row_found (Some found) row h = ap Some (equal_from_same_row found row h)
 
 found_row : (found : Option (List Datum)) (row : List Datum) → found ≡ Some row → is_row found row ≡ true
 found_row None row h = absurd cc
-found_row (Some found) row h = same_cells_of_equal found row (some_is found row h)
+found_row (Some found) row h = same_row_of_equal found row (some_is found row h)
 
 -- ---- the places of a row
 
@@ -222,8 +222,8 @@ this_own : (keys : Keys) (table : ℕ) (row : List Datum) (other : ℕ) (another
     → is_this table row other another ≡ false
 this_own keys table row other another value key h = by_test (is_this table row other another)
     (λ same. absurd (
-    let both = both_true (table == other) (same_cells row another) same in
-    let rows : row ≡ another = equal_from_same_cells row another both.1 in
+    let both = both_true (table == other) (same_row row another) same in
+    let rows : row ≡ another = equal_from_same_row row another both.1 in
     let own = own_of keys table row other 0 value ((unsigned_Decides table other).0 both.0) (subst (λ r. key_at keys other 0 r ≡ Some value) (sym rows) key) in
     cc))
     (λ differs. differs)
@@ -243,7 +243,7 @@ holds_with keys keyed tables table row free other another =
     free_place keys tables other row (subst (λ t. is_free keys tables t row ≡ true) place.table_is free) 0 its.value place.value_is in
     let tables_same : (table == other) ≡ true = (unsigned_Decides table other).1 place.table_is in
     after ∙ ap (λ found. is_row found another) (put_own keys tables table row (Some row) other 0 its.value own)
-    ∙ sym (ap (λ b. b && same_cells row another) tables_same)
+    ∙ sym (ap (λ b. b && same_row row another) tables_same)
     ∙ sym (or_false (is_this table row other another))
     ∙ ap (λ b. is_this table row other another || b) (sym (before ∙ ap (λ found. is_row found another) none)))
     (λ elsewhere.
@@ -265,8 +265,8 @@ holds_without keys keyed tables stands table place at row there other another =
     stands.whole other place 0 at its.value row (subst (λ t. tables t place at ≡ Some row) at_key.table_is there) at_key.value_is in
     let tables_same : (table == other) ≡ true = (unsigned_Decides table other).1 at_key.table_is in
     after ∙ ap (λ o. is_row o another) (put_own keys tables table row None other 0 its.value own)
-    ∙ sym (and_not (same_cells row another))
-    ∙ ap (λ b. same_cells row another && not (b && same_cells row another)) (sym tables_same)
+    ∙ sym (and_not (same_row row another))
+    ∙ ap (λ b. same_row row another && not (b && same_row row another)) (sym tables_same)
     ∙ ap (λ b. b && not (is_this table row other another)) (sym (before ∙ ap (λ o. is_row o another) found)))
     (λ elsewhere.
     after ∙ ap (λ o. is_row o another) (put_elsewhere keys tables table row None other 0 its.value elsewhere)

@@ -2,7 +2,7 @@
 use Rattle.std.specs.Prelude.{◌≡◌, ℕ, ◌==◌, Bool, true, not, ◌&&◌, ◌||◌, List, Some, None}
 use Rattle.std.specs.List.{list_any}
 use Rattle.filter_tree.specs.Datum.{Datum}
-use Rattle.filter_tree.specs.Same.{same_cells}
+use Rattle.filter_tree.specs.Same.{same_row}
 use Rattle.table_changes.specs.Commands.{Command, Insert, Update, Delete, Truncate, named, fault_of, applied, all_applied, first_fault}
 use Rattle.table_changes.specs.Keys.{Keys, key_at, HasPrimaryKeys}
 use Rattle.table_changes.specs.Setting.{Setting}
@@ -11,7 +11,7 @@ use Rattle.table_changes.specs.Tables.{Tables, is_row, no_rows, put_in, take_out
 
 -- the table and the row are these
 abbrev pub is_this : ℕ → List Datum → ℕ → List Datum → Bool
-is_this table row other another = (table == other) && same_cells row another
+is_this table row other another = (table == other) && same_row row another
 
 -- ---- rows that come and go
 

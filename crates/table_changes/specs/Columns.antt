@@ -14,8 +14,8 @@ is_null (Known constant) = false
 abbrev pub unless_null : List Datum → Option (List Datum)
 unless_null values = if list_any is_null values then None else Some values
 
--- the cells that begin at this number, with nulls outside these columns
+-- the values that begin at this number, with nulls outside these columns
 abbrev pub blanked_from : List ℕ → ℕ → List Datum → List Datum
 blanked_from columns number [] = []
-blanked_from columns number (cell ∷ cells) =
-    (if list_any (λ column. column == number) columns then cell else Missing) ∷ blanked_from columns (number + 1) cells
+blanked_from columns number (value ∷ values) =
+    (if list_any (λ column. column == number) columns then value else Missing) ∷ blanked_from columns (number + 1) values

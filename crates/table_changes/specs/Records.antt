@@ -2,7 +2,7 @@
 use Rattle.std.specs.Prelude.{ℕ, nat_eq, Bool, false, List, [], ◌∷◌, Option, Some, None, if◌then◌else◌}
 use Rattle.filter_tree.specs.Datum.{Datum}
 use Rattle.filter_tree.specs.Lists.{distinct}
-use Rattle.filter_tree.specs.Same.{same_cells}
+use Rattle.filter_tree.specs.Same.{same_row}
 use Rattle.table_changes.specs.Commands as c
 use Rattle.table_changes.specs.Setting.{Setting, Recorded, Columns, Whole, Nowhere}
 use Rattle.table_changes.specs.Tables.{Tables}
@@ -17,7 +17,7 @@ pub data PartOf : Type 0 where
 -- there is a new row, and it has the old one's identity
 abbrev pub is_kept : (List Datum → List Datum) → List Datum → Option (List Datum) → Bool
 is_kept identity old None = false
-is_kept identity old (Some new) = same_cells (identity old) (identity new)
+is_kept identity old (Some new) = same_row (identity old) (identity new)
 
 -- What is recorded of an old row that goes, or that a new one replaces. Where columns identify rows it is recorded only if one of them changes; a whole row always is. `identity` gives the values that identify a row, and `blanked` the row with nulls outside them.
 abbrev pub part_by : Recorded → (List Datum → List Datum) → (List Datum → List Datum) → List Datum → Option (List Datum) → Option PartOf

@@ -2,7 +2,7 @@
 use Rattle.std.specs.Prelude.{◌≡◌, ℕ, ◌+◌, ◌==◌, Bool, true, false, ◌&&◌, List, [], ◌∷◌, is_none, Option, Some, None, if◌then◌else◌}
 use Rattle.std.specs.List.{list_any}
 use Rattle.filter_tree.specs.Datum.{Datum}
-use Rattle.filter_tree.specs.Same.{same_cells}
+use Rattle.filter_tree.specs.Same.{same_row}
 use Rattle.table_changes.specs.Keys.{UniqueKey, Keys, key_at}
 
 -- of each table, each of its unique keys by its number and each value of that key the row that is there, if any
@@ -15,7 +15,7 @@ no_rows table number value = None
 -- the row, or the value, that was found is this one
 abbrev pub is_row : Option (List Datum) → List Datum → Bool
 is_row None row = false
-is_row (Some found) row = same_cells found row
+is_row (Some found) row = same_row found row
 
 -- ---- rows come and go
 

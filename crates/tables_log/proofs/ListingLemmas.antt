@@ -15,10 +15,10 @@ use Rattle.std.proofs.lemmas.List.Sorted.{Contains-permutation, IsPermutation-sy
 use Rattle.std.proofs.lemmas.Map.Entries.{lookup_head, lookup_tail}
 use Rattle.std.proofs.lemmas.Map.Keys.{IsDistinct-head, IsDistinct-tail, IsDistinct-cons, IsDistinct-from_sorted, IsDistinct-from_apart, IsDistinct-IsPermutation, apart_from_distinct, sorted_from_all_adjacent}
 use Rattle.filter_tree.specs.Datum.{Datum}
-use Rattle.filter_tree.specs.Order.{cells_cmp}
-use Rattle.filter_tree.specs.Same.{same_cells}
-use Rattle.filter_tree.proofs.OrderLemmas.{cells_total, ties_same_rows}
-use Rattle.filter_tree.proofs.SameLemmas.{equal_from_same_cells, same_cells_of_equal}
+use Rattle.filter_tree.specs.Order.{row_cmp}
+use Rattle.filter_tree.specs.Same.{same_row}
+use Rattle.filter_tree.proofs.OrderLemmas.{row_total, ties_same_rows}
+use Rattle.filter_tree.proofs.SameLemmas.{equal_from_same_row, same_row_of_equal}
 use Rattle.tables_log.specs.Layers.{flat, filled, below}
 use Rattle.tables_log.specs.Listing.{there, ListsFound, AreRowsOf}
 use Rattle.tables_log.specs.Places.{IsInOrder, kept_at, kept_in, maps_of, first_values, listed_in}
@@ -35,29 +35,29 @@ filled_keys ((key, None) ∷ entries) = filled_keys entries
 filled_keys ((key, Some value) ∷ entries) = key ∷ filled_keys entries
 
 abbrev found_in : {V : Type 0} → List (List Datum × Option V) → List Datum → Option V
-found_in entries key = flat (lookup (is_at (cells_cmp key)) entries)
+found_in entries key = flat (lookup (is_at (row_cmp key)) entries)
 
-apart_filled : {V : Type 0} (key : List Datum) (entries : List (List Datum × Option V)) → AllByRecursion (λ other. eq_by_cmp cells_cmp key other ≡ false) (keys_of entries)
-    → AllByRecursion (λ other. eq_by_cmp cells_cmp key other ≡ false) (filled_keys entries)
+apart_filled : {V : Type 0} (key : List Datum) (entries : List (List Datum × Option V)) → AllByRecursion (λ other. eq_by_cmp row_cmp key other ≡ false) (keys_of entries)
+    → AllByRecursion (λ other. eq_by_cmp row_cmp key other ≡ false) (filled_keys entries)
 unfolding filled_keys
 apart_filled key [] h = tt
 apart_filled key ((other, None) ∷ entries) h = apart_filled key entries h.1
 apart_filled key ((other, Some value) ∷ entries) h = (h.0, apart_filled key entries h.1)
 
-once_filled : {V : Type 0} (entries : List (List Datum × Option V)) → IsDistinct (eq_by_cmp cells_cmp) (keys_of entries) → IsDistinct (eq_by_cmp cells_cmp) (filled_keys entries)
+once_filled : {V : Type 0} (entries : List (List Datum × Option V)) → IsDistinct (eq_by_cmp row_cmp) (keys_of entries) → IsDistinct (eq_by_cmp row_cmp) (filled_keys entries)
 unfolding filled_keys IsDistinct
 once_filled [] h = tt
 once_filled ((key, None) ∷ entries) h = once_filled entries h.1
 once_filled ((key, Some value) ∷ entries) h = (apart_filled key entries h.0, once_filled entries h.1)
 
 -- what is found by another key than the first
-found_past : {V : Type 0} (key : List Datum) (place : Option V) (entries : List (List Datum × Option V)) (other : List Datum) → eq_by_cmp cells_cmp key other ≡ false
+found_past : {V : Type 0} (key : List Datum) (place : Option V) (entries : List (List Datum × Option V)) (other : List Datum) → eq_by_cmp row_cmp key other ≡ false
     → found_in ((key, place) ∷ entries) other ≡ found_in entries other
 found_past key place entries other apart =
-    ap flat (lookup_tail (is_at (cells_cmp other)) (key, place) entries ((eq_by_cmp_equiv cells_total).symm other key ∙ apart))
+    ap flat (lookup_tail (is_at (row_cmp other)) (key, place) entries ((eq_by_cmp_equiv row_total).symm other key ∙ apart))
 
 each_past : {V : Type 0} (key : List Datum) (place : Option V) (entries : List (List Datum × Option V)) (others : List (List Datum))
-    → AllByRecursion (λ other. eq_by_cmp cells_cmp key other ≡ false) others → map (found_in ((key, place) ∷ entries)) others ≡ map (found_in entries) others
+    → AllByRecursion (λ other. eq_by_cmp row_cmp key other ≡ false) others → map (found_in ((key, place) ∷ entries)) others ≡ map (found_in entries) others
 each_past key place entries [] h = refl
 each_past {V} key place entries (other ∷ others) h =
     ap (λ (first : Option V). first ∷ map (found_in ((key, place) ∷ entries)) others) (found_past key place entries other h.0)
@@ -65,9 +65,9 @@ each_past {V} key place entries (other ∷ others) h =
 
 found_first : {V : Type 0} (key : List Datum) (place : Option V) (entries : List (List Datum × Option V)) → found_in ((key, place) ∷ entries) key ≡ place
 found_first {V} key place entries =
-    ap (λ (found : Option (Option V)). flat found) (lookup_head (is_at (cells_cmp key)) (key, place) entries ((eq_by_cmp_equiv cells_total).refl key))
+    ap (λ (found : Option (Option V)). flat found) (lookup_head (is_at (row_cmp key)) (key, place) entries ((eq_by_cmp_equiv row_total).refl key))
 
-each_filled : {V : Type 0} (entries : List (List Datum × Option V)) → IsDistinct (eq_by_cmp cells_cmp) (keys_of entries)
+each_filled : {V : Type 0} (entries : List (List Datum × Option V)) → IsDistinct (eq_by_cmp row_cmp) (keys_of entries)
     → map (found_in entries) (filled_keys entries) ≡ map there (filled (values_of entries))
 unfolding filled_keys IsDistinct
 each_filled [] h = refl
@@ -80,36 +80,36 @@ each_filled {V} ((key, Some value) ∷ entries) h =
 contains_more : {A : Type 0} (first : A) (xs : List A) (x : A) → Contains xs x → Contains (first ∷ xs) x
 contains_more first xs x has = (suc has.0, omega (arith, has.1), has.2)
 
-equal_keys : (key other : List Datum) → eq_by_cmp cells_cmp key other ≡ true → key ≡ other
-equal_keys key other same = equal_from_same_cells key other (sym (ties_same_rows key other) ∙ same)
+equal_keys : (key other : List Datum) → eq_by_cmp row_cmp key other ≡ true → key ≡ other
+equal_keys key other same = equal_from_same_row key other (sym (ties_same_rows key other) ∙ same)
 
-all_step : {V : Type 0} (key other : List Datum) (place : Option V) (entries : List (List Datum × Option V)) (value : V) (same : Bool) → eq_by_cmp cells_cmp key other ≡ same
+all_step : {V : Type 0} (key other : List Datum) (place : Option V) (entries : List (List Datum × Option V)) (value : V) (same : Bool) → eq_by_cmp row_cmp key other ≡ same
     → (found_in entries key ≡ Some value → Contains (filled_keys entries) key) → found_in ((other, place) ∷ entries) key ≡ Some value
     → Contains (filled_keys ((other, place) ∷ entries)) key
 unfolding filled_keys
 all_step {V} key other None entries value true same later found =
-    let none = ap (λ (x : Option (Option V)). flat x) (lookup_head (is_at (cells_cmp key)) (other, None) entries same) in
+    let none = ap (λ (x : Option (Option V)). flat x) (lookup_head (is_at (row_cmp key)) (other, None) entries same) in
     absurd cc
 all_step key other (Some kept) entries value true same later found = (0, omega arith, sym (equal_keys key other same))
 all_step {V} key other None entries value false apart later found =
-    later (sym (ap (λ (x : Option (Option V)). flat x) (lookup_tail (is_at (cells_cmp key)) (other, None) entries apart)) ∙ found)
+    later (sym (ap (λ (x : Option (Option V)). flat x) (lookup_tail (is_at (row_cmp key)) (other, None) entries apart)) ∙ found)
 all_step {V} key other (Some kept) entries value false apart later found =
     contains_more other (filled_keys entries) key
-    (later (sym (ap (λ (x : Option (Option V)). flat x) (lookup_tail (is_at (cells_cmp key)) (other, Some kept) entries apart)) ∙ found))
+    (later (sym (ap (λ (x : Option (Option V)). flat x) (lookup_tail (is_at (row_cmp key)) (other, Some kept) entries apart)) ∙ found))
 
 all_filled : {V : Type 0} (entries : List (List Datum × Option V)) (key : List Datum) (value : V) → found_in entries key ≡ Some value → Contains (filled_keys entries) key
 all_filled [] key value found = absurd cc
 all_filled ((other, place) ∷ entries) key value found =
-    all_step key other place entries value (eq_by_cmp cells_cmp key other) refl (all_filled entries key value) found
+    all_step key other place entries value (eq_by_cmp row_cmp key other) refl (all_filled entries key value) found
 
-same_from_ties : (keys : List (List Datum)) → IsDistinct (eq_by_cmp cells_cmp) keys → IsDistinct same_cells keys
+same_from_ties : (keys : List (List Datum)) → IsDistinct (eq_by_cmp row_cmp) keys → IsDistinct same_row keys
 same_from_ties keys h =
-    IsDistinct-from_apart same_cells keys (λ i j d before within.
-    sym (ties_same_rows (get_or keys i d) (get_or keys j d)) ∙ apart_from_distinct (eq_by_cmp cells_cmp) keys i j d h before within)
+    IsDistinct-from_apart same_row keys (λ i j d before within.
+    sym (ties_same_rows (get_or keys i d) (get_or keys j d)) ∙ apart_from_distinct (eq_by_cmp row_cmp) keys i j d h before within)
 
-pub lists_map : {V : Type 0} (base : BTreeMap (List Datum) (Option V)) → IsOrdered cells_cmp base → ListsFound (below base) (filled (values base))
+pub lists_map : {V : Type 0} (base : BTreeMap (List Datum) (Option V)) → IsOrdered row_cmp base → ListsFound (below base) (filled (values base))
 lists_map base ordered =
-    let apart = IsDistinct-from_sorted cells_cmp (keys_of base.entries) ordered in
+    let apart = IsDistinct-from_sorted row_cmp (keys_of base.entries) ordered in
     record {
       keys = filled_keys base.entries;
       once = same_from_ties (filled_keys base.entries) (once_filled base.entries apart);
@@ -177,17 +177,17 @@ module _ (found : List Datum → Option (List Datum)) (listed : List (List Datum
         let second : key_of (get_or listed j d) ≡ Some (get_or lists.keys j d) = keyed _ _ (found_by j d d q) in
         cc (ap key_of same)
 
-    listed_once : IsDistinct same_cells listed
+    listed_once : IsDistinct same_row listed
     listed_once =
-        IsDistinct-from_apart same_cells listed (λ i j d before within.
-        not_true (same_cells (get_or listed i d) (get_or listed j d)) (λ same.
-        let keys_same = one_key i j d (omega (arith, before, within)) within (equal_from_same_cells _ _ same) in
-        let apart = apart_from_distinct same_cells lists.keys i j d lists.once before (omega (arith, long, within)) in
-        let tie = same_cells_of_equal _ _ keys_same in
+        IsDistinct-from_apart same_row listed (λ i j d before within.
+        not_true (same_row (get_or listed i d) (get_or listed j d)) (λ same.
+        let keys_same = one_key i j d (omega (arith, before, within)) within (equal_from_same_row _ _ same) in
+        let apart = apart_from_distinct same_row lists.keys i j d lists.once before (omega (arith, long, within)) in
+        let tie = same_row_of_equal _ _ keys_same in
         absurd cc))
 
-flips : (one other : List Datum) → same_cells one other ≡ same_cells other one
-flips one other = sym (ties_same_rows one other) ∙ (eq_by_cmp_equiv cells_total).symm one other ∙ ties_same_rows other one
+flips : (one other : List Datum) → same_row one other ≡ same_row other one
+flips one other = sym (ties_same_rows one other) ∙ (eq_by_cmp_equiv row_total).symm one other ∙ ties_same_rows other one
 
 less_by : (order back : Ordering) → order ≡ ordering_reverse back → is_lt back ≡ false → is_eq order ≡ false → order ≡ Less
 less_by Less back e p q = refl
@@ -196,18 +196,18 @@ less_by Greater Less e p q = absurd cc
 less_by Greater Equal e p q = absurd cc
 less_by Greater Greater e p q = absurd cc
 
-strictly : (rows : List (List Datum)) → IsSorted cells_cmp rows → IsDistinct same_cells rows → IsStrictlySortedBy cells_cmp rows
+strictly : (rows : List (List Datum)) → IsSorted row_cmp rows → IsDistinct same_row rows → IsStrictlySortedBy row_cmp rows
 strictly rows sorted once =
-    sorted_from_all_adjacent cells_total rows [] (λ k within.
+    sorted_from_all_adjacent row_total rows [] (λ k within.
     let one = get_or rows k [] in
     let other = get_or rows (k + 1) [] in
-    less_by (cells_cmp one other) (cells_cmp other one) (cells_total.antisymm one other) (sorted k [] (omega arith) within)
-    (ties_same_rows one other ∙ apart_from_distinct same_cells rows k (k + 1) [] once (omega arith) within))
+    less_by (row_cmp one other) (row_cmp other one) (row_total.antisymm one other) (sorted k [] (omega arith) within)
+    (ties_same_rows one other ∙ apart_from_distinct same_row rows k (k + 1) [] once (omega arith) within))
 
 pub rows_in_order : (found : List Datum → Option (List Datum)) (listed rows : List (List Datum)) (key_of : List Datum → Option (List Datum))
     → ((key row : List Datum) → found key ≡ Some row → key_of row ≡ Some key) → ListsFound found listed → IsInOrder listed rows → AreRowsOf found rows
 rows_in_order found listed rows key_of keyed lists in_order = record {
   all = λ key row is. Contains-permutation listed rows row in_order.same (lists_row found listed lists key row is);
   only = λ row has. row_is_found found listed lists row (Contains-permutation rows listed row (IsPermutation-sym listed rows in_order.same) has);
-  ascending = strictly rows in_order.ascending (IsDistinct-IsPermutation same_cells flips listed rows in_order.same (listed_once found listed lists key_of keyed));
+  ascending = strictly rows in_order.ascending (IsDistinct-IsPermutation same_row flips listed rows in_order.same (listed_once found listed lists key_of keyed));
 }

@@ -7,7 +7,7 @@ use Rattle.std.specs.Prelude.{slice_index_or}
 use Rattle.std.proofs.lemmas.List.{length-set, length-map}
 use Rattle.std.proofs.lemmas.Option.{slice_get_read}
 use Rattle.filter_tree.specs.Datum.{Datum}
-use Rattle.filter_tree.specs.Same.{same_cells}
+use Rattle.filter_tree.specs.Same.{same_row}
 use Rattle.table_changes.specs.Keys.{UniqueKey, Keys, value_in, key_at}
 use Rattle.table_changes.specs.Tables.{Tables, SameTables, is_row, put, found_at, is_free_from}
 use Rattle.table_changes.proofs.TableLemmas.{by_test, some_is}
@@ -143,10 +143,10 @@ puts_there rows new number old map value row low is changed puts =
           (λ here. let same : other ≡ number = number_is other number here in
           ap (λ n. seen_at (slice_set rows.maps.items number map) n found) same
           ∙ seen_here rows.maps.items number old map at found ∙ puts.sees found
-          ∙ ap (λ under. if same_cells value found then row else under) (sym (ap (λ one. shown seen one found) at) ∙ ap (λ n. seen_at rows.maps.items n found) (sym same))
-          ∙ sym (ap (λ b. if b && same_cells value found then row else seen_at rows.maps.items other found) here))
+          ∙ ap (λ under. if same_row value found then row else under) (sym (ap (λ one. shown seen one found) at) ∙ ap (λ n. seen_at rows.maps.items n found) (sym same))
+          ∙ sym (ap (λ b. if b && same_row value found then row else seen_at rows.maps.items other found) here))
           (λ beside. seen_beside rows.maps.items number old map at other (number_apart other number beside) found
-          ∙ sym (ap (λ b. if b && same_cells value found then row else seen_at rows.maps.items other found) beside));
+          ∙ sym (ap (λ b. if b && same_row value found then row else seen_at rows.maps.items other found) beside));
     }
 
 -- ---- all values, the last one first

@@ -3,8 +3,8 @@ use Rattle.std.specs.Prelude.{◌≡◌, List, map, Contains, Option, Some}
 use Rattle.std.specs.List.{IsDistinct}
 use Rattle.std.specs.List.Sorted.{IsStrictlySortedBy}
 use Rattle.filter_tree.specs.Datum.{Datum}
-use Rattle.filter_tree.specs.Order.{cells_cmp}
-use Rattle.filter_tree.specs.Same.{same_cells}
+use Rattle.filter_tree.specs.Order.{row_cmp}
+use Rattle.filter_tree.specs.Same.{same_row}
 
 abbrev pub there : {V : Type 0} → V → Option V
 there value = Some value
@@ -12,7 +12,7 @@ there value = Some value
 -- All that is found by keys, each once for each of its keys.
 pub record ListsFound {V : Type 0} (found : List Datum → Option V) (listed : List V) : Type 0 where
   pub keys : List (List Datum)
-  pub once : IsDistinct same_cells keys
+  pub once : IsDistinct same_row keys
   pub each : map found keys ≡ map there listed
   pub all : (key : List Datum) (value : V) → found key ≡ Some value → Contains keys key
 
@@ -21,4 +21,4 @@ pub record AreRowsOf (found : List Datum → Option (List Datum)) (rows : List (
   pub all : (key row : List Datum) → found key ≡ Some row → Contains rows row
   pub only : (row : List Datum) → Contains rows row → (key : List Datum) × (found key ≡ Some row)
   -- each comes before the next one, so that none comes twice
-  pub ascending : IsStrictlySortedBy cells_cmp rows
+  pub ascending : IsStrictlySortedBy row_cmp rows

@@ -1,7 +1,7 @@
 -- Where rows are in the maps of tables, of which each table has one for each of its unique keys: PostgreSQL 15, 5.4.4 Primary Keys and 11.6 Unique Indexes.
 use Rattle.std.specs.Prelude.{◌≡◌, ℕ, ◌+◌, ◌==◌, Bool, true, ◌&&◌, List, [], ◌∷◌, map, length, slice_get, is_none, Option, Some, None, if◌then◌else◌}
 use Rattle.filter_tree.specs.Datum.{Datum}
-use Rattle.filter_tree.specs.Order.{cells_cmp}
+use Rattle.filter_tree.specs.Order.{row_cmp}
 use Rattle.std.specs.List.Sorted.{IsPermutation, IsSorted}
 use Rattle.table_changes.specs.Keys.{UniqueKey, value_in}
 use Rattle.table_changes.specs.Tables.{Tables, SameTables, is_row, found_at}
@@ -50,7 +50,7 @@ listed_in tables table = first_values (maps_of (slice_get tables table))
 -- rows in their order, none of which is left out or comes more often
 pub record IsInOrder (listed rows : List (List Datum)) : Type 0 where
   pub same : IsPermutation listed rows
-  pub ascending : IsSorted cells_cmp rows
+  pub ascending : IsSorted row_cmp rows
 
 -- how many maps each table has
 abbrev pub widths : List TableRows → List ℕ

@@ -14,9 +14,9 @@ IsSendableValue (Known (Truth truth)) = Unit {0}
 IsSendableValue (Known (Bytes bytes)) = length bytes ≤ 65535
 
 -- at most 100 columns
-pub record IsSendableRow (cells : List Datum) : Type 0 where
-  pub few : length cells ≤ 100
-  pub values : All IsSendableValue cells
+pub record IsSendableRow (row : List Datum) : Type 0 where
+  pub few : length row ≤ 100
+  pub values : All IsSendableValue row
 
 abbrev pub IsSendablePart : Option PartOf → Type 0
 IsSendablePart None = Unit {0}

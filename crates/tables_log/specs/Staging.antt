@@ -1,7 +1,7 @@
 -- What a map holds in which changes are staged: what is kept, and what is seen with the changes: PostgreSQL 15, 3.4. Transactions.
 use Rattle.std.specs.Prelude.{◌≡◌, List, Option, None, if◌then◌else◌}
 use Rattle.filter_tree.specs.Datum.{Datum}
-use Rattle.filter_tree.specs.Same.{same_cells}
+use Rattle.filter_tree.specs.Same.{same_row}
 use Rattle.std.specs.BTreeMap.{values}
 use Rattle.tables_log.specs.Layers.{below, layered, filled}
 use Rattle.tables_log.specs.declared.staged.Staged.{Staged}
@@ -25,7 +25,7 @@ pub record Keeps {V : Type 0} (old new : Staged V) : Type 0 where
 
 -- under the key this is seen, and under the others the same as before
 pub record Puts {V : Type 0} (old new : Staged V) (key : List Datum) (value : Option V) : Type 0 where
-  pub sees : (other : List Datum) → seen new other ≡ (if same_cells key other then value else seen old other)
+  pub sees : (other : List Datum) → seen new other ≡ (if same_row key other then value else seen old other)
 
 pub record Empties {V : Type 0} (new : Staged V) : Type 0 where
   pub sees : (key : List Datum) → seen new key ≡ None

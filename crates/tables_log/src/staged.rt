@@ -3,7 +3,7 @@
 ghost use Rattle.std.specs.Prelude.{◌≡◌, List, true, false, is_some, Option, None, OnOk, if◌then◌else◌};
 ghost use Rattle.std.specs.BTreeMap.{IsEmpty};
 ghost use Rattle.filter_tree.specs.Datum.{Datum};
-ghost use Rattle.filter_tree.specs.Same.{same_cells};
+ghost use Rattle.filter_tree.specs.Same.{same_row};
 ghost use Rattle.tables_log.specs.Layers.{below, layered, has_place, HasRoom};
 
 use filter_tree::{Row, copy_row};
@@ -46,8 +46,8 @@ fn make_room<V: Drop>(
 fn write<V: Drop>(base: &mut BTreeMap<Row, Option<V>, Global>, key: Row, value: Option<V>)
     requires { has_place base.old key ≡ true }
     ensures puts { (other : List Datum) → below base.new other
-        ≡ (if same_cells key other then value else below base.old other) }
-    ensures stay { (other : List Datum) → same_cells key other ≡ false → has_place base.old other ≡ true
+        ≡ (if same_row key other then value else below base.old other) }
+    ensures stay { (other : List Datum) → same_row key other ≡ false → has_place base.old other ≡ true
         → has_place base.new other ≡ true }
 {
     match value {
@@ -113,7 +113,7 @@ fn put_over<V: Drop>(
     ensures same { (other : List Datum) → below base.new other ≡ below base.old other }
     ensures room { HasRoom base.new overlay.new false }
     ensures puts { OnOk result ((other : List Datum) → layered base.new overlay.new false other
-        ≡ (if same_cells key other then value else layered base.old overlay.old false other)) }
+        ≡ (if same_row key other then value else layered base.old overlay.old false other)) }
 {
     make_room(alloc, base, &key)?;
     let _ = overlay.insert(key, value)?;
@@ -128,7 +128,7 @@ fn put_alone<V: Drop>(
     value: Option<V>,
 ) -> Result<(), AllocError>
     ensures { OnOk result ((other : List Datum) → below overlay.new other
-        ≡ (if same_cells key other then value else below overlay.old other)) }
+        ≡ (if same_row key other then value else below overlay.old other)) }
 {
     match value {
         None => {

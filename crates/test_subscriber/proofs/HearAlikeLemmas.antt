@@ -2,7 +2,7 @@
 use Rattle.std.proofs.Common.{◌≡◌, ℕ, true, false, List, refl, ap, subst, max}
 use Rattle.std.specs.Prelude.{Option, Some, None, Result, Ok, Err, ◌==◌, ◌||◌, is_some, if◌then◌else◌}
 use Rattle.filter_tree.specs.Datum.{Datum}
-use Rattle.filter_tree.specs.Same.{same_cells}
+use Rattle.filter_tree.specs.Same.{same_row}
 use Rattle.pgoutput_msgs.specs.declared.message.Msg.{Msg}
 use Rattle.pgoutput_msgs.specs.declared.message.Msg.TheVariants as m
 use Rattle.pgoutput_msgs.specs.declared.relation.Relation.{Relation}
@@ -32,7 +32,7 @@ SameFound (Err one) (Err other) = one ≡ other
 SameFound one other = ⊥
 
 put_alike : (one other : Found) (key : List Datum) (row : Option (List Datum)) → FoundAlike one other → FoundAlike (put one key row) (put other key row)
-put_alike one other key row alike some = ap (λ found. if same_cells key some then row else found) (alike some)
+put_alike one other key row alike some = ap (λ found. if same_row key some then row else found) (alike some)
 
 placed_alike : (one other : Found) (key row : List Datum) → FoundAlike one other → SameFound (placed one key row) (placed other key row)
 placed_alike one other key row alike = by_test (is_some (one key))

@@ -1,7 +1,7 @@
 -- What changes do to the rows of a subscriber's copy of a table, which are found by their values in the columns of the replica identity: PostgreSQL 15, 55.9. Logical Replication Message Formats (Insert, Update, Delete), and 31.6. Conflicts.
 use Rattle.std.specs.Prelude.{is_some, if◌then◌else◌, List, Option, Some, None, Result, Ok, Err}
 use Rattle.filter_tree.specs.Datum.{Datum}
-use Rattle.filter_tree.specs.Same.{same_cells}
+use Rattle.filter_tree.specs.Same.{same_row}
 use Rattle.pgoutput_msgs.specs.ValueText.{row_in}
 use Rattle.pgoutput_msgs.specs.declared.tuple.Cell.{Cell}
 use Rattle.pgoutput_msgs.specs.declared.tuple.OldTuple.{OldTuple}
@@ -45,7 +45,7 @@ gone_of shape (Some old) row = key_in shape old
 -- ---- what becomes of the rows
 
 abbrev pub put : Found → List Datum → Option (List Datum) → Found
-put found key row other = if same_cells key other then row else found other
+put found key row other = if same_row key other then row else found other
 
 -- a new row, where no other has its key
 abbrev pub placed : Found → List Datum → List Datum → Result Found SubFault

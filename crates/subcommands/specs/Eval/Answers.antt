@@ -10,8 +10,8 @@ use Rattle.subcommands.specs.declared.eval.answers.Answer.TheVariants.{All, Filt
 
 -- where a publication carries the table by a filter, what that says; with no filter it carries all rows
 abbrev pub answer_of : List Datum → Option Expr → Answer
-answer_of cells None = All
-answer_of cells (Some filter) = Filtered (meaning filter cells)
+answer_of row None = All
+answer_of row (Some filter) = Filtered (meaning filter row)
 
 abbrev pub word_of : Answer → List ℕ
 word_of All = codes "all"
@@ -24,11 +24,11 @@ abbrev pub spelled : List ℕ → Answer → List ℕ
 spelled name answer = name ++ 61 ∷ word_of answer
 
 abbrev pub said_by : List Datum → CarrierOf → List ℕ
-said_by cells carrier = spelled carrier.name (answer_of cells carrier.filter)
+said_by row carrier = spelled carrier.name (answer_of row carrier.filter)
 
 -- what each publication that carries the table says, a space between
 abbrev pub line_of : List Datum → List CarrierOf → List ℕ
-line_of cells carriers = join_with_byte 32 (map (said_by cells) carriers)
+line_of row carriers = join_with_byte 32 (map (said_by row) carriers)
 
 -- a line after which one more publication has its say
 abbrev pub with_said : List ℕ → List ℕ → List ℕ

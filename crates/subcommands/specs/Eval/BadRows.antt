@@ -19,12 +19,12 @@ is_out_of_memory (Invalid fault) = false
 
 -- a text is read as a row of a table with these columns, or why it is not
 abbrev pub IsReading : List Column → List ℕ → Result (List Datum) BadRow → Type 0
-IsReading columns text (Ok cells) = (row_of text ≡ Ok cells) × (row_fault columns cells ≡ None)
+IsReading columns text (Ok row) = (row_of text ≡ Ok row) × (row_fault columns row ≡ None)
 IsReading columns text (Err (Unreadable error)) = Tells error (row_of text)
-IsReading columns text (Err (Invalid fault)) = (cells : List Datum) × (row_of text ≡ Ok cells) × (row_fault columns cells ≡ Some fault)
+IsReading columns text (Err (Invalid fault)) = (row : List Datum) × (row_of text ≡ Ok row) × (row_fault columns row ≡ Some fault)
 
 abbrev pub fits : List Column → Result (List Datum) Fault → Bool
-fits columns (Ok cells) = is_none (row_fault columns cells)
+fits columns (Ok row) = is_none (row_fault columns row)
 fits columns (Err fault) = false
 
 -- the text is a row of a table with these columns

@@ -37,8 +37,8 @@ status_of columns rows = if list_all (is_answered columns) rows then Done else R
 
 -- what the publications say of a row that fits, or its Insert message
 abbrev pub told : RowOutput → ℕ → List Datum → List CarrierOf → List ℕ
-told q.Answers number cells carriers = line_of cells carriers
-told q.Insert number cells carriers = insert_line number cells carriers
+told q.Answers number row carriers = line_of row carriers
+told q.Insert number row carriers = insert_line number row carriers
 
 -- the line of a row that is read
 abbrev pub line_by : Option RowFault → List ℕ → List ℕ
@@ -48,7 +48,7 @@ line_by (Some fault) told = bad_line (Invalid fault)
 module _ (wanted : RowOutput) (number : ℕ) (carriers : List CarrierOf) (columns : List Column) where
   -- the line of a row that fits is what is told of it; of another, why it does not fit, or is not read
   abbrev pub IsLineOf : Result (List Datum) Fault → List ℕ → Type 0
-  IsLineOf (Ok cells) line = line ≡ line_by (row_fault columns cells) (told wanted number cells carriers)
+  IsLineOf (Ok row) line = line ≡ line_by (row_fault columns row) (told wanted number row carriers)
   IsLineOf (Err fault) line = IsUnreadable fault line
 
   abbrev pub IsLine : List ℕ → List ℕ → Type 0

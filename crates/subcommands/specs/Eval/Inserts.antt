@@ -21,19 +21,19 @@ is_through (Filtered True) = true
 is_through _ = false
 
 abbrev pub carries : List Datum → CarrierOf → Bool
-carries cells carrier = is_through (answer_of cells carrier.filter)
+carries row carrier = is_through (answer_of row carrier.filter)
 
 abbrev pub is_carried : List Datum → List CarrierOf → Bool
-is_carried cells carriers = list_any (carries cells) carriers
+is_carried row carriers = list_any (carries row) carriers
 
 abbrev pub insert_of : ℕ → List Datum → Msg
-insert_of table cells = Insert (oid_of table) (cells_of cells)
+insert_of table row = Insert (oid_of table) (cells_of row)
 
 abbrev pub message_text : ℕ → List Datum → List ℕ
-message_text table cells = hexadecimal (spelling_of (insert_of table cells))
+message_text table row = hexadecimal (spelling_of (insert_of table row))
 
 -- the message of a row that some publication carries, or `none`
 abbrev pub insert_line : ℕ → List Datum → List CarrierOf → List ℕ
-insert_line table cells carriers =
-    if is_carried cells carriers then message_text table cells
+insert_line table row carriers =
+    if is_carried row carriers then message_text table row
     else codes "none"

@@ -13,7 +13,7 @@ carriers_in carried = map carrier_view carried.carriers.now
 
 -- what is wanted of a row that fits
 abbrev pub told_in : RowOutput → CatalogTable → List Datum → List ℕ
-told_in wanted carried cells = told wanted carried.number cells (carriers_in carried)
+told_in wanted carried row = told wanted carried.number row (carriers_in carried)
 
 abbrev pub IsLineIn : RowOutput → CatalogTable → List ℕ → List ℕ → Type 0
 IsLineIn wanted carried text line = IsLine wanted carried.number (carriers_in carried) carried.table.now.columns text line

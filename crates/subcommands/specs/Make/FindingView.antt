@@ -6,7 +6,7 @@ use Rattle.subcommands.specs.Make.Making.{Finding, Certified, Shown, Undecided, 
 
 abbrev pub finding_view : Made → Finding
 finding_view (Cert cert) = Certified (tree_view cert)
-finding_view (Counter cells owners) = Shown cells owners.items
+finding_view (Counter row owners) = Shown row owners.items
 finding_view Unknown = Undecided
 finding_view TooLarge = PastLimits
 finding_view OutOfMemory = Undecided

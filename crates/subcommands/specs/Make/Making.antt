@@ -35,7 +35,7 @@ pub data Finding : Type 0 where
 -- The check accepts the certificate with the catalog's own plan; the row fits the table and passes to exactly these subscribers, which are none or several. The others say nothing of the table.
 abbrev pub IsTrueOf : CatalogOf Expr → ℕ → Finding → Type 0
 IsTrueOf catalog number (Certified tree) = IsAccepted catalog (plan_of catalog) number tree
-IsTrueOf catalog number (Shown cells owners) = IsCounter catalog (plan_of catalog) number cells owners
+IsTrueOf catalog number (Shown row owners) = IsCounter catalog (plan_of catalog) number row owners
 IsTrueOf catalog number Undecided = Unit {0}
 IsTrueOf catalog number PastLimits = Unit {0}
 
@@ -51,11 +51,11 @@ owners_text subscriptions [] = codes "none"
 owners_text subscriptions (owner ∷ owners) = join_by (subscriber_name subscriptions) (codes ",") (owner ∷ owners)
 
 abbrev pub counter_words : CatalogOf Expr → ℕ → List Datum → List ℕ → List (List ℕ)
-counter_words catalog number cells owners = table_name catalog.tables number ∷ row_text cells ∷ codes "owners" ∷ owners_text catalog.subscriptions owners ∷ []
+counter_words catalog number row owners = table_name catalog.tables number ∷ row_text row ∷ codes "owners" ∷ owners_text catalog.subscriptions owners ∷ []
 
 abbrev pub line_for : CatalogOf Expr → ℕ → Finding → List ℕ
 line_for catalog number (Certified tree) = spelling_of tree
-line_for catalog number (Shown cells owners) = codes "counter" ++ spaced (counter_words catalog number cells owners)
+line_for catalog number (Shown row owners) = codes "counter" ++ spaced (counter_words catalog number row owners)
 line_for catalog number Undecided = codes "unknown" ++ spaced (table_name catalog.tables number ∷ [])
 line_for catalog number PastLimits = codes "too large" ++ spaced (table_name catalog.tables number ∷ [])
 

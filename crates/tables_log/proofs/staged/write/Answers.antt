@@ -1,7 +1,7 @@
 use Rattle.std.proofs.Common.{◌≡◌, Some, None, ap, sym, ◌∙◌, if◌then◌else◌}
 use Rattle.std.specs.BTreeMap.{get, Updates}
-use Rattle.filter_tree.specs.Order.{cells_cmp}
-use Rattle.filter_tree.specs.Same.{same_cells}
+use Rattle.filter_tree.specs.Order.{row_cmp}
+use Rattle.filter_tree.specs.Same.{same_row}
 use Rattle.tables_log.specs.Layers.{below}
 use Rattle.tables_log.proofs.LayerLemmas.{below_after, did_not_fail, no_place}
 use Rattle.tables_log.proofs.staged.write.Goals as goal
@@ -9,11 +9,11 @@ use Rattle.tables_log.proofs.staged.write.Goals as goal
 pub returns-in-None-clause-puts : goal.returns-in-None-clause-puts
 returns-in-None-clause-puts g c = λ other.
     below_after c.args.base.now c.remove.new.self c.args.key None c.remove.ensures.updates other
-    ∙ ap (λ value. if same_cells c.args.key other then value else below c.args.base.now other) (sym c.in-None.is)
+    ∙ ap (λ value. if same_row c.args.key other then value else below c.args.base.now other) (sym c.in-None.is)
 
 pub returns-in-Some-clause-puts : goal.returns-in-Some-clause-puts
 returns-in-Some-clause-puts g c = λ other.
     below_after c.args.base.now c.insert.new.self c.args.key (Some (Some c.in-Some.value))
-    (did_not_fail c.insert.result (Updates cells_cmp c.args.base.now c.insert.new.self c.args.key (Some (Some c.in-Some.value))) (get cells_cmp c.args.base.now c.args.key ≡ None)
+    (did_not_fail c.insert.result (Updates row_cmp c.args.base.now c.insert.new.self c.args.key (Some (Some c.in-Some.value))) (get row_cmp c.args.base.now c.args.key ≡ None)
     c.insert.ensures.updates c.insert.ensures.absent (no_place c.args.base.now c.args.key c.requires)) other
-    ∙ ap (λ value. if same_cells c.args.key other then value else below c.args.base.now other) (sym c.in-Some.is)
+    ∙ ap (λ value. if same_row c.args.key other then value else below c.args.base.now other) (sym c.in-Some.is)

@@ -1,10 +1,10 @@
 use Rattle.std.proofs.Common.{sym, ◌∙◌}
 use Rattle.std.specs.Cmp.Derive.Mapped.{lex_map}
-use Rattle.filter_tree.specs.Order.{datum_cmp, cells_cmp}
+use Rattle.filter_tree.specs.Order.{datum_cmp, row_cmp}
 use Rattle.filter_tree.specs.Values.{datum_view}
 use Rattle.filter_tree.proofs.order.RowOrd.cmp.Goals as goal
 
 -- the values of the two rows are compared as what they stand for
 pub returns : goal.returns
 returns g c = c.cmp.ensures ∙ sym (lex_map (λ value. datum_view value) datum_cmp c.values.result.now c.values-2.result.now)
-    ∙ (λ i. cells_cmp (c.values.ensures i) (c.values-2.ensures i))
+    ∙ (λ i. row_cmp (c.values.ensures i) (c.values-2.ensures i))

@@ -1,7 +1,7 @@
 use Rattle.std.proofs.Common.{◌≡◌, drop, map}
 use Rattle.filter_tree.specs.Values.{datum_view}
 use Rattle.filter_tree.specs.Same.{same_from}
-use Rattle.filter_tree.proofs.same.has_cells_of.Given as goal
+use Rattle.filter_tree.proofs.same.has_values_of.Given as goal
 
 -- the values that are left are the same exactly if all are
 abbrev pub invariant-loop-column : goal.invariant-loop-column
