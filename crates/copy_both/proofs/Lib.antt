@@ -10,6 +10,7 @@ pub mod OrderLemmas
 pub mod QuietLemmas
 pub mod QuotedTurns
 pub mod RefusalLemmas
+pub mod RepliesLemmas
 pub mod SessionLemmas
 pub mod ShortNames
 pub mod StartLemmas
