@@ -3,6 +3,7 @@ pub mod Cuts
 pub mod FirstFrames
 pub mod FramingLemmas
 pub mod HearingLemmas
+pub mod LinkLemmas
 pub mod ListTurns
 pub mod ListeningLemmas
 pub mod Numerals

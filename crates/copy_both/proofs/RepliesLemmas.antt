@@ -1,12 +1,10 @@
 -- What answers that which was heard is said frame by frame.
-use Rattle.std.proofs.Common.{◌≡◌, ◌≢◌, ℕ, ◌+◌, ◌-◌, ◌≤◌, List, [], ◌∷◌, ◌++◌, replicate, refl, sym, ap, ◌∙◌, append_assoc, arith}
-use Rattle.std.specs.Prelude.{Bool, false, Option, Some, None, Result, Ok, Err, OnErr}
+use Rattle.std.proofs.Common.{◌≡◌, ℕ, ◌+◌, ◌-◌, ◌≤◌, List, [], ◌∷◌, ◌++◌, replicate, refl, sym, ap, ◌∙◌, append_assoc, arith}
+use Rattle.std.specs.Prelude.{false, Option, Result, Ok, Err, OnErr}
 use Rattle.std.specs.List.{concat}
 use Rattle.std.proofs.lemmas.List.{append-nil, replicate_more, replicate-append-replicate}
 use Rattle.std.proofs.lemmas.List.Folds.{concat-append}
-use Rattle.shard_checker.specs.CheckedView.{CheckedOf}
 use Rattle.copy_both.specs.Links.{SaysFirst, opening, begun_stage, replies, closing, frames_by, stage_by, ended_stage}
-use Rattle.copy_both.specs.Voices as voices
 use Rattle.copy_both.specs.Voices.{StageOf, Says, Closes, voice_checked, voice_stage, voice_output, kept_bytes}
 use Rattle.copy_both.specs.declared.heard.Heard.{Heard}
 use Rattle.copy_both.specs.declared.voice.Voice.{Voice}

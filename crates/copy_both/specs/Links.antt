@@ -5,7 +5,7 @@ use Rattle.shard_checker.specs.CheckedView.{CheckedOf}
 use Rattle.tables_log.specs.Commits.{CommitOf}
 use Rattle.tables_log.specs.declared.book.Book.{Book}
 use Rattle.copy_frames.specs.Contents.{copy_both_response}
-use Rattle.copy_both.specs.Ears.{ear_checked, ear_phase, ear_started, ear_held, ear_refusal, ear_heard, hear_answer, HearLeaves, IsSameEar, EarCloses, Loses}
+use Rattle.copy_both.specs.Ears.{ear_checked, ear_phase, ear_started, ear_held, ear_refusal, ear_heard, IsSameEar, EarCloses, Loses}
 use Rattle.copy_both.specs.Hearing.{HearingOf}
 use Rattle.copy_both.specs.Streams as streams
 use Rattle.copy_both.specs.Streams.{Take, move_bytes, moved}

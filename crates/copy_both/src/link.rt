@@ -1,10 +1,10 @@
 //! The publisher's end of a connection.
 
-ghost use Rattle.std.specs.Prelude.{◌≡◌, length, slice_get, IfSome};
+ghost use Rattle.std.specs.Prelude.{◌≡◌, ◌+◌, slice_get, IfSome};
 ghost use Rattle.std.specs.Option.{option_map};
-ghost use Rattle.copy_both.specs.Ears.{ear_checked, ear_phase, ear_started};
+ghost use Rattle.copy_both.specs.Ears.{ear_phase, ear_started};
 ghost use Rattle.copy_both.specs.Halves.{heard_state, said_state};
-ghost use Rattle.copy_both.specs.Voices.{voice_checked, voice_stage};
+ghost use Rattle.copy_both.specs.Voices.{voice_stage};
 ghost use Rattle.tables_log.specs.BookView.{book_log};
 
 use crate::ear::Ear;
@@ -40,7 +40,6 @@ fn entry_after(book: &Book, done: u64) -> Option<&Commit>
 pub struct Link {
     ear: Ear,
     voice: Voice,
-    ghost same: { ear_checked ear ≡ voice_checked voice },
     ghost together: { heard_state (ear_phase ear) (ear_started ear) ≡ said_state (voice_stage voice) },
 }
 
@@ -103,12 +102,13 @@ impl Link {
                 return Err(fault);
             }
         };
-        let answered = answer_heard(&mut self.voice, self.ear.started(), &heard, now);
-        if answered.is_err() {
-            self.ear.close();
+        match answer_heard(&mut self.voice, self.ear.started(), &heard, now) {
+            Ok(()) => Ok(heard),
+            Err(fault) => {
+                self.ear.close();
+                Err(fault)
+            }
         }
-        answered?;
-        Ok(heard)
     }
 
     /// Takes the next commit of the log up: says the messages that tell the subscriber of it, each in an XLogData at the

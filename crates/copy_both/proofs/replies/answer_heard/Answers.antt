@@ -1,6 +1,6 @@
 use Rattle.copy_both.specs.Links.{SaysFirst, frames_by}
 use Rattle.copy_both.specs.Voices.{voice_checked, voice_stage}
-use Rattle.copy_both.proofs.RepliesLemmas.{on_err, all_said, not_opened, not_replied, not_ended}
+use Rattle.copy_both.proofs.RepliesLemmas.{on_err, all_said, not_replied, not_ended}
 use Rattle.copy_both.proofs.replies.answer_heard.Goals as goal
 
 pub returns-in_err-reply-clause-err : goal.returns-in_err-reply-clause-err

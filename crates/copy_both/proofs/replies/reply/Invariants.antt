@@ -1,4 +1,3 @@
-use Rattle.std.proofs.Common.{◌≤◌}
 use Rattle.std.specs.List.{concat}
 use Rattle.copy_both.specs.Links.{replies}
 use Rattle.copy_both.specs.Voices.{Says, voice_stage}
