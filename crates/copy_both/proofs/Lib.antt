@@ -4,6 +4,7 @@ pub mod FirstFrames
 pub mod FramingLemmas
 pub mod HearingLemmas
 pub mod LinkLemmas
+pub mod LinkStreams
 pub mod ListTurns
 pub mod ListeningLemmas
 pub mod Numerals

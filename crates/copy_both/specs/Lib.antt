@@ -5,6 +5,7 @@ pub mod Events
 pub mod Framing
 pub mod Halves
 pub mod Hearing
+pub mod LinkLaws
 pub mod Links
 pub mod Listening
 pub mod OptionValues

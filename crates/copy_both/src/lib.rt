@@ -33,7 +33,7 @@ pub use answer::{Asked, answer_start};
 pub use ear::Ear;
 pub use error_response::append_error_response;
 pub use heard::Heard;
-pub use laws::streams_grow;
+pub use laws::{links_say_streams, streams_grow};
 pub use link::Link;
 pub use link_fault::LinkFault;
 pub use refusal::{Refusal, Words};
