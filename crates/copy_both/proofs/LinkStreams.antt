@@ -1,6 +1,6 @@
 -- What a link says is its stream.
-use Rattle.std.proofs.Common.{◌≡◌, ℕ, zero, suc, Bool, false, List, [], ◌∷◌, ◌++◌, length, take, drop, replicate, refl, sym, ap, subst, ◌∙◌, append_assoc}
-use Rattle.std.specs.Prelude.{slice_get, Option, Some, None, Ok}
+use Rattle.std.proofs.Common.{◌≡◌, ℕ, zero, suc, false, List, [], ◌∷◌, ◌++◌, take, replicate, refl, sym, ap, subst, ◌∙◌, append_assoc}
+use Rattle.std.specs.Prelude.{slice_get, Option, Some, None}
 use Rattle.std.specs.List.{concat}
 use Rattle.std.proofs.lemmas.List.{append-nil}
 use Rattle.std.proofs.lemmas.List.Folds.{concat-append}
@@ -8,16 +8,15 @@ use Rattle.shard_checker.specs.CheckedView.{CheckedOf}
 use Rattle.tables_log.specs.Commits.{CommitOf}
 use Rattle.copy_frames.specs.Contents.{copy_both_response}
 use Rattle.copy_both.specs.Hearing.{HearingOf}
-use Rattle.copy_both.specs.LinkLaws.{Run, stream_of, with_moves, IsStreaming, HasStreamed, HasBegun, replied, started_at, first_run, took, LinkStarts, LinkHears, LinkEnds, LinkBreaks, LinkStops, LinkTakes, LinkKeeps, LinkPassesOn, LogGrows}
-use Rattle.copy_both.specs.Links.{link_checked, link_stage, link_output, link_voice, frames_by, stage_by, frames_said, stage_said, opening, closing, replies, ended_stage, SaysFirst, take_bytes, take_stage}
+use Rattle.copy_both.specs.LinkLaws.{Run, stream_of, IsStreaming, replied, started_at, took, LinkStarts, LinkHears, LinkEnds, LinkBreaks, LinkStops, LinkTakes, LinkKeeps, LinkPassesOn, LogGrows}
+use Rattle.copy_both.specs.Links.{link_checked, link_stage, link_output, frames_by, stage_by, frames_said, closing, ended_stage, take_bytes, take_stage}
 use Rattle.copy_both.specs.StreamLaws.{Start, Speaks, first_place}
-use Rattle.copy_both.specs.Streams.{Telling, Place, Move, Take, Keep, keep_bytes, taken_bytes, taken_place, move_bytes, moved, stream}
+use Rattle.copy_both.specs.Streams.{Telling, Place, Move, Take, Keep, keep_bytes, taken_bytes, taken_place, move_bytes, moved}
 use Rattle.copy_both.specs.Tellings.{telling_of}
 use Rattle.copy_both.specs.Voices as voices
 use Rattle.copy_both.specs.Voices.{StageOf, Says, Closes, kept_bytes, voice_output}
 use Rattle.copy_both.specs.declared.heard.Heard.{Heard}
 use Rattle.copy_both.specs.declared.link.Link.{Link}
-use Rattle.copy_both.specs.declared.voice.Voice.{Voice}
 use Rattle.copy_both.proofs.StreamLemmas.{starts, takes, keeps, passes, grows}
 
 -- ---- replies
