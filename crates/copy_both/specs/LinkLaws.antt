@@ -3,7 +3,7 @@ use Rattle.std.specs.Prelude.{◌≡◌, ℕ, Bool, false, List, [], ◌∷◌, 
 use Rattle.shard_checker.specs.CheckedView.{CheckedOf}
 use Rattle.tables_log.specs.Commits.{CommitOf}
 use Rattle.copy_both.specs.Hearing.{HearingOf}
-use Rattle.copy_both.specs.Links.{link_checked, link_stage, link_output, link_voice, LinkSays, LinkPasses, HearSays, SaysFirst, closing, frames_said, take_bytes, take_stage}
+use Rattle.copy_both.specs.Links.{link_checked, link_stage, link_output, link_voice, LinkSays, LinkPasses, HearSays, SaysFirst, closing, frames_said, next_bytes, next_stage}
 use Rattle.copy_both.specs.StreamLaws.{Start, Speaks, first_place}
 use Rattle.copy_both.specs.Streams.{Place, Move, Take, Keep, moved, stream}
 use Rattle.copy_both.specs.Tellings.{telling_of}
@@ -55,25 +55,33 @@ started_at checked started = record { slot = started.0; tables = length checked.
 abbrev pub first_run : CheckedOf → List CommitOf → ℕ × ℕ → Run
 first_run checked log started = record { checked = checked; log = log; start = started_at checked started; moves = []; passed = [] }
 
--- a start begins a stream, which goes on by what the rest of the piece wants
-abbrev pub LinkStarts : Type 0
-LinkStarts = (old new : Link) (log : List CommitOf) (h : HearingOf) (heard : Heard) (clock : ℕ) (started : ℕ × ℕ)
-    → link_stage old ≡ voices.NotStarted → link_output old ≡ [] → h.started ≡ Some started → h.heard.ended ≡ None → HearSays old new h clock (Ok heard)
-    → IsStreaming new (with_moves (first_run (link_checked old) log started) (replied h clock)) (first_place (started_at (link_checked old) started))
+-- the piece starts the stream of a link that has said nothing
+pub record IsStarting (link : Link) (h : HearingOf) (started : ℕ × ℕ) (run : Run) (place : Place) : Type 0 where
+  pub waits : link_stage link ≡ voices.NotStarted
+  pub silent : link_output link ≡ []
+  pub started_is : h.started ≡ Some started
+  pub run_is : run ≡ first_run (link_checked link) run.log started
+  pub place_is : place ≡ first_place (started_at (link_checked link) started)
 
+-- the stream runs, or the piece starts it
+pub data Goes (link : Link) (h : HearingOf) (run : Run) (place : Place) : Type 0 where
+  Goes_on : IsStreaming link run place → Goes link h run place
+  Starts : (started : ℕ × ℕ) → IsStarting link h started run place → Goes link h run place
+
+-- a piece is answered, and the stream goes on
 abbrev pub LinkHears : Type 0
 LinkHears = (old new : Link) (run : Run) (place : Place) (h : HearingOf) (heard : Heard) (clock : ℕ)
-    → IsStreaming old run place → h.heard.ended ≡ None → HearSays old new h clock (Ok heard) → IsStreaming new (with_moves run (replied h clock)) place
+    → Goes old h run place → h.heard.ended ≡ None → HearSays old new h clock (Ok heard) → IsStreaming new (with_moves run (replied h clock)) place
 
 -- CopyDone is answered by CopyDone, which comes last
 abbrev pub LinkEnds : Type 0
 LinkEnds = (old new : Link) (run : Run) (place : Place) (h : HearingOf) (heard : Heard) (clock kind : ℕ)
-    → IsStreaming old run place → h.heard.ended ≡ Some kind → HearSays old new h clock (Ok heard)
+    → Goes old h run place → h.heard.ended ≡ Some kind → HearSays old new h clock (Ok heard)
     → HasStreamed new (with_moves run (replied h clock)) (closing (voices.Started place) (Some kind))
 
--- where memory is refused while what was heard is answered
+-- memory is refused while a piece is answered
 abbrev pub LinkBreaks : Type 0
-LinkBreaks = (old new : Link) (run : Run) (place : Place) (h : HearingOf) (clock : ℕ) → IsStreaming old run place
+LinkBreaks = (old new : Link) (run : Run) (place : Place) (h : HearingOf) (clock : ℕ) → Goes old h run place
     → SaysFirst (link_voice old) (link_voice new) (frames_said (link_checked old) (link_stage old) h clock)
     → HasBegun new (with_moves run (replied h clock)) (closing (voices.Started place) h.heard.ended)
 
@@ -88,7 +96,7 @@ took (Some commit) clock = Take clock ∷ []
 
 abbrev pub LinkTakes : Type 0
 LinkTakes = (old new : Link) (run : Run) (place : Place) (clock : ℕ) → IsStreaming old run place
-    → LinkSays old new (take_bytes (link_checked old) (link_stage old) run.log clock) (take_stage (link_checked old) (link_stage old) run.log clock)
+    → LinkSays old new (next_bytes (link_checked old) (link_stage old) run.log clock) (next_stage (link_checked old) (link_stage old) run.log clock)
     → IsStreaming new (with_moves run (took (slice_get run.log place.done) clock)) (moved (telling_of run.checked) run.log place (Take clock))
 
 abbrev pub LinkKeeps : Type 0

@@ -145,21 +145,21 @@ link_heard link book piece = ear_heard (link_ear link) book piece (link_sent lin
 
 -- ---- take: the next commit of the log, where there is one
 
-abbrev pub taken_answer : CheckedOf → streams.Place → Option CommitOf → Result Taken LinkFault
-taken_answer checked place None = Ok taken.Idle
-taken_answer checked place (Some commit) = told_answer commit.number (spelled_for checked place.slot place.told commit)
+abbrev pub found_answer : CheckedOf → streams.Place → Option CommitOf → Result Taken LinkFault
+found_answer checked place None = Ok taken.Idle
+found_answer checked place (Some commit) = told_answer commit.number (spelled_for checked place.slot place.told commit)
 
-abbrev pub take_answer : CheckedOf → StageOf → List CommitOf → Result Taken LinkFault
-take_answer checked voices.NotStarted log = Ok taken.NotStarted
-take_answer checked (voices.Started place) log = taken_answer checked place (slice_get log place.done)
-take_answer checked voices.Closed log = Err fault.Closed
+abbrev pub next_answer : CheckedOf → StageOf → List CommitOf → Result Taken LinkFault
+next_answer checked voices.NotStarted log = Ok taken.NotStarted
+next_answer checked (voices.Started place) log = found_answer checked place (slice_get log place.done)
+next_answer checked voices.Closed log = Err fault.Closed
 
-abbrev pub take_bytes : CheckedOf → StageOf → List CommitOf → ℕ → List ℕ
-take_bytes checked voices.NotStarted log clock = []
-take_bytes checked (voices.Started place) log clock = move_bytes (telling_of checked) log place (Take clock)
-take_bytes checked voices.Closed log clock = []
+abbrev pub next_bytes : CheckedOf → StageOf → List CommitOf → ℕ → List ℕ
+next_bytes checked voices.NotStarted log clock = []
+next_bytes checked (voices.Started place) log clock = move_bytes (telling_of checked) log place (Take clock)
+next_bytes checked voices.Closed log clock = []
 
-abbrev pub take_stage : CheckedOf → StageOf → List CommitOf → ℕ → StageOf
-take_stage checked voices.NotStarted log clock = voices.NotStarted
-take_stage checked (voices.Started place) log clock = voices.Started (moved (telling_of checked) log place (Take clock))
-take_stage checked voices.Closed log clock = voices.Closed
+abbrev pub next_stage : CheckedOf → StageOf → List CommitOf → ℕ → StageOf
+next_stage checked voices.NotStarted log clock = voices.NotStarted
+next_stage checked (voices.Started place) log clock = voices.Started (moved (telling_of checked) log place (Take clock))
+next_stage checked voices.Closed log clock = voices.Closed

@@ -19,7 +19,6 @@ pub fn streams_grow<C>()
 /// of what it started, took and kept alive, whatever it heard. After the client's CopyDone there is CopyDone after it, after
 /// a call that closed it nothing; where memory was refused, it is a first part of that.
 pub fn links_say_streams()
-    ensures starts { links.LinkStarts }
     ensures hears { links.LinkHears }
     ensures ends { links.LinkEnds }
     ensures breaks { links.LinkBreaks }

@@ -126,10 +126,10 @@ impl Link {
     /// PostgreSQL 15, 55.5. Logical Streaming Replication Protocol.
     pub fn take(&mut self, book: &Book, now: u64) -> Result<Taken, LinkFault>
         ensures answer { Answers (λ taken. taken) told_fault
-            (spec.take_answer (link_checked self.old) (link_stage self.old) (book_log book.now)) result }
+            (spec.next_answer (link_checked self.old) (link_stage self.old) (book_log book.now)) result }
         ensures ok { OnOk result (LinkSays self.old self.new
-            (spec.take_bytes (link_checked self.old) (link_stage self.old) (book_log book.now) now)
-            (spec.take_stage (link_checked self.old) (link_stage self.old) (book_log book.now) now)) }
+            (spec.next_bytes (link_checked self.old) (link_stage self.old) (book_log book.now) now)
+            (spec.next_stage (link_checked self.old) (link_stage self.old) (book_log book.now) now)) }
         ensures err { OnErr result (LinkCloses self.old self.new) }
     {
         let next = match &self.voice.stage {
@@ -171,7 +171,9 @@ impl Link {
     /// The slot whose stream was started, by the number of its subscription, and where in the log the stream starts, in
     /// bytes.
     pub fn started(&self) -> Option<(usize, u64)>
-        ensures { result ≡ ear_started (link_ear self.now) }
+        ensures shows { result ≡ ear_started (link_ear self.now) }
+        ensures together { heard_state (ear_phase (link_ear self.now)) (ear_started (link_ear self.now))
+            ≡ said_state (link_stage self.now) }
     {
         self.ear.started()
     }

@@ -1,9 +1,6 @@
 use Rattle.copy_both.proofs.LinkStreams as lemmas
 use Rattle.copy_both.proofs.laws.links_say_streams.Goals as goal
 
-pub returns-clause-starts : goal.returns-clause-starts
-returns-clause-starts c = lemmas.begins
-
 pub returns-clause-hears : goal.returns-clause-hears
 returns-clause-hears c = lemmas.hears
 
