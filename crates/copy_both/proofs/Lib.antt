@@ -3,6 +3,8 @@ pub mod Cuts
 pub mod FirstFrames
 pub mod FramingLemmas
 pub mod HearingLemmas
+pub mod LinkLemmas
+pub mod LinkStreams
 pub mod ListTurns
 pub mod ListeningLemmas
 pub mod Numerals
@@ -10,6 +12,7 @@ pub mod OrderLemmas
 pub mod QuietLemmas
 pub mod QuotedTurns
 pub mod RefusalLemmas
+pub mod RepliesLemmas
 pub mod SessionLemmas
 pub mod ShortNames
 pub mod StartLemmas

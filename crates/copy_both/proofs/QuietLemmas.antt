@@ -5,7 +5,7 @@ use Rattle.tables_log.specs.Slots.{end_after}
 use Rattle.copy_frames.specs.declared.frame.Frame.{Frame}
 use Rattle.copy_frames.specs.declared.status.Status.{Status}
 use Rattle.copy_both.specs.Events.{event_of}
-use Rattle.copy_both.specs.Hearing.{BeginOf, Begins, Refuses, begin_of, begun, ended_by, confirmed_by, event_heard, first_heard, next_heard, HearingOf, Served, is_over, is_over_by, unless_over, frame_heard, frames_heard}
+use Rattle.copy_both.specs.Hearing.{BeginOf, Begins, Refuses, begin_of, begun, ended_by, confirmed_by, event_heard, next_heard, HearingOf, Served, is_over, is_over_by, unless_over, frame_heard, frames_heard}
 use Rattle.copy_both.specs.declared.event.Event.{Event}
 use Rattle.copy_both.specs.declared.event.Event.TheVariants as event
 use Rattle.copy_both.specs.declared.link_fault.LinkFault.{LinkFault}

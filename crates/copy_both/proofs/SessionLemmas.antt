@@ -1,9 +1,9 @@
 -- What a frame does is what was to come of it, or memory was refused.
-use Rattle.std.proofs.Common.{◌≡◌, ℕ, List, ◌++◌, refl, sym, ap, ◌∙◌}
+use Rattle.std.proofs.Common.{◌≡◌, ℕ, List, refl}
 use Rattle.std.specs.Prelude.{Option, Some, None}
 use Rattle.tables_log.specs.declared.slots.Slot.{Slot}
 use Rattle.copy_both.specs.Hearing.{HearingOf, BeginOf, Begins, Refuses, begun, with_fault}
-use Rattle.copy_both.specs.Sessions.{FailsBy, FailsToBegin, IsRefused, refusal_fault, response_after}
+use Rattle.copy_both.specs.Sessions.{FailsBy, FailsToBegin, IsRefused}
 use Rattle.copy_both.specs.declared.heard.Heard.{Heard}
 use Rattle.copy_both.specs.declared.link_fault.LinkFault.{LinkFault}
 use Rattle.copy_both.specs.declared.link_fault.LinkFault.TheVariants as fault

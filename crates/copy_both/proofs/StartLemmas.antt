@@ -1,5 +1,5 @@
 -- What the first frame asks for, of a catalog and a book.
-use Rattle.std.proofs.Common.{◌≡◌, ℕ, Bool, List, [], ◌∷◌, ◌++◌, refl, sym, ap, subst, ◌∙◌}
+use Rattle.std.proofs.Common.{◌≡◌, ℕ, Bool, List, [], ◌∷◌, refl, sym, ap, subst, ◌∙◌}
 use Rattle.std.specs.Prelude.{max, map, Option, Some, None, Result}
 use Rattle.filter_tree.specs.Expr.{Expr}
 use Rattle.pub_reader.specs.Catalogs.{CatalogOf, PublicationOf}

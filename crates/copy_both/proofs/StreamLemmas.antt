@@ -1,9 +1,9 @@
 -- A stream grows move by move.
-use Rattle.std.proofs.Common.{◌≡◌, ℕ, zero, suc, ◌+◌, ◌<◌, ◌≤◌, Bool, List, [], ◌∷◌, ◌++◌, length, take, drop, refl, sym, ap, subst, ◌∙◌, append_assoc, arith, length-append}
-use Rattle.std.specs.Prelude.{slice_get, Option, Some, None}
+use Rattle.std.proofs.Common.{◌≡◌, ℕ, zero, suc, ◌<◌, List, [], ◌∷◌, ◌++◌, length, take, drop, refl, sym, ap, subst, ◌∙◌, append_assoc, arith, length-append}
+use Rattle.std.specs.Prelude.{slice_get, Some}
 use Rattle.std.proofs.lemmas.List.{append-nil, take-append-drop}
 use Rattle.copy_frames.specs.Contents.{copy_both_response}
-use Rattle.copy_both.specs.Streams.{Telling, Place, Move, Take, Keep, place_after, take_bytes, keep_bytes, taken_bytes, taken_place, move_bytes, moved, all_bytes, all_moved, stream}
+use Rattle.copy_both.specs.Streams.{Telling, Place, Move, Take, Keep, taken_bytes, taken_place, move_bytes, moved, all_bytes, all_moved}
 use Rattle.copy_both.specs.StreamLaws.{IsThere, AllThere, Start, first_place, Speaks, Starts, Takes, Keeps, Passes, Grows}
 
 moved-append : {C : Type 0} (telling : Telling C) (log : List C) (place : Place) (moves : List Move) (move : Move)

@@ -1,5 +1,5 @@
 -- There is room for the Relation of each table of a catalog within its limits.
-use Rattle.std.proofs.Common.{◌≡◌, ℕ, zero, suc, ◌+◌, ◌<◌, ◌≤◌, ◌^◌, List, [], ◌∷◌, length, refl, sym, subst, arith}
+use Rattle.std.proofs.Common.{◌≡◌, ℕ, zero, suc, ◌<◌, ◌^◌, List, [], ◌∷◌, length, refl, subst, arith}
 use Rattle.std.specs.Prelude.{All, IfSome, slice_get, slice_index_or, Option, Some, None}
 use Rattle.std.proofs.lemmas.Option.{get_or_from_slice_get}
 use Rattle.filter_tree.specs.declared.table.Table.{Table}

@@ -1,5 +1,5 @@
 -- What an ear is, the half of a connection's end that hears, and what its calls answer and leave ("55.4. Streaming Replication Protocol").
-use Rattle.std.specs.Prelude.{◌≡◌, ℕ, List, Option, Some, None, Result, Ok, Err}
+use Rattle.std.specs.Prelude.{◌≡◌, ℕ, List, Option, Some, None, Result, Err}
 use Rattle.shard_checker.specs.CheckedView.{CheckedOf}
 use Rattle.tables_log.specs.BookView.{book_slots}
 use Rattle.tables_log.specs.Committing.{ChangesSlots, IsKept}
@@ -7,7 +7,7 @@ use Rattle.tables_log.specs.Slots.{released}
 use Rattle.tables_log.specs.declared.book.Book.{Book}
 use Rattle.tables_log.specs.declared.slots.Slot.{Slot}
 use Rattle.copy_both.specs.Hearing.{HearingOf, answer_of}
-use Rattle.copy_both.specs.Listening.{fed, resting, piece_heard, Leaves, PieceLeaves}
+use Rattle.copy_both.specs.Listening.{fed, resting, piece_heard, PieceLeaves}
 use Rattle.copy_both.specs.Phases.{phase_after, phase_closed}
 use Rattle.copy_both.specs.Sessions.{session_checked}
 use Rattle.copy_both.specs.declared.ear.Ear.{Ear}

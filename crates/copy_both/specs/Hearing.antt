@@ -1,5 +1,5 @@
 -- What becomes of the frames that a client sends, one after another: the first one starts a stream or ends the connection; then statuses confirm the log, until another frame ends the stream ("55.4. Streaming Replication Protocol").
-use Rattle.std.specs.Prelude.{◌≡◌, ℕ, ◌+◌, ◌^◌, ◌-◌, ◌==◌, min, max, nat_lt, Bool, true, false, if◌then◌else◌, List, [], ◌∷◌, ◌++◌, length, map, replicate, Option, Some, None, Result, Ok, Err}
+use Rattle.std.specs.Prelude.{ℕ, ◌+◌, ◌^◌, ◌-◌, ◌==◌, min, max, nat_lt, Bool, true, false, if◌then◌else◌, List, [], ◌∷◌, ◌++◌, length, map, replicate, Option, Some, None, Result, Ok, Err}
 use Rattle.shard_checker.specs.CheckedView.{CheckedOf}
 use Rattle.tables_log.specs.Slots as slots
 use Rattle.tables_log.specs.Slots.{end_after, confirmed_at, start_fault, confirmed_up_to}

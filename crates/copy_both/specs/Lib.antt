@@ -3,7 +3,10 @@ pub mod CommandTokens
 pub mod Ears
 pub mod Events
 pub mod Framing
+pub mod Halves
 pub mod Hearing
+pub mod LinkLaws
+pub mod Links
 pub mod Listening
 pub mod OptionValues
 pub mod Phases

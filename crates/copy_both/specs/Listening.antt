@@ -1,5 +1,5 @@
 -- What becomes of a piece of what a client sends: the bytes that were held and the piece are cut into frames, and these are heard ("55.4. Streaming Replication Protocol", "55.7. Message Formats").
-use Rattle.std.specs.Prelude.{◌≡◌, ℕ, List, ◌++◌, take, Option, Some, None, Result, Ok, Err}
+use Rattle.std.specs.Prelude.{◌≡◌, ℕ, List, ◌++◌, take, None, Result, Ok, Err}
 use Rattle.tables_log.specs.Committing.{ChangesSlots}
 use Rattle.tables_log.specs.declared.book.Book.{Book}
 use Rattle.copy_frames.specs.Frames.{cut, frames_of}

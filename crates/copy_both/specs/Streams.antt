@@ -1,5 +1,5 @@
 -- What a connection sends: CopyBothResponse, and then what is taken of the log, commit by commit, and keepalives ("55.4. Streaming Replication Protocol", "55.5. Logical Streaming Replication Protocol"). Positions in the log are this project's own.
-use Rattle.std.specs.Prelude.{◌≡◌, ℕ, ◌+◌, ◌-◌, ◌*◌, ◌/◌, ◌==◌, if◌then◌else◌, Bool, false, List, [], ◌∷◌, ◌++◌, map, replicate, slice_get, Option, Some, None}
+use Rattle.std.specs.Prelude.{ℕ, ◌+◌, ◌-◌, ◌*◌, ◌/◌, ◌==◌, if◌then◌else◌, Bool, false, List, [], ◌∷◌, ◌++◌, replicate, slice_get, Option, Some, None}
 use Rattle.std.specs.List.{flat_map}
 use Rattle.copy_frames.specs.Contents.{copy_both_response, copy_data, xlog_data_body, keepalive_body}
 

@@ -4,7 +4,7 @@ use Rattle.std.specs.Arc.{arc_value}
 use Rattle.std.specs.List.{list_all}
 use Rattle.shard_checker.specs.CheckedView.{CheckedOf, checked_view}
 use Rattle.tables_log.specs.Commits.{CommitOf}
-use Rattle.copy_frames.specs.Contents.{copy_both_response, copy_done}
+use Rattle.copy_frames.specs.Contents.{copy_done}
 use Rattle.copy_both.specs.Streams as streams
 use Rattle.copy_both.specs.Streams.{place_at, place_after, take_bytes, keep_bytes}
 use Rattle.copy_both.specs.Tellings.{spelled_for, telling_of, is_short}

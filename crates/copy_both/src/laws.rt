@@ -1,5 +1,6 @@
 //! Laws of streams.
 
+ghost use Rattle.copy_both.specs.LinkLaws as links;
 ghost use Rattle.copy_both.specs.StreamLaws.{Starts, Takes, Keeps, Passes, Grows};
 ghost use Rattle.copy_both.specs.Streams.{Telling};
 
@@ -12,4 +13,18 @@ pub fn streams_grow<C>()
     ensures keeps { (telling : Telling C) → Keeps telling }
     ensures passes { (telling : Telling C) → Passes telling }
     ensures grows { (telling : Telling C) → Grows telling }
+{}
+
+/// A law, and no code, of what a link says while its stream runs: what was passed on and what waits are together the stream
+/// of what it started, took and kept alive, whatever it heard. After the client's CopyDone there is CopyDone after it, after
+/// a call that closed it nothing; where memory was refused, it is a first part of that.
+pub fn links_say_streams()
+    ensures hears { links.LinkHears }
+    ensures ends { links.LinkEnds }
+    ensures breaks { links.LinkBreaks }
+    ensures stops { links.LinkStops }
+    ensures takes { links.LinkTakes }
+    ensures keeps { links.LinkKeeps }
+    ensures passes { links.LinkPassesOn }
+    ensures grows { links.LogGrows }
 {}

@@ -10,7 +10,7 @@ use crate::taken::Taken;
 use bytes::BytesMut;
 use copy_frames::{Keepalive, append_copy_both_response, append_copy_done, append_keepalive};
 use shard_checker::Checked;
-use std::alloc::Global;
+use std::alloc::{AllocError, Global};
 use std::sync::Arc;
 use tables_log::Commit;
 
@@ -33,7 +33,7 @@ pub(crate) enum Stage {
 pub struct Voice {
     alloc: Global,
     checked: Arc<Checked, Global>,
-    stage: Stage,
+    pub(crate) stage: Stage,
     out: BytesMut,
     ghost narrow: { AreNarrow (checked_view (arc_value checked)).catalog.tables },
 }
@@ -212,6 +212,16 @@ impl Voice {
             Stage::Closed => Err(LinkFault::Closed),
             Stage::Started(_) => Ok(append_copy_done(&mut self.out)?),
         }
+    }
+
+    /// Says the response to a start that is refused, and closes. The only error is want of memory.
+    pub(crate) fn refuse(&mut self, response: &[u8]) -> Result<(), AllocError>
+        ensures ok { OnOk result (Says self.old self.new response.now spec.Closed) }
+        ensures err { OnErr result (Closes self.old self.new) }
+    {
+        self.stage = Stage::Closed;
+        self.out.extend_from_slice(response)?;
+        Ok(())
     }
 
     pub(crate) fn close(&mut self)

@@ -14,23 +14,23 @@ use std::test::Fail;
 use tables_log::Book;
 
 /// The Query that starts the stream of s0 at 0.
-const QUERY: &[u8] =
+pub(crate) const QUERY: &[u8] =
     b"Q\0\0\0\x5aSTART_REPLICATION SLOT \"s0\" LOGICAL 0/0 (proto_version '1', publication_names '\"pa\"')\0";
 
 /// Statuses that nothing is flushed, that the log is flushed up to 64, and up to 128; the last one wants a reply.
-const NOTHING: &[u8] =
+pub(crate) const NOTHING: &[u8] =
     b"d\0\0\0\x26r\0\0\0\0\0\0\0\0\0\0\0\0\0\0\0\0\0\0\0\0\0\0\0\0\0\0\0\0\0\0\0\x05\0";
 
-const UP_TO_64: &[u8] =
+pub(crate) const UP_TO_64: &[u8] =
     b"d\0\0\0\x26r\0\0\0\0\0\0\0\x40\0\0\0\0\0\0\0\x40\0\0\0\0\0\0\0\x40\0\0\0\0\0\0\0\x05\0";
 
-const UP_TO_128: &[u8] =
+pub(crate) const UP_TO_128: &[u8] =
     b"d\0\0\0\x26r\0\0\0\0\0\0\0\x80\0\0\0\0\0\0\0\x80\0\0\0\0\0\0\0\x80\0\0\0\0\0\0\0\x05\x01";
 
 /// The response to a start of a slot that another connection has.
-const IN_USE: &[u8] = b"E\0\0\0\x3bSERROR\0VERROR\0C55006\0Mreplication slot \"s0\" is active\0\0";
+pub(crate) const IN_USE: &[u8] = b"E\0\0\0\x3bSERROR\0VERROR\0C55006\0Mreplication slot \"s0\" is active\0\0";
 
-fn heard(started: Option<u64>, replies: u32, ended: Option<u8>) -> Result<Heard, LinkFault> {
+pub(crate) fn heard(started: Option<u64>, replies: u32, ended: Option<u8>) -> Result<Heard, LinkFault> {
     Ok(Heard {
         started,
         replies,
@@ -39,7 +39,7 @@ fn heard(started: Option<u64>, replies: u32, ended: Option<u8>) -> Result<Heard,
 }
 
 /// A book with one commit.
-fn book_of(alloc: Global, checked: &Arc<Checked, Global>) -> Result<Book, Fail>
+pub(crate) fn book_of(alloc: Global, checked: &Arc<Checked, Global>) -> Result<Book, Fail>
     requires { IsLimited (checked_view (arc_value checked.now)).catalog }
 {
     let mut book = Book::new(alloc, Arc::try_clone(checked)?, 2)?;

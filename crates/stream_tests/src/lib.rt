@@ -12,6 +12,8 @@ mod ear;
 #[cfg(test)]
 mod frames;
 #[cfg(test)]
+mod link;
+#[cfg(test)]
 mod messages;
 mod sharding;
 #[cfg(test)]

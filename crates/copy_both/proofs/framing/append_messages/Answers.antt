@@ -1,7 +1,6 @@
-use Rattle.std.proofs.Common.{◌≡◌, ℕ, ◌≤◌, ◌++◌, List, length, sym, ap, ◌∙◌, true, arith}
+use Rattle.std.proofs.Common.{◌≡◌, ℕ, ◌≤◌, ◌++◌, List, length, ap, ◌∙◌, arith}
 use Rattle.pgoutput_msgs.specs.Spelling.{spelling_of}
 use Rattle.copy_both.specs.Framing.{with_head}
-use Rattle.copy_both.specs.Tellings.{is_short}
 use Rattle.copy_both.proofs.FramingLemmas.{frames_on, short_enough}
 use Rattle.copy_both.proofs.framing.append_messages.Goals as goal
 

@@ -1,4 +1,4 @@
-use Rattle.std.proofs.Common.{◌≡◌, ℕ, ◌*◌, ◌++◌, Bool, List, sym, ap, ◌∙◌, map}
+use Rattle.std.proofs.Common.{ℕ, ◌*◌, ◌++◌, Bool, List, ap, ◌∙◌, map}
 use Rattle.std.specs.List.{flat_map}
 use Rattle.shard_checker.specs.CheckedView.{checked_view}
 use Rattle.pgoutput_msgs.specs.Spelling.{spelling_of}

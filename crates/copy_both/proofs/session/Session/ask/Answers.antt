@@ -1,4 +1,4 @@
-use Rattle.std.proofs.Common.{◌≡◌, ℕ, Bool, List, ap, ◌∙◌}
+use Rattle.std.proofs.Common.{◌≡◌, ℕ, List, ap, ◌∙◌}
 use Rattle.pub_reader.specs.CatalogView.{catalog_view}
 use Rattle.shard_checker.specs.CheckedView.{checked_view}
 use Rattle.shard_checker.specs.declared.checked.Checked.{Checked}

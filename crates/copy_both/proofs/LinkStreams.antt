@@ -1,0 +1,226 @@
+-- What a link says is its stream.
+use Rattle.std.proofs.Common.{◌≡◌, ℕ, zero, suc, false, List, [], ◌∷◌, ◌++◌, take, replicate, refl, sym, ap, subst, ◌∙◌, append_assoc}
+use Rattle.std.specs.Prelude.{slice_get, Option, Some, None}
+use Rattle.std.specs.List.{concat}
+use Rattle.std.proofs.lemmas.List.{append-nil}
+use Rattle.std.proofs.lemmas.List.Folds.{concat-append}
+use Rattle.shard_checker.specs.CheckedView.{CheckedOf}
+use Rattle.tables_log.specs.Commits.{CommitOf}
+use Rattle.copy_frames.specs.Contents.{copy_both_response}
+use Rattle.copy_both.specs.Hearing.{HearingOf}
+use Rattle.copy_both.specs.LinkLaws.{Run, stream_of, with_moves, IsStreaming, replied, started_at, first_run, Goes, Goes_on, Starts, took, LinkHears, LinkEnds, LinkBreaks, LinkStops, LinkTakes, LinkKeeps, LinkPassesOn, LogGrows}
+use Rattle.copy_both.specs.Links.{link_checked, link_stage, link_output, frames_by, stage_by, frames_said, closing, ended_stage, next_bytes, next_stage, stage_said}
+use Rattle.copy_both.specs.StreamLaws.{Start, Speaks, first_place}
+use Rattle.copy_both.specs.Streams.{Telling, Place, Move, Take, Keep, keep_bytes, taken_bytes, taken_place, move_bytes, moved}
+use Rattle.copy_both.specs.Tellings.{telling_of}
+use Rattle.copy_both.specs.Voices as voices
+use Rattle.copy_both.specs.Voices.{StageOf, Says, Closes, kept_bytes, voice_output}
+use Rattle.copy_both.specs.declared.heard.Heard.{Heard}
+use Rattle.copy_both.specs.declared.link.Link.{Link}
+use Rattle.copy_both.proofs.StreamLemmas.{starts, takes, keeps, passes, grows}
+
+-- ---- replies
+
+speaks_more : (telling : Telling CommitOf) (log : List CommitOf) (start : Start) (moves : List Move) (passed output : List ℕ) (place : Place) (clock n : ℕ)
+    → Speaks telling log start moves passed output place
+    → Speaks telling log start (moves ++ replicate n (Keep clock false)) passed (output ++ concat (replicate n (keep_bytes place clock false))) place
+speaks_more telling log start moves passed output place clock zero speaks =
+    subst (λ (m : List Move). Speaks telling log start m passed (output ++ []) place) (sym (append-nil moves))
+    (subst (λ (o : List ℕ). Speaks telling log start moves passed o place) (sym (append-nil output)) speaks)
+speaks_more telling log start moves passed output place clock (suc n) speaks =
+    let keep : Move = Keep clock false in
+    let said : List ℕ = keep_bytes place clock false in
+    let on : Speaks telling log start ((moves ++ keep ∷ []) ++ replicate n keep) passed ((output ++ said) ++ concat (replicate n said)) place =
+    speaks_more telling log start (moves ++ keep ∷ []) passed (output ++ said) place clock n
+    (keeps telling log start moves passed output place clock false speaks) in
+    subst (λ (m : List Move). Speaks telling log start m passed (output ++ (said ++ concat (replicate n said))) place)
+    (append_assoc moves (keep ∷ []) (replicate n keep))
+    (subst (λ (o : List ℕ). Speaks telling log start ((moves ++ keep ∷ []) ++ replicate n keep) passed o place)
+    (append_assoc output said (concat (replicate n said))) on)
+
+concat_last : (xss : List (List ℕ)) (xs : List ℕ) → concat (xss ++ xs ∷ []) ≡ concat xss ++ xs
+concat_last xss xs = concat-append xss (xs ∷ []) ∙ ap (λ (x : List ℕ). concat xss ++ x) (append-nil xs)
+
+-- what is said while it streams
+said_on : (checked : CheckedOf) (place : Place) (started : Option (ℕ × ℕ)) (heard : Heard) (clock : ℕ)
+    → concat (frames_by checked (voices.Started place) started heard clock)
+    ≡ concat (replicate heard.replies (keep_bytes place clock false)) ++ closing (voices.Started place) heard.ended
+said_on checked place started heard clock = concat_last (replicate heard.replies (keep_bytes place clock false)) (closing (voices.Started place) heard.ended)
+
+-- ---- what was heard is answered
+
+-- with these bytes it would be at this place, and what is said comes after them
+record IsOpened (old : Link) (h : HearingOf) (clock : ℕ) (run : Run) (place : Place) : Type 0 where
+  output : List ℕ
+  speaks : Speaks (telling_of run.checked) run.log run.start run.moves run.passed output place
+  checked_is : link_checked old ≡ run.checked
+  said : link_output old ++ concat (frames_said (link_checked old) (link_stage old) h clock)
+      ≡ output ++ (concat (replicate h.heard.replies (keep_bytes place clock false)) ++ closing (voices.Started place) h.heard.ended)
+  stage_is : stage_said (link_checked old) (link_stage old) h ≡ ended_stage h.heard.ended (voices.Started place)
+
+opened_on : (old : Link) (run : Run) (place : Place) (h : HearingOf) (clock : ℕ) → IsStreaming old run place → IsOpened old h clock run place
+opened_on old run place h clock streams = record {
+  output = link_output old;
+  speaks = streams.says;
+  checked_is = streams.checked_is;
+  said =
+      ap (λ (s : StageOf). link_output old ++ concat (frames_said (link_checked old) s h clock)) streams.stage_is
+      ∙ ap (λ (x : List ℕ). link_output old ++ x) (said_on (link_checked old) place h.started h.heard clock);
+  stage_is = ap (λ (s : StageOf). stage_said (link_checked old) s h) streams.stage_is;
+}
+
+opened_first : (old : Link) (log : List CommitOf) (h : HearingOf) (clock : ℕ) (started : ℕ × ℕ) → link_stage old ≡ voices.NotStarted
+    → link_output old ≡ [] → h.started ≡ Some started
+    → IsOpened old h clock (first_run (link_checked old) log started) (first_place (started_at (link_checked old) started))
+opened_first old log h clock started waits silent is =
+    let checked : CheckedOf = link_checked old in
+    let start : Start = started_at checked started in
+    let place : Place = first_place start in
+    record {
+      output = copy_both_response;
+      speaks = starts (telling_of checked) log start;
+      checked_is = refl;
+      said =
+          ap (λ (x : List ℕ). x ++ concat (frames_said checked (link_stage old) h clock)) silent
+          ∙ ap (λ (s : StageOf). concat (frames_by checked s h.started h.heard clock)) waits
+          ∙ ap (λ (s : Option (ℕ × ℕ)). concat (frames_by checked voices.NotStarted s h.heard clock)) is
+          ∙ ap (λ (x : List ℕ). copy_both_response ++ x)
+          (concat_last (replicate h.heard.replies (keep_bytes place clock false)) (closing (voices.Started place) h.heard.ended));
+      stage_is =
+          ap (λ (s : StageOf). stage_by checked s h.started h.heard) waits
+          ∙ ap (λ (s : Option (ℕ × ℕ)). stage_by checked voices.NotStarted s h.heard) is;
+    }
+
+opened : (old : Link) (run : Run) (place : Place) (h : HearingOf) (clock : ℕ) → Goes old h run place → IsOpened old h clock run place
+opened old run place h clock (Goes_on streams) = opened_on old run place h clock streams
+opened old run place h clock (Starts started at) =
+    subst (λ (r : Run). IsOpened old h clock r place) (sym at.run_is)
+    (subst (λ (p : Place). IsOpened old h clock (first_run (link_checked old) run.log started) p) (sym at.place_is)
+    (opened_first old run.log h clock started at.waits at.silent at.started_is))
+
+more_said : (old : Link) (run : Run) (place : Place) (h : HearingOf) (clock : ℕ) (o : IsOpened old h clock run place)
+    → Speaks (telling_of run.checked) run.log run.start (run.moves ++ replied h clock) run.passed
+    (o.output ++ concat (replicate h.heard.replies (keep_bytes place clock false))) place
+more_said old run place h clock o =
+    speaks_more (telling_of run.checked) run.log run.start run.moves run.passed o.output place clock h.heard.replies o.speaks
+
+pub hears : LinkHears
+hears old new run place h heard clock goes none says =
+    let o : IsOpened old h clock run place = opened old run place h clock goes in
+    let keeps_said : List ℕ = concat (replicate h.heard.replies (keep_bytes place clock false)) in
+    let output_is : link_output new ≡ o.output ++ keeps_said =
+    says.output ∙ o.said
+    ∙ ap (λ (x : List ℕ). o.output ++ x)
+    (ap (λ (e : Option ℕ). keeps_said ++ closing (voices.Started place) e) none ∙ append-nil keeps_said) in
+    record {
+      checked_is = says.checked ∙ o.checked_is;
+      stage_is = says.stage_is ∙ o.stage_is ∙ ap (λ (e : Option ℕ). ended_stage e (voices.Started place)) none;
+      says =
+          subst (λ (x : List ℕ). Speaks (telling_of run.checked) run.log run.start (run.moves ++ replied h clock) run.passed x place) (sym output_is)
+          (more_said old run place h clock o);
+    }
+
+-- all that was said, with what comes last
+said_last : (old : Link) (run : Run) (place : Place) (h : HearingOf) (clock : ℕ) → IsOpened old h clock run place
+    → run.passed ++ (link_output old ++ concat (frames_said (link_checked old) (link_stage old) h clock))
+    ≡ stream_of (with_moves run (replied h clock)) ++ closing (voices.Started place) h.heard.ended
+said_last old run place h clock o =
+    let keeps_said : List ℕ = concat (replicate h.heard.replies (keep_bytes place clock false)) in
+    let last : List ℕ = closing (voices.Started place) h.heard.ended in
+    ap (λ (x : List ℕ). run.passed ++ x) (o.said ∙ sym (append_assoc o.output keeps_said last))
+    ∙ sym (append_assoc run.passed (o.output ++ keeps_said) last)
+    ∙ ap (λ (x : List ℕ). x ++ last) (more_said old run place h clock o).bytes
+
+pub ends : LinkEnds
+ends old new run place h heard clock kind goes some says =
+    let o : IsOpened old h clock run place = opened old run place h clock goes in
+    record {
+      stage_is = says.stage_is ∙ o.stage_is ∙ ap (λ (e : Option ℕ). ended_stage e (voices.Started place)) some;
+      bytes =
+          ap (λ (x : List ℕ). run.passed ++ x) says.output ∙ said_last old run place h clock o
+          ∙ ap (λ (e : Option ℕ). stream_of (with_moves run (replied h clock)) ++ closing (voices.Started place) e) some;
+    }
+
+pub breaks : LinkBreaks
+breaks old new run place h clock goes some =
+    let o : IsOpened old h clock run place = opened old run place h clock goes in
+    record {
+      stage_is = some.says.stage_is;
+      others = concat some.others;
+      bytes =
+          append_assoc run.passed (link_output new) (concat some.others)
+          ∙ ap (λ (x : List ℕ). run.passed ++ x)
+          (ap (λ (x : List ℕ). x ++ concat some.others) some.says.output
+          ∙ append_assoc (link_output old) (concat some.said) (concat some.others)
+          ∙ ap (λ (x : List ℕ). link_output old ++ x) (sym (concat-append some.said some.others) ∙ ap concat some.all))
+          ∙ said_last old run place h clock o;
+    }
+
+pub stops : LinkStops
+stops old new run place streams closes = record {
+  stage_is = closes.stage_is;
+  bytes =
+      ap (λ (x : List ℕ). run.passed ++ x) closes.output ∙ streams.says.bytes ∙ sym (append-nil (stream_of run));
+}
+
+-- ---- moves
+
+takes_by : (found : Option CommitOf) (run : Run) (output : List ℕ) (place : Place) (clock : ℕ) → slice_get run.log place.done ≡ found
+    → Speaks (telling_of run.checked) run.log run.start run.moves run.passed output place
+    → Speaks (telling_of run.checked) run.log run.start (run.moves ++ took found clock) run.passed
+    (output ++ taken_bytes (telling_of run.checked) place found clock) (taken_place (telling_of run.checked) place found)
+takes_by None run output place clock is speaks =
+    subst (λ (m : List Move). Speaks (telling_of run.checked) run.log run.start m run.passed (output ++ []) place) (sym (append-nil run.moves))
+    (subst (λ (o : List ℕ). Speaks (telling_of run.checked) run.log run.start run.moves run.passed o place) (sym (append-nil output)) speaks)
+takes_by (Some commit) run output place clock is speaks =
+    takes (telling_of run.checked) run.log run.start run.moves run.passed output place commit clock speaks is
+
+pub takes_on : LinkTakes
+takes_on old new run place clock streams says =
+    let telling : Telling CommitOf = telling_of run.checked in
+    let output_is : link_output new ≡ link_output old ++ move_bytes telling run.log place (Take clock) =
+    says.voice.output
+    ∙ ap (λ (s : StageOf). link_output old ++ next_bytes (link_checked old) s run.log clock) streams.stage_is
+    ∙ ap (λ (k : CheckedOf). link_output old ++ move_bytes (telling_of k) run.log place (Take clock)) streams.checked_is in
+    record {
+      checked_is = says.voice.checked ∙ streams.checked_is;
+      stage_is =
+          says.voice.stage_is
+          ∙ ap (λ (s : StageOf). next_stage (link_checked old) s run.log clock) streams.stage_is
+          ∙ ap (λ (k : CheckedOf). voices.Started (moved (telling_of k) run.log place (Take clock))) streams.checked_is;
+      says =
+          subst (λ (o : List ℕ).
+          Speaks telling run.log run.start (run.moves ++ took (slice_get run.log place.done) clock) run.passed o (moved telling run.log place (Take clock)))
+          (sym output_is) (takes_by (slice_get run.log place.done) run (link_output old) place clock refl streams.says);
+    }
+
+pub keeps_on : LinkKeeps
+keeps_on old new run place clock want streams says =
+    let telling : Telling CommitOf = telling_of run.checked in
+    let output_is : link_output new ≡ link_output old ++ keep_bytes place clock want =
+    says.voice.output ∙ ap (λ (s : StageOf). link_output old ++ kept_bytes s clock want) streams.stage_is in
+    record {
+      checked_is = says.voice.checked ∙ streams.checked_is;
+      stage_is = says.voice.stage_is ∙ streams.stage_is;
+      says =
+          subst (λ (o : List ℕ). Speaks telling run.log run.start (run.moves ++ Keep clock want ∷ []) run.passed o place) (sym output_is)
+          (keeps telling run.log run.start run.moves run.passed (link_output old) place clock want streams.says);
+    }
+
+pub passes_on : LinkPassesOn
+passes_on old new run place count streams says =
+    let telling : Telling CommitOf = telling_of run.checked in
+    record {
+      checked_is = says.voice.checked ∙ streams.checked_is;
+      stage_is = says.voice.stage_is ∙ streams.stage_is;
+      says =
+          subst (λ (o : List ℕ). Speaks telling run.log run.start run.moves (run.passed ++ take count (link_output old)) o place) (sym says.voice.output)
+          (passes telling run.log run.start run.moves run.passed (link_output old) place count streams.says);
+    }
+
+pub log_grows : LogGrows
+log_grows link run place more streams = record {
+  checked_is = streams.checked_is;
+  stage_is = streams.stage_is;
+  says = grows (telling_of run.checked) run.log more run.start run.moves run.passed (link_output link) place streams.says;
+}

@@ -1,0 +1,165 @@
+-- What a link is, the publisher's end of a connection, and what its calls answer, say and leave: each is the halves' calls, and what is heard is answered at once ("55.4. Streaming Replication Protocol").
+use Rattle.std.specs.Prelude.{◌≡◌, ℕ, ◌==◌, if◌then◌else◌, unwrap_or, false, List, [], ◌∷◌, ◌++◌, replicate, slice_get, Option, Some, None, Result, Ok, Err}
+use Rattle.std.specs.List.{concat}
+use Rattle.shard_checker.specs.CheckedView.{CheckedOf}
+use Rattle.tables_log.specs.Commits.{CommitOf}
+use Rattle.tables_log.specs.declared.book.Book.{Book}
+use Rattle.copy_frames.specs.Contents.{copy_both_response}
+use Rattle.copy_both.specs.Ears.{ear_checked, ear_phase, ear_started, ear_held, ear_refusal, ear_heard, IsSameEar, EarCloses, Loses}
+use Rattle.copy_both.specs.Hearing.{HearingOf}
+use Rattle.copy_both.specs.Streams as streams
+use Rattle.copy_both.specs.Streams.{Take, move_bytes, moved}
+use Rattle.copy_both.specs.Tellings.{spelled_for, telling_of}
+use Rattle.copy_both.specs.Voices as voices
+use Rattle.copy_both.specs.Voices.{StageOf, Says, Closes, Passes, voice_checked, voice_stage, voice_output, first_stage, told_answer, kept_bytes, done_bytes, sent_of}
+use Rattle.copy_both.specs.declared.ear.Ear.{Ear}
+use Rattle.copy_both.specs.declared.heard.Heard.{Heard}
+use Rattle.copy_both.specs.declared.link.Link.{Link}
+use Rattle.copy_both.specs.declared.link_fault.LinkFault.{LinkFault}
+use Rattle.copy_both.specs.declared.link_fault.LinkFault.TheVariants as fault
+use Rattle.copy_both.specs.declared.phase.Phase.TheVariants as phase
+use Rattle.copy_both.specs.declared.taken.Taken.{Taken}
+use Rattle.copy_both.specs.declared.taken.Taken.TheVariants as taken
+use Rattle.copy_both.specs.declared.voice.Voice.{Voice}
+
+-- ---- views
+
+abbrev pub link_ear : Link → Ear
+link_ear link = link.ear
+
+abbrev pub link_voice : Link → Voice
+link_voice link = link.voice
+
+abbrev pub link_checked : Link → CheckedOf
+link_checked link = voice_checked link.voice
+
+-- before the start, at a place in the log, or after the end
+abbrev pub link_stage : Link → StageOf
+link_stage link = voice_stage link.voice
+
+-- what was said and not passed on
+abbrev pub link_output : Link → List ℕ
+link_output link = voice_output link.voice
+
+-- before the first byte
+pub record IsNewLink (link : Link) (checked : CheckedOf) : Type 0 where
+  pub checked_is : link_checked link ≡ checked
+  pub heard_by : ear_checked (link_ear link) ≡ checked
+  pub phase_is : ear_phase (link_ear link) ≡ phase.Open
+  pub started : ear_started (link_ear link) ≡ None
+  pub refusal : ear_refusal (link_ear link) ≡ []
+  pub held : ear_held (link_ear link) ≡ []
+  pub stage_is : link_stage link ≡ voices.NotStarted
+  pub output : link_output link ≡ []
+
+-- ---- what a call leaves
+
+-- these bytes are said, it is there then, and nothing is heard
+pub record LinkSays (old new : Link) (bytes : List ℕ) (stage : StageOf) : Type 0 where
+  pub ear : IsSameEar (link_ear old) (link_ear new)
+  pub voice : Says (link_voice old) (link_voice new) bytes stage
+
+-- nothing is said, and from now on nothing is heard or said
+pub record LinkCloses (old new : Link) : Type 0 where
+  pub ear : EarCloses (link_ear old) (link_ear new)
+  pub voice : Closes (link_voice old) (link_voice new)
+
+pub record LinkPasses (old new : Link) (count : ℕ) : Type 0 where
+  pub ear : IsSameEar (link_ear old) (link_ear new)
+  pub voice : Passes (link_voice old) (link_voice new) count
+
+-- nothing more is said, and the first loss gives the slot back
+pub record LinkLoses (old new : Link) (before after : Book) : Type 0 where
+  pub ear : Loses (link_ear old) (link_ear new) before after
+  pub voice : Closes (link_voice old) (link_voice new)
+
+-- ---- hear: what answers what was heard
+
+-- CopyBothResponse, where a stream starts
+abbrev pub opening : StageOf → Option (ℕ × ℕ) → List ℕ
+opening voices.NotStarted None = []
+opening voices.NotStarted (Some started) = copy_both_response
+opening (voices.Started place) started = []
+opening voices.Closed started = []
+
+abbrev pub begun_stage : CheckedOf → StageOf → Option (ℕ × ℕ) → StageOf
+begun_stage checked voices.NotStarted None = voices.NotStarted
+begun_stage checked voices.NotStarted (Some started) = first_stage checked started.0 started.1
+begun_stage checked (voices.Started place) started = voices.Started place
+begun_stage checked voices.Closed started = voices.Closed
+
+-- a keepalive that wants no status, for each status that wants a reply
+abbrev pub replies : StageOf → ℕ → ℕ → List (List ℕ)
+replies stage count clock = replicate count (kept_bytes stage clock false)
+
+-- CopyDone, where the client ends the stream by CopyDone, `c`
+abbrev pub closing : StageOf → Option ℕ → List ℕ
+closing stage None = []
+closing stage (Some kind) = if kind == 99 then done_bytes stage else []
+
+abbrev pub ended_stage : Option ℕ → StageOf → StageOf
+ended_stage None stage = stage
+ended_stage (Some kind) stage = voices.Closed
+
+-- all of it, frame by frame, and where the link is then; what is not said is an empty frame
+abbrev pub frames_after : StageOf → StageOf → Option (ℕ × ℕ) → Heard → ℕ → List (List ℕ)
+frames_after stage begun started heard clock =
+    opening stage started ∷ (replies begun heard.replies clock ++ closing begun heard.ended ∷ [])
+
+abbrev pub frames_by : CheckedOf → StageOf → Option (ℕ × ℕ) → Heard → ℕ → List (List ℕ)
+frames_by checked stage started heard clock = frames_after stage (begun_stage checked stage started) started heard clock
+
+abbrev pub stage_by : CheckedOf → StageOf → Option (ℕ × ℕ) → Heard → StageOf
+stage_by checked stage started heard = ended_stage heard.ended (begun_stage checked stage started)
+
+abbrev pub frames_said : CheckedOf → StageOf → HearingOf → ℕ → List (List ℕ)
+frames_said checked stage h clock = frames_by checked stage h.started h.heard clock
+
+abbrev pub stage_said : CheckedOf → StageOf → HearingOf → StageOf
+stage_said checked stage h = stage_by checked stage h.started h.heard
+
+-- some first ones of the frames are said, and from now on nothing will be
+pub record SaysFirst (old new : Voice) (frames : List (List ℕ)) : Type 0 where
+  pub said : List (List ℕ)
+  pub others : List (List ℕ)
+  pub all : said ++ others ≡ frames
+  pub says : Says old new (concat said) voices.Closed
+
+-- a start that is refused is answered by its response, and another fault by nothing; where memory is refused, some first frames are said
+abbrev pub HearSays : Link → Link → HearingOf → ℕ → Result Heard LinkFault → Type 0
+HearSays old new h clock (Ok heard) =
+    Says (link_voice old) (link_voice new) (concat (frames_said (link_checked old) (link_stage old) h clock))
+    (stage_said (link_checked old) (link_stage old) h)
+HearSays old new h clock (Err (fault.BadStart state)) = Says (link_voice old) (link_voice new) h.response voices.Closed
+HearSays old new h clock (Err fault.OutOfMemory) =
+    SaysFirst (link_voice old) (link_voice new) (frames_said (link_checked old) (link_stage old) h clock)
+HearSays old new h clock (Err other) = Closes (link_voice old) (link_voice new)
+
+-- the sent position; 0 of a link that has not started
+abbrev pub link_sent : Link → ℕ
+link_sent link = unwrap_or (sent_of (link_stage link)) 0
+
+-- what comes of all frames of a piece
+abbrev pub link_heard : Link → Book → List ℕ → HearingOf
+link_heard link book piece = ear_heard (link_ear link) book piece (link_sent link)
+
+-- ---- take: the next commit of the log, where there is one
+
+abbrev pub found_answer : CheckedOf → streams.Place → Option CommitOf → Result Taken LinkFault
+found_answer checked place None = Ok taken.Idle
+found_answer checked place (Some commit) = told_answer commit.number (spelled_for checked place.slot place.told commit)
+
+abbrev pub next_answer : CheckedOf → StageOf → List CommitOf → Result Taken LinkFault
+next_answer checked voices.NotStarted log = Ok taken.NotStarted
+next_answer checked (voices.Started place) log = found_answer checked place (slice_get log place.done)
+next_answer checked voices.Closed log = Err fault.Closed
+
+abbrev pub next_bytes : CheckedOf → StageOf → List CommitOf → ℕ → List ℕ
+next_bytes checked voices.NotStarted log clock = []
+next_bytes checked (voices.Started place) log clock = move_bytes (telling_of checked) log place (Take clock)
+next_bytes checked voices.Closed log clock = []
+
+abbrev pub next_stage : CheckedOf → StageOf → List CommitOf → ℕ → StageOf
+next_stage checked voices.NotStarted log clock = voices.NotStarted
+next_stage checked (voices.Started place) log clock = voices.Started (moved (telling_of checked) log place (Take clock))
+next_stage checked voices.Closed log clock = voices.Closed

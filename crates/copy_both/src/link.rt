@@ -1,0 +1,211 @@
+//! The publisher's end of a connection.
+
+ghost use Rattle.std.specs.Prelude.{◌≡◌, ◌+◌, slice_get, IfSome};
+ghost use Rattle.std.specs.Option.{option_map};
+ghost use Rattle.copy_both.specs.Ears.{ear_phase, ear_started};
+ghost use Rattle.copy_both.specs.Halves.{heard_state, said_state};
+ghost use Rattle.copy_both.specs.Voices.{voice_stage};
+ghost use Rattle.tables_log.specs.BookView.{book_log};
+
+use crate::ear::Ear;
+use crate::heard::Heard;
+use crate::link_fault::LinkFault;
+use crate::replies::answer_heard;
+use crate::taken::Taken;
+use crate::voice::{Stage, Voice};
+use shard_checker::Checked;
+use std::alloc::{AllocError, Global};
+use std::sync::Arc;
+use tables_log::{Book, Commit};
+
+/// The commit of a log after so many others.
+fn entry_after(book: &Book, done: u64) -> Option<&Commit>
+    ensures shows { option_map (λ commit. commit.now) result ≡ slice_get (book_log book.now) done }
+    ensures numbered { IfSome result (λ commit. commit.now.number ≡ done + 1) }
+{
+    if done >= u64::from(book.log_len()) {
+        return None;
+    }
+    book.entry(done as u32 + 1)
+}
+
+/// The publisher's end of a connection, for use by one thread: a client's bytes are put in, and what is to be sent to it
+/// waits in the output. It is made of both halves, an `Ear` and a `Voice`: what is heard is answered at once.
+///
+/// The first fault closes it, and so does the client's end; from then on each call that hears or speaks answers `Closed`.
+/// What waits stays as whole frames. The slot stays taken until `lose`.
+///
+/// PostgreSQL 15, 55.4. Streaming Replication Protocol.
+#[derive(Drop)]
+pub struct Link {
+    ear: Ear,
+    voice: Voice,
+    ghost together: { heard_state (ear_phase ear) (ear_started ear) ≡ said_state (voice_stage voice) },
+}
+
+impl Link {
+    ghost use Rattle.std.specs.Prelude.{◌≡◌, IfOk, OnOk, OnErr};
+    ghost use Rattle.std.specs.Arc.{arc_value};
+    ghost use Rattle.filter_tree.specs.Memory.{Answers};
+    ghost use Rattle.pub_reader.specs.CatalogLimits.{IsLimited};
+    ghost use Rattle.shard_checker.specs.CheckedView.{checked_view};
+    ghost use Rattle.tables_log.specs.BookView.{book_log};
+    ghost use Rattle.copy_both.specs.Ears.{HearLeaves, ear_phase, ear_started, hear_answer};
+    ghost use Rattle.copy_both.specs.Links as spec;
+    ghost use Rattle.copy_both.specs.Links.{HearSays, IsNewLink, LinkCloses, LinkLoses, LinkPasses, LinkSays, link_checked, link_ear, link_heard, link_output, link_sent, link_stage};
+    ghost use Rattle.copy_both.specs.Voices.{keep_answer, kept_bytes, sent_of, told_fault};
+
+    /// A link before the first byte. The only error is that the catalog is shared too often.
+    ///
+    /// That the catalog is within its limits is known of one that `read_catalog` read.
+    pub fn new(alloc: Global, checked: Arc<Checked, Global>) -> Result<Link, AllocError>
+        requires { IsLimited (checked_view (arc_value checked)).catalog }
+        ensures { IfOk result (λ link. IsNewLink link (checked_view (arc_value checked))) }
+    {
+        let other = Arc::try_clone(&checked)?;
+        Ok(Link {
+            ear: Ear::new(alloc, other),
+            voice: Voice::new(alloc, checked),
+        })
+    }
+
+    /// Hears the next bytes that the client sends, in whatever pieces they come, up to a fault or an end, and says what
+    /// answers them, in this order: CopyBothResponse where the stream starts, a keepalive that wants no status for each
+    /// status that wants a reply, and CopyDone where the client ended the stream by it. A start that is refused is
+    /// answered by its ErrorResponse; any other fault by nothing, also of what was heard before it in the piece. `now` is
+    /// the clock, in microseconds since 2000-01-01.
+    ///
+    /// # Errors
+    ///
+    /// The first of: `BadStart`; `BadLength` for a status that has another length than 34 bytes; `Unexpected`;
+    /// `StatusAhead` for a status that has flushed more than the sent position; and after all frames before it `BadLength`
+    /// and `FrameTooLong` for a length below 4 or above 65,536. Or `OutOfMemory`; then some first frames were heard, and
+    /// some first frames said. Each closes it. `Closed` where it was closed before; then nothing changes.
+    ///
+    /// PostgreSQL 15, 55.4. Streaming Replication Protocol, and 55.7. Message Formats.
+    pub fn hear(&mut self, piece: &[u8], book: &mut Book, now: u64) -> Result<Heard, LinkFault>
+        ensures answer { Answers (λ heard. heard) told_fault
+            (hear_answer (link_ear self.old) book.old piece.now (link_sent self.old)) result }
+        ensures left { HearLeaves (ear_phase (link_ear self.old)) (link_ear self.old) (link_ear self.new)
+            book.old book.new piece.now (link_sent self.old) result }
+        ensures says { HearSays self.old self.new (link_heard self.old book.old piece.now) now result }
+    {
+        let sent = self.voice.sent().unwrap_or(0);
+        let heard = match self.ear.hear(piece, book, sent) {
+            Ok(heard) => heard,
+            Err(LinkFault::BadStart(state)) => {
+                self.voice.refuse(self.ear.refusal())?;
+                return Err(LinkFault::BadStart(state));
+            }
+            Err(fault) => {
+                self.voice.close();
+                return Err(fault);
+            }
+        };
+        match answer_heard(&mut self.voice, self.ear.started(), &heard, now) {
+            Ok(()) => Ok(heard),
+            Err(fault) => {
+                self.ear.close();
+                Err(fault)
+            }
+        }
+    }
+
+    /// Takes the next commit of the log up: says the messages that tell the subscriber of it, each in an XLogData at the
+    /// commit's position. A commit without a change for the subscriber is skipped. The answer is `Idle` where all of the
+    /// log is taken, and `NotStarted` before the start; then nothing is said. `now` is the clock, in microseconds since
+    /// 2000-01-01.
+    ///
+    /// It takes time for the commit's changes and messages.
+    ///
+    /// # Errors
+    ///
+    /// `Closed`; `FrameTooLong` where a message has more than 16,777,187 bytes; `OutOfMemory`. Each closes it, and nothing
+    /// of the commit is said.
+    ///
+    /// PostgreSQL 15, 55.5. Logical Streaming Replication Protocol.
+    pub fn take(&mut self, book: &Book, now: u64) -> Result<Taken, LinkFault>
+        ensures answer { Answers (λ taken. taken) told_fault
+            (spec.next_answer (link_checked self.old) (link_stage self.old) (book_log book.now)) result }
+        ensures ok { OnOk result (LinkSays self.old self.new
+            (spec.next_bytes (link_checked self.old) (link_stage self.old) (book_log book.now) now)
+            (spec.next_stage (link_checked self.old) (link_stage self.old) (book_log book.now) now)) }
+        ensures err { OnErr result (LinkCloses self.old self.new) }
+    {
+        let next = match &self.voice.stage {
+            Stage::NotStarted => return Ok(Taken::NotStarted),
+            Stage::Closed => return Err(LinkFault::Closed),
+            Stage::Started(place) => entry_after(book, place.done),
+        };
+        let Some(commit) = next else {
+            return Ok(Taken::Idle);
+        };
+        let taken = self.voice.take_entry(commit, now);
+        if taken.is_err() {
+            self.ear.close();
+        }
+        taken
+    }
+
+    /// Says a keepalive with the sent position and this clock, in microseconds since 2000-01-01, which may want a status.
+    /// The answer is false where the stream has not started: then nothing is said.
+    ///
+    /// # Errors
+    ///
+    /// `Closed`; `OutOfMemory`, which closes it.
+    ///
+    /// PostgreSQL 15, 55.4. Streaming Replication Protocol (Primary keepalive message).
+    pub fn keepalive(&mut self, now: u64, want: bool) -> Result<bool, LinkFault>
+        ensures answer { Answers (λ said. said) told_fault (keep_answer (link_stage self.old)) result }
+        ensures ok { OnOk result (LinkSays self.old self.new (kept_bytes (link_stage self.old) now want)
+            (link_stage self.old)) }
+        ensures err { OnErr result (LinkCloses self.old self.new) }
+    {
+        let said = self.voice.keepalive(now, want);
+        if said.is_err() {
+            self.ear.close();
+        }
+        said
+    }
+
+    /// The slot whose stream was started, by the number of its subscription, and where in the log the stream starts, in
+    /// bytes.
+    pub fn started(&self) -> Option<(usize, u64)>
+        ensures shows { result ≡ ear_started (link_ear self.now) }
+        ensures together { heard_state (ear_phase (link_ear self.now)) (ear_started (link_ear self.now))
+            ≡ said_state (link_stage self.now) }
+    {
+        self.ear.started()
+    }
+
+    /// The sent position, in bytes, while the stream runs: where the last commit that was taken ends; where none was,
+    /// where the stream started, which is 64 for a start at 0.
+    pub fn sent(&self) -> Option<u64>
+        ensures { result ≡ sent_of (link_stage self.now) }
+    {
+        self.voice.sent()
+    }
+
+    /// What waits to be sent.
+    pub fn output(&self) -> &[u8]
+        ensures { result.now ≡ link_output self.now }
+    {
+        self.voice.output()
+    }
+
+    /// Drops so many of the first bytes that wait, or all where fewer wait, without a copy of the others.
+    pub fn passed(&mut self, count: usize)
+        ensures { LinkPasses self.old self.new count }
+    {
+        self.voice.passed(count);
+    }
+
+    /// Loses the connection: closes it, and gives the slot back where its stream was started. Only the first loss changes
+    /// the book. What waits stays.
+    pub fn lose(&mut self, book: &mut Book)
+        ensures { LinkLoses self.old self.new book.old book.new }
+    {
+        self.ear.lose(book);
+        self.voice.close();
+    }
+}

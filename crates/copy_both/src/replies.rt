@@ -1,0 +1,81 @@
+//! What is said of that which was heard.
+
+ghost use Rattle.std.specs.Prelude.{◌≡◌, ◌≢◌, OnOk, OnErr, IfErr};
+ghost use Rattle.std.specs.List.{concat};
+ghost use Rattle.copy_both.specs.Links as spec;
+ghost use Rattle.copy_both.specs.Links.{SaysFirst};
+ghost use Rattle.copy_both.specs.Voices as voices;
+ghost use Rattle.copy_both.specs.Voices.{Says, Closes, voice_checked, voice_stage};
+ghost use Rattle.copy_both.specs.declared.link_fault.LinkFault.TheVariants.{OutOfMemory};
+
+use crate::heard::Heard;
+use crate::link_fault::LinkFault;
+use crate::voice::Voice;
+
+/// Starts the stream where one was started.
+fn open(voice: &mut Voice, started: Option<(usize, u64)>) -> Result<(), LinkFault>
+    requires { voice_stage voice.old ≢ voices.Closed }
+    ensures ok { OnOk result (Says voice.old voice.new (spec.opening (voice_stage voice.old) started)
+        (spec.begun_stage (voice_checked voice.old) (voice_stage voice.old) started)) }
+    ensures err { OnErr result (Closes voice.old voice.new) }
+    ensures memory { IfErr result (λ fault. fault ≡ OutOfMemory) }
+{
+    match started {
+        Some((slot, start)) if voice.sent().is_none() => voice.start(slot, start),
+        Some(_) | None => Ok(()),
+    }
+}
+
+/// Says so many keepalives.
+fn reply(voice: &mut Voice, count: u32, now: u64) -> Result<(), LinkFault>
+    requires { voice_stage voice.old ≢ voices.Closed }
+    ensures ok { OnOk result (Says voice.old voice.new (concat (spec.replies (voice_stage voice.old) count now))
+        (voice_stage voice.old)) }
+    ensures err { OnErr result (SaysFirst voice.old voice.new (spec.replies (voice_stage voice.old) count now)) }
+    ensures memory { IfErr result (λ fault. fault ≡ OutOfMemory) }
+{
+    for _ in 0..count {
+        voice.keepalive(now, false)?;
+    }
+    Ok(())
+}
+
+/// Closes the voice where the client has ended the connection, and answers CopyDone by CopyDone.
+fn end(voice: &mut Voice, ended: Option<u8>) -> Result<(), LinkFault>
+    requires { voice_stage voice.old ≢ voices.Closed }
+    ensures ok { OnOk result (Says voice.old voice.new (spec.closing (voice_stage voice.old) ended)
+        (spec.ended_stage ended (voice_stage voice.old))) }
+    ensures err { OnErr result (Closes voice.old voice.new) }
+    ensures memory { IfErr result (λ fault. fault ≡ OutOfMemory) }
+{
+    match ended {
+        None => Ok(()),
+        Some(b'c') => voice.done(),
+        Some(_) => {
+            voice.close();
+            Ok(())
+        }
+    }
+}
+
+/// Says what answers that which was heard, where this slot streams from this position on. With an error some first frames
+/// were said, and the voice is closed.
+pub(crate) fn answer_heard(
+    voice: &mut Voice,
+    started: Option<(usize, u64)>,
+    heard: &Heard,
+    now: u64,
+) -> Result<(), LinkFault>
+    requires { voice_stage voice.old ≢ voices.Closed }
+    ensures ok { OnOk result (Says voice.old voice.new (concat (spec.frames_by (voice_checked voice.old)
+        (voice_stage voice.old) started heard.now now))
+        (spec.stage_by (voice_checked voice.old) (voice_stage voice.old) started heard.now)) }
+    ensures err { OnErr result (SaysFirst voice.old voice.new (spec.frames_by (voice_checked voice.old)
+        (voice_stage voice.old) started heard.now now)) }
+    ensures memory { IfErr result (λ fault. fault ≡ OutOfMemory) }
+{
+    open(voice, started)?;
+    reply(voice, heard.replies, now)?;
+    end(voice, heard.ended)?;
+    Ok(())
+}
