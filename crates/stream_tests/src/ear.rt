@@ -28,9 +28,14 @@ pub(crate) const UP_TO_128: &[u8] =
     b"d\0\0\0\x26r\0\0\0\0\0\0\0\x80\0\0\0\0\0\0\0\x80\0\0\0\0\0\0\0\x80\0\0\0\0\0\0\0\x05\x01";
 
 /// The response to a start of a slot that another connection has.
-pub(crate) const IN_USE: &[u8] = b"E\0\0\0\x3bSERROR\0VERROR\0C55006\0Mreplication slot \"s0\" is active\0\0";
+pub(crate) const IN_USE: &[u8] =
+    b"E\0\0\0\x3bSERROR\0VERROR\0C55006\0Mreplication slot \"s0\" is active\0\0";
 
-pub(crate) fn heard(started: Option<u64>, replies: u32, ended: Option<u8>) -> Result<Heard, LinkFault> {
+pub(crate) fn heard(
+    started: Option<u64>,
+    replies: u32,
+    ended: Option<u8>,
+) -> Result<Heard, LinkFault> {
     Ok(Heard {
         started,
         replies,

@@ -54,7 +54,10 @@ fn a_piece_may_have_the_start_and_the_end(rt: HostRuntime) -> Result<(), Fail> {
     let mut piece = Vec::new(alloc);
     piece.extend_from_slice(QUERY)?;
     piece.extend_from_slice(b"c\0\0\0\x04X\0\0\0\x03")?;
-    assert_eq!(rt; link.hear(piece.as_slice(), &mut book, 3), heard(Some(0), 0, Some(b'c')));
+    assert_eq!(rt;
+        link.hear(piece.as_slice(), &mut book, 3),
+        heard(Some(0), 0, Some(b'c'))
+    );
     assert_eq!(rt; link.output(), b"W\0\0\0\x07\0\0\0c\0\0\0\x04".as_slice());
     assert_eq!(rt; link.take(&book, 4), Err(LinkFault::Closed));
     Ok(())
@@ -82,10 +85,26 @@ fn bytes_that_are_not_as_they_should_be(rt: HostRuntime) -> Result<(), Fail> {
             b"Q\0\0\0\x05\0".as_slice(),
             Err(LinkFault::BadStart(SqlState::SyntaxError)),
         ),
-        (true, b"d\0\0\0\x04".as_slice(), Err(LinkFault::Unexpected(b'd'))),
-        (true, b"d\0\0\0\x05h".as_slice(), Err(LinkFault::Unexpected(b'h'))),
-        (true, b"Q\0\0\0\x05\0".as_slice(), Err(LinkFault::Unexpected(b'Q'))),
-        (true, b"\xff\0\0\0\x04".as_slice(), Err(LinkFault::Unexpected(255))),
+        (
+            true,
+            b"d\0\0\0\x04".as_slice(),
+            Err(LinkFault::Unexpected(b'd')),
+        ),
+        (
+            true,
+            b"d\0\0\0\x05h".as_slice(),
+            Err(LinkFault::Unexpected(b'h')),
+        ),
+        (
+            true,
+            b"Q\0\0\0\x05\0".as_slice(),
+            Err(LinkFault::Unexpected(b'Q')),
+        ),
+        (
+            true,
+            b"\xff\0\0\0\x04".as_slice(),
+            Err(LinkFault::Unexpected(255)),
+        ),
         (true, b"d\0\0\0\x05r".as_slice(), Err(LinkFault::BadLength)),
         (true, b"d\x80\0\0\0".as_slice(), Err(LinkFault::BadLength)),
         (true, b"c\0\0\0\x04".as_slice(), heard(None, 0, Some(b'c'))),
@@ -100,7 +119,12 @@ fn bytes_that_are_not_as_they_should_be(rt: HostRuntime) -> Result<(), Fail> {
         assert_eq!(rt; link.hear(piece, &mut book, 5), Err(LinkFault::Closed));
         assert_eq!(rt; link.keepalive(5, false), Err(LinkFault::Closed));
         let answered = match expected {
-            Ok(Heard { ended: Some(b'c'), .. }) => link.output() == b"c\0\0\0\x04".as_slice(),
+            Ok(
+                Heard {
+                    ended: Some(b'c'),
+                    ..
+                },
+            ) => link.output() == b"c\0\0\0\x04".as_slice(),
             Ok(_) => link.output().is_empty(),
             Err(LinkFault::BadStart(_)) => link.output().first() == Some(&b'E'),
             Err(_) => link.output().is_empty(),
