@@ -1,4 +1,4 @@
-//! What is said of that which was heard.
+//! The answers to what was heard.
 
 ghost use Rattle.std.specs.Prelude.{◌≡◌, ◌≢◌, OnOk, OnErr, IfErr};
 ghost use Rattle.std.specs.List.{concat};
@@ -58,7 +58,7 @@ fn end(voice: &mut Voice, ended: Option<u8>) -> Result<(), LinkFault>
     }
 }
 
-/// Says what answers that which was heard, where this slot streams from this position on. With an error some first frames
+/// Says the answers to what was heard, where this slot streams from this position on. With an error some first frames
 /// were said, and the voice is closed.
 pub(crate) fn answer_heard(
     voice: &mut Voice,
