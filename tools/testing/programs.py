@@ -19,10 +19,22 @@ def catalog_of(server, database, *words):
     return answer.stdout
 
 
-def pgshard(*words, text):
-    """The status of a run, and its output."""
-    answer = subprocess.run([PGSHARD, *words], input=text.encode(), stdout=subprocess.PIPE)
-    return answer.returncode, answer.stdout.decode()
+def pgshard(*words: str, text: str | bytes, seconds: int | None = None) -> tuple[int | None, str]:
+    """The status of a run, and its output. Its input is a text, or bytes that need not be UTF-8."""
+    given = text if isinstance(text, bytes) else text.encode()
+    try:
+        answer = subprocess.run([PGSHARD, *words], input=given, stdout=subprocess.PIPE, timeout=seconds)
+    except subprocess.TimeoutExpired:
+        return None, f"no end within {seconds} seconds\n"
+    return answer.returncode, decoded(answer.stdout)
+
+
+def decoded(output: bytes) -> str:
+    """An output's text. What is not UTF-8 is shown as digits, in which no expected text is found."""
+    try:
+        return output.decode()
+    except UnicodeDecodeError:
+        return f"not UTF-8: {output.hex()}\n"
 
 
 def judge(*words, program=PGSHARD):

@@ -17,6 +17,5 @@ pub mod SessionLemmas
 pub mod ShortNames
 pub mod StartLemmas
 pub mod StreamLemmas
-pub mod TableLemmas
 pub mod TokenTurns
 pub mod Utf8Texts

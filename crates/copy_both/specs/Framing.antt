@@ -1,7 +1,6 @@
--- Messages as frames, each in an XLogData with the same head, and what a Relation asks of a table ("55.4. Streaming Replication Protocol").
-use Rattle.std.specs.Prelude.{◌≡◌, ℕ, ◌<◌, ◌^◌, if◌then◌else◌, List, length, slice_get, Some, Result, Ok, Err}
+-- Messages as frames, each in an XLogData with the same head ("55.4. Streaming Replication Protocol").
+use Rattle.std.specs.Prelude.{ℕ, if◌then◌else◌, List, Result, Ok, Err}
 use Rattle.std.specs.List.{list_all}
-use Rattle.filter_tree.specs.declared.table.Table.{Table}
 use Rattle.copy_frames.specs.Contents.{copy_data, xlog_data_body}
 use Rattle.copy_frames.specs.declared.xlog_data.XLogData.{XLogData}
 use Rattle.copy_both.specs.Tellings.{is_short}
@@ -14,7 +13,3 @@ with_head head message = copy_data (xlog_data_body head message)
 -- there is a frame for each of them
 abbrev pub framing_answer : List (List ℕ) → Result (Unit {0}) LinkFault
 framing_answer messages = if list_all is_short messages then Ok tt else Err FrameTooLong
-
--- a count of columns is a signed number of 16 bits
-abbrev pub AreNarrow : List Table → Type 0
-AreNarrow tables = (number : ℕ) (table : Table) → slice_get tables number ≡ Some table → length table.columns < 2 ^ 15

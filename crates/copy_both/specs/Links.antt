@@ -11,7 +11,7 @@ use Rattle.copy_both.specs.Streams as streams
 use Rattle.copy_both.specs.Streams.{Take, move_bytes, moved}
 use Rattle.copy_both.specs.Tellings.{spelled_for, telling_of}
 use Rattle.copy_both.specs.Voices as voices
-use Rattle.copy_both.specs.Voices.{StageOf, Says, Closes, Passes, voice_checked, voice_stage, voice_output, first_stage, told_answer, kept_bytes, done_bytes, sent_of}
+use Rattle.copy_both.specs.Voices.{StageOf, AreReadBack, Says, Closes, Passes, voice_checked, voice_stage, voice_output, first_stage, told_answer, kept_bytes, done_bytes, sent_of}
 use Rattle.copy_both.specs.declared.ear.Ear.{Ear}
 use Rattle.copy_both.specs.declared.heard.Heard.{Heard}
 use Rattle.copy_both.specs.declared.link.Link.{Link}
@@ -163,3 +163,13 @@ abbrev pub next_stage : CheckedOf → StageOf → List CommitOf → ℕ → Stag
 next_stage checked voices.NotStarted log clock = voices.NotStarted
 next_stage checked (voices.Started place) log clock = voices.Started (moved (telling_of checked) log place (Take clock))
 next_stage checked voices.Closed log clock = voices.Closed
+
+abbrev pub FoundIsReadBack : CheckedOf → streams.Place → Option CommitOf → Type 0
+FoundIsReadBack checked place None = Unit {0}
+FoundIsReadBack checked place (Some commit) = AreReadBack checked place commit
+
+-- each message of the next commit of the log, if there is one, is decoded from its spelling
+abbrev pub NextIsReadBack : CheckedOf → StageOf → List CommitOf → Type 0
+NextIsReadBack checked voices.NotStarted log = Unit {0}
+NextIsReadBack checked (voices.Started place) log = FoundIsReadBack checked place (slice_get log place.done)
+NextIsReadBack checked voices.Closed log = Unit {0}

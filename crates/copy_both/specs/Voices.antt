@@ -1,9 +1,11 @@
 -- What a voice is, the half of a connection's end that sends, and what its calls answer, send and leave ("55.4. Streaming Replication Protocol"). A voice that is closed says no more.
-use Rattle.std.specs.Prelude.{◌≡◌, ℕ, ◌+◌, Bool, true, false, if◌then◌else◌, List, [], ◌∷◌, ◌++◌, length, drop, Option, Some, None, Result, Ok, Err}
+use Rattle.std.specs.Prelude.{◌≡◌, ℕ, ◌+◌, Bool, true, false, if◌then◌else◌, List, [], ◌∷◌, ◌++◌, All, length, drop, Option, Some, None, Result, Ok, Err}
 use Rattle.std.specs.Arc.{arc_value}
 use Rattle.std.specs.List.{list_all}
 use Rattle.shard_checker.specs.CheckedView.{CheckedOf, checked_view}
 use Rattle.tables_log.specs.Commits.{CommitOf}
+use Rattle.pgoutput_msgs.specs.Sent.{IsSent}
+use Rattle.pgoutput_msgs.specs.Telling.{messages_for}
 use Rattle.copy_frames.specs.Contents.{copy_done}
 use Rattle.copy_both.specs.Streams as streams
 use Rattle.copy_both.specs.Streams.{place_at, place_after, take_bytes, keep_bytes}
@@ -98,6 +100,15 @@ abbrev pub entry_stage : CheckedOf → StageOf → CommitOf → StageOf
 entry_stage checked NotStarted commit = NotStarted
 entry_stage checked (Started place) commit = Started (place_after (telling_of checked) place commit)
 entry_stage checked Closed commit = Closed
+
+-- each message of the commit is decoded from its spelling
+abbrev pub AreReadBack : CheckedOf → streams.Place → CommitOf → Type 0
+AreReadBack checked place commit = All IsSent (messages_for checked place.slot place.told commit)
+
+abbrev pub EntryIsReadBack : CheckedOf → StageOf → CommitOf → Type 0
+EntryIsReadBack checked NotStarted commit = Unit {0}
+EntryIsReadBack checked (Started place) commit = AreReadBack checked place commit
+EntryIsReadBack checked Closed commit = Unit {0}
 
 -- ---- keepalive
 

@@ -47,19 +47,15 @@ impl Link {
     ghost use Rattle.std.specs.Prelude.{◌≡◌, IfOk, OnOk, OnErr};
     ghost use Rattle.std.specs.Arc.{arc_value};
     ghost use Rattle.filter_tree.specs.Memory.{Answers};
-    ghost use Rattle.pub_reader.specs.CatalogLimits.{IsLimited};
     ghost use Rattle.shard_checker.specs.CheckedView.{checked_view};
     ghost use Rattle.tables_log.specs.BookView.{book_log};
     ghost use Rattle.copy_both.specs.Ears.{HearLeaves, ear_phase, ear_started, hear_answer};
     ghost use Rattle.copy_both.specs.Links as spec;
-    ghost use Rattle.copy_both.specs.Links.{HearSays, IsNewLink, LinkCloses, LinkLoses, LinkPasses, LinkSays, link_checked, link_ear, link_heard, link_output, link_sent, link_stage};
+    ghost use Rattle.copy_both.specs.Links.{HearSays, IsNewLink, LinkCloses, LinkLoses, LinkPasses, LinkSays, NextIsReadBack, link_checked, link_ear, link_heard, link_output, link_sent, link_stage};
     ghost use Rattle.copy_both.specs.Voices.{keep_answer, kept_bytes, sent_of, told_fault};
 
     /// A link before the first byte. The only error is that the catalog is shared too often.
-    ///
-    /// That the catalog is within its limits is known of one that `read_catalog` read.
     pub fn new(alloc: Global, checked: Arc<Checked, Global>) -> Result<Link, AllocError>
-        requires { IsLimited (checked_view (arc_value checked)).catalog }
         ensures { IfOk result (λ link. IsNewLink link (checked_view (arc_value checked))) }
     {
         let other = Arc::try_clone(&checked)?;
@@ -113,8 +109,8 @@ impl Link {
 
     /// Takes the next commit of the log up: says the messages that tell the subscriber of it, each in an XLogData at the
     /// commit's position. A commit without a change for the subscriber is skipped. The answer is `Idle` where all of the
-    /// log is taken, and `NotStarted` before the start; then nothing is said. `now` is the clock, in microseconds since
-    /// 2000-01-01.
+    /// log is taken, and `NotStarted` before the start; then nothing is said. Each message that is said is decoded from its
+    /// spelling (`read_back`). `now` is the clock, in microseconds since 2000-01-01.
     ///
     /// It takes time for the commit's changes and messages.
     ///
@@ -130,6 +126,8 @@ impl Link {
         ensures ok { OnOk result (LinkSays self.old self.new
             (spec.next_bytes (link_checked self.old) (link_stage self.old) (book_log book.now) now)
             (spec.next_stage (link_checked self.old) (link_stage self.old) (book_log book.now) now)) }
+        ensures read_back { OnOk result
+            (NextIsReadBack (link_checked self.old) (link_stage self.old) (book_log book.now)) }
         ensures err { OnErr result (LinkCloses self.old self.new) }
     {
         let next = match &self.voice.stage {

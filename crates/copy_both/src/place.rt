@@ -27,10 +27,9 @@ impl Place {
     ghost use Rattle.std.specs.Prelude.{◌≡◌, ◌+◌, ◌++◌, IfOk, OnOk, OnErr};
     ghost use Rattle.filter_tree.specs.Memory.{Answers};
     ghost use Rattle.shard_checker.specs.CheckedView.{checked_view};
-    ghost use Rattle.copy_both.specs.Framing.{AreNarrow};
     ghost use Rattle.copy_both.specs.Streams.{place_at, place_after, take_bytes};
     ghost use Rattle.copy_both.specs.Tellings.{spelled_for, telling_of};
-    ghost use Rattle.copy_both.specs.Voices.{place_view, told_answer, told_fault};
+    ghost use Rattle.copy_both.specs.Voices.{AreReadBack, place_view, told_answer, told_fault};
 
     /// Where a connection is that starts at the position, before the Relation of any of so many tables was sent.
     pub(crate) fn new(
@@ -52,7 +51,6 @@ impl Place {
     }
 
     /// Takes the next commit up, whose frames are added to `out`.
-    #[tactic(auto, using(crate::proofs::TableLemmas::narrow_fit))]
     pub(crate) fn take(
         &mut self,
         alloc: Global,
@@ -61,14 +59,14 @@ impl Place {
         now: u64,
         out: &mut BytesMut,
     ) -> Result<Taken, LinkFault>
-        requires narrow { AreNarrow (checked_view checked.now).catalog.tables }
-        requires next { commit.now.number ≡ self.old.done + 1 }
+        requires { commit.now.number ≡ self.old.done + 1 }
         ensures answer { Answers (λ taken. taken) told_fault (told_answer commit.now.number
             (spelled_for (checked_view checked.now) self.old.slot self.old.told.items commit.now)) result }
         ensures place { OnOk result (place_view self.new
             ≡ place_after (telling_of (checked_view checked.now)) (place_view self.old) commit.now) }
         ensures said { OnOk result (out.new.items ≡ out.old.items
             ++ take_bytes (telling_of (checked_view checked.now)) (place_view self.old) commit.now now) }
+        ensures read_back { OnOk result (AreReadBack (checked_view checked.now) (place_view self.old) commit.now) }
         ensures err { OnErr result (out.new.items ≡ out.old.items) }
     {
         let messages = messages_of(alloc, checked, self.slot, commit, self.told.as_mut_slice())?;

@@ -1,9 +1,5 @@
 //! The half of a connection's end that sends.
 
-ghost use Rattle.std.specs.Arc.{arc_value};
-ghost use Rattle.shard_checker.specs.CheckedView.{checked_view};
-ghost use Rattle.copy_both.specs.Framing.{AreNarrow};
-
 use crate::link_fault::LinkFault;
 use crate::place::Place;
 use crate::taken::Taken;
@@ -35,23 +31,19 @@ pub struct Voice {
     checked: Arc<Checked, Global>,
     pub(crate) stage: Stage,
     out: BytesMut,
-    ghost narrow: { AreNarrow (checked_view (arc_value checked)).catalog.tables },
 }
 
 impl Voice {
     ghost use Rattle.std.specs.Prelude.{◌≡◌, ◌≤◌, ◌++◌, [], length, IfSome, OnOk, OnErr};
     ghost use Rattle.std.specs.Arc.{arc_value};
     ghost use Rattle.filter_tree.specs.Memory.{Answers};
-    ghost use Rattle.pub_reader.specs.CatalogLimits.{IsLimited};
     ghost use Rattle.shard_checker.specs.CheckedView.{checked_view};
     ghost use Rattle.copy_frames.specs.Contents.{copy_both_response};
     ghost use Rattle.copy_both.specs.Voices as spec;
-    ghost use Rattle.copy_both.specs.Voices.{Says, Closes, told_fault, voice_checked, voice_stage, voice_output};
+    ghost use Rattle.copy_both.specs.Voices.{EntryIsReadBack, Says, Closes, told_fault, voice_checked, voice_stage, voice_output};
 
     /// A voice that has not started and has nothing to say.
-    #[tactic(auto, using(crate::proofs::TableLemmas::limited_narrow))]
     pub fn new(alloc: Global, checked: Arc<Checked, Global>) -> Voice
-        requires { IsLimited (checked_view (arc_value checked)).catalog }
         ensures checked { voice_checked result ≡ checked_view (arc_value checked) }
         ensures stage { voice_stage result ≡ spec.NotStarted }
         ensures output { voice_output result ≡ [] }
@@ -103,7 +95,8 @@ impl Voice {
 
     /// Takes the next commit up: says the messages that tell the subscriber of it, each in an XLogData at the commit's
     /// position. `now` is the clock, in microseconds since 2000-01-01. A commit without a change for the subscriber is
-    /// skipped. The commit is that of the number `next()`, where there is one.
+    /// skipped. The commit is that of the number `next()`, where there is one. Each message that is said is decoded from its
+    /// spelling (`read_back`).
     ///
     /// It takes time for the commit's changes and messages.
     ///
@@ -118,6 +111,8 @@ impl Voice {
         ensures ok { OnOk result (Says self.old self.new
             (spec.entry_bytes (voice_checked self.old) (voice_stage self.old) commit.now now)
             (spec.entry_stage (voice_checked self.old) (voice_stage self.old) commit.now)) }
+        ensures read_back { OnOk result
+            (EntryIsReadBack (voice_checked self.old) (voice_stage self.old) commit.now) }
         ensures err { OnErr result (Closes self.old self.new) }
     {
         let taken = self.tell(commit, now);
@@ -134,6 +129,8 @@ impl Voice {
         ensures ok { OnOk result (Says self.old self.new
             (spec.entry_bytes (voice_checked self.old) (voice_stage self.old) commit.now now)
             (spec.entry_stage (voice_checked self.old) (voice_stage self.old) commit.now)) }
+        ensures read_back { OnOk result
+            (EntryIsReadBack (voice_checked self.old) (voice_stage self.old) commit.now) }
         ensures checked { voice_checked self.new ≡ voice_checked self.old }
         ensures err { OnErr result (voice_output self.new ≡ voice_output self.old) }
     {

@@ -3,15 +3,17 @@ use Rattle.std.proofs.Common.{◌≡◌, ℕ, suc, ◌+◌, ◌<◌, ◌^◌, Bo
 use Rattle.std.specs.Prelude.{All, IfSome, slice_get}
 use Rattle.std.proofs.lemmas.List.{get_or-map, length-map}
 use Rattle.std.proofs.lemmas.List.Elements.{All-nil}
+use Rattle.std.proofs.lemmas.Option.{slice_get_within, get_or_from_slice_get}
 use Rattle.filter_tree.specs.Datum.{Number, Truth, Bytes, Datum, Missing, Known}
 use Rattle.filter_tree.specs.declared.table.Column.{Column}
 use Rattle.filter_tree.specs.declared.table.Table.{Table}
+use Rattle.pub_reader.specs.CatalogLimits.{IsLimitedTable, IsLimited}
 use Rattle.shard_checker.specs.CheckedView.{CheckedOf}
 use Rattle.table_changes.specs.Records as r
 use Rattle.tables_log.specs.Commits.{CommitOf}
 use Rattle.tables_log.specs.Sendable.{IsSendableValue, IsSendableRow, IsSendablePart, IsSendableChange, IsSendable}
 use Rattle.pgoutput_msgs.specs.Ranges.{IsCellWithinRange, IsTupleWithinRange, IsOldWithinRange, IsMaybeOldWithinRange, IsWithinRange}
-use Rattle.pgoutput_msgs.specs.Telling.{TablesFit, columns_from, relation_of, old_of, maybe_old_of, message_of, messages_for, oid_of}
+use Rattle.pgoutput_msgs.specs.Telling.{columns_from, relation_of, old_of, maybe_old_of, message_of, messages_for, oid_of}
 use Rattle.pgoutput_msgs.specs.ValueText.{cell_of, cells_of}
 use Rattle.pgoutput_msgs.specs.declared.message.Msg.TheVariants as m
 use Rattle.pgoutput_msgs.proofs.Everywhere.{all_one, all_messages}
@@ -55,15 +57,19 @@ pub length_columns : (table : Table) (number : ℕ) (columns : List Column) → 
 length_columns table number [] = refl
 length_columns table number (column ∷ columns) = ap suc (length_columns table (number + 1) columns)
 
-relation_room : (number : ℕ) (found : Option Table) → IfSome found (λ table. length table.columns < 2 ^ 15)
+relation_room : (tables : List Table) (number : ℕ) (found : Option Table) → slice_get tables number ≡ found → All IsLimitedTable tables
     → IfSome found (λ table. IsWithinRange (m.Relation (relation_of number table)))
-relation_room number None h = tt
-relation_room number (Some table) h = omega (arith, length_columns table 0 table.columns, h)
+relation_room tables number None e limited = tt
+relation_room tables number (Some table) e limited =
+    let narrow : IsLimitedTable table =
+    subst IsLimitedTable (get_or_from_slice_get tables number table table e) (limited number table (slice_get_within tables number table e)) in
+    omega (arith, length_columns table 0 table.columns, narrow.columns)
 
 -- ---- all messages
 
-pub messages_room : (checked : CheckedOf) (subscriber : ℕ) (told : List Bool) (commit : CommitOf) → IsSendable commit → TablesFit checked.catalog.tables
+pub messages_room : (checked : CheckedOf) (subscriber : ℕ) (told : List Bool) (commit : CommitOf) → IsSendable commit → IsLimited checked.catalog
     → All IsWithinRange (messages_for checked subscriber told commit)
-messages_room checked subscriber told commit h fit =
+messages_room checked subscriber told commit h limited =
+    let tables = checked.catalog.tables in
     all_messages IsWithinRange checked subscriber told commit h
-    (record { relations = λ number. relation_room number (slice_get checked.catalog.tables number) (fit number); changes = message_room }) tt tt
+    (record { relations = λ number. relation_room tables number (slice_get tables number) refl limited.each_table; changes = message_room }) tt tt

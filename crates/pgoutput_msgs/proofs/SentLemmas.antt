@@ -1,4 +1,4 @@
--- Messages that tell of a commit, of a catalog within its limits are messages that are read back, and are no longer than so many bytes.
+-- Messages that tell of a commit are messages that are read back, and are no longer than so many bytes.
 use Rattle.std.proofs.Common.{◌≡◌, ℕ, ◌+◌, ◌*◌, ◌<◌, ◌≤◌, ◌^◌, Bool, true, false, Option, Some, None, List, [], ◌∷◌, ◌++◌, length, length-append, get_or, map, refl, sym, ap, subst, ◌∙◌, arith, lit<}
 use Rattle.std.specs.Prelude.{All, IfSome, slice_get, codes}
 use Rattle.std.specs.Int.{w32, cast_unsigned}
@@ -19,7 +19,7 @@ use Rattle.table_changes.specs.Records as r
 use Rattle.tables_log.specs.Commits.{CommitOf}
 use Rattle.tables_log.specs.Sendable.{IsSendableValue, IsSendableRow, IsSendablePart, IsTableNumber, IsSendableChange, IsSendable}
 use Rattle.pgoutput_msgs.specs.Ranges.{IsCellText, AreTexts, IsOldText, IsMaybeOldText, HasTextName, HasTexts, IsName, IsCell, IsTuple, IsOld, IsMaybeOld, IsColumn, IsOid, IsMessage}
-use Rattle.pgoutput_msgs.specs.Sent.{IsSent, MessagesAreReadBack, LimitedTablesFit}
+use Rattle.pgoutput_msgs.specs.Sent.{IsSent, MessagesAreReadBack}
 use Rattle.pgoutput_msgs.specs.Spelling.{int8, int32, string, identity_letter, cell_spelling, tuple_spelling, old_spelling, maybe_old_spelling, column_spelling, columns_spelling, spelling_of}
 use Rattle.pgoutput_msgs.specs.Telling.{type_oid_of, identity_of, column_of, columns_from, relation_of, old_of, maybe_old_of, message_of, begin_of, commit_of, messages_for, oid_of}
 use Rattle.pgoutput_msgs.specs.ValueText.{cell_of, cells_of}
@@ -241,13 +241,3 @@ messages_sent checked subscriber told commit messages h limited are texts =
 
 pub each_read_back : MessagesAreReadBack
 each_read_back messages sent = λ n d within. are_decoded (get_or messages n d) (sent n d within).read_back
-
-few_columns : (tables : List Table) (found : Option Table) (number : ℕ) → slice_get tables number ≡ found → All IsLimitedTable tables → IfSome found (λ table. length table.columns < 2 ^ 15)
-few_columns tables None number e limited = tt
-few_columns tables (Some table) number e limited =
-    let narrow : IsLimitedTable table =
-    subst IsLimitedTable (get_or_from_slice_get tables number table table e) (limited number table (slice_get_within tables number table e)) in
-    omega (arith, narrow.columns)
-
-pub tables_fit : LimitedTablesFit
-tables_fit catalog h = λ number. few_columns catalog.tables (slice_get catalog.tables number) number refl h.each_table

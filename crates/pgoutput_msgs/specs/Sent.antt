@@ -1,12 +1,8 @@
 -- What is known of each message that tells a subscriber of a commit: that its spelling is read as that message, and how long it is at most: PostgreSQL 15, 55.9. Logical Replication Message Formats.
 use Rattle.std.specs.Prelude.{◌≡◌, ◌≤◌, List, All, length, Ok}
-use Rattle.filter_tree.specs.Expr.{Expr}
-use Rattle.pub_reader.specs.CatalogLimits.{IsLimited}
-use Rattle.pub_reader.specs.Catalogs.{CatalogOf}
 use Rattle.pgoutput_msgs.specs.Ranges.{IsMessage}
 use Rattle.pgoutput_msgs.specs.Reading.{decoded}
 use Rattle.pgoutput_msgs.specs.Spelling.{spelling_of}
-use Rattle.pgoutput_msgs.specs.Telling.{TablesFit}
 use Rattle.pgoutput_msgs.specs.declared.message.Msg.{Msg}
 
 -- ---- messages
@@ -24,7 +20,3 @@ IsDecoded message = decoded (spelling_of message) ≡ Ok message
 
 abbrev pub MessagesAreReadBack : Type 0
 MessagesAreReadBack = (messages : List Msg) → All IsSent messages → All IsDecoded messages
-
--- a catalog within its limits has tables whose Relations have room
-abbrev pub LimitedTablesFit : Type 0
-LimitedTablesFit = (catalog : CatalogOf Expr) → IsLimited catalog → TablesFit catalog.tables

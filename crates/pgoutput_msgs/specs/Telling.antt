@@ -1,5 +1,5 @@
 -- The messages that tell a subscriber of a commit: PostgreSQL 15, 55.5.3. Logical Replication Protocol Message Flow, and 55.9. Logical Replication Message Formats. Log sequence numbers, OIDs and numbers of transactions are this project's own.
-use Rattle.std.specs.Prelude.{ℕ, ◌+◌, ◌*◌, ◌^◌, ◌<◌, length, IfSome, negsuc, Bool, true, false, List, [], ◌∷◌, ◌++◌, map, slice_get, slice_index_or, slice_set, Option, Some, None}
+use Rattle.std.specs.Prelude.{ℕ, ◌+◌, ◌*◌, negsuc, Bool, true, false, List, [], ◌∷◌, ◌++◌, map, slice_get, slice_index_or, slice_set, Option, Some, None}
 use Rattle.filter_tree.specs.declared.table.ColType.{ColType}
 use Rattle.filter_tree.specs.declared.table.ColType.TheVariants as k
 use Rattle.filter_tree.specs.declared.table.Column.{Column}
@@ -55,10 +55,13 @@ identity_of (t.Index number) = i.Index
 identity_of t.Full = i.Full
 identity_of t.Nothing = i.Nothing
 
+-- a column with this flag, and no modifier of its type
+abbrev pub flagged : Bool → Column → RelationColumn
+flagged is_key column = record { is_key = is_key; name = column.name; type_oid = type_oid_of column.kind; type_modifier = negsuc 0 }
+
 -- the column of this number: the flag marks those of the replica identity, under FULL all
 abbrev pub column_of : Table → ℕ → Column → RelationColumn
-column_of table number column =
-    record { is_key = is_covered table number; name = column.name; type_oid = type_oid_of column.kind; type_modifier = negsuc 0 }
+column_of table number column = flagged (is_covered table number) column
 
 -- these columns, the first of which has this number
 abbrev pub columns_from : Table → ℕ → List Column → List RelationColumn
@@ -168,7 +171,3 @@ messages_for checked subscriber told commit = enclosed commit (said_each checked
 -- the Relations that were sent after it
 abbrev pub told_after : CheckedOf → ℕ → List Bool → CommitOf → List Bool
 told_after checked subscriber told commit = told_each checked subscriber told commit.changes
-
--- ---- a layout has room for the Relation of each table
-abbrev pub TablesFit : List Table → Type 0
-TablesFit tables = (number : ℕ) → IfSome (slice_get tables number) (λ table. length table.columns < 2 ^ 15)

@@ -3,7 +3,7 @@
 ghost use Rattle.pgoutput_msgs.specs.Introducing.{CommitsIntroduce, CommitsInTurnIntroduce, RecordsAreOfTables, LogsAreOfTables};
 ghost use Rattle.pgoutput_msgs.specs.ReadBack.{RowsReadBack, ValidRowsReadBack, RecordedRowsReadBack};
 ghost use Rattle.pgoutput_msgs.specs.SeenMessages.{MessagesTellWhatIsSeen};
-ghost use Rattle.pgoutput_msgs.specs.Sent.{MessagesAreReadBack, LimitedTablesFit};
+ghost use Rattle.pgoutput_msgs.specs.Sent.{MessagesAreReadBack};
 ghost use Rattle.pgoutput_msgs.specs.Laws.{NoneIsProperPrefix, EachSpellsOne, SpellingsAreDecoded, DecodedAreSpellings, NothingMayFollow};
 
 /// A law, and no code: no message's spelling is a proper prefix of another's, and no two messages are spelled alike.
@@ -32,16 +32,9 @@ pub fn rows_are_read_back()
     ensures recorded { RecordedRowsReadBack }
 {}
 
-/// A law, and no code: what is decoded of the spelling of each message that `messages_of` gives, of a catalog as its
-/// clause `sent` asks, is that message.
+/// A law, and no code: what is decoded of the spelling of each message that `messages_of` gives is that message.
 pub fn messages_are_read_back()
     ensures { MessagesAreReadBack }
-{}
-
-/// A law, and no code: the Relations of the tables of a catalog within its limits have room in their layout, as the
-/// clause `room` of `messages_of` asks.
-pub fn limited_tables_fit()
-    ensures { LimitedTablesFit }
 {}
 
 /// A law, and no code: in the messages of a commit (`one`), and of commits one after the other (`all`), each change is of

@@ -27,13 +27,13 @@ pub use decoding::decode;
 pub use encoding::{encode, fits};
 pub use error::MsgError;
 pub use laws::{
-    limited_tables_fit, messages_are_read_back, messages_tell_what_is_seen,
-    no_spelling_begins_another, relations_come_once, rows_are_read_back, spellings_are_decoded,
+    messages_are_read_back, messages_tell_what_is_seen, no_spelling_begins_another,
+    relations_come_once, rows_are_read_back, spellings_are_decoded,
 };
 pub use message::Msg;
 pub use relation::{Relation, RelationColumn, ReplicaIdentity};
 pub use row_values::value_of;
-pub use tables::{oid_of, type_oid};
+pub use tables::{oid_of, relation_of, type_oid};
 pub use telling::messages_of;
 pub use tuple::{Cell, OldTuple, Tuple};
 pub use values::tuple_of;

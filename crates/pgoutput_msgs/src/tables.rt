@@ -55,51 +55,38 @@ fn copy_of(alloc: Global, text: &Text) -> Result<Text, AllocError>
     Ok(Text::new(copy))
 }
 
-/// The column of this number of the table.
-fn column_of(
-    alloc: Global,
-    table: &Table,
-    number: usize,
-    column: &Column,
-) -> Result<RelationColumn, AllocError>
-    ensures exact { IfOk result (λ made. made ≡ spec.column_of table.now number column.now) }
+/// A column, of which it is known whether it is one of the replica identity's.
+fn column_of(alloc: Global, column: &Column, is_key: bool) -> Result<RelationColumn, AllocError>
+    ensures exact { IfOk result (λ made. made ≡ spec.flagged is_key column.now) }
     ensures text { IfOk result (λ made. HasTextName made) }
 {
     Ok(RelationColumn {
-        is_key: covered(table, number),
+        is_key,
         name: copy_of(alloc, &column.name)?,
         type_oid: type_oid(column.kind),
         type_modifier: -1,
     })
 }
 
-fn columns_of(alloc: Global, table: &Table) -> Result<Items<RelationColumn>, AllocError>
-    ensures exact { IfOk result (λ columns. columns ≡ spec.columns_from table.now 0 table.now.columns) }
-    ensures texts { IfOk result (λ columns. All HasTextName columns) }
-{
-    let columns = table.columns.as_slice();
-    let mut made = Vec::with_capacity(alloc, columns.len())?;
-    for (number, column) in columns.iter().enumerate() {
-        made.push(column_of(alloc, table, number, column)?)?;
-    }
-    Ok(Items::from_vec(made))
-}
-
-/// The Relation message of the table of this number. The only error is want of memory.
-pub(crate) fn relation_of(
-    alloc: Global,
-    number: usize,
-    table: &Table,
-) -> Result<Relation, AllocError>
+/// The Relation message of the table of this number, which is counted from 0: its columns in their order, where the flag
+/// marks those of the replica identity, under FULL all. Its names are UTF-8 (`texts`). The only error is want of memory.
+///
+/// PostgreSQL 15, 55.9. Logical Replication Message Formats (Relation).
+pub fn relation_of(alloc: Global, number: usize, table: &Table) -> Result<Relation, AllocError>
     requires { number < 2 ^ 31 }
     ensures exact { IfOk result (λ relation. relation ≡ spec.relation_of number table.now) }
     ensures texts { IfOk result (λ relation. HasTextNames relation) }
 {
+    let columns = table.columns.as_slice();
+    let mut made = Vec::with_capacity(alloc, columns.len())?;
+    for (place, column) in columns.iter().enumerate() {
+        made.push(column_of(alloc, column, covered(table, place))?)?;
+    }
     Ok(Relation {
         oid: oid_of(number),
         namespace: copy_of(alloc, &table.schema)?,
         name: copy_of(alloc, &table.name)?,
         identity: identity_of(table.identity),
-        columns: columns_of(alloc, table)?,
+        columns: Items::from_vec(made),
     })
 }

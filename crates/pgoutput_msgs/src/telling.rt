@@ -8,7 +8,6 @@ ghost use Rattle.shard_checker.specs.CheckedView.{checked_view, setting_in};
 ghost use Rattle.table_changes.specs.Outs as outs;
 ghost use Rattle.table_changes.specs.Outs.{got};
 ghost use Rattle.tables_log.specs.Sendable.{IsSendableChange, IsTableNumber};
-ghost use Rattle.pub_reader.specs.CatalogLimits.{IsLimited};
 ghost use Rattle.pgoutput_msgs.specs.Ranges.{IsWithinRange, HasTexts};
 ghost use Rattle.pgoutput_msgs.specs.Sent.{IsSent};
 ghost use Rattle.pgoutput_msgs.specs.Telling as spec;
@@ -24,14 +23,12 @@ use tables_log::Commit;
 /// The messages that tell the subscriber of this number of a commit: Begin, then for each change that is for it the
 /// message of what it gets, and Commit; none if no change is for it. `told` has by a table's number whether its
 /// Relation was sent: one that wasn't comes directly before the first message that names its table, before a Truncate
-/// in its order, and is told from then on. Each message fits its layout, where each table has fewer than 2^15 columns
-/// (`room`). Where the catalog is within its limits, as each that was read is, the bytes that spell a message are decoded
-/// as that message, and there are at most 13,108,011 of them (`sent`).
+/// in its order, and is told from then on. Each message fits its layout (`room`), the bytes that spell it are decoded as
+/// that message, and there are at most 13,108,011 of them (`sent`).
 /// Commit n has the LSN `64 * n`, ends at `64 * n + 64` and is transaction `n + 2`; table j has the OID `16384 + j`.
 /// The only error is want of memory, which leaves `told` as it was.
 ///
 /// PostgreSQL 15, 55.5.3. Logical Replication Protocol Message Flow.
-#[tactic(auto, using(crate::proofs::RoomLemmas::messages_room))]
 pub fn messages_of(
     alloc: Global,
     checked: &Checked,
@@ -43,10 +40,8 @@ pub fn messages_of(
         ≡ spec.messages_for (checked_view checked.now) subscriber told.old commit.now) }
     ensures told { OnOk result (told.new ≡ spec.told_after (checked_view checked.now) subscriber told.old commit.now) }
     ensures err { OnErr result (told.new ≡ told.old) }
-    ensures room { spec.TablesFit (checked_view checked.now).catalog.tables
-        → IfOk result (λ messages. All IsWithinRange messages.items) }
-    ensures sent { IsLimited (checked_view checked.now).catalog
-        → IfOk result (λ messages. All IsSent messages.items) }
+    ensures room { IfOk result (λ messages. All IsWithinRange messages.items) }
+    ensures sent { IfOk result (λ messages. All IsSent messages.items) }
 {
     let mut after = Vec::from_slice(alloc, told)?;
     let mut spoken = Spoken::new(alloc);

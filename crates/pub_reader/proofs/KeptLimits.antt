@@ -1,6 +1,6 @@
 -- Each statement keeps the limits of a catalog.
-use Rattle.std.proofs.Common.{◌≡◌, ℕ, ◌<◌, ◌≤◌, List, [], ◌∷◌, ◌++◌, All, length, get_or, ap, sym, subst, arith}
-use Rattle.std.specs.Prelude.{nat_le, Option, Some, Ok, Err}
+use Rattle.std.proofs.Common.{◌≡◌, ℕ, ◌<◌, ◌≤◌, List, [], ◌∷◌, ◌++◌, All, length, get_or, subst, arith}
+use Rattle.std.specs.Prelude.{nat_le, Option, Some, Ok}
 use Rattle.std.specs.Option.{is_some}
 use Rattle.std.proofs.lemmas.List.{length_push, length-map}
 use Rattle.std.proofs.lemmas.List.Elements.{All-nil, All-push}
@@ -13,22 +13,22 @@ use Rattle.sql_reader.specs.declared.item.Item.TheVariants as i
 use Rattle.sql_reader.specs.declared.name.PlacedName.{PlacedName}
 use Rattle.sql_reader.specs.Columns.{Parts, elements}
 use Rattle.sql_reader.specs.Expressions.{Forms}
-use Rattle.sql_reader.specs.Items.{Items, items_of}
+use Rattle.sql_reader.specs.Items.{Items}
 use Rattle.sql_reader.specs.Names.{name}
-use Rattle.sql_reader.specs.Reading.{Outcome, with_rest, eat, expect, is_ahead, item_ahead, more_ahead, rest_of}
+use Rattle.sql_reader.specs.Reading.{with_rest, eat, expect, is_ahead, item_ahead, more_ahead, rest_of}
 use Rattle.sql_reader.specs.Turns.{each}
 use Rattle.sql_reader.proofs.Keeping.{Gives, then-gives, any-gives, repeat-gives, each-gives}
 use Rattle.sql_reader.proofs.Widths.{IsNarrow, room-gives, below, elements-gives}
 use Rattle.pub_reader.specs.declared.table_name.NewName.{NewName}
 use Rattle.pub_reader.specs.CatalogLimits.{IsIndexOf, IsIdentity, IsNamed, IsLimitedTable, IsLimited}
-use Rattle.pub_reader.specs.Catalogs.{CatalogOf, columns_at, indexes_at, identified, indexed}
+use Rattle.pub_reader.specs.Catalogs.{columns_at, indexes_at, identified, indexed}
 use Rattle.pub_reader.specs.Drafts.{DraftOf, no_draft, resolved, resolved_publication, find_relation, find_publication, find_subscription}
 use Rattle.pub_reader.specs.Identities.{replica_identity, alter_table}
 use Rattle.pub_reader.specs.Indexes.{index_body, indexed_table, create_index}
 use Rattle.pub_reader.specs.Publications.{new_publication, publication_name, for_clause, create_publication}
 use Rattle.pub_reader.specs.Publishing.{parameters_clause}
 use Rattle.pub_reader.specs.Schemas.{create_schema, new_schema}
-use Rattle.pub_reader.specs.Statements.{created_by, created, create, statement_by, statement, ended_statement, statements, finished, catalog_by}
+use Rattle.pub_reader.specs.Statements.{created_by, created, create, statement_by, statement, ended_statement, statements}
 use Rattle.pub_reader.specs.Subscriptions.{new_subscription, subscription_name, subscription_body, create_subscription}
 use Rattle.pub_reader.specs.TableNames.{table_number, new_table, new_named, table_head, new_name}
 use Rattle.pub_reader.specs.Tables.{keyed, table_of, table_tail, table_body, create_table}
@@ -203,14 +203,7 @@ resolved-within draft h named = record {
   subscriptions = h.1.1;
 }
 
-finished-within : {S : Type 0} (read : Outcome (DraftOf S)) (catalog : CatalogOf S) → Gives Limited read → finished read ≡ Ok catalog → All IsNamed catalog.tables → IsLimited catalog
-finished-within (Err fault) catalog h e named = cc
-finished-within (Ok read) catalog h e named =
-    let same : resolved read.0 ≡ catalog = cc in
-    let tables : catalog.tables ≡ read.0.tables = ap (λ one. one.tables) (sym same) in
-    subst IsLimited same (resolved-within read.0 h (subst (All IsNamed) tables named))
-
--- a catalog that was read, whose names are plain, is within the limits
-pub within_limits : {S : Type 0} (forms : Forms S) (text : List ℕ) (catalog : CatalogOf S) → catalog_by forms text ≡ Ok catalog → All IsNamed catalog.tables → IsLimited catalog
-unfolding catalog_by
-within_limits forms text catalog e named = finished-within (statements forms no_draft (items_of text)) catalog (statements-gives forms (items_of text)) e named
+-- what is made of the statements of a text, where its names are plain
+pub resolved_limited : {S : Type 0} (forms : Forms S) (ts : Items) (draft : DraftOf S) (rest : Items) → statements forms no_draft ts ≡ Ok (draft, rest) → All IsNamed draft.tables
+    → IsLimited (resolved draft)
+resolved_limited forms ts draft rest e named = resolved-within draft (subst (Gives Limited) e (statements-gives forms ts)) named

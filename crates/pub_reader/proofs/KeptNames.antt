@@ -1,7 +1,7 @@
 -- Each statement keeps the names of tables plain: they are as a text writes them.
-use Rattle.std.proofs.Common.{◌≡◌, ℕ, zero, suc, ◌<◌, ◌≤◌, Bool, true, false, List, [], ◌∷◌, ◌++◌, All, length, get_or, sym, subst, arith}
-use Rattle.std.specs.Prelude.{Contains, Option, Some, None, Ok, Err}
-use Rattle.std.proofs.lemmas.List.Elements.{All-nil, All-cons, All-head, All-tail, All-push}
+use Rattle.std.proofs.Common.{◌≡◌, ℕ, zero, suc, ◌<◌, Bool, true, List, [], ◌∷◌, ◌++◌, All, length, get_or, subst, arith}
+use Rattle.std.specs.Prelude.{Option, Some, Ok, Err}
+use Rattle.std.proofs.lemmas.List.Elements.{All-cons, All-head, All-tail, All-push}
 use Rattle.filter_tree.specs.declared.table.Identity.{Identity}
 use Rattle.filter_tree.specs.declared.table.Table.{Table}
 use Rattle.filter_tree.specs.declared.table.UniqueIndex.{UniqueIndex}
@@ -12,16 +12,16 @@ use Rattle.sql_reader.specs.declared.name.PlacedName.{PlacedName}
 use Rattle.sql_reader.specs.declared.reader.Reader.{Reader}
 use Rattle.sql_reader.specs.declared.word.Keyword.TheVariants as k
 use Rattle.sql_reader.specs.Ahead.{to_read}
-use Rattle.sql_reader.specs.Columns.{Parts, elements}
+use Rattle.sql_reader.specs.Columns.{elements}
 use Rattle.sql_reader.specs.Expressions.{Forms}
 use Rattle.sql_reader.specs.Items.{Items}
 use Rattle.sql_reader.specs.Names.{name}
-use Rattle.sql_reader.specs.Reading.{Outcome, Rule, and_then, with_rest, look, eat, expect, is_ahead, item_ahead, rest_of}
+use Rattle.sql_reader.specs.Reading.{Outcome, with_rest, look, eat, expect, is_ahead, item_ahead, rest_of}
 use Rattle.sql_reader.proofs.Keeping.{Gives, any-gives, then-gives}
 use Rattle.sql_reader.proofs.Leaving.{Leaves, then-leaves}
 use Rattle.sql_reader.proofs.PlainNames.{ArePlain, Any, NamesPlain, ColumnsPlain, any-plain, check-plain, expect-plain, look-plain, name-plain, elements-plain, rest_plain, reader_plain}
 use Rattle.pub_reader.specs.declared.table_name.NewName.{NewName}
-use Rattle.pub_reader.specs.CatalogLimits.{HasPlainName, IsNamed}
+use Rattle.pub_reader.specs.CatalogLimits.{IsNamed}
 use Rattle.pub_reader.specs.Catalogs.{columns_at, indexes_at, identified, indexed}
 use Rattle.pub_reader.specs.Drafts.{DraftOf, public_schema}
 use Rattle.pub_reader.specs.Identities.{replica_identity, alter_table}

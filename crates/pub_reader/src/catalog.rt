@@ -1,14 +1,26 @@
 //! What a catalog has.
 
+ghost use Rattle.std.specs.Prelude.{◌≤◌, length, All};
+ghost use Rattle.pub_reader.specs.CatalogLimits.{IsLimitedTable};
+
 use filter_tree::{Filter, Items, Table, Text};
 
 /// The tables, the publications and the subscriptions of a catalog, each in the order in which they are made, so that
 /// each has a number from 0.
+///
+/// It is always within its limits: at most 64 tables of at most 100 columns and 8 unique indexes, 64 publications and 32
+/// subscriptions. What a table says of its columns by number is there, an identity by an index names one of the table's,
+/// none of whose columns takes a null, and the names of schemas, tables and columns have 1 to 63 bytes, none of which is
+/// zero.
 #[derive(Drop)]
 pub struct Catalog {
     pub tables: Vec<Table>,
     pub publications: Vec<Publication>,
     pub subscriptions: Vec<Subscription>,
+    ghost few_tables: { length tables.items ≤ 64 },
+    ghost limited_tables: { ∥ All IsLimitedTable tables.items ∥₁ },
+    ghost few_publications: { length publications.items ≤ 64 },
+    ghost few_subscriptions: { length subscriptions.items ≤ 32 },
 }
 
 /// The operations of which a publication sends the changes.

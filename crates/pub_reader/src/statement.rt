@@ -107,7 +107,7 @@ fn statements(r: &mut Reader<'_>, alloc: Global, draft: &mut Draft) -> Result<()
 /// # Errors
 ///
 /// The first fault of the text, or `OutOfMemory` where an allocation was refused.
-#[tactic(auto, using(crate::proofs::CarryingCatalogs::means_as_written))]
+#[tactic(auto, using(crate::proofs::CarryingCatalogs::means_as_written, crate::proofs::CatalogFacts::catalog_limited))]
 pub fn read_catalog(alloc: Global, text: &str) -> Result<Catalog, ReadError>
     ensures catalog { Answers catalog_view (spec.catalog_by as_filter text.now) result }
     ensures written { IfOk result
@@ -119,8 +119,7 @@ pub fn read_catalog(alloc: Global, text: &str) -> Result<Catalog, ReadError>
 
 #[tactic(auto, unfolding(crate::specs::Statements::catalog_by))]
 fn whole_catalog(alloc: Global, text: &str) -> Result<Catalog, ReadError>
-    ensures catalog { Answers catalog_view (spec.catalog_by as_filter text.now) result }
-    ensures limits { IfOk result (λ catalog. IsLimited (catalog_view catalog)) }
+    ensures { Answers catalog_view (spec.catalog_by as_filter text.now) result }
 {
     let mut draft = Draft::new(alloc)?;
     statements(&mut Reader::new(text), alloc, &mut draft)?;

@@ -1,11 +1,7 @@
-//! Whole runs of the program.
+//! Runs over readers and writers that a started program does not have. Those of the built program are in
+//! tools/testing/runs.
 
-mod checks;
 mod command_lines;
-mod filters;
-mod limits;
-mod makes;
-mod rows;
 mod streams;
 
 use std::alloc::{AllocError, Global};

@@ -13,9 +13,10 @@ use self::catalog_cases::{AFTER_A_TABLE, Case, FILTERS, WHOLE};
 use self::parameter_cases::PARAMETERS;
 use self::publication_cases::{AFTER_PUBLICATIONS, AFTER_TABLES};
 use self::statement_cases::STATEMENTS;
+use crate::checks::{holds, same};
 use crate::fault::is_error;
 use filter_tree::{Identity, Tri, eval};
-use pub_reader::{Catalog, ReadError, read_catalog, read_row};
+use pub_reader::{Catalog, Entry, ReadError, read_catalog, read_row};
 use std::alloc::{AllocError, Global};
 use std::process::Abort;
 use std::test::Fail;
@@ -101,10 +102,11 @@ fn strings_have_a_limit(rt: HostRuntime) -> Result<(), Fail> {
     let letters = "a".repeat(alloc, 65_534)?;
     let longest = format!(in alloc; "{before}'{letters}''' PUBLICATION p;")?;
     let one_more = format!(in alloc; "{before}'{letters}a''' PUBLICATION p;")?;
-    assert_eq!(rt; outcome(alloc, longest.as_str())?.as_str(), "ok");
-    assert_eq!(rt;
+    same(&rt, outcome(alloc, longest.as_str())?.as_str(), "ok");
+    same(
+        &rt,
         outcome(alloc, one_more.as_str())?.as_str(),
-        "TooMany(LiteralBytes) 54"
+        "TooMany(LiteralBytes) 54",
     );
     Ok(())
 }
@@ -121,10 +123,11 @@ fn counts_up_to_the_limits(rt: HostRuntime) -> Result<(), Fail> {
     )?;
     let one_more = format!(in alloc; "{tables};\nCREATE TABLE u (id integer PRIMARY KEY);")?;
     let all = format!(in alloc; "{tables};")?;
-    assert_eq!(rt; outcome(alloc, all.as_str())?.as_str(), "ok");
-    assert_eq!(rt;
+    same(&rt, outcome(alloc, all.as_str())?.as_str(), "ok");
+    same(
+        &rt,
         outcome(alloc, one_more.as_str())?.as_str(),
-        "TooMany(Tables) 2755"
+        "TooMany(Tables) 2755",
     );
 
     let columns = numbered(alloc, "c", 99, " integer", ", ")?;
@@ -132,19 +135,21 @@ fn counts_up_to_the_limits(rt: HostRuntime) -> Result<(), Fail> {
     let one_more = format!(in alloc;
         "CREATE TABLE t ({columns}, id integer PRIMARY KEY, x text);"
     )?;
-    assert_eq!(rt; outcome(alloc, all.as_str())?.as_str(), "ok");
-    assert_eq!(rt;
+    same(&rt, outcome(alloc, all.as_str())?.as_str(), "ok");
+    same(
+        &rt,
         outcome(alloc, one_more.as_str())?.as_str(),
-        "TooMany(Columns) 1317"
+        "TooMany(Columns) 1317",
     );
 
     let publications = numbered(alloc, "CREATE PUBLICATION p", 64, " FOR TABLE t", ";")?;
     let all = format!(in alloc; "{TABLE}{publications};")?;
     let one_more = format!(in alloc; "{TABLE}{publications};CREATE PUBLICATION q FOR TABLE t;")?;
-    assert_eq!(rt; outcome(alloc, all.as_str())?.as_str(), "ok");
-    assert_eq!(rt;
+    same(&rt, outcome(alloc, all.as_str())?.as_str(), "ok");
+    same(
+        &rt,
         outcome(alloc, one_more.as_str())?.as_str(),
-        "TooMany(Publications) 2303"
+        "TooMany(Publications) 2303",
     );
 
     let subscriptions = numbered(
@@ -156,10 +161,11 @@ fn counts_up_to_the_limits(rt: HostRuntime) -> Result<(), Fail> {
     )?;
     let all = format!(in alloc; "CREATE PUBLICATION p;{subscriptions};")?;
     let one_more = format!(in alloc; "{all}CREATE SUBSCRIPTION t CONNECTION '' PUBLICATION p;")?;
-    assert_eq!(rt; outcome(alloc, all.as_str())?.as_str(), "ok");
-    assert_eq!(rt;
+    same(&rt, outcome(alloc, all.as_str())?.as_str(), "ok");
+    same(
+        &rt,
         outcome(alloc, one_more.as_str())?.as_str(),
-        "TooMany(Subscriptions) 1695"
+        "TooMany(Subscriptions) 1695",
     );
     Ok(())
 }
@@ -176,11 +182,12 @@ fn limits_filters(rt: HostRuntime) -> Result<(), Fail> {
     let atoms = numbered(alloc, "id = ", 64, "", " OR ")?;
     let one_more = format!(in alloc; "{atoms} OR id = 64")?;
     let again = format!(in alloc; "{atoms} OR id = 1")?;
-    assert_eq!(rt; with_filter(alloc, atoms.as_str())?.as_str(), "ok");
-    assert_eq!(rt; with_filter(alloc, again.as_str())?.as_str(), "ok");
-    assert_eq!(rt;
+    same(&rt, with_filter(alloc, atoms.as_str())?.as_str(), "ok");
+    same(&rt, with_filter(alloc, again.as_str())?.as_str(), "ok");
+    same(
+        &rt,
         with_filter(alloc, one_more.as_str())?.as_str(),
-        "TooMany(Atoms) 147"
+        "TooMany(Atoms) 147",
     );
 
     let mut nodes = String::from_str(alloc, "NOT id = 0")?;
@@ -188,18 +195,24 @@ fn limits_filters(rt: HostRuntime) -> Result<(), Fail> {
         nodes.push_str(" AND id = 1")?;
     }
     let one_more = format!(in alloc; "NOT {nodes}")?;
-    assert_eq!(rt; with_filter(alloc, nodes.as_str())?.as_str(), "ok");
-    assert_eq!(rt;
+    same(&rt, with_filter(alloc, nodes.as_str())?.as_str(), "ok");
+    same(
+        &rt,
         with_filter(alloc, one_more.as_str())?.as_str(),
-        "TooMany(Nodes) 147"
+        "TooMany(Nodes) 147",
     );
 
     let other_table = format!(in alloc; "id = 100), s.u WHERE ({atoms}")?;
     let same_table = format!(in alloc; "id = 100), t WHERE ({atoms}")?;
-    assert_eq!(rt; with_filter(alloc, other_table.as_str())?.as_str(), "ok");
-    assert_eq!(rt;
+    same(
+        &rt,
+        with_filter(alloc, other_table.as_str())?.as_str(),
+        "ok",
+    );
+    same(
+        &rt,
         with_filter(alloc, same_table.as_str())?.as_str(),
-        "TooMany(Atoms) 167"
+        "TooMany(Atoms) 167",
     );
     Ok(())
 }
@@ -215,10 +228,11 @@ fn nests_to_64(rt: HostRuntime) -> Result<(), Fail> {
     }
     let all = format!(in alloc; "{before}id < 5{after}")?;
     let one_more = format!(in alloc; "{before}NOT id < 5{after}")?;
-    assert_eq!(rt; with_filter(alloc, all.as_str())?.as_str(), "ok");
-    assert_eq!(rt;
+    same(&rt, with_filter(alloc, all.as_str())?.as_str(), "ok");
+    same(
+        &rt,
         with_filter(alloc, one_more.as_str())?.as_str(),
-        "TooDeep 218"
+        "TooDeep 218",
     );
     Ok(())
 }
@@ -237,32 +251,35 @@ fn catalog(alloc: Global) -> Result<Catalog, ReadError> {
 fn gives_the_tables_as_they_are_declared(rt: HostRuntime) -> Result<(), Fail> {
     let catalog = catalog(rt.alloc())?;
     let table = catalog.tables.first().ok_or("a table")?;
-    assert_eq!(rt; catalog.tables.len(), 1);
-    assert_eq!(rt; table.schema.as_str(), "public");
-    assert_eq!(rt; table.name.as_str(), "T\u{e9}");
-    assert_eq!(rt; table.identity, Identity::Full);
-    assert_eq!(rt; table.key.as_slice(), [2, 0].as_slice());
+    same(&rt, catalog.tables.len(), 1);
+    same(&rt, table.schema.as_str(), "public");
+    same(&rt, table.name.as_str(), "T\u{e9}");
+    same(&rt, table.identity, Identity::Full);
+    same(&rt, table.key.as_slice(), [2, 0].as_slice());
     let columns = table.columns.as_slice();
-    assert_eq!(rt; columns.len(), 3);
-    assert_eq!(rt; columns[1].name.as_str(), "B\"x");
-    let required = [
-        columns[0].not_null,
-        columns[1].not_null,
-        columns[2].not_null,
-    ];
-    assert_eq!(rt; required.as_slice(), [true, true, true].as_slice());
+    same(&rt, columns.len(), 3);
+    let second = columns.get(1).ok_or("a second column")?;
+    same(&rt, second.name.as_str(), "B\"x");
+    for column in columns {
+        holds(&rt, column.not_null);
+    }
     Ok(())
+}
+
+/// The first table of the publication of this number.
+fn first_entry(catalog: &Catalog, number: usize) -> Option<&Entry> {
+    catalog.publications.get(number)?.entries.first()
 }
 
 /// AND binds tighter than OR, and NOT tighter than AND.
 #[test]
 fn gives_the_filters_as_they_are_written(rt: HostRuntime) -> Result<(), Fail> {
     let catalog = catalog(rt.alloc())?;
-    assert_eq!(rt; catalog.publications.len(), 2);
-    let whole = catalog.publications[0].entries.first().ok_or("an entry")?;
-    assert!(rt; whole.filter.is_none());
-    let part = catalog.publications[1].entries.first().ok_or("an entry")?;
-    assert_eq!(rt; part.table, 0);
+    same(&rt, catalog.publications.len(), 2);
+    let whole = first_entry(&catalog, 0).ok_or("an entry")?;
+    holds(&rt, whole.filter.is_none());
+    let part = first_entry(&catalog, 1).ok_or("an entry")?;
+    same(&rt, part.table, 0);
     let filter = part.filter.as_ref().ok_or("a filter")?;
     let cases = [
         ("(1, 'x', TRUE)", Tri::True),
@@ -272,7 +289,7 @@ fn gives_the_filters_as_they_are_written(rt: HostRuntime) -> Result<(), Fail> {
     ];
     for (text, expected) in cases {
         let row = read_row(rt.alloc(), text)?;
-        assert_eq!(rt; eval(filter, &row), expected);
+        same(&rt, eval(filter, &row), expected);
     }
     Ok(())
 }

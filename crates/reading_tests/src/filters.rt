@@ -2,6 +2,7 @@ mod limits;
 mod order;
 mod validity;
 
+use crate::checks::{holds, same};
 use filter_tree::{
     Atom, Filter, Items, Literal, Mask, Op, Row, Term, Test, Text, Tri, Value, atoms_of,
     columns_of, compare, compare_literals, copy_in, copy_row, eval, possible, same_atom, same_row,
@@ -55,11 +56,15 @@ fn connectives_follow_the_truth_tables(rt: HostRuntime) {
         (Null, Null, Null, Null),
     ];
     for (left, right, both, either) in cases {
-        assert_eq!(rt; [left.and(right), right.and(left)], [both, both]);
-        assert_eq!(rt; [left.or(right), right.or(left)], [either, either]);
+        same(&rt, [left.and(right), right.and(left)], [both, both]);
+        same(&rt, [left.or(right), right.or(left)], [either, either]);
     }
-    assert_eq!(rt; [True.not(), False.not(), Null.not()], [False, True, Null]);
-    assert_eq!(rt; [Tri::from(true), Tri::from(false)], [True, False]);
+    same(
+        &rt,
+        [True.not(), False.not(), Null.not()],
+        [False, True, Null],
+    );
+    same(&rt, [Tri::from(true), Tri::from(false)], [True, False]);
 }
 
 #[test]
@@ -75,16 +80,22 @@ fn operators_compare_numbers(rt: HostRuntime) {
     let literal = Literal::<Global>::Int(-3);
     for (op, answers) in cases {
         for (number, answer) in [-4, -3, 5].iter().zip(answers) {
-            assert_eq!(rt;
+            same(
+                &rt,
                 compare(op, &Value::<Global>::Int(*number), &literal),
-                Tri::from(answer)
+                Tri::from(answer),
             );
-            assert_eq!(rt;
+            same(
+                &rt,
                 compare_literals(op, &Literal::<Global>::Int(*number), &literal),
-                answer
+                answer,
             );
         }
-        assert_eq!(rt; compare(op, &Value::<Global>::Null, &literal), Tri::Null);
+        same(
+            &rt,
+            compare(op, &Value::<Global>::Null, &literal),
+            Tri::Null,
+        );
     }
 }
 
@@ -110,7 +121,7 @@ fn equality_compares_texts_and_truth_values(rt: HostRuntime) -> Result<(), Fail>
             compare(Op::Eq, &left, literal),
             compare(Op::Ne, &left, literal),
         ];
-        assert_eq!(rt; found, [equal, unequal]);
+        same(&rt, found, [equal, unequal]);
     }
     Ok(())
 }
@@ -164,20 +175,23 @@ fn outside_or_rest(alloc: Global) -> Result<Filter, AllocError> {
 fn connected_filters_have_their_meaning(rt: HostRuntime) -> Result<(), Fail> {
     let alloc = rt.alloc();
     let filter = outside_or_rest(alloc)?;
-    assert_eq!(rt;
+    same(
+        &rt,
         answers(alloc, &filter)?,
-        [Tri::True, Tri::Null, Tri::True, Tri::False]
+        [Tri::True, Tri::Null, Tri::True, Tri::False],
     );
     let copy = copy_in(alloc, &filter)?;
-    assert_eq!(rt;
+    same(
+        &rt,
         answers(alloc, &copy)?,
-        [Tri::True, Tri::Null, Tri::True, Tri::False]
+        [Tri::True, Tri::Null, Tri::True, Tri::False],
     );
     // id % 3 = 1 AND region = 'eu'
     let filter = both(alloc, leaves(3, 1), in_europe(alloc)?)?;
-    assert_eq!(rt;
+    same(
+        &rt,
         answers(alloc, &filter)?,
-        [Tri::False, Tri::Null, Tri::False, Tri::True]
+        [Tri::False, Tri::Null, Tri::False, Tri::True],
     );
     Ok(())
 }
@@ -187,24 +201,28 @@ fn tests_of_filters_are_never_null(rt: HostRuntime) -> Result<(), Fail> {
     let alloc = rt.alloc();
     // region = 'eu' IS NOT TRUE
     let is_not_true = not(alloc, is(alloc, Test::True, in_europe(alloc)?)?)?;
-    assert_eq!(rt;
+    same(
+        &rt,
         answers(alloc, &is_not_true)?,
-        [Tri::True, Tri::True, Tri::True, Tri::False]
+        [Tri::True, Tri::True, Tri::True, Tri::False],
     );
     let unknown = is(alloc, Test::Unknown, in_europe(alloc)?)?;
-    assert_eq!(rt;
+    same(
+        &rt,
         answers(alloc, &unknown)?,
-        [Tri::True, Tri::True, Tri::False, Tri::False]
+        [Tri::True, Tri::True, Tri::False, Tri::False],
     );
     let lies = is(alloc, Test::False, in_europe(alloc)?)?;
-    assert_eq!(rt;
+    same(
+        &rt,
         answers(alloc, &lies)?,
-        [Tri::False, Tri::False, Tri::True, Tri::False]
+        [Tri::False, Tri::False, Tri::True, Tri::False],
     );
     let nowhere = Filter::Atom(Atom::IsNull(1));
-    assert_eq!(rt;
+    same(
+        &rt,
         answers(alloc, &nowhere)?,
-        [Tri::True, Tri::True, Tri::False, Tri::False]
+        [Tri::True, Tri::True, Tri::False, Tri::False],
     );
     Ok(())
 }
@@ -223,7 +241,7 @@ fn remainders_have_the_sign_of_the_value(rt: HostRuntime) -> Result<(), Fail> {
     ];
     for (number, divisor, rest) in cases {
         let row = row(rt.alloc(), &[Cell::Int(number)])?;
-        assert_eq!(rt; eval(&leaves(divisor, rest), &row), Tri::True);
+        same(&rt, eval(&leaves(divisor, rest), &row), Tri::True);
     }
     Ok(())
 }
@@ -231,50 +249,58 @@ fn remainders_have_the_sign_of_the_value(rt: HostRuntime) -> Result<(), Fail> {
 #[test]
 fn a_column_past_the_end_is_null(rt: HostRuntime) -> Result<(), Fail> {
     let short = row(rt.alloc(), &[Cell::Int(7)])?;
-    assert_eq!(rt; eval(&in_europe(rt.alloc())?, &short), Tri::Null);
-    assert_eq!(rt;
+    same(&rt, eval(&in_europe(rt.alloc())?, &short), Tri::Null);
+    same(
+        &rt,
         eval(&Filter::<Global>::Atom(Atom::IsNull(1)), &short),
-        Tri::True
+        Tri::True,
     );
-    assert_eq!(rt; eval(&Filter::<Global>::Const(false), &short), Tri::False);
+    same(
+        &rt,
+        eval(&Filter::<Global>::Const(false), &short),
+        Tri::False,
+    );
     Ok(())
 }
 
 #[test]
 fn a_text_shows_its_bytes(rt: HostRuntime) -> Result<(), Fail> {
     let text = Text::new(String::from_str(rt.alloc(), "né")?);
-    assert_eq!(rt;
+    same(
+        &rt,
         (text.as_str(), text.len(), text.is_empty()),
-        ("né", 3, false)
+        ("né", 3, false),
     );
-    assert_eq!(rt; text.as_bytes(), [110, 195, 169].as_slice());
-    assert_eq!(rt; text.into_string().as_str(), "né");
+    same(&rt, text.as_bytes(), [110, 195, 169].as_slice());
+    same(&rt, text.into_string().as_str(), "né");
     Ok(())
 }
 
 #[test]
 fn items_show_their_elements(rt: HostRuntime) -> Result<(), Fail> {
     let mut items = Items::from_vec(vec![in rt.alloc(); 4, 5]?);
-    assert_eq!(rt;
+    same(
+        &rt,
         (items.len(), items.is_empty(), items.get(1), items.get(2)),
-        (2, false, Some(&5), None)
+        (2, false, Some(&5), None),
     );
-    assert_eq!(rt; items.as_slice(), [4, 5].as_slice());
+    same(&rt, items.as_slice(), [4, 5].as_slice());
     items.push(6)?;
-    assert_eq!(rt; items.into_vec().as_slice(), [4, 5, 6].as_slice());
+    same(&rt, items.into_vec().as_slice(), [4, 5, 6].as_slice());
     Ok(())
 }
 
 #[test]
 fn a_row_shows_its_values(rt: HostRuntime) -> Result<(), Fail> {
     let row = row(rt.alloc(), &[Cell::Int(7), Cell::Null])?;
-    assert_eq!(rt;
+    same(
+        &rt,
         (row.len(), row.is_empty(), row.values().len()),
-        (2, false, 2)
+        (2, false, 2),
     );
-    assert!(rt; matches!(row.get(0), Some(Value::Int(7))));
-    assert!(rt; row.get(2).is_none());
-    assert_eq!(rt; row.into_values().len(), 2);
+    holds(&rt, matches!(row.get(0), Some(Value::Int(7))));
+    holds(&rt, row.get(2).is_none());
+    same(&rt, row.into_values().len(), 2);
     Ok(())
 }
 
@@ -285,12 +311,12 @@ fn rows_are_copied(rt: HostRuntime) -> Result<(), Fail> {
         &[Cell::Int(7), Cell::Null, Cell::Bool(true), Cell::Text("eu")],
     )?;
     let copy = copy_row(rt.alloc(), &one)?;
-    assert!(rt; same_row(&one, &copy));
+    holds(&rt, same_row(&one, &copy));
     let other = row(
         rt.alloc(),
         &[Cell::Int(7), Cell::Null, Cell::Bool(true), Cell::Text("e")],
     )?;
-    assert!(rt; !same_row(&one, &other));
+    holds(&rt, !same_row(&one, &other));
     let longer = row(
         rt.alloc(),
         &[
@@ -301,7 +327,7 @@ fn rows_are_copied(rt: HostRuntime) -> Result<(), Fail> {
             Cell::Null,
         ],
     )?;
-    assert!(rt; !same_row(&one, &longer));
+    holds(&rt, !same_row(&one, &longer));
     Ok(())
 }
 
@@ -311,15 +337,23 @@ fn parts_are_listed_once(rt: HostRuntime) -> Result<(), Fail> {
     // (NOT region = 'eu' OR id % 3 = -1) AND (region = 'eu' OR id IS NULL)
     let second = either(alloc, in_europe(alloc)?, Filter::Atom(Atom::IsNull(0)))?;
     let filter = both(alloc, outside_or_rest(alloc)?, second)?;
-    assert_eq!(rt;
+    same(
+        &rt,
         terms_of(alloc, &filter)?.as_slice(),
-        [Term::Col(1), Term::Mod(0, 3), Term::Col(0)].as_slice()
+        [Term::Col(1), Term::Mod(0, 3), Term::Col(0)].as_slice(),
     );
-    assert_eq!(rt; columns_of(alloc, &filter)?.as_slice(), [1, 0].as_slice());
+    same(
+        &rt,
+        columns_of(alloc, &filter)?.as_slice(),
+        [1, 0].as_slice(),
+    );
     let atoms = atoms_of(alloc, &filter)?;
-    assert_eq!(rt; atoms.len(), 3);
-    assert!(rt; matches!(atoms[2], Atom::IsNull(0)));
-    assert!(rt; same_atom(atoms[0], atoms[0]) && !same_atom(atoms[0], atoms[1]));
+    same(&rt, atoms.len(), 3);
+    holds(&rt, matches!(atoms[2], Atom::IsNull(0)));
+    holds(
+        &rt,
+        same_atom(atoms[0], atoms[0]) && !same_atom(atoms[0], atoms[1]),
+    );
     Ok(())
 }
 
@@ -332,17 +366,17 @@ fn large_filters_and_rows_are_copied(rt: HostRuntime) -> Result<(), Fail> {
         filter = either(alloc, filter, leaves(divisor, 0))?;
     }
     let copy = copy_in(alloc, &filter)?;
-    assert_eq!(rt; atoms_of(alloc, &copy)?.len(), 64);
-    assert_eq!(rt; terms_of(alloc, &copy)?.len(), 64);
-    assert_eq!(rt; columns_of(alloc, &copy)?.as_slice(), [0].as_slice());
+    same(&rt, atoms_of(alloc, &copy)?.len(), 64);
+    same(&rt, terms_of(alloc, &copy)?.len(), 64);
+    same(&rt, columns_of(alloc, &copy)?.as_slice(), [0].as_slice());
     let mut values = Vec::new(alloc);
     for number in 0..1_600 {
         values.push(Value::Int(number))?;
     }
     let wide = Row::from_values(values);
     let copy = copy_row(alloc, &wide)?;
-    assert!(rt; same_row(&wide, &copy));
-    assert!(rt; matches!(copy.get(1_599), Some(Value::Int(1_599))));
+    holds(&rt, same_row(&wide, &copy));
+    holds(&rt, matches!(copy.get(1_599), Some(Value::Int(1_599))));
     Ok(())
 }
 
@@ -366,29 +400,33 @@ fn sets_are_connected_member_by_member(rt: HostRuntime) {
         ("t", "", "", ""),
     ];
     for (left, right, both, either) in cases {
-        assert_eq!(rt;
+        same(
+            &rt,
             [set(left).and(set(right)), set(right).and(set(left))],
-            [set(both), set(both)]
+            [set(both), set(both)],
         );
-        assert_eq!(rt;
+        same(
+            &rt,
             [set(left).or(set(right)), set(right).or(set(left))],
-            [set(either), set(either)]
+            [set(either), set(either)],
         );
     }
-    assert_eq!(rt;
+    same(
+        &rt,
         [
             set("tn").not(),
             set("tn").is(Test::False),
-            set("n").is(Test::Unknown)
+            set("n").is(Test::Unknown),
         ],
-        [set("fn"), set("f"), set("t")]
+        [set("fn"), set("f"), set("t")],
     );
-    assert_eq!(rt;
+    same(
+        &rt,
         [Mask::single(Tri::Null), Mask::single(Tri::True)],
-        [set("n"), set("t")]
+        [set("n"), set("t")],
     );
-    assert!(rt; set("n").has(Tri::Null) && !set("n").has(Tri::False));
-    assert_eq!(rt; Tri::Null.is(Test::Unknown), Tri::True);
+    holds(&rt, set("n").has(Tri::Null) && !set("n").has(Tri::False));
+    same(&rt, Tri::Null.is(Test::Unknown), Tri::True);
 }
 
 #[test]
@@ -400,18 +438,20 @@ fn the_first_entry_of_a_path_counts(rt: HostRuntime) -> Result<(), Fail> {
         Literal::Text(Text::from_str(alloc, "eu")?),
     );
     let filter = not(alloc, in_europe(alloc)?)?;
-    assert_eq!(rt; possible(&filter, &[]), set("tfn"));
-    assert_eq!(rt; possible(&filter, &[(&europe, Tri::Null)]), set("n"));
-    assert_eq!(rt;
+    same(&rt, possible(&filter, &[]), set("tfn"));
+    same(&rt, possible(&filter, &[(&europe, Tri::Null)]), set("n"));
+    same(
+        &rt,
         possible(&filter, &[(&europe, Tri::True), (&europe, Tri::Null)]),
-        set("f")
+        set("f"),
     );
-    assert_eq!(rt;
+    same(
+        &rt,
         possible(
             &Filter::<Global>::Atom(Atom::IsNull(1)),
-            &[(&europe, Tri::Null)]
+            &[(&europe, Tri::Null)],
         ),
-        set("tf")
+        set("tf"),
     );
     Ok(())
 }

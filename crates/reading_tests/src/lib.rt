@@ -3,6 +3,8 @@
 
 #[cfg(test)]
 mod catalogs;
+#[cfg(test)]
+mod checks;
 mod fault;
 #[cfg(test)]
 mod filters;

@@ -7,6 +7,7 @@ mod row_cases;
 mod written_rows;
 
 use self::row_cases::ROWS;
+use crate::checks::{holds, same};
 use crate::fault::is_error;
 use filter_tree::{Row, Value};
 use sql_reader::{ErrorKind, read_row};
@@ -36,9 +37,9 @@ fn shown(alloc: Global, row: &Row) -> Result<String, AllocError> {
 fn reads_rows_or_their_first_fault(rt: HostRuntime) -> Result<(), Fail> {
     for (text, expected, place) in ROWS {
         match (read_row(rt.alloc(), text), place) {
-            (Ok(row), None) => assert_eq!(rt; shown(rt.alloc(), &row)?.as_str(), *expected),
+            (Ok(row), None) => same(&rt, shown(rt.alloc(), &row)?.as_str(), *expected),
             (Err(error), Some(place)) => {
-                assert!(rt; is_error(rt.alloc(), &error, expected, *place)?);
+                holds(&rt, is_error(rt.alloc(), &error, expected, *place)?);
             }
             (Ok(_), Some(_)) => panic!(rt; "{text:?} was read"),
             (Err(error), None) => panic!(rt; "{error:?} of {text:?}"),
@@ -49,8 +50,8 @@ fn reads_rows_or_their_first_fault(rt: HostRuntime) -> Result<(), Fail> {
 
 #[test]
 fn names_kinds_without_what_they_carry(rt: HostRuntime) {
-    assert_eq!(rt; ErrorKind::Expected("`;`").name(), "Expected");
-    assert_eq!(rt; ErrorKind::OutOfMemory.name(), "OutOfMemory");
+    same(&rt, ErrorKind::Expected("`;`").name(), "Expected");
+    same(&rt, ErrorKind::OutOfMemory.name(), "OutOfMemory");
 }
 
 /// Texts that are no rows, and the message of the first fault.
@@ -74,7 +75,7 @@ fn says_what_is_wrong_and_where(rt: HostRuntime) -> Result<(), Fail> {
             Ok(_) => panic!(rt; "{text} was read"),
             Err(error) => {
                 let said = format!(in rt.alloc(); "{error}")?;
-                assert_eq!(rt; said.as_str(), *message);
+                same(&rt, said.as_str(), *message);
             }
         }
     }

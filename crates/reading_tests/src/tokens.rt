@@ -1,3 +1,4 @@
+use crate::checks::same;
 use sql_tokens::{FaultKind as Fault, Operator, Token, TokenFault, TokenKind as Kind, Tokens};
 use std::alloc::{AllocError, Global};
 use std::process::Abort;
@@ -329,14 +330,14 @@ fn check(
             place: *place,
             length: *length,
         };
-        assert_eq!(rt; cursor.next(), Ok(Some(token)));
+        same(rt, cursor.next(), Ok(Some(token)));
     }
     let end = match fault {
         None => Ok(None),
         Some((place, kind)) => Err(TokenFault { place, kind }),
     };
-    assert_eq!(rt; cursor.next(), end);
-    assert_eq!(rt; cursor.next(), end);
+    same(rt, cursor.next(), end);
+    same(rt, cursor.next(), end);
 }
 
 #[test]

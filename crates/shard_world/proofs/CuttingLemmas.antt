@@ -63,7 +63,7 @@ nothing_left : (bytes others : List ℕ) → bytes ++ others ≡ [] → bytes �
 nothing_left [] others h = refl
 nothing_left (byte ∷ bytes) others h = absurd cc
 
-cut_nothing : (limit : ℕ) → cut limit [] ≡ Rest []
+pub cut_nothing : (limit : ℕ) → cut limit [] ≡ Rest []
 unfolding cut
 cut_nothing limit = refl
 

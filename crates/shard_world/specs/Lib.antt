@@ -1,2 +1,11 @@
+pub mod Asking
+pub mod CatchingUp
 pub mod Cutting
+pub mod Finding
+pub mod Following
+pub mod FollowingBytes
 pub mod Items
+pub mod Sayable
+pub mod UpsHeard
+pub mod World
+pub mod WorldLaws

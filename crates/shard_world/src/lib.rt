@@ -3,4 +3,8 @@
 
 mod laws;
 
-pub use laws::streams_are_items;
+pub use laws::{
+    commands_are_read, fed_subscribers_follow, logs_can_be_said, starts_are_answered,
+    streams_are_items, subscribers_are_heard, subscribers_catch_up, subscribers_divide_the_tables,
+    subscribers_follow_streams,
+};

@@ -4,44 +4,24 @@ mod sharing;
 mod terms;
 mod texts;
 
-use filter_tree::{
-    Atom, ColType, Column, Filter, Identity, Items, Literal, Op, Table, Term, Text, UniqueIndex,
-};
+use crate::calls;
+use crate::checks::same;
+use crate::tables::{column, table_of};
+use filter_tree::{Atom, ColType, Filter, Identity, Literal, Op, Table, Term};
 use replica_identity::Share;
 use shard_checker::{CheckError, check_one};
-use split_cert::Cert;
+use split_cert::{Cert, read_in};
 use std::alloc::{AllocError, Global};
+use std::process::Abort;
 use std::test::Fail;
-
-fn column(alloc: Global, name: &str, kind: ColType, not_null: bool) -> Result<Column, AllocError> {
-    Ok(Column {
-        name: Text::from_str(alloc, name)?,
-        kind,
-        not_null,
-    })
-}
-
-/// An index of one column.
-fn index(alloc: Global, column: usize) -> Result<UniqueIndex, AllocError> {
-    Ok(UniqueIndex {
-        name: Text::from_str(alloc, "i")?,
-        columns: Items::from_vec(vec![in alloc; column]?),
-    })
-}
 
 /// `CREATE TABLE t (id integer, region text, PRIMARY KEY (id))` with an index of id and one of region, and with this
 /// replica identity.
 fn table(alloc: Global, identity: Identity) -> Result<Table, AllocError> {
     let id = column(alloc, "id", ColType::Integer, true)?;
     let region = column(alloc, "region", ColType::Text, false)?;
-    Ok(Table {
-        schema: Text::from_str(alloc, "public")?,
-        name: Text::from_str(alloc, "t")?,
-        columns: Items::from_vec(vec![in alloc; id, region]?),
-        key: Items::from_vec(vec![in alloc; 0]?),
-        indexes: Items::from_vec(vec![in alloc; index(alloc, 0)?, index(alloc, 1)?]?),
-        identity,
-    })
+    let columns = vec![in alloc; id, region]?;
+    table_of(alloc, "t", columns, &[0], &[&[0], &[1]], identity)
 }
 
 const ID: Term = Term::Col(0);
@@ -55,7 +35,7 @@ fn number(term: Term, op: Op, value: i64) -> Filter {
 }
 
 fn text(alloc: Global, term: Term, op: Op, value: &str) -> Result<Filter, AllocError> {
-    let value = Literal::Text(Text::from_str(alloc, value)?);
+    let value = Literal::Text(calls::text(alloc, value)?);
     Ok(Filter::Atom(Atom::Cmp(term, op, value)))
 }
 
@@ -63,157 +43,118 @@ fn or(alloc: Global, left: Filter, right: Filter) -> Result<Filter, AllocError> 
     Ok(Filter::Or(Box::new(alloc, left)?, Box::new(alloc, right)?))
 }
 
-fn split(
+/// The certificate that a text spells.
+fn certificate(alloc: Global, spelling: &str) -> Result<Cert, Fail> {
+    Ok(read_in(alloc, spelling)?)
+}
+
+/// What the check of a certificate says of a table with these shares.
+fn answer(
     alloc: Global,
-    atom: u32,
-    if_true: Cert,
-    if_false: Cert,
-    if_null: Cert,
-) -> Result<Cert, AllocError> {
-    let if_true = Box::new(alloc, if_true)?;
-    let if_false = Box::new(alloc, if_false)?;
-    let if_null = Box::new(alloc, if_null)?;
-    Ok(Cert::Split(atom, if_true, if_false, if_null))
+    table: &Table,
+    shares: &[&Share],
+    spelling: &str,
+) -> Result<Result<(), CheckError>, Fail> {
+    let cert = certificate(alloc, spelling)?;
+    Ok(check_one(alloc, table, shares, &cert))
 }
 
-fn empty(term: u32) -> Cert {
-    Cert::Empty(term)
-}
-
-fn owner(subscriber: u32) -> Cert {
-    Cert::Owner(subscriber)
-}
-
-fn never_null(atom: u32) -> Cert {
-    Cert::NeverNull(atom)
-}
-
-/// The check of a certificate of `t` with the shares of two subscribers.
-fn check_two(
+/// Fails the test where the check of `t` with these shares gives another answer.
+fn expect_answers(
+    rt: &impl Abort,
     alloc: Global,
-    one: &Share,
-    other: &Share,
-    cert: &Cert,
-) -> Result<Result<(), CheckError>, AllocError> {
+    shares: &[&Share],
+    cases: &[(&str, Result<(), CheckError>)],
+) -> Result<(), Fail> {
     let table = table(alloc, Identity::Full)?;
-    Ok(check_one(alloc, &table, &[one, other], cert))
-}
-
-/// `id < 100` and `id >= 100`.
-fn halves() -> (Share, Share) {
-    (
-        Share::Where(number(ID, Op::Lt, 100)),
-        Share::Where(number(ID, Op::Ge, 100)),
-    )
-}
-
-/// `s 0 s 1 e 0 o 0 n 1 s 1 o 1 e 0 n 1 n 0`.
-fn by_halves(alloc: Global) -> Result<Cert, AllocError> {
-    let below = split(alloc, 1, empty(0), owner(0), never_null(1))?;
-    let above = split(alloc, 1, owner(1), empty(0), never_null(1))?;
-    split(alloc, 0, below, above, never_null(0))
-}
-
-#[test]
-fn halves_are_accepted(rt: HostRuntime) -> Result<(), Fail> {
-    let alloc = rt.alloc();
-    let (low, high) = halves();
-    assert_eq!(rt; check_two(alloc, &low, &high, &by_halves(alloc)?)?, Ok(()));
-    Ok(())
-}
-
-#[test]
-fn a_node_alone_is_refused(rt: HostRuntime) -> Result<(), Fail> {
-    let alloc = rt.alloc();
-    let (low, high) = halves();
-    let not_owner = CheckError::NotOwner { table: 0, node: 0 };
-    let bad_index = CheckError::BadIndex { table: 0, node: 0 };
-    let not_empty = CheckError::NotEmpty { table: 0, node: 0 };
-    let may_be_null = CheckError::MayBeNull { table: 0, node: 0 };
-    let cases = [
-        (owner(0), not_owner),
-        (owner(1), not_owner),
-        (owner(2), bad_index),
-        (empty(0), not_empty),
-        (empty(1), bad_index),
-        (never_null(0), may_be_null),
-        (never_null(2), bad_index),
-    ];
-    for (cert, refusal) in &cases {
-        assert_eq!(rt; check_two(alloc, &low, &high, cert)?, Err(*refusal));
+    for (spelling, wanted) in cases {
+        same(rt, answer(alloc, &table, shares, *spelling)?, *wanted);
     }
     Ok(())
+}
+
+fn not_owner(node: usize) -> Result<(), CheckError> {
+    Err(CheckError::NotOwner { table: 0, node })
+}
+
+fn not_empty(node: usize) -> Result<(), CheckError> {
+    Err(CheckError::NotEmpty { table: 0, node })
+}
+
+fn bad_index(node: usize) -> Result<(), CheckError> {
+    Err(CheckError::BadIndex { table: 0, node })
+}
+
+fn may_be_null(node: usize) -> Result<(), CheckError> {
+    Err(CheckError::MayBeNull { table: 0, node })
+}
+
+fn second_owner(node: usize, subscriber: usize) -> Result<(), CheckError> {
+    Err(CheckError::SecondOwner {
+        table: 0,
+        node,
+        subscriber,
+    })
+}
+
+/// A certificate for `id < 100` and `id >= 100`.
+const BY_HALVES: &str = "s 0 s 1 e 0 o 0 n 1 s 1 o 1 e 0 n 1 n 0";
+
+#[test]
+fn halves_are_accepted_and_a_node_alone_is_refused(rt: HostRuntime) -> Result<(), Fail> {
+    let low = Share::Where(number(ID, Op::Lt, 100));
+    let high = Share::Where(number(ID, Op::Ge, 100));
+    let cases = [
+        (BY_HALVES, Ok(())),
+        ("o 0", not_owner(0)),
+        ("o 1", not_owner(0)),
+        ("o 2", bad_index(0)),
+        ("e 0", not_empty(0)),
+        ("e 1", bad_index(0)),
+        ("n 0", may_be_null(0)),
+        ("n 2", bad_index(0)),
+    ];
+    expect_answers(&rt, rt.alloc(), &[&low, &high], &cases)
 }
 
 #[test]
 fn two_whole_tables_have_a_second_owner(rt: HostRuntime) -> Result<(), Fail> {
     let alloc = rt.alloc();
-    let second = CheckError::SecondOwner {
-        table: 0,
-        node: 0,
-        subscriber: 1,
-    };
-    let first = CheckError::SecondOwner {
-        table: 0,
-        node: 0,
-        subscriber: 0,
-    };
-    let cases = [(owner(0), second), (owner(1), first)];
-    for (cert, refusal) in &cases {
-        assert_eq!(rt;
-            check_two(alloc, &Share::Everything, &Share::Everything, cert)?,
-            Err(*refusal)
-        );
-    }
-    assert_eq!(rt;
-        check_two(alloc, &Share::Nothing, &Share::Everything, &owner(1))?,
-        Ok(())
-    );
-    Ok(())
+    let (nothing, whole) = (Share::Nothing, Share::Everything);
+    let of_both = [("o 0", second_owner(0, 1)), ("o 1", second_owner(0, 0))];
+    expect_answers(&rt, alloc, &[&whole, &whole], &of_both)?;
+    expect_answers(&rt, alloc, &[&nothing, &whole], &[("o 1", Ok(()))])
+}
+
+/// `region = 'eu'` and `region <> 'eu'`.
+fn inside_and_outside(alloc: Global) -> Result<(Share, Share), AllocError> {
+    let inside = text(alloc, REGION, Op::Eq, "eu")?;
+    let outside = text(alloc, REGION, Op::Ne, "eu")?;
+    Ok((Share::Where(inside), Share::Where(outside)))
 }
 
 #[test]
 fn a_null_region_has_no_owner(rt: HostRuntime) -> Result<(), Fail> {
     let alloc = rt.alloc();
-    let inside = Share::Where(text(alloc, REGION, Op::Eq, "eu")?);
-    let outside = Share::Where(text(alloc, REGION, Op::Ne, "eu")?);
-    let if_true = split(alloc, 1, empty(0), owner(0), empty(0))?;
-    let if_false = split(alloc, 1, owner(1), empty(0), empty(0))?;
-    let cert = split(alloc, 0, if_true, if_false, never_null(0))?;
-    let refusal = CheckError::MayBeNull { table: 0, node: 9 };
-    assert_eq!(rt; check_two(alloc, &inside, &outside, &cert)?, Err(refusal));
-    Ok(())
+    let (inside, outside) = inside_and_outside(alloc)?;
+    let cases = [("s 0 s 1 e 0 o 0 e 0 s 1 o 1 e 0 e 0 n 0", may_be_null(9))];
+    expect_answers(&rt, alloc, &[&inside, &outside], &cases)
 }
 
 #[test]
 fn a_subscriber_of_nulls_is_accepted(rt: HostRuntime) -> Result<(), Fail> {
     let alloc = rt.alloc();
-    let table = table(alloc, Identity::Full)?;
-    let inside = Share::Where(text(alloc, REGION, Op::Eq, "eu")?);
-    let outside = Share::Where(text(alloc, REGION, Op::Ne, "eu")?);
+    let (inside, outside) = inside_and_outside(alloc)?;
     let nowhere = Share::Where(Filter::Atom(Atom::IsNull(1)));
-    let first = split(alloc, 2, empty(0), owner(0), never_null(2))?;
-    let if_true = split(alloc, 1, empty(0), first, empty(0))?;
-    let second = split(alloc, 2, empty(0), owner(1), never_null(2))?;
-    let if_false = split(alloc, 1, second, empty(0), empty(0))?;
-    let third = split(alloc, 2, owner(2), empty(0), never_null(2))?;
-    let if_null = split(alloc, 1, empty(0), empty(0), third)?;
-    let cert = split(alloc, 0, if_true, if_false, if_null)?;
-    assert_eq!(rt;
-        check_one(alloc, &table, &[&inside, &outside, &nowhere], &cert),
-        Ok(())
-    );
-    Ok(())
+    let cases = [(
+        "s 0 s 1 e 0 s 2 e 0 o 0 n 2 e 0 s 1 s 2 e 0 o 1 n 2 e 0 e 0 s 1 e 0 e 0 s 2 o 2 e 0 n 2",
+        Ok(()),
+    )];
+    expect_answers(&rt, alloc, &[&inside, &outside, &nowhere], &cases)
 }
 
-/// `s 0 s 1 e 0 s 2 e 0 o 0 n 2 n 1 s 1 o 1 s 2 o 1 e 0 n 2 n 1 n 0`.
-fn three_ways(alloc: Global) -> Result<Cert, AllocError> {
-    let first = split(alloc, 2, empty(0), owner(0), never_null(2))?;
-    let if_true = split(alloc, 1, empty(0), first, never_null(1))?;
-    let second = split(alloc, 2, owner(1), empty(0), never_null(2))?;
-    let if_false = split(alloc, 1, owner(1), second, never_null(1))?;
-    split(alloc, 0, if_true, if_false, never_null(0))
-}
+/// A certificate for one atom, and for two others that are joined by OR.
+const THREE_WAYS: &str = "s 0 s 1 e 0 s 2 e 0 o 0 n 2 n 1 s 1 o 1 s 2 o 1 e 0 n 2 n 1 n 0";
 
 #[test]
 fn remainders_have_both_signs(rt: HostRuntime) -> Result<(), Fail> {
@@ -222,8 +163,7 @@ fn remainders_have_both_signs(rt: HostRuntime) -> Result<(), Fail> {
     let positive = number(ID_BY_2, Op::Eq, 1);
     let negative = number(ID_BY_2, Op::Eq, -1);
     let odd = Share::Where(or(alloc, positive, negative)?);
-    assert_eq!(rt; check_two(alloc, &even, &odd, &three_ways(alloc)?)?, Ok(()));
-    Ok(())
+    expect_answers(&rt, alloc, &[&even, &odd], &[(THREE_WAYS, Ok(()))])
 }
 
 #[test]
@@ -233,15 +173,7 @@ fn a_hole_between_two_ranges_is_one_number(rt: HostRuntime) -> Result<(), Fail> 
     let below = number(ID, Op::Lt, 5);
     let above = number(ID, Op::Gt, 5);
     let others = Share::Where(or(alloc, below, above)?);
-    assert_eq!(rt;
-        check_two(alloc, &five, &others, &three_ways(alloc)?)?,
-        Ok(())
-    );
-    let first = split(alloc, 2, empty(0), owner(0), never_null(2))?;
-    let if_true = split(alloc, 1, empty(0), first, never_null(1))?;
-    let if_false = split(alloc, 1, owner(1), empty(0), never_null(1))?;
-    let cert = split(alloc, 0, if_true, if_false, never_null(0))?;
-    let refusal = CheckError::NotEmpty { table: 0, node: 10 };
-    assert_eq!(rt; check_two(alloc, &five, &others, &cert)?, Err(refusal));
-    Ok(())
+    let without_above = "s 0 s 1 e 0 s 2 e 0 o 0 n 2 n 1 s 1 o 1 e 0 n 1 n 0";
+    let cases = [(THREE_WAYS, Ok(())), (without_above, not_empty(10))];
+    expect_answers(&rt, alloc, &[&five, &others], &cases)
 }

@@ -1,10 +1,13 @@
 mod changes;
 mod identities;
 
-use filter_tree::{Filter, Identity, Row};
-use pub_reader::{Catalog, ReadError, read_catalog, read_row};
-use replica_identity::{Plan, Share, covered, identity_columns, plan};
+use crate::calls::{catalog_of, plan_of, row_of, takes};
+use crate::checks::{holds, same};
+use filter_tree::{Filter, Identity, Row, Table};
+use pub_reader::Catalog;
+use replica_identity::{Plan, Share, covered, identity_columns};
 use std::alloc::{AllocError, Global};
+use std::process::Abort;
 use std::test::Fail;
 
 const CATALOG: &str =
@@ -25,39 +28,80 @@ CREATE SUBSCRIPTION s3 CONNECTION '' PUBLICATION low, everything, eu;
 CREATE SUBSCRIPTION s4 CONNECTION '' PUBLICATION none;
 ";
 
-fn catalog(alloc: Global) -> Result<Catalog, ReadError> {
-    read_catalog(alloc, CATALOG)
-}
-
-fn row(alloc: Global, text: &str) -> Result<Row, ReadError> {
-    read_row(alloc, text)
+fn catalog(alloc: Global) -> Result<Catalog, Fail> {
+    catalog_of(alloc, CATALOG)
 }
 
 /// Which of the five subscribers take a row of a table.
 fn takers(plan: &Plan, table: usize, row: &Row) -> [bool; 5] {
-    [0, 1, 2, 3, 4].map(|subscriber| plan.share(subscriber, table).takes(row))
+    [0, 1, 2, 3, 4].map(|subscriber| takes(plan, subscriber, table, row))
 }
+
+/// A row of a table, and which of the five subscribers take it.
+#[derive(Clone, Copy)]
+struct PassingCase {
+    table: usize,
+    row: &'static str,
+    takers: [bool; 5],
+}
+
+const PASSING_CASES: [PassingCase; 9] = [
+    PassingCase {
+        table: 0,
+        row: "(7, 'eu', 1)",
+        takers: [true, true, false, true, false],
+    },
+    PassingCase {
+        table: 0,
+        row: "(7, 'us', 1)",
+        takers: [true, true, false, true, false],
+    },
+    PassingCase {
+        table: 0,
+        row: "(7, NULL, 1)",
+        takers: [true, true, false, true, false],
+    },
+    PassingCase {
+        table: 0,
+        row: "(100, 'eu', NULL)",
+        takers: [false, true, true, true, false],
+    },
+    PassingCase {
+        table: 0,
+        row: "(100, 'us', NULL)",
+        takers: [false, false, true, true, false],
+    },
+    PassingCase {
+        table: 0,
+        row: "(NULL, NULL, NULL)",
+        takers: [false, false, false, true, false],
+    },
+    PassingCase {
+        table: 1,
+        row: "(1, 2)",
+        takers: [false, false, true, true, false],
+    },
+    PassingCase {
+        table: 2,
+        row: "(1)",
+        takers: [false, true, false, true, false],
+    },
+    PassingCase {
+        table: 3,
+        row: "(1)",
+        takers: [false, false, false, false, false],
+    },
+];
 
 #[test]
 fn rows_pass_by_publications(rt: HostRuntime) -> Result<(), Fail> {
-    let catalog = catalog(rt.alloc())?;
-    let plan = plan(rt.alloc(), &catalog)?;
-    let cases: [(usize, &str, [bool; 5]); 9] = [
-        (0, "(7, 'eu', 1)", [true, true, false, true, false]),
-        (0, "(7, 'us', 1)", [true, true, false, true, false]),
-        (0, "(7, NULL, 1)", [true, true, false, true, false]),
-        (0, "(100, 'eu', NULL)", [false, true, true, true, false]),
-        (0, "(100, 'us', NULL)", [false, false, true, true, false]),
-        (0, "(NULL, NULL, NULL)", [false, false, false, true, false]),
-        (1, "(1, 2)", [false, false, true, true, false]),
-        (2, "(1)", [false, true, false, true, false]),
-        (3, "(1)", [false, false, false, false, false]),
-    ];
-    for (table, text, expected) in cases {
-        let row = row(rt.alloc(), text)?;
-        assert_eq!(rt; takers(&plan, table, &row), expected);
+    let alloc = rt.alloc();
+    let plan = plan_of(alloc, &catalog(alloc)?)?;
+    for case in PASSING_CASES {
+        let row = row_of(alloc, case.row)?;
+        same(&rt, takers(&plan, case.table, &row), case.takers);
     }
-    assert!(rt; matches!(plan.share(5, 0), Share::Nothing));
+    holds(&rt, matches!(plan.share(5, 0), Share::Nothing));
     Ok(())
 }
 
@@ -78,25 +122,56 @@ fn column(filter: &Filter) -> Option<usize> {
 
 #[test]
 fn filters_are_joined_in_the_order_of_the_list(rt: HostRuntime) -> Result<(), Fail> {
-    let catalog = catalog(rt.alloc())?;
-    let plan = plan(rt.alloc(), &catalog)?;
-    assert_eq!(rt; joined_columns(plan.share(1, 0)), Some((1, 0)));
+    let alloc = rt.alloc();
+    let plan = plan_of(alloc, &catalog(alloc)?)?;
+    same(&rt, joined_columns(plan.share(1, 0)), Some((1, 0)));
     Ok(())
 }
 
+/// The columns of an identity, and which of the first four columns it covers.
+#[derive(Clone, Copy)]
+struct Covering {
+    columns: &'static [usize],
+    covered: [bool; 4],
+}
+
+/// Fails the test where the identity of the table differs from this.
+fn expect_identity(
+    rt: &impl Abort,
+    alloc: Global,
+    table: &Table,
+    wanted: Covering,
+) -> Result<(), AllocError> {
+    let columns = identity_columns(alloc, table)?;
+    same(rt, columns.as_slice(), wanted.columns);
+    let found = [0, 1, 2, 3].map(|column| covered(table, column));
+    same(rt, found, wanted.covered);
+    Ok(())
+}
+
+/// What the identities of the first three tables of the catalog have.
+const OF_TABLES: [Covering; 3] = [
+    Covering {
+        columns: &[0, 1, 2],
+        covered: [true, true, true, false],
+    },
+    Covering {
+        columns: &[1],
+        covered: [false, true, false, false],
+    },
+    Covering {
+        columns: &[],
+        covered: [false, false, false, false],
+    },
+];
+
 #[test]
 fn identities_have_their_columns(rt: HostRuntime) -> Result<(), Fail> {
-    let catalog = catalog(rt.alloc())?;
-    let cases: [(usize, &[usize], [bool; 4]); 3] = [
-        (0, &[0, 1, 2], [true, true, true, false]),
-        (1, &[1], [false, true, false, false]),
-        (2, &[], [false, false, false, false]),
-    ];
-    for (number, columns, coverage) in cases {
-        let table = catalog.tables.get(number).expect(&rt, "a table");
-        let found = identity_columns(rt.alloc(), table)?;
-        assert_eq!(rt; found.as_slice(), columns);
-        assert_eq!(rt; [0, 1, 2, 3].map(|column| covered(table, column)), coverage);
+    let alloc = rt.alloc();
+    let catalog = catalog(alloc)?;
+    for (number, wanted) in OF_TABLES.into_iter().enumerate() {
+        let table = catalog.tables.get(number).ok_or("a table")?;
+        expect_identity(&rt, alloc, table, wanted)?;
     }
     Ok(())
 }
@@ -106,54 +181,77 @@ const INDEXED: &str =
 CREATE UNIQUE INDEX i ON u (id);CREATE UNIQUE INDEX j ON u (part, code);
 ALTER TABLE u REPLICA IDENTITY USING INDEX j;";
 
-/// A catalog whose table has two indexes, and this identity.
-fn identified_by(alloc: Global, identity: Identity) -> Result<Catalog, ReadError> {
-    let mut catalog = read_catalog(alloc, INDEXED)?;
-    if let Some(table) = catalog.tables.first_mut() {
-        table.identity = identity;
-    }
-    Ok(catalog)
+/// A table that has two indexes, with this identity.
+fn identified_by(alloc: Global, identity: Identity) -> Result<Table, Fail> {
+    let Catalog {
+        tables,
+        publications: _,
+        subscriptions: _,
+    } = catalog_of(alloc, INDEXED)?;
+    let mut tables = tables;
+    let mut table = tables.pop().ok_or("a table")?;
+    table.identity = identity;
+    Ok(table)
 }
+
+/// What the identities have that name an index.
+const OF_INDEXES: [(Identity, Covering); 3] = [
+    (
+        Identity::Index(1),
+        Covering {
+            columns: &[2, 1],
+            covered: [false, true, true, false],
+        },
+    ),
+    (
+        Identity::Index(0),
+        Covering {
+            columns: &[0],
+            covered: [true, false, false, false],
+        },
+    ),
+    (
+        Identity::Index(2),
+        Covering {
+            columns: &[],
+            covered: [false, false, false, false],
+        },
+    ),
+];
 
 #[test]
 fn an_identity_by_an_index_has_the_columns_of_the_index(rt: HostRuntime) -> Result<(), Fail> {
     let alloc = rt.alloc();
-    let catalog = read_catalog(alloc, INDEXED)?;
+    let catalog = catalog_of(alloc, INDEXED)?;
     let table = catalog.tables.first().ok_or("a table")?;
-    assert_eq!(rt; table.identity, Identity::Index(1));
-    let cases: [(Identity, &[usize], [bool; 4]); 3] = [
-        (Identity::Index(1), &[2, 1], [false, true, true, false]),
-        (Identity::Index(0), &[0], [true, false, false, false]),
-        (Identity::Index(2), &[], [false, false, false, false]),
-    ];
-    for (identity, columns, coverage) in cases {
-        let catalog = identified_by(alloc, identity)?;
-        let table = catalog.tables.first().ok_or("a table")?;
-        let found = identity_columns(alloc, table)?;
-        assert_eq!(rt; found.as_slice(), columns);
-        assert_eq!(rt; [0, 1, 2, 3].map(|column| covered(table, column)), coverage);
+    same(&rt, table.identity, Identity::Index(1));
+    for (identity, wanted) in OF_INDEXES {
+        let table = identified_by(alloc, identity)?;
+        expect_identity(&rt, alloc, &table, wanted)?;
     }
     Ok(())
 }
 
-/// 64 tables of 100 columns, the first of which has them all as its key; 64 publications, each of every table with a
-/// filter; 32 subscriptions, each to every publication.
-fn largest_catalog(alloc: Global) -> Result<String, AllocError> {
-    let mut text = String::new(alloc);
+/// 64 tables of 100 columns, the first of which has them all as its key.
+fn write_tables(text: &mut String) -> Result<(), AllocError> {
     for table in 0..64 {
         write!(text, "CREATE TABLE t{table} (")?;
         for column in 0..100 {
             write!(text, "c{column} integer, ")?;
         }
-        write!(text, "PRIMARY KEY (c0")?;
+        text.push_str("PRIMARY KEY (c0")?;
         if table == 0 {
             for column in 1..100 {
                 write!(text, ", c{column}")?;
             }
         }
-        writeln!(text, "));")?;
+        text.push_str("));\n")?;
     }
-    writeln!(text, "ALTER TABLE t63 REPLICA IDENTITY FULL;")?;
+    text.push_str("ALTER TABLE t63 REPLICA IDENTITY FULL;\n")
+}
+
+/// 64 publications, each of every table with a filter.
+fn write_publications(text: &mut String) -> Result<(), AllocError> {
     for publication in 0..64 {
         write!(
             text,
@@ -162,8 +260,13 @@ fn largest_catalog(alloc: Global) -> Result<String, AllocError> {
         for table in 1..64 {
             write!(text, ", t{table} WHERE (c0 = {publication})")?;
         }
-        writeln!(text, ";")?;
+        text.push_str(";\n")?;
     }
+    Ok(())
+}
+
+/// 32 subscriptions, each to every publication.
+fn write_subscriptions(text: &mut String) -> Result<(), AllocError> {
     for subscription in 0..32 {
         write!(
             text,
@@ -172,35 +275,55 @@ fn largest_catalog(alloc: Global) -> Result<String, AllocError> {
         for publication in 1..64 {
             write!(text, ", p{publication}")?;
         }
-        writeln!(text, ";")?;
+        text.push_str(";\n")?;
     }
-    Ok(text)
+    Ok(())
+}
+
+/// A catalog with the most tables, columns, publications and subscriptions.
+fn largest_catalog(alloc: Global) -> Result<Catalog, Fail> {
+    let mut text = String::new(alloc);
+    write_tables(&mut text)?;
+    write_publications(&mut text)?;
+    write_subscriptions(&mut text)?;
+    catalog_of(alloc, &text)
+}
+
+/// Fails the test unless all of 32 subscribers take the row of each of 64 tables, or none does.
+fn expect_takers(rt: &impl Abort, plan: &Plan, row: &Row, is_taken: bool) {
+    for subscriber in 0..32 {
+        for table in 0..64 {
+            same(rt, takes(plan, subscriber, table, row), is_taken);
+        }
+    }
+}
+
+/// Fails the test where the identities of the first two tables and of the last one have other columns.
+fn expect_wide_identities(rt: &impl Abort, alloc: Global, catalog: &Catalog) -> Result<(), Fail> {
+    for (number, count) in [(0, 100), (1, 1), (63, 100)] {
+        let table = catalog.tables.get(number).ok_or("a table")?;
+        same(rt, identity_columns(alloc, table)?.len(), count);
+        same(rt, covered(table, 99), count == 100);
+    }
+    Ok(())
 }
 
 #[test]
 fn the_largest_catalog_has_a_plan(rt: HostRuntime) -> Result<(), Fail> {
     let alloc = rt.alloc();
-    let catalog = read_catalog(alloc, &largest_catalog(alloc)?)?;
-    let plan = plan(alloc, &catalog)?;
-    for (text, is_taken) in [
+    let catalog = largest_catalog(alloc)?;
+    let plan = plan_of(alloc, &catalog)?;
+    let cases = [
         ("(0)", true),
         ("(63)", true),
         ("(64)", false),
         ("(NULL)", false),
-    ] {
-        let row = row(alloc, text)?;
-        for subscriber in 0..32 {
-            for table in 0..64 {
-                assert_eq!(rt; plan.share(subscriber, table).takes(&row), is_taken);
-            }
-        }
-        assert!(rt; !plan.share(32, 0).takes(&row));
-        assert!(rt; !plan.share(0, 64).takes(&row));
+    ];
+    for (spelling, is_taken) in cases {
+        let row = row_of(alloc, spelling)?;
+        expect_takers(&rt, &plan, &row, is_taken);
+        holds(&rt, !takes(&plan, 32, 0, &row));
+        holds(&rt, !takes(&plan, 0, 64, &row));
     }
-    for (number, count) in [(0, 100), (1, 1), (63, 100)] {
-        let table = catalog.tables.get(number).expect(&rt, "a table");
-        assert_eq!(rt; identity_columns(alloc, table)?.len(), count);
-        assert_eq!(rt; covered(table, 99), count == 100);
-    }
-    Ok(())
+    expect_wide_identities(&rt, alloc, &catalog)
 }

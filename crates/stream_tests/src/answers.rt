@@ -3,6 +3,7 @@
 use crate::answer_cases::{
     FRAMES, OPTION_LISTS, OTHER_COMMANDS, PUBLICATION_NAMES, REFUSED, STARTS, UNREAD,
 };
+use crate::checks::{holds, same};
 use bytes::BytesMut;
 use copy_both::{Asked, Offer, SqlState, answer_start};
 use pub_reader::{Catalog, read_catalog};
@@ -70,6 +71,23 @@ fn asked(
     answered(alloc, catalog, log_end, is_taken, b'Q', body.as_slice())
 }
 
+/// That a query of this text between two others is answered so.
+fn expect_around(
+    rt: &impl Abort,
+    alloc: Global,
+    offered: (&Catalog, u64, bool),
+    around: [&str; 2],
+    text: &str,
+    expected: &str,
+) -> Result<(), Fail> {
+    let (catalog, log_end, is_taken) = offered;
+    let [before, after] = around;
+    let text = format!(in alloc; "{before}{text}{after}")?;
+    let told = asked(alloc, catalog, log_end, is_taken, text.as_str())?;
+    assert_eq!(rt; told.as_str(), expected, "{text}");
+    Ok(())
+}
+
 /// That queries of these texts, each between two others, are answered so.
 fn check_queries(
     rt: &impl Abort,
@@ -80,11 +98,9 @@ fn check_queries(
     cases: &[(&str, &str)],
 ) -> Result<(), Fail> {
     let catalog = read_catalog(alloc, CATALOG)?;
-    let [before, after] = around;
     for (text, expected) in cases {
-        let text = format!(in alloc; "{before}{text}{after}")?;
-        let told = asked(alloc, &catalog, log_end, is_taken, text.as_str())?;
-        assert_eq!(rt; told.as_str(), *expected, "{text}");
+        let offered = (&catalog, log_end, is_taken);
+        expect_around(rt, alloc, offered, around, text, expected)?;
     }
     Ok(())
 }
@@ -92,33 +108,56 @@ fn check_queries(
 #[test]
 fn queries_are_answered(rt: HostRuntime) -> Result<(), Fail> {
     let alloc = rt.alloc();
+    let none = ["", ""];
+    let slot = ["START_REPLICATION SLOT ", ""];
     let options = ["START_REPLICATION SLOT s9 LOGICAL 0/0", ""];
     let names = [
         "START_REPLICATION SLOT s1 LOGICAL 0/0 (proto_version '1', publication_names '",
         "')",
     ];
-    check_queries(&rt, alloc, u64::MAX, false, ["", ""], STARTS)?;
-    check_queries(&rt, alloc, 64, true, ["", ""], OTHER_COMMANDS)?;
+    check_queries(&rt, alloc, u64::MAX, false, none, STARTS)?;
+    check_queries(&rt, alloc, 64, true, none, OTHER_COMMANDS)?;
     check_queries(&rt, alloc, 64, true, options, OPTION_LISTS)?;
-    check_queries(
-        &rt,
-        alloc,
-        64,
-        true,
-        ["START_REPLICATION SLOT ", ""],
-        REFUSED,
-    )?;
+    check_queries(&rt, alloc, 64, true, slot, REFUSED)?;
     check_queries(&rt, alloc, 64, false, names, PUBLICATION_NAMES)?;
+    Ok(())
+}
+
+/// That a frame is answered so, where the log ends at 64 and each slot is in use.
+fn expect_answer(
+    rt: &impl Abort,
+    alloc: Global,
+    catalog: &Catalog,
+    frame: (u8, &[u8], &str),
+) -> Result<(), AllocError> {
+    let (kind, body, expected) = frame;
+    let told = answered(alloc, catalog, 64, true, kind, body)?;
+    same(rt, told.as_str(), expected);
     Ok(())
 }
 
 #[test]
 fn only_a_query_is_expected(rt: HostRuntime) -> Result<(), Fail> {
-    let catalog = read_catalog(rt.alloc(), CATALOG)?;
-    for (kind, body, expected) in FRAMES {
-        let told = answered(rt.alloc(), &catalog, 64, true, *kind, body)?;
-        assert_eq!(rt; told.as_str(), *expected);
+    let alloc = rt.alloc();
+    let catalog = read_catalog(alloc, CATALOG)?;
+    for frame in FRAMES {
+        expect_answer(&rt, alloc, &catalog, *frame)?;
     }
+    Ok(())
+}
+
+/// That a query of this text is answered so, where the log ends at 64 and each slot may be in use.
+fn expect_told(
+    rt: &impl Abort,
+    alloc: Global,
+    catalog: &str,
+    is_taken: bool,
+    text: &str,
+    expected: &str,
+) -> Result<(), Fail> {
+    let catalog = read_catalog(alloc, catalog)?;
+    let told = asked(alloc, &catalog, 64, is_taken, text)?;
+    same(rt, told.as_str(), expected);
     Ok(())
 }
 
@@ -131,94 +170,110 @@ fn repeated(alloc: Global, part: &str, times: usize) -> Result<String, AllocErro
     Ok(text)
 }
 
+/// Three texts in one.
+fn joined(alloc: Global, before: &str, text: &str, after: &str) -> Result<String, AllocError> {
+    format!(in alloc; "{before}{text}{after}")
+}
+
+/// That this name, as it is between quotes, is refused as a slot's and as a publication's.
+fn expect_too_long(rt: &impl Abort, alloc: Global, name: &str) -> Result<(), Fail> {
+    let text = joined(alloc, "START_REPLICATION SLOT \"", name, "\" LOGICAL 0/0")?;
+    expect_told(rt, alloc, CATALOG, true, text.as_str(), UNREAD)?;
+    let before = "START_REPLICATION SLOT s0 LOGICAL 0/0 (publication_names '\"";
+    let text = joined(alloc, before, name, "\"')")?;
+    let expected = "22023 option \"publication_names\" is wrong";
+    expect_told(rt, alloc, CATALOG, true, text.as_str(), expected)
+}
+
 #[test]
 fn names_have_at_most_63_bytes(rt: HostRuntime) -> Result<(), Fail> {
-    let catalog = read_catalog(rt.alloc(), CATALOG)?;
-    let longest = repeated(rt.alloc(), "n", 63)?;
-    let text = format!(in rt.alloc(); "START_REPLICATION SLOT {longest} LOGICAL 0/0")?;
-    let told = asked(rt.alloc(), &catalog, 64, true, text.as_str())?;
-    let expected = format!(in rt.alloc(); "42704 replication slot \"{longest}\" does not exist")?;
-    assert_eq!(rt; told.as_str(), expected.as_str());
-    for name in ["n", "\"\""] {
-        let text = format!(in rt.alloc();
-            "START_REPLICATION SLOT \"{longest}{name}\" LOGICAL 0/0"
-        )?;
-        let told = asked(rt.alloc(), &catalog, 64, true, text.as_str())?;
-        assert_eq!(rt; told.as_str(), UNREAD);
-        let text = format!(in rt.alloc();
-            "START_REPLICATION SLOT s0 LOGICAL 0/0 (publication_names '\"{longest}{name}\"')"
-        )?;
-        let told = asked(rt.alloc(), &catalog, 64, true, text.as_str())?;
-        assert_eq!(rt;
-            told.as_str(),
-            "22023 option \"publication_names\" is wrong"
-        );
+    let alloc = rt.alloc();
+    let longest = repeated(alloc, "n", 63)?;
+    let text = joined(
+        alloc,
+        "START_REPLICATION SLOT ",
+        longest.as_str(),
+        " LOGICAL 0/0",
+    )?;
+    let expected = joined(
+        alloc,
+        "42704 replication slot \"",
+        longest.as_str(),
+        "\" does not exist",
+    )?;
+    expect_told(&rt, alloc, CATALOG, true, text.as_str(), expected.as_str())?;
+    for end in ["n", "\"\""] {
+        let name = joined(alloc, longest.as_str(), end, "")?;
+        expect_too_long(&rt, alloc, name.as_str())?;
     }
     Ok(())
 }
 
 #[test]
 fn long_texts_are_read(rt: HostRuntime) -> Result<(), Fail> {
-    let catalog = read_catalog(rt.alloc(), CATALOG)?;
-    let blanks = repeated(rt.alloc(), " ", 65_000)?;
-    let text = format!(in rt.alloc(); "{blanks}START_REPLICATION SLOT s0 LOGICAL 0/0 {OPTIONS}")?;
-    let told = asked(rt.alloc(), &catalog, 64, false, text.as_str())?;
-    assert_eq!(rt; told.as_str(), "slot 0 from 0");
-    let names = repeated(rt.alloc(), "\"pa\",", 13_000)?;
-    let text = format!(in rt.alloc();
-        "START_REPLICATION SLOT s0 LOGICAL 0/0 (publication_names '{names}pa', proto_version '1')"
-    )?;
-    let told = asked(rt.alloc(), &catalog, 64, false, text.as_str())?;
-    assert_eq!(rt; told.as_str(), "slot 0 from 0");
-    let marks = repeated(rt.alloc(), "(", 65_000)?;
-    let told = asked(rt.alloc(), &catalog, 64, false, marks.as_str())?;
-    assert_eq!(rt; told.as_str(), UNREAD);
-    Ok(())
+    let alloc = rt.alloc();
+    let started = "slot 0 from 0";
+    let blanks = repeated(alloc, " ", 65_000)?;
+    let command = "START_REPLICATION SLOT s0 LOGICAL 0/0 ";
+    let text = joined(alloc, blanks.as_str(), command, OPTIONS)?;
+    expect_told(&rt, alloc, CATALOG, false, text.as_str(), started)?;
+    let names = repeated(alloc, "\"pa\",", 13_000)?;
+    let before = "START_REPLICATION SLOT s0 LOGICAL 0/0 (publication_names '";
+    let text = joined(alloc, before, names.as_str(), "pa', proto_version '1')")?;
+    expect_told(&rt, alloc, CATALOG, false, text.as_str(), started)?;
+    let marks = repeated(alloc, "(", 65_000)?;
+    expect_told(&rt, alloc, CATALOG, false, marks.as_str(), UNREAD)
 }
+
+/// A catalog whose publication and subscription have quotes in their names.
+const QUOTED: &str = "CREATE TABLE t (id integer, PRIMARY KEY (id));
+        CREATE PUBLICATION \"it's, \"\"this\"\"\" FOR TABLE t;
+        CREATE SUBSCRIPTION \"\"\"\u{e9}\" CONNECTION '' PUBLICATION \"it's, \"\"this\"\"\";";
 
 #[test]
 fn quotes_in_names_are_doubled(rt: HostRuntime) -> Result<(), Fail> {
-    let catalog = read_catalog(
-        rt.alloc(),
-        "CREATE TABLE t (id integer, PRIMARY KEY (id));
-        CREATE PUBLICATION \"it's, \"\"this\"\"\" FOR TABLE t;
-        CREATE SUBSCRIPTION \"\"\"\u{e9}\" CONNECTION '' PUBLICATION \"it's, \"\"this\"\"\";",
-    )?;
     let text = "START_REPLICATION SLOT \"\"\"\u{e9}\" LOGICAL 0/0
         (proto_version '1', publication_names '\"it''s, \"\"this\"\"\"')";
-    let told = asked(rt.alloc(), &catalog, 64, false, text)?;
-    assert_eq!(rt; told.as_str(), "slot 0 from 0");
-    Ok(())
+    expect_told(&rt, rt.alloc(), QUOTED, false, text, "slot 0 from 0")
 }
 
-/// A response is appended, and a start of a stream appends nothing.
-#[test]
-fn a_refusal_is_appended(rt: HostRuntime) -> Result<(), Fail> {
-    let catalog = read_catalog(rt.alloc(), CATALOG)?;
+/// What a Query is answered where the log ends at 64 and the first slot is in use; a response is appended.
+fn appended(
+    alloc: Global,
+    catalog: &Catalog,
+    body: &[u8],
+    response: &mut BytesMut,
+) -> Result<Asked, AllocError> {
     let offer = Offer {
         publications: catalog.publications.as_slice(),
         subscriptions: catalog.subscriptions.as_slice(),
         log_end: 64,
         in_use: &[true, false],
     };
-    let mut response = BytesMut::new(rt.alloc());
+    answer_start(alloc, &offer, b'Q', body, response)
+}
+
+/// A response is appended, and a start of a stream appends nothing.
+#[test]
+fn a_refusal_is_appended(rt: HostRuntime) -> Result<(), Fail> {
+    let alloc = rt.alloc();
+    let catalog = read_catalog(alloc, CATALOG)?;
+    let mut response = BytesMut::new(alloc);
     response.extend_from_slice(b"x")?;
     let body =
         b"START_REPLICATION SLOT s0 LOGICAL 0/0 (proto_version '1', publication_names 'pa')\0";
-    let asked = answer_start(rt.alloc(), &offer, b'Q', body, &mut response)?;
-    assert!(rt; asked == Asked::Refused(SqlState::ObjectInUse));
+    let asked = appended(alloc, &catalog, body, &mut response)?;
+    holds(&rt, asked == Asked::Refused(SqlState::ObjectInUse));
     let body =
         b"START_REPLICATION SLOT s1 LOGICAL 0/40 (proto_version '1', publication_names 'pa,pb')\0";
-    let asked = answer_start(rt.alloc(), &offer, b'Q', body, &mut response)?;
-    assert!(rt;
-        asked
-            == Asked::Stream {
-                slot: 1,
-                position: 64
-            }
-    );
+    let asked = appended(alloc, &catalog, body, &mut response)?;
+    let stream = Asked::Stream {
+        slot: 1,
+        position: 64,
+    };
+    holds(&rt, asked == stream);
     let expected: &[u8] =
         b"xE\0\0\0\x3bSERROR\0VERROR\0C55006\0Mreplication slot \"s0\" is active\0\0";
-    assert!(rt; response.as_slice() == expected);
+    holds(&rt, response.as_slice() == expected);
     Ok(())
 }

@@ -54,36 +54,75 @@ fn book(alloc: Global, catalog: &str, certificates: &[&str], limit: u32) -> Resu
     Ok(Book::new(alloc, checked, limit)?)
 }
 
+/// A command, written without memory: the table's number, and rows as text.
+#[derive(Clone, Copy)]
+enum Order {
+    Insert(usize, &'static str),
+    Update(usize, &'static str, &'static str),
+    Delete(usize, &'static str),
+    Truncate(&'static [usize]),
+}
+
+/// The row that a text says.
 fn row(alloc: Global, text: &str) -> Result<Row, Fail> {
     Ok(read_row(alloc, text)?)
 }
 
-fn insert(alloc: Global, table: usize, text: &str) -> Result<Command, Fail> {
-    Ok(Command::Insert {
-        table,
-        row: row(alloc, text)?,
-    })
-}
-
-fn update(alloc: Global, table: usize, key: &str, text: &str) -> Result<Command, Fail> {
-    Ok(Command::Update {
-        table,
-        key: row(alloc, key)?,
-        row: row(alloc, text)?,
-    })
-}
-
-fn delete(alloc: Global, table: usize, key: &str) -> Result<Command, Fail> {
-    Ok(Command::Delete {
-        table,
-        key: row(alloc, key)?,
-    })
-}
-
+/// A TRUNCATE of these tables.
 fn truncate(alloc: Global, tables: &[usize]) -> Result<Command, AllocError> {
     Ok(Command::Truncate {
         tables: Vec::from_slice(alloc, tables)?,
     })
+}
+
+/// The command that an order says.
+fn command(alloc: Global, order: Order) -> Result<Command, Fail> {
+    Ok(match order {
+        Order::Insert(table, text) => Command::Insert {
+            table,
+            row: row(alloc, text)?,
+        },
+        Order::Update(table, key, text) => Command::Update {
+            table,
+            key: row(alloc, key)?,
+            row: row(alloc, text)?,
+        },
+        Order::Delete(table, key) => Command::Delete {
+            table,
+            key: row(alloc, key)?,
+        },
+        Order::Truncate(tables) => truncate(alloc, tables)?,
+    })
+}
+
+/// The commands that orders say.
+fn commands(alloc: Global, orders: &[Order]) -> Result<Vec<Command>, Fail> {
+    let mut commands = Vec::new(alloc);
+    for order in orders {
+        commands.push(command(alloc, *order)?)?;
+    }
+    Ok(commands)
+}
+
+/// The commit's number, or why it is refused.
+fn commit(book: &mut Book, commands: &[Command], time: u64) -> Result<u32, CommitError> {
+    book.commit(commands, time)
+}
+
+/// What a commit of the orders is answered.
+fn made(
+    alloc: Global,
+    book: &mut Book,
+    orders: &[Order],
+    time: u64,
+) -> Result<Result<u32, CommitError>, Fail> {
+    let commands = commands(alloc, orders)?;
+    Ok(commit(book, &commands, time))
+}
+
+/// How many commits the log has.
+fn log_len(book: &Book) -> u32 {
+    book.log_len()
 }
 
 /// Whether the table has a row of this key, which is this one.
@@ -98,9 +137,4 @@ fn has(alloc: Global, book: &Book, table: usize, key: &str, wanted: &str) -> Res
 /// Whether the table has no row of this key.
 fn lacks(alloc: Global, book: &Book, table: usize, key: &str) -> Result<bool, Fail> {
     Ok(book.row(table, &row(alloc, key)?).is_none())
-}
-
-/// The commit's number, or why it is refused.
-fn commit(book: &mut Book, commands: &[Command], time: u64) -> Result<u32, CommitError> {
-    book.commit(commands, time)
 }

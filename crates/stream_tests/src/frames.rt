@@ -1,5 +1,6 @@
 //! Frames in pieces, and what CopyData carries.
 
+use crate::checks::{holds, same};
 use bytes::BytesMut;
 use copy_frames::{
     Deframer, FrameFault, Keepalive, Status, XLogData, append_copy_both_response, append_copy_done,
@@ -58,86 +59,190 @@ fn expect_frames(
             Err(_) => next(alloc, deframer)?,
         };
         let bytes = found.expect(rt, "a frame");
-        assert!(rt; bytes.as_slice() == *frame);
+        holds(rt, bytes.as_slice() == *frame);
     }
-    let none = next(alloc, deframer)?.is_none();
-    assert!(rt; none);
+    holds(rt, next(alloc, deframer)?.is_none());
+    Ok(())
+}
+
+/// A deframer of the publisher, without bytes.
+fn deframer(alloc: Global) -> Deframer {
+    Deframer::new(alloc, LIMIT)
+}
+
+/// Gives the deframer a piece of the stream.
+fn feed(deframer: &mut Deframer, piece: &[u8]) -> Result<(), FrameFault> {
+    deframer.feed(piece)
+}
+
+/// Whether no frame is whole.
+fn is_waiting(deframer: &mut Deframer) -> Result<bool, AllocError> {
+    Ok(deframer.next()?.is_none())
+}
+
+/// That the frames come from the stream in two pieces, the first of which ends here.
+fn expect_cut(rt: &impl Abort, alloc: Global, stream: &[u8], at: usize) -> Result<(), Fail> {
+    let (first, second) = stream.split_at(at.min(stream.len()));
+    let mut deframer = deframer(alloc);
+    feed(&mut deframer, first)?;
+    feed(&mut deframer, second)?;
+    expect_frames(rt, alloc, &mut deframer, &FRAMES)?;
+    Ok(())
+}
+
+/// That the frame comes from its bytes one by one, and not before the last.
+fn expect_bytewise(
+    rt: &impl Abort,
+    alloc: Global,
+    deframer: &mut Deframer,
+    frame: &[u8],
+) -> Result<(), Fail> {
+    holds(rt, is_waiting(deframer)?);
+    for byte in frame {
+        holds(rt, is_waiting(deframer)?);
+        feed(deframer, &[*byte])?;
+    }
+    expect_frames(rt, alloc, deframer, &[frame])?;
     Ok(())
 }
 
 #[test]
 fn frames_do_not_depend_on_the_pieces(rt: HostRuntime) -> Result<(), Fail> {
-    let bytes = stream(rt.alloc())?;
-    assert_eq!(rt; bytes.len(), 241);
+    let alloc = rt.alloc();
+    let bytes = stream(alloc)?;
+    same(&rt, bytes.len(), 241);
     for at in 0..242usize {
-        let (first, second) = bytes.as_slice().split_at(at.min(bytes.len()));
-        let mut deframer = Deframer::new(rt.alloc(), LIMIT);
-        deframer.feed(first)?;
-        deframer.feed(second)?;
-        expect_frames(&rt, rt.alloc(), &mut deframer, &FRAMES)?;
+        expect_cut(&rt, alloc, &bytes, at)?;
     }
-    let mut deframer = Deframer::new(rt.alloc(), LIMIT);
+    let mut deframer = deframer(alloc);
     for frame in FRAMES {
-        let none = deframer.next()?.is_none();
-        assert!(rt; none);
-        for byte in frame {
-            let none = deframer.next()?.is_none();
-            assert!(rt; none);
-            deframer.feed(&[*byte])?;
-        }
-        expect_frames(&rt, rt.alloc(), &mut deframer, &[frame])?;
+        expect_bytewise(&rt, alloc, &mut deframer, frame)?;
     }
     bytes_make_frames();
     pieces_make_frames();
     Ok(())
 }
 
+const COPY_DONE: &[u8] = b"c\0\0\0\x04";
+
+/// The heads of frames, and what each is answered after another frame.
+const LENGTHS: &[(&[u8], Result<(), FrameFault>)] = &[
+    (b"d\0\0\0\x03", Err(FrameFault::BadLength)),
+    (b"d\0\0\0\0", Err(FrameFault::BadLength)),
+    (b"d\x80\0\0\0", Err(FrameFault::BadLength)),
+    (b"d\xff\xff\xff\xff", Err(FrameFault::BadLength)),
+    (b"d\0\x01\0\x01", Err(FrameFault::FrameTooLong)),
+    (b"d\x7f\xff\xff\xff", Err(FrameFault::FrameTooLong)),
+    (b"d\0\x01\0\0", Ok(())),
+    (b"d\0\0\0", Ok(())),
+    (b"", Ok(())),
+];
+
+/// That the bytes are answered so at their last, as are those after a fault, and that the frame before them comes.
+fn expect_length(
+    rt: &impl Abort,
+    alloc: Global,
+    bytes: &[u8],
+    answer: Result<(), FrameFault>,
+) -> Result<(), Fail> {
+    let mut deframer = deframer(alloc);
+    feed(&mut deframer, COPY_DONE)?;
+    let (first, last) = bytes.split_at(bytes.len().saturating_sub(1));
+    feed(&mut deframer, first)?;
+    same(rt, feed(&mut deframer, last), answer);
+    if answer.is_err() {
+        same(rt, feed(&mut deframer, COPY_DONE), answer);
+    }
+    expect_frames(rt, alloc, &mut deframer, &[COPY_DONE])?;
+    Ok(())
+}
+
 #[test]
 fn lengths_that_no_frame_may_have_are_faults(rt: HostRuntime) -> Result<(), Fail> {
-    use FrameFault::{BadLength, FrameTooLong};
-    let cases: [(&[u8], Result<(), FrameFault>); 9] = [
-        (b"d\0\0\0\x03", Err(BadLength)),
-        (b"d\0\0\0\0", Err(BadLength)),
-        (b"d\x80\0\0\0", Err(BadLength)),
-        (b"d\xff\xff\xff\xff", Err(BadLength)),
-        (b"d\0\x01\0\x01", Err(FrameTooLong)),
-        (b"d\x7f\xff\xff\xff", Err(FrameTooLong)),
-        (b"d\0\x01\0\0", Ok(())),
-        (b"d\0\0\0", Ok(())),
-        (b"", Ok(())),
-    ];
-    for (bytes, answer) in cases {
-        let mut deframer = Deframer::new(rt.alloc(), LIMIT);
-        deframer.feed(b"c\0\0\0\x04")?;
-        let (first, last) = bytes.split_at(bytes.len().saturating_sub(1));
-        deframer.feed(first)?;
-        assert_eq!(rt; deframer.feed(last), answer);
-        if answer.is_err() {
-            assert_eq!(rt; deframer.feed(b"c\0\0\0\x04"), answer);
+    for (bytes, answer) in LENGTHS {
+        expect_length(&rt, rt.alloc(), bytes, *answer)?;
+    }
+    Ok(())
+}
+
+/// These first bytes of a frame, with as many of another after them as make so many.
+fn filled(alloc: Global, head: &[u8], length: usize, byte: u8) -> Result<Vec<u8>, AllocError> {
+    let mut bytes = Vec::from_slice(alloc, head)?;
+    bytes.resize(length, byte)?;
+    Ok(bytes)
+}
+
+/// That the frame comes three times from pieces of this length.
+fn expect_pieces(
+    rt: &impl Abort,
+    alloc: Global,
+    frame: &[u8],
+    piece_len: usize,
+) -> Result<(), Fail> {
+    let mut deframer = deframer(alloc);
+    for _ in 0..3 {
+        for piece in frame.chunks(piece_len.max(1)) {
+            feed(&mut deframer, piece)?;
         }
-        expect_frames(&rt, rt.alloc(), &mut deframer, &[b"c\0\0\0\x04"])?;
+        expect_frames(rt, alloc, &mut deframer, &[frame])?;
     }
     Ok(())
 }
 
 #[test]
 fn a_frame_may_be_as_long_as_the_limit(rt: HostRuntime) -> Result<(), Fail> {
-    let mut bytes = Vec::from_slice(rt.alloc(), b"d\0\x01\0\0")?;
-    bytes.resize(65_537, b'a')?;
+    let alloc = rt.alloc();
+    let bytes = filled(alloc, b"d\0\x01\0\0", 65_537, b'a')?;
     for piece_len in [1, 7, 65_536, 65_537] {
-        let mut deframer = Deframer::new(rt.alloc(), LIMIT);
-        for _ in 0..3 {
-            for piece in bytes.as_slice().chunks(piece_len) {
-                deframer.feed(piece)?;
-            }
-            expect_frames(&rt, rt.alloc(), &mut deframer, &[bytes.as_slice()])?;
-        }
+        expect_pieces(&rt, alloc, &bytes, piece_len)?;
     }
-    let mut longest = Vec::from_slice(rt.alloc(), b"d\x01\0\0\0")?;
-    longest.resize(16_777_217, 0)?;
-    let mut deframer = Deframer::new(rt.alloc(), 16_777_216);
-    deframer.feed(longest.as_slice())?;
-    expect_frames(&rt, rt.alloc(), &mut deframer, &[longest.as_slice()])?;
+    let longest = filled(alloc, b"d\x01\0\0\0", 16_777_217, 0)?;
+    let mut deframer = Deframer::new(alloc, 16_777_216);
+    feed(&mut deframer, &longest)?;
+    expect_frames(&rt, alloc, &mut deframer, &[longest.as_slice()])?;
+    Ok(())
+}
+
+/// What is after the kind and the length of a frame.
+fn body(frame: &[u8]) -> &[u8] {
+    frame.split_at(5.min(frame.len())).1
+}
+
+/// The status that a body is.
+fn status_in(body: &[u8]) -> Option<Status> {
+    read_status(body)
+}
+
+/// The keepalive that a body is.
+fn keepalive_in(body: &[u8]) -> Option<Keepalive> {
+    read_keepalive(body)
+}
+
+/// That the status is written as this frame, and read from it.
+fn expect_status(
+    rt: &impl Abort,
+    alloc: Global,
+    status: &Status,
+    frame: &[u8],
+) -> Result<(), Fail> {
+    let mut out = BytesMut::new(alloc);
+    append_status(&mut out, status)?;
+    holds(rt, out.as_slice() == frame);
+    same(rt, status_in(body(out.as_slice())), Some(*status));
+    Ok(())
+}
+
+/// That the keepalive is written as this frame, and read from it.
+fn expect_keepalive(
+    rt: &impl Abort,
+    alloc: Global,
+    keepalive: &Keepalive,
+    frame: &[u8],
+) -> Result<(), Fail> {
+    let mut out = BytesMut::new(alloc);
+    append_keepalive(&mut out, keepalive)?;
+    holds(rt, out.as_slice() == frame);
+    same(rt, keepalive_in(body(out.as_slice())), Some(*keepalive));
     Ok(())
 }
 
@@ -155,62 +260,55 @@ fn what_is_in_frames_is_written_and_read(rt: HostRuntime) -> Result<(), Fail> {
         clock: 6,
         wants_reply: false,
     };
-    let mut out = BytesMut::new(rt.alloc());
-    append_status(&mut out, &status)?;
-    assert!(rt;
-        out.as_slice()
-            == b"d\0\0\0\x26r\0\0\0\0\0\0\0\x80\0\0\0\0\0\0\0\x40\x80\0\0\0\0\0\0\0\0\0\0\0\0\0\0\x06\x01".as_slice()
-    );
-    assert_eq!(rt;
-        read_status(out.as_slice().split_at(5.min(out.len())).1),
-        Some(status)
-    );
-    out.clear();
-    append_keepalive(&mut out, &keepalive)?;
-    assert!(rt; out.as_slice() == b"d\0\0\0\x16k\0\0\0\0\0\0\0\x80\0\0\0\0\0\0\0\x06\0".as_slice());
-    assert_eq!(rt;
-        read_keepalive(out.as_slice().split_at(5.min(out.len())).1),
-        Some(keepalive)
-    );
-    let wanted = read_keepalive(b"k\0\0\0\0\0\0\0\x80\0\0\0\0\0\0\0\x06\xff");
-    assert_eq!(rt;
-        wanted,
-        Some(Keepalive {
-            wants_reply: true,
-            ..keepalive
-        })
-    );
-    assert_eq!(rt; read_status(b"r"), None);
-    assert_eq!(rt; read_status(&[0; 33]), None);
-    assert_eq!(rt; read_status(&[0; 35]), None);
-    assert_eq!(rt; read_keepalive(&[0; 17]), None);
-    assert_eq!(rt; read_keepalive(&[0; 19]), None);
-    assert!(rt; read_xlog_data(&[0; 24]).is_none());
+    let wanted = Keepalive {
+        wants_reply: true,
+        ..keepalive
+    };
+    let alloc = rt.alloc();
+    let frame =
+        b"d\0\0\0\x26r\0\0\0\0\0\0\0\x80\0\0\0\0\0\0\0\x40\x80\0\0\0\0\0\0\0\0\0\0\0\0\0\0\x06\x01";
+    expect_status(&rt, alloc, &status, frame)?;
+    let frame = b"d\0\0\0\x16k\0\0\0\0\0\0\0\x80\0\0\0\0\0\0\0\x06\0";
+    expect_keepalive(&rt, alloc, &keepalive, frame)?;
+    let found = keepalive_in(b"k\0\0\0\0\0\0\0\x80\0\0\0\0\0\0\0\x06\xff");
+    same(&rt, found, Some(wanted));
+    same(&rt, status_in(b"r"), None);
+    same(&rt, status_in(&[0; 33]), None);
+    same(&rt, status_in(&[0; 35]), None);
+    same(&rt, keepalive_in(&[0; 17]), None);
+    same(&rt, keepalive_in(&[0; 19]), None);
+    holds(&rt, read_xlog_data(&[0; 24]).is_none());
     bodies_are_read_as_spelled();
     Ok(())
 }
 
+/// Appends the message of a frame again, if it has one.
+fn append_message(rt: &impl Abort, out: &mut BytesMut, frame: &[u8]) -> Result<(), AllocError> {
+    let Some((head, message)) = read_xlog_data(body(frame)) else {
+        return Ok(());
+    };
+    let place = XLogData {
+        start: 64,
+        end: 64,
+        clock: 4,
+    };
+    same(rt, head, place);
+    assert!(rt; message.len() < 65_536);
+    append_xlog_data(out, &place, message)
+}
+
 #[test]
 fn a_stream_is_written_frame_by_frame(rt: HostRuntime) -> Result<(), Fail> {
-    let bytes = stream(rt.alloc())?;
-    let mut out = BytesMut::new(rt.alloc());
+    let alloc = rt.alloc();
+    let bytes = stream(alloc)?;
+    let mut out = BytesMut::new(alloc);
     append_copy_both_response(&mut out)?;
     for frame in FRAMES {
-        let Some((head, message)) = read_xlog_data(frame.split_at(5.min(frame.len())).1) else {
-            continue;
-        };
-        let place = XLogData {
-            start: 64,
-            end: 64,
-            clock: 4,
-        };
-        assert_eq!(rt; head, place);
-        assert!(rt; message.len() < 65_536);
-        append_xlog_data(&mut out, &place, message)?;
+        append_message(&rt, &mut out, frame)?;
     }
-    assert!(rt; out.as_slice() == bytes.as_slice());
+    holds(&rt, out.as_slice() == bytes.as_slice());
     out.clear();
     append_copy_done(&mut out)?;
-    assert!(rt; out.as_slice() == b"c\0\0\0\x04".as_slice());
+    holds(&rt, out.as_slice() == COPY_DONE);
     Ok(())
 }

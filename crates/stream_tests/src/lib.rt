@@ -8,6 +8,8 @@ mod answers;
 #[cfg(test)]
 mod book;
 #[cfg(test)]
+mod checks;
+#[cfg(test)]
 mod ear;
 #[cfg(test)]
 mod frames;

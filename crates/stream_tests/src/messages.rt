@@ -3,11 +3,13 @@ mod server;
 mod telling;
 mod values;
 
+use crate::checks::{holds, same};
 use filter_tree::{Row, Text, Value};
 use pgoutput_msgs::{
     Msg, decode, encode, fits, no_spelling_begins_another, spellings_are_decoded, tuple_of,
 };
 use std::alloc::{AllocError, Global};
+use std::process::Abort;
 use std::test::Fail;
 
 /// A column's value, written without memory.
@@ -85,120 +87,142 @@ fn spelled(alloc: Global, message: &Msg) -> Result<Vec<u8>, AllocError> {
     Ok(out)
 }
 
+/// A row of 100 texts of 65,535 bytes, the first of which are this letter.
+fn longest(alloc: Global, letter: &str) -> Result<Row, AllocError> {
+    let mut values = Vec::new(alloc);
+    values.push(Value::Text(Text::new(letter.repeat(alloc, 65_535)?)))?;
+    for _ in 1..100 {
+        values.push(Value::Text(Text::new("a".repeat(alloc, 65_535)?)))?;
+    }
+    Ok(Row::from_values(values))
+}
+
+/// Rows, and the columns of their Insert messages.
+const TUPLES: &[(&[Datum], &str)] = &[
+    (&[], "0000"),
+    (
+        &[Datum::Int(7), Datum::Text("eu")],
+        "000274000000013774000000026575",
+    ),
+    (
+        &[Datum::Int(0), Datum::Text("")],
+        "00027400000001307400000000",
+    ),
+    (&[Datum::Int(100), Datum::Null], "000274000000033130306e"),
+    (
+        &[Datum::Bool(true), Datum::Bool(false)],
+        "0002740000000174740000000166",
+    ),
+    (
+        &[Datum::Int(-32_768), Datum::Int(32_767)],
+        "000274000000062d333237363874000000053332373637",
+    ),
+    (
+        &[Datum::Int(-2_147_483_648), Datum::Int(2_147_483_647)],
+        "0002740000000b2d32313437343833363438740000000a32313437343833363437",
+    ),
+    (
+        &[Datum::Int(i64::MIN)],
+        "000174000000142d39323233333732303336383534373735383038",
+    ),
+    (
+        &[Datum::Int(i64::MAX)],
+        "0001740000001339323233333732303336383534373735383037",
+    ),
+    (&[Datum::Text("é€")], "00017400000005c3a9e282ac"),
+];
+
+/// That the message has a column for each value.
+fn expect_columns(rt: &impl Abort, message: &Msg, row: &[Datum]) {
+    if let Msg::Insert { relation: _, new } = message {
+        let found = (new.len(), new.is_empty(), new.cells().len());
+        same(rt, found, (row.len(), row.is_empty(), row.len()));
+    }
+}
+
+/// That the row's Insert message has these columns.
+fn expect_tuple(rt: &impl Abort, alloc: Global, row: &[Datum], tuple: &str) -> Result<(), Fail> {
+    let message = insert_of(alloc, row)?;
+    expect_columns(rt, &message, row);
+    let out = spelled(alloc, &message)?;
+    let expected = format!(in alloc; "49000040004e{tuple}")?;
+    same(rt, hexadecimal(alloc, out.as_slice())?, expected);
+    Ok(())
+}
+
 #[test]
 fn insert_messages_are_spelled_by_the_layout(rt: HostRuntime) -> Result<(), Fail> {
-    use Datum::{Bool, Int, Null};
-    let head = "49000040004e";
-    let cases: [(&[Datum], &str); 10] = [
-        (&[], "0000"),
-        (
-            &[Int(7), Datum::Text("eu")],
-            "000274000000013774000000026575",
-        ),
-        (&[Int(0), Datum::Text("")], "00027400000001307400000000"),
-        (&[Int(100), Null], "000274000000033130306e"),
-        (&[Bool(true), Bool(false)], "0002740000000174740000000166"),
-        (
-            &[Int(-32_768), Int(32_767)],
-            "000274000000062d333237363874000000053332373637",
-        ),
-        (
-            &[Int(-2_147_483_648), Int(2_147_483_647)],
-            "0002740000000b2d32313437343833363438740000000a32313437343833363437",
-        ),
-        (
-            &[Int(i64::MIN)],
-            "000174000000142d39323233333732303336383534373735383038",
-        ),
-        (
-            &[Int(i64::MAX)],
-            "0001740000001339323233333732303336383534373735383037",
-        ),
-        (&[Datum::Text("é€")], "00017400000005c3a9e282ac"),
-    ];
-    for (row, tuple) in cases {
-        let message = insert_of(rt.alloc(), row)?;
-        if let Msg::Insert { relation: _, new } = &message {
-            assert_eq!(rt;
-                (new.len(), new.is_empty(), new.cells().len()),
-                (row.len(), row.is_empty(), row.len())
-            );
-        }
-        let out = spelled(rt.alloc(), &message)?;
-        let expected = format!(in rt.alloc(); "{head}{tuple}")?;
-        assert_eq!(rt; hexadecimal(rt.alloc(), out.as_slice())?, expected);
+    for (row, tuple) in TUPLES {
+        expect_tuple(&rt, rt.alloc(), row, tuple)?;
     }
     no_spelling_begins_another();
     spellings_are_decoded();
     Ok(())
 }
 
+/// The Insert message of a row of this many nulls.
+fn insert_of_nulls(alloc: Global, columns: usize) -> Result<Msg, AllocError> {
+    let values = vec![in alloc; Datum::Null; columns]?;
+    insert_of(alloc, values.as_slice())
+}
+
 #[test]
 fn the_number_of_columns_is_signed(rt: HostRuntime) -> Result<(), Fail> {
-    for (columns, has_room) in [(32_767, true), (32_768, false)] {
-        let mut values = Vec::new(rt.alloc());
-        for _ in 0..columns {
-            values.push(Value::Null)?;
-        }
-        let row: Row = Row::from_values(values);
-        let new = tuple_of(rt.alloc(), &row)?;
-        let message = Msg::Insert {
-            relation: 16384,
-            new,
-        };
-        assert_eq!(rt; fits(&message), has_room);
-        if fits(&message) {
-            let mut out = Vec::new(rt.alloc());
-            encode(&message, &mut out)?;
-            // eight bytes before the columns, and an `n` for each
-            assert_eq!(rt; out.len(), 32_775);
-            assert!(rt; out.as_slice().starts_with(b"I\0\0\x40\0N\x7f\xffn"));
-        }
+    let alloc = rt.alloc();
+    let most = insert_of_nulls(alloc, 32_767)?;
+    holds(&rt, fits(&most));
+    let out = spelled(alloc, &most)?;
+    // eight bytes before the columns, and an `n` for each
+    same(&rt, out.len(), 32_775);
+    holds(&rt, out.as_slice().starts_with(b"I\0\0\x40\0N\x7f\xffn"));
+    let more = insert_of_nulls(alloc, 32_768)?;
+    holds(&rt, !fits(&more));
+    Ok(())
+}
+
+/// Appends the row's Insert message, if there is room for it.
+fn append_insert(alloc: Global, out: &mut Vec<u8>, row: &[Datum]) -> Result<(), AllocError> {
+    let message = insert_of(alloc, row)?;
+    if fits(&message) {
+        encode(&message, out)?;
     }
     Ok(())
 }
 
 #[test]
 fn messages_follow_one_another(rt: HostRuntime) -> Result<(), Fail> {
-    let mut out = Vec::new(rt.alloc());
-    let rows: [&[Datum]; 3] = [&[Datum::Int(7)], &[], &[Datum::Null, Datum::Text("")]];
-    for row in rows {
-        let message = insert_of(rt.alloc(), row)?;
-        if fits(&message) {
-            encode(&message, &mut out)?;
-        }
-    }
-    let spelled = hexadecimal(rt.alloc(), out.as_slice())?;
-    assert_eq!(rt;
-        spelled.as_str(),
-        concat!(
-            "49000040004e0001740000000137",
-            "49000040004e0000",
-            "49000040004e00026e7400000000",
-        )
+    let alloc = rt.alloc();
+    let mut out = Vec::new(alloc);
+    append_insert(alloc, &mut out, &[Datum::Int(7)])?;
+    append_insert(alloc, &mut out, &[])?;
+    append_insert(alloc, &mut out, &[Datum::Null, Datum::Text("")])?;
+    let spelled = hexadecimal(alloc, out.as_slice())?;
+    let wanted = concat!(
+        "49000040004e0001740000000137",
+        "49000040004e0000",
+        "49000040004e00026e7400000000",
     );
+    same(&rt, spelled.as_str(), wanted);
     Ok(())
+}
+
+/// The Insert message of the longest row.
+fn longest_insert(alloc: Global) -> Result<Msg, AllocError> {
+    Ok(Msg::Insert {
+        relation: 16_447,
+        new: tuple_of(alloc, &longest(alloc, "a")?)?,
+    })
 }
 
 #[test]
 fn a_row_may_have_100_of_the_longest_texts(rt: HostRuntime) -> Result<(), Fail> {
-    let mut values = Vec::new(rt.alloc());
-    for _ in 0..100 {
-        values.push(Value::Text(Text::new("a".repeat(rt.alloc(), 65_535)?)))?;
-    }
-    let row: Row = Row::from_values(values);
-    let message = Msg::Insert {
-        relation: 16_447,
-        new: tuple_of(rt.alloc(), &row)?,
-    };
-    let out = spelled(rt.alloc(), &message)?;
+    let alloc = rt.alloc();
+    let out = spelled(alloc, &longest_insert(alloc)?)?;
     // eight bytes before the columns; of each column a letter, its length and its text
-    assert_eq!(rt; out.len(), 8 + 100 * (1 + 4 + 65_535));
-    assert!(rt;
-        out.as_slice()
-            .starts_with(b"I\0\0\x40\x3fN\0\x64t\0\0\xff\xffa")
-    );
-    let again = decode(rt.alloc(), out.as_slice())?;
-    assert!(rt; spelled(rt.alloc(), &again)?.as_slice() == out.as_slice());
+    same(&rt, out.len(), 8 + 100 * (1 + 4 + 65_535));
+    let begin = b"I\0\0\x40\x3fN\0\x64t\0\0\xff\xffa";
+    holds(&rt, out.as_slice().starts_with(begin));
+    let again = spelled(alloc, &decode(alloc, out.as_slice())?)?;
+    holds(&rt, again.as_slice() == out.as_slice());
     Ok(())
 }

@@ -1,5 +1,7 @@
 //! Starts that are refused, and those that are not.
 
+use crate::checks::{holds, same};
+use Given::{BinaryOff, BinaryOn, Names, Unknown, Version1, Version2};
 use bytes::BytesMut;
 use copy_both::{
     Offer, OptionValue, Refusal, StartCommand, StartOption, append_error_response, find_slot,
@@ -8,6 +10,7 @@ use copy_both::{
 use filter_tree::{Items, Text};
 use pub_reader::{Catalog, read_catalog};
 use std::alloc::{AllocError, Global};
+use std::process::Abort;
 use std::test::Fail;
 
 const CATALOG: &str = "CREATE TABLE t (id integer, region text, PRIMARY KEY (id));
@@ -102,131 +105,159 @@ fn told(
     }
 }
 
+/// A start, and the code and the text of its refusal, if it is refused.
+struct Case {
+    slot: &'static str,
+    position: u64,
+    options: &'static [Given],
+    is_taken: bool,
+    answer: &'static str,
+}
+
+const CASES: &[Case] = &[
+    Case {
+        slot: "s0",
+        position: 64,
+        options: &[Version1, Names(&["pa"])],
+        is_taken: false,
+        answer: "",
+    },
+    Case {
+        slot: "s1",
+        position: 0,
+        options: &[Version1, Names(&["pa", "pb", "pa"]), BinaryOff],
+        is_taken: true,
+        answer: "",
+    },
+    Case {
+        slot: "s9",
+        position: 65,
+        options: &[Unknown],
+        is_taken: true,
+        answer: "42704 replication slot \"s9\" does not exist",
+    },
+    Case {
+        slot: "S0",
+        position: 0,
+        options: &[Version1, Names(&["pa"])],
+        is_taken: false,
+        answer: "42704 replication slot \"S0\" does not exist",
+    },
+    Case {
+        slot: "s0",
+        position: 65,
+        options: &[Unknown, Version2],
+        is_taken: true,
+        answer: "22023 option \"x\" is wrong",
+    },
+    Case {
+        slot: "s0",
+        position: 65,
+        options: &[Version1, Version1],
+        is_taken: true,
+        answer: "22023 option \"proto_version\" is wrong",
+    },
+    Case {
+        slot: "s0",
+        position: 65,
+        options: &[Version1, Version2],
+        is_taken: true,
+        answer: "22023 option \"proto_version\" is wrong",
+    },
+    Case {
+        slot: "s0",
+        position: 0,
+        options: &[Version2, Unknown],
+        is_taken: false,
+        answer: "0A000 option \"proto_version\" is not supported",
+    },
+    Case {
+        slot: "s0",
+        position: 0,
+        options: &[Names(&["pa"]), BinaryOn],
+        is_taken: false,
+        answer: "0A000 option \"binary\" is not supported",
+    },
+    Case {
+        slot: "s0",
+        position: 65,
+        options: &[],
+        is_taken: true,
+        answer: "22023 option \"proto_version\" is missing",
+    },
+    Case {
+        slot: "s0",
+        position: 65,
+        options: &[Names(&["pa"])],
+        is_taken: true,
+        answer: "22023 option \"proto_version\" is missing",
+    },
+    Case {
+        slot: "s0",
+        position: 65,
+        options: &[Version1],
+        is_taken: true,
+        answer: "22023 option \"publication_names\" is missing",
+    },
+    Case {
+        slot: "s0",
+        position: 65,
+        options: &[Version1, Names(&["pb", "px", "py"])],
+        is_taken: true,
+        answer: "42704 publication \"px\" does not exist",
+    },
+    Case {
+        slot: "s0",
+        position: 65,
+        options: &[Version1, Names(&["pb"])],
+        is_taken: true,
+        answer: "22023 publications differ from those of slot \"s0\"",
+    },
+    Case {
+        slot: "s1",
+        position: 65,
+        options: &[Version1, Names(&["pa"])],
+        is_taken: true,
+        answer: "22023 publications differ from those of slot \"s1\"",
+    },
+    Case {
+        slot: "s0",
+        position: 65,
+        options: &[Version1, Names(&["pa"])],
+        is_taken: true,
+        answer: "22023 start position is ahead of the log",
+    },
+    Case {
+        slot: "s0",
+        position: 64,
+        options: &[Version1, Names(&["pa"])],
+        is_taken: true,
+        answer: "55006 replication slot \"s0\" is active",
+    },
+];
+
+/// That the start is refused so.
+fn expect_told(
+    rt: &impl Abort,
+    alloc: Global,
+    catalog: &Catalog,
+    case: &Case,
+) -> Result<(), AllocError> {
+    let asked = command(alloc, case.slot, case.position, case.options)?;
+    let told = told(alloc, catalog, case.is_taken, &asked)?;
+    same(rt, told.as_str(), case.answer);
+    Ok(())
+}
+
 #[test]
 fn starts_are_refused_in_order(rt: HostRuntime) -> Result<(), Fail> {
-    use Given::{BinaryOff, BinaryOn, Names, Unknown, Version1, Version2};
-    let catalog = read_catalog(rt.alloc(), CATALOG)?;
-    let cases: [(&str, u64, &[Given], bool, &str); 17] = [
-        ("s0", 64, &[Version1, Names(&["pa"])], false, ""),
-        (
-            "s1",
-            0,
-            &[Version1, Names(&["pa", "pb", "pa"]), BinaryOff],
-            true,
-            "",
-        ),
-        (
-            "s9",
-            65,
-            &[Unknown],
-            true,
-            "42704 replication slot \"s9\" does not exist",
-        ),
-        (
-            "S0",
-            0,
-            &[Version1, Names(&["pa"])],
-            false,
-            "42704 replication slot \"S0\" does not exist",
-        ),
-        (
-            "s0",
-            65,
-            &[Unknown, Version2],
-            true,
-            "22023 option \"x\" is wrong",
-        ),
-        (
-            "s0",
-            65,
-            &[Version1, Version1],
-            true,
-            "22023 option \"proto_version\" is wrong",
-        ),
-        (
-            "s0",
-            65,
-            &[Version1, Version2],
-            true,
-            "22023 option \"proto_version\" is wrong",
-        ),
-        (
-            "s0",
-            0,
-            &[Version2, Unknown],
-            false,
-            "0A000 option \"proto_version\" is not supported",
-        ),
-        (
-            "s0",
-            0,
-            &[Names(&["pa"]), BinaryOn],
-            false,
-            "0A000 option \"binary\" is not supported",
-        ),
-        (
-            "s0",
-            65,
-            &[],
-            true,
-            "22023 option \"proto_version\" is missing",
-        ),
-        (
-            "s0",
-            65,
-            &[Names(&["pa"])],
-            true,
-            "22023 option \"proto_version\" is missing",
-        ),
-        (
-            "s0",
-            65,
-            &[Version1],
-            true,
-            "22023 option \"publication_names\" is missing",
-        ),
-        (
-            "s0",
-            65,
-            &[Version1, Names(&["pb", "px", "py"])],
-            true,
-            "42704 publication \"px\" does not exist",
-        ),
-        (
-            "s0",
-            65,
-            &[Version1, Names(&["pb"])],
-            true,
-            "22023 publications differ from those of slot \"s0\"",
-        ),
-        (
-            "s1",
-            65,
-            &[Version1, Names(&["pa"])],
-            true,
-            "22023 publications differ from those of slot \"s1\"",
-        ),
-        (
-            "s0",
-            65,
-            &[Version1, Names(&["pa"])],
-            true,
-            "22023 start position is ahead of the log",
-        ),
-        (
-            "s0",
-            64,
-            &[Version1, Names(&["pa"])],
-            true,
-            "55006 replication slot \"s0\" is active",
-        ),
-    ];
-    for (slot, position, options, is_taken, expected) in cases {
-        let asked = command(rt.alloc(), slot, position, options)?;
-        let told = told(rt.alloc(), &catalog, is_taken, &asked)?;
-        assert_eq!(rt; told.as_str(), expected);
+    let alloc = rt.alloc();
+    let catalog = read_catalog(alloc, CATALOG)?;
+    for case in CASES {
+        expect_told(&rt, alloc, &catalog, case)?;
     }
-    assert_eq!(rt; find_slot(catalog.subscriptions.as_slice(), "s1"), Some(1));
+    let found = find_slot(catalog.subscriptions.as_slice(), "s1");
+    same(&rt, found, Some(1));
     Ok(())
 }
 
@@ -238,7 +269,7 @@ fn a_refusal_is_told_by_an_error_response(rt: HostRuntime) -> Result<(), Fail> {
     let expected: &[u8] =
         b"E\0\0\0\x3bSERROR\0VERROR\0C55006\0Mreplication slot \"s0\" is active\0\0\
         E\0\0\0\x2cSERROR\0VERROR\0C08P01\0Mexpected a query\0\0";
-    assert!(rt; out.as_slice() == expected);
+    holds(&rt, out.as_slice() == expected);
     Ok(())
 }
 

@@ -1,8 +1,13 @@
 //! A subscriber whose bytes come in pieces.
 
+mod faults;
+mod following;
+
+use crate::checks::{holds, same};
 use copy_frames::FrameFault;
 use pub_reader::read_row;
 use std::alloc::{AllocError, Global};
+use std::process::Abort;
 use std::test::Fail;
 use test_subscriber::{SubFault, Subscriber};
 
@@ -32,74 +37,112 @@ fn subscriber(alloc: Global) -> Result<Subscriber, AllocError> {
     Ok(Subscriber::new(alloc, slot, publications))
 }
 
-#[test]
-fn the_position_is_that_of_the_commit_once_it_is_whole(rt: HostRuntime) -> Result<(), Fail> {
-    for at in 0..242usize {
-        let (first, second) = STREAM.split_at(at.min(STREAM.len()));
-        let mut subscriber = subscriber(rt.alloc())?;
-        subscriber.open()?;
-        assert_eq!(rt; subscriber.output(), START);
-        subscriber.passed(91);
-        subscriber.feed(first)?;
-        assert_eq!(rt; subscriber.position(), if at < 241 { 0 } else { 128 });
-        subscriber.feed(second)?;
-        assert_eq!(rt; subscriber.position(), 128);
-        subscriber.status(6, false)?;
-        assert_eq!(rt;
-            subscriber.output(),
-            b"d\0\0\0\x26r\0\0\0\0\0\0\0\x80\0\0\0\0\0\0\0\x80\0\0\0\0\0\0\0\x80\
-            \0\0\0\0\0\0\0\x06\0"
-                .as_slice()
-        );
-    }
+/// Gives the subscriber a piece of the stream.
+fn feed(subscriber: &mut Subscriber, piece: &[u8]) -> Result<(), SubFault> {
+    subscriber.feed(piece)
+}
+
+/// The bytes that wait for the publisher.
+fn output(subscriber: &Subscriber) -> &[u8] {
+    subscriber.output()
+}
+
+/// Up to where the subscriber has the log.
+fn position(subscriber: &Subscriber) -> u64 {
+    subscriber.position()
+}
+
+/// A status that all is flushed up to 128, with the clock 6.
+const STATUS: &[u8] = b"d\0\0\0\x26r\0\0\0\0\0\0\0\x80\0\0\0\0\0\0\0\x80\0\0\0\0\0\0\0\x80\
+    \0\0\0\0\0\0\0\x06\0";
+
+/// That the position is 0 after the first bytes of the stream, so many of them, unless they are all, and then 128.
+fn expect_position(rt: &impl Abort, alloc: Global, at: usize) -> Result<(), Fail> {
+    let (first, second) = STREAM.split_at(at.min(STREAM.len()));
+    let mut subscriber = subscriber(alloc)?;
+    subscriber.open()?;
+    same(rt, output(&subscriber), START);
+    subscriber.passed(91);
+    feed(&mut subscriber, first)?;
+    same(rt, position(&subscriber), if at < 241 { 0 } else { 128 });
+    feed(&mut subscriber, second)?;
+    same(rt, position(&subscriber), 128);
+    subscriber.status(6, false)?;
+    same(rt, output(&subscriber), STATUS);
     Ok(())
 }
 
 #[test]
+fn the_position_is_that_of_the_commit_once_it_is_whole(rt: HostRuntime) -> Result<(), Fail> {
+    for at in 0..242usize {
+        expect_position(&rt, rt.alloc(), at)?;
+    }
+    Ok(())
+}
+
+/// Whether a table has these rows, in their order.
+fn has_rows(
+    alloc: Global,
+    subscriber: &Subscriber,
+    oid: u32,
+    texts: &[&str],
+) -> Result<bool, Fail> {
+    let mut wanted = Vec::new(alloc);
+    for text in texts {
+        wanted.push(read_row(alloc, text)?)?;
+    }
+    Ok(subscriber.rows(oid)?.as_slice() == wanted.as_slice())
+}
+
+#[test]
 fn rows_are_shown_in_their_order_once_they_are_committed(rt: HostRuntime) -> Result<(), Fail> {
-    let mut subscriber = subscriber(rt.alloc())?;
+    let alloc = rt.alloc();
+    let mut subscriber = subscriber(alloc)?;
     subscriber.open()?;
     // the Commit is the last 56 bytes
     let (changes, commit) = STREAM.split_at(185usize.min(STREAM.len()));
-    subscriber.feed(changes)?;
-    subscriber.feed(SECOND_INSERT)?;
-    assert!(rt; subscriber.rows(16_384)?.is_empty());
-    subscriber.feed(commit)?;
-    let rows = subscriber.rows(16_384)?;
-    let expected = [
-        read_row(rt.alloc(), "(3, NULL)")?,
-        read_row(rt.alloc(), "(7, 'eu')")?,
-    ];
-    assert!(rt; rows.as_slice() == expected.as_slice());
-    assert!(rt; subscriber.rows(16_385)?.is_empty());
+    feed(&mut subscriber, changes)?;
+    feed(&mut subscriber, SECOND_INSERT)?;
+    holds(&rt, has_rows(alloc, &subscriber, 16_384, &[])?);
+    feed(&mut subscriber, commit)?;
+    let wanted = ["(3, NULL)", "(7, 'eu')"];
+    holds(&rt, has_rows(alloc, &subscriber, 16_384, &wanted)?);
+    holds(&rt, has_rows(alloc, &subscriber, 16_385, &[])?);
+    Ok(())
+}
+
+/// First bytes from a publisher, and the fault in them.
+const FAULTS: &[(&[u8], SubFault)] = &[
+    (b"d\0\0\0\x04", SubFault::OutOfPlace),
+    (b"W\0\0\0\x04", SubFault::OutOfPlace),
+    (b"W\0\0\0\x07\0\0\0W\0\0\0\x07\0\0\0", SubFault::OutOfPlace),
+    (b"W\0\0\0\x03", SubFault::Frame(FrameFault::BadLength)),
+    (
+        b"E\0\0\0\x1dSERROR\0VERROR\0C42601\0Mx\0\0",
+        SubFault::Refused([b'4', b'2', b'6', b'0', b'1']),
+    ),
+    (
+        b"E\0\0\0\x3bSERROR\0VERROR\0C55006\0Mreplication slot \"s0\" is active\0\0",
+        SubFault::Refused([b'5', b'5', b'0', b'0', b'6']),
+    ),
+];
+
+/// That the bytes are refused before the start, and for their fault after it, which closes the subscriber.
+fn expect_fault(rt: &impl Abort, alloc: Global, bytes: &[u8], fault: SubFault) -> Result<(), Fail> {
+    let mut subscriber = subscriber(alloc)?;
+    let closed = Err(SubFault::Closed);
+    same(rt, feed(&mut subscriber, bytes), closed);
+    subscriber.open()?;
+    same(rt, feed(&mut subscriber, bytes), Err(fault));
+    same(rt, subscriber.status(0, false), closed);
+    holds(rt, output(&subscriber).is_empty());
     Ok(())
 }
 
 #[test]
 fn the_first_fault_closes_it(rt: HostRuntime) -> Result<(), Fail> {
-    let cases = [
-        (b"d\0\0\0\x04".as_slice(), SubFault::OutOfPlace),
-        (b"W\0\0\0\x04".as_slice(), SubFault::OutOfPlace),
-        (
-            b"W\0\0\0\x07\0\0\0W\0\0\0\x07\0\0\0".as_slice(),
-            SubFault::OutOfPlace,
-        ),
-        (
-            b"W\0\0\0\x03".as_slice(),
-            SubFault::Frame(FrameFault::BadLength),
-        ),
-        (
-            b"E\0\0\0\x1dSERROR\0VERROR\0C42601\0Mx\0\0".as_slice(),
-            SubFault::Refused(*b"42601"),
-        ),
-    ];
-    for (bytes, fault) in cases {
-        let mut subscriber = subscriber(rt.alloc())?;
-        assert_eq!(rt; subscriber.feed(bytes), Err(SubFault::Closed));
-        subscriber.open()?;
-        assert_eq!(rt; subscriber.feed(bytes), Err(fault));
-        assert_eq!(rt; subscriber.status(0, false), Err(SubFault::Closed));
-        assert!(rt; subscriber.output().is_empty());
+    for (bytes, fault) in FAULTS {
+        expect_fault(&rt, rt.alloc(), bytes, *fault)?;
     }
     Ok(())
 }

@@ -1,9 +1,6 @@
 //! What a connection says, byte by byte.
 
-ghost use Rattle.std.specs.Arc.{arc_value};
-ghost use Rattle.pub_reader.specs.CatalogLimits.{IsLimited};
-ghost use Rattle.shard_checker.specs.CheckedView.{checked_view};
-
+use crate::checks::{holds, same};
 use crate::sharding::accepted;
 use copy_both::{LinkFault, Taken, Voice};
 use filter_tree::Row;
@@ -52,8 +49,13 @@ pub(crate) fn commit(alloc: Global, book: &mut Book, row: &str, time: u64) -> Re
     Ok(())
 }
 
+/// The first bytes of some, so many of them.
+pub(crate) fn first(bytes: &[u8], count: usize) -> &[u8] {
+    bytes.split_at(count.min(bytes.len())).0
+}
+
 /// Takes the commit of this number up.
-fn take(
+pub(crate) fn take(
     rt: &impl Abort,
     voice: &mut Voice,
     book: &Book,
@@ -71,68 +73,112 @@ fn take(
 }
 
 /// A book whose only commit inserts the row.
-fn book_of(alloc: Global, checked: &Arc<Checked, Global>, row: &str) -> Result<Book, Fail>
-    requires { IsLimited (checked_view (arc_value checked.now)).catalog }
-{
+fn book_of(alloc: Global, checked: &Arc<Checked, Global>, row: &str) -> Result<Book, Fail> {
     let mut book = Book::new(alloc, Arc::try_clone(checked)?, 2)?;
     commit(alloc, &mut book, row, 1)?;
     Ok(book)
 }
 
+/// A book whose only commit inserts the row, and a voice that has not started.
+fn book_and_voice(alloc: Global, row: &str) -> Result<(Book, Voice), Fail> {
+    let checked = accepted(alloc, CATALOG, &[SPLIT])?;
+    let book = book_of(alloc, &checked, row)?;
+    Ok((book, Voice::new(alloc, checked)))
+}
+
+/// Starts the stream of a slot.
+fn start(voice: &mut Voice, slot: usize, position: u64) -> Result<(), LinkFault> {
+    voice.start(slot, position)
+}
+
+/// Whether a keepalive is said.
+fn keepalive(voice: &mut Voice, now: u64, want: bool) -> Result<bool, LinkFault> {
+    voice.keepalive(now, want)
+}
+
+/// Ends the stream.
+fn done(voice: &mut Voice) -> Result<(), LinkFault> {
+    voice.done()
+}
+
+/// The number of the commit that comes next.
+fn next(voice: &Voice) -> Option<u64> {
+    voice.next()
+}
+
+/// Up to where the log was sent.
+fn sent(voice: &Voice) -> Option<u64> {
+    voice.sent()
+}
+
+/// The bytes that wait.
+fn output(voice: &Voice) -> &[u8] {
+    voice.output()
+}
+
+/// So many of the bytes that wait are gone.
+fn pass(voice: &mut Voice, count: usize) {
+    voice.passed(count);
+}
+
+/// All the bytes that wait are gone.
+fn pass_all(voice: &mut Voice) {
+    voice.passed(voice.output().len());
+}
+
 #[test]
 fn a_commit_is_told_in_frames(rt: HostRuntime) -> Result<(), Fail> {
-    let alloc = rt.alloc();
-    let checked = accepted(alloc, CATALOG, &[SPLIT])?;
-    let book = book_of(alloc, &checked, "(7, 'eu')")?;
-    let mut voice = Voice::new(alloc, checked);
-    voice.start(0, 0)?;
-    assert_eq!(rt; voice.output(), COPY_BOTH);
-    assert_eq!(rt; voice.sent(), Some(64));
-    assert_eq!(rt; take(&rt, &mut voice, &book, 1, 4), Ok(Taken::Sent(1)));
-    assert_eq!(rt; voice.output().len(), 241);
-    assert!(rt; 8 <= voice.output().len());
-    assert_eq!(rt; voice.output().split_at(8).0, COPY_BOTH);
-    voice.passed(8);
-    assert_eq!(rt; voice.output(), FIRST_COMMIT);
-    assert_eq!(rt; voice.sent(), Some(128));
-    assert_eq!(rt; voice.next(), Some(2));
+    let (book, mut voice) = book_and_voice(rt.alloc(), "(7, 'eu')")?;
+    start(&mut voice, 0, 0)?;
+    same(&rt, output(&voice), COPY_BOTH);
+    same(&rt, sent(&voice), Some(64));
+    same(&rt, take(&rt, &mut voice, &book, 1, 4), Ok(Taken::Sent(1)));
+    same(&rt, output(&voice).len(), 241);
+    same(&rt, first(output(&voice), 8), COPY_BOTH);
+    pass(&mut voice, 8);
+    same(&rt, output(&voice), FIRST_COMMIT);
+    same(&rt, sent(&voice), Some(128));
+    same(&rt, next(&voice), Some(2));
     Ok(())
 }
 
 #[test]
 fn a_commit_for_others_is_skipped(rt: HostRuntime) -> Result<(), Fail> {
-    let alloc = rt.alloc();
-    let checked = accepted(alloc, CATALOG, &[SPLIT])?;
-    let book = book_of(alloc, &checked, "(150, 'us')")?;
-    let mut voice = Voice::new(alloc, checked);
-    assert_eq!(rt; take(&rt, &mut voice, &book, 1, 3), Ok(Taken::NotStarted));
-    assert_eq!(rt; voice.keepalive(3, false), Ok(false));
-    assert_eq!(rt; voice.sent(), None);
-    assert!(rt; voice.output().is_empty());
-    voice.start(0, 0)?;
-    assert_eq!(rt; take(&rt, &mut voice, &book, 1, 4), Ok(Taken::Skipped(1)));
-    assert_eq!(rt; voice.output(), COPY_BOTH);
-    voice.passed(voice.output().len());
-    assert_eq!(rt; voice.keepalive(6, false), Ok(true));
-    assert_eq!(rt; voice.output(), KEEPALIVE);
+    let (book, mut voice) = book_and_voice(rt.alloc(), "(150, 'us')")?;
+    same(
+        &rt,
+        take(&rt, &mut voice, &book, 1, 3),
+        Ok(Taken::NotStarted),
+    );
+    same(&rt, keepalive(&mut voice, 3, false), Ok(false));
+    same(&rt, sent(&voice), None);
+    holds(&rt, output(&voice).is_empty());
+    start(&mut voice, 0, 0)?;
+    same(
+        &rt,
+        take(&rt, &mut voice, &book, 1, 4),
+        Ok(Taken::Skipped(1)),
+    );
+    same(&rt, output(&voice), COPY_BOTH);
+    pass_all(&mut voice);
+    same(&rt, keepalive(&mut voice, 6, false), Ok(true));
+    same(&rt, output(&voice), KEEPALIVE);
     Ok(())
 }
 
 #[test]
 fn a_stream_that_is_done_says_no_more(rt: HostRuntime) -> Result<(), Fail> {
-    let alloc = rt.alloc();
-    let checked = accepted(alloc, CATALOG, &[SPLIT])?;
-    let book = book_of(alloc, &checked, "(7, 'eu')")?;
-    let mut voice = Voice::new(alloc, checked);
-    voice.start(1, 128)?;
-    assert_eq!(rt; voice.next(), Some(2));
-    assert_eq!(rt; voice.sent(), Some(128));
-    voice.passed(voice.output().len());
-    voice.done()?;
-    assert_eq!(rt; voice.done(), Err(LinkFault::Closed));
-    assert_eq!(rt; voice.start(1, 128), Err(LinkFault::Closed));
-    assert_eq!(rt; voice.keepalive(6, true), Err(LinkFault::Closed));
-    assert_eq!(rt; take(&rt, &mut voice, &book, 1, 6), Err(LinkFault::Closed));
-    assert_eq!(rt; voice.output(), b"c\0\0\0\x04".as_slice());
+    let (book, mut voice) = book_and_voice(rt.alloc(), "(7, 'eu')")?;
+    let closed = LinkFault::Closed;
+    start(&mut voice, 1, 128)?;
+    same(&rt, next(&voice), Some(2));
+    same(&rt, sent(&voice), Some(128));
+    pass_all(&mut voice);
+    done(&mut voice)?;
+    same(&rt, done(&mut voice), Err(closed));
+    same(&rt, start(&mut voice, 1, 128), Err(closed));
+    same(&rt, keepalive(&mut voice, 6, true), Err(closed));
+    same(&rt, take(&rt, &mut voice, &book, 1, 6), Err(closed));
+    same(&rt, output(&voice), b"c\0\0\0\x04".as_slice());
     Ok(())
 }

@@ -44,7 +44,6 @@ impl Book {
     ghost use Rattle.std.specs.Prelude.{◌≡◌, ◌+◌, ◌*◌, ◌<◌, ◌≤◌, max, length, map, slice_get, IfOk, IfErr, IfSome, OnOk, OnErr};
     ghost use Rattle.std.specs.Arc.{arc_value};
     ghost use Rattle.std.specs.Option.{option_map, option_copied};
-    ghost use Rattle.pub_reader.specs.CatalogLimits.{IsLimited};
     ghost use Rattle.shard_checker.specs.CheckedView.{checked_view};
     ghost use Rattle.table_changes.specs.CommandView.{command_view};
     ghost use Rattle.tables_log.specs.BookView.{book_limit, book_log, book_rows, book_listed, book_slots};
@@ -56,14 +55,10 @@ impl Book {
 
     /// A book of the catalog's tables, without rows and with an empty log, which may have so many commits, and with a
     /// slot for each subscription, of which nothing is confirmed. The only error is want of memory.
-    ///
-    /// That the catalog is within its limits (`tables`) is known of one that `read_catalog` read, and the check of its
-    /// sharding keeps that catalog.
     #[tactic(auto, using(crate::proofs::BookLemmas::narrow_limited))]
     pub fn new(alloc: Global, checked: Arc<Checked, Global>, limit: u32) -> Result<Book, AllocError>
         requires some { 1 ≤ limit }
         requires within { limit ≤ 1000000000 }
-        requires tables { IsLimited (checked_view (arc_value checked)).catalog }
         ensures { IfOk result (λ book. IsNew book (checked_view (arc_value checked)) limit) }
     {
         let catalog = checked.catalog();

@@ -1,60 +1,10 @@
-//! Long inputs, readers that fail or never end, and writers that fail.
+//! Readers that fail or never end, and writers that fail.
 
 use crate::tests::{BASE, output_of};
 use std::io;
 use std::io::{ErrorKind, Read, Write};
 use std::test::Fail;
 use subcommands::{Failure, Input, Status, report, run};
-
-#[test]
-fn inputs_have_two_parts(rt: HostRuntime) -> Result<(), Fail> {
-    let table = "CREATE TABLE t (id integer PRIMARY KEY);";
-    let cases: [(&[u8], &str, u8); 11] = [
-        (b"", "input\n", 3),
-        (b"\n", "input\n", 3),
-        (b"(1)\n", "input\n", 3),
-        (b"%%\n(1)\n%%\n", "input\n", 3),
-        (b"%%\n%%", "input\n", 3),
-        (b"%% \n(1)\n", "input\n", 3),
-        (b" %%\n(1)\n", "input\n", 3),
-        (b"%%%\n(1)\n", "input\n", 3),
-        (b"%%\r\n(1)\n", "input\n", 3),
-        (b"%%\n\xff\n", "input\n", 3),
-        (b"%%", "", 0),
-    ];
-    for (end, expected, expected_status) in cases {
-        let mut input = Vec::new(rt.alloc());
-        input.extend_from_slice(table.as_bytes())?;
-        input.extend_from_slice(b"\n")?;
-        input.extend_from_slice(end)?;
-        let (status, output) = output_of(
-            rt.alloc(),
-            ["pgshard", "eval", "t"].as_slice(),
-            input.as_slice(),
-        )?;
-        assert_eq!(rt; status, expected_status);
-        assert_eq!(rt; output.as_slice(), expected.as_bytes());
-    }
-    Ok(())
-}
-
-#[test]
-fn inputs_have_a_limit(rt: HostRuntime) -> Result<(), Fail> {
-    let catalog = "CREATE TABLE t (id integer PRIMARY KEY);";
-    let rows = "\n%%\n(1)";
-    let limit = 16_777_216;
-    for (length, expected, expected_status) in [(limit, "\n", 0), (limit + 1, "input\n", 3)] {
-        let spaces = length - catalog.len() as u64 - rows.len() as u64;
-        let reader = catalog
-            .as_bytes()
-            .chain(io::repeat(b' ').take(spaces))
-            .chain(rows.as_bytes());
-        let (status, output) = output_of(rt.alloc(), ["pgshard", "eval", "t"].as_slice(), reader)?;
-        assert_eq!(rt; status, expected_status);
-        assert_eq!(rt; output.as_slice(), expected.as_bytes());
-    }
-    Ok(())
-}
 
 /// A reader that gives a text a byte at a time, and after so many reads of a byte fails in this way, so many times.
 #[derive(Drop)]

@@ -2,6 +2,7 @@
 
 use super::index_cases::{IDENTITIES, INDEXED, INDEXES};
 use super::{check_catalogs, numbered, outcome};
+use crate::checks::same;
 use filter_tree::{Identity, Table};
 use pub_reader::read_catalog;
 use std::alloc::{AllocError, Global};
@@ -46,12 +47,13 @@ fn an_index_identifies_rows_where_its_columns_take_no_null(rt: HostRuntime) -> R
     let alloc = rt.alloc();
     let catalog = read_catalog(alloc, by_code(alloc, " NOT NULL")?.as_str())?;
     let table = catalog.tables.first().ok_or("a table")?;
-    assert_eq!(rt; table.identity, Identity::Index(0));
-    assert_eq!(rt; shown(alloc, table)?.as_str(), "u_code: 1;");
+    same(&rt, table.identity, Identity::Index(0));
+    same(&rt, shown(alloc, table)?.as_str(), "u_code: 1;");
     let nullable = by_code(alloc, "")?;
-    assert_eq!(rt;
+    same(
+        &rt,
         outcome(alloc, nullable.as_str())?.as_str(),
-        "NullableIndex 152"
+        "NullableIndex 152",
     );
     Ok(())
 }
@@ -67,10 +69,10 @@ ALTER TABLE u REPLICA IDENTITY USING INDEX c;"
     let catalog = read_catalog(alloc, text.as_str())?;
     let u = catalog.tables.get(0).ok_or("u")?;
     let v = catalog.tables.get(1).ok_or("v")?;
-    assert_eq!(rt; shown(alloc, u)?.as_str(), "b: 2 0;a: 1 2 0;c: 0;");
-    assert_eq!(rt; shown(alloc, v)?.as_str(), "A: 1;");
-    assert_eq!(rt; u.identity, Identity::Index(2));
-    assert_eq!(rt; v.identity, Identity::Default);
+    same(&rt, shown(alloc, u)?.as_str(), "b: 2 0;a: 1 2 0;c: 0;");
+    same(&rt, shown(alloc, v)?.as_str(), "A: 1;");
+    same(&rt, u.identity, Identity::Index(2));
+    same(&rt, v.identity, Identity::Default);
     Ok(())
 }
 
@@ -82,11 +84,16 @@ fn a_table_has_up_to_8_indexes(rt: HostRuntime) -> Result<(), Fail> {
     let other = format!(in alloc; "{table}{indexes};CREATE UNIQUE INDEX j ON u (id);")?;
     let one_more = format!(in alloc; "{table}{indexes};CREATE UNIQUE INDEX j ON t (id);")?;
     let taken = format!(in alloc; "{table}{indexes};CREATE UNIQUE INDEX i7 ON t (nope);")?;
-    assert_eq!(rt; outcome(alloc, other.as_str())?.as_str(), "ok");
-    assert_eq!(rt;
+    same(&rt, outcome(alloc, other.as_str())?.as_str(), "ok");
+    same(
+        &rt,
         outcome(alloc, one_more.as_str())?.as_str(),
-        "TooMany(Indexes) 364"
+        "TooMany(Indexes) 364",
     );
-    assert_eq!(rt; outcome(alloc, taken.as_str())?.as_str(), "NameTwice 364");
+    same(
+        &rt,
+        outcome(alloc, taken.as_str())?.as_str(),
+        "NameTwice 364",
+    );
     Ok(())
 }

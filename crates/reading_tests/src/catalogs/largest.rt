@@ -1,5 +1,6 @@
 //! The largest catalog. There is memory for it, so that it is not refused for want of it.
 
+use crate::checks::{holds, same};
 use filter_tree::Identity;
 use pub_reader::{Publication, read_catalog};
 use std::alloc::{AllocError, Global};
@@ -135,26 +136,26 @@ fn has_all_tables(publication: &Publication, filtered: bool) -> bool {
 fn reads_the_largest_catalog(rt: HostRuntime) -> Result<(), Fail> {
     let alloc = rt.alloc();
     let text = largest_catalog(alloc)?;
-    assert!(rt; text.len() > 16_777_216);
+    holds(&rt, text.len() > 16_777_216);
     let catalog = read_catalog(alloc, text.as_str())?;
-    assert_eq!(rt; catalog.tables.len(), 64);
+    same(&rt, catalog.tables.len(), 64);
     for table in &catalog.tables {
-        assert_eq!(rt; table.columns.len(), 100);
-        assert_eq!(rt; table.key.len(), 100);
-        assert_eq!(rt; table.indexes.len(), 8);
+        same(&rt, table.columns.len(), 100);
+        same(&rt, table.key.len(), 100);
+        same(&rt, table.indexes.len(), 8);
         for index in table.indexes.as_slice() {
-            assert_eq!(rt; index.name.len(), 63);
-            assert_eq!(rt; index.columns.len(), 100);
+            same(&rt, index.name.len(), 63);
+            same(&rt, index.columns.len(), 100);
         }
-        assert_eq!(rt; table.identity, Identity::Index(7));
+        same(&rt, table.identity, Identity::Index(7));
     }
-    assert_eq!(rt; catalog.publications.len(), 64);
+    same(&rt, catalog.publications.len(), 64);
     for (number, publication) in catalog.publications.iter().enumerate() {
-        assert!(rt; has_all_tables(publication, number >= 2));
+        holds(&rt, has_all_tables(publication, number >= 2));
     }
-    assert_eq!(rt; catalog.subscriptions.len(), 32);
+    same(&rt, catalog.subscriptions.len(), 32);
     for subscription in &catalog.subscriptions {
-        assert_eq!(rt; subscription.publications.len(), 64);
+        same(&rt, subscription.publications.len(), 64);
     }
     Ok(())
 }

@@ -1,5 +1,6 @@
 //! Whole catalogs, and what they have.
 
+use crate::checks::same;
 use pub_reader::{Catalog, Operations, read_catalog};
 use std::alloc::{AllocError, Global};
 use std::test::Fail;
@@ -115,9 +116,10 @@ CREATE SUBSCRIPTION s1 CONNECTION '' PUBLICATION pb;
 #[test]
 fn gives_the_publications_of_subscriptions(rt: HostRuntime) -> Result<(), Fail> {
     let catalog = read_catalog(rt.alloc(), SHARDS)?;
-    assert_eq!(rt;
+    same(
+        &rt,
         shown(rt.alloc(), &catalog)?.as_str(),
-        "public.t | pa iudt 0? | pb iudt 0? > s0 0 > s1 1 "
+        "public.t | pa iudt 0? | pb iudt 0? > s0 0 > s1 1 ",
     );
     Ok(())
 }
@@ -128,7 +130,7 @@ fn gives_what_publications_cover(rt: HostRuntime) -> Result<(), Fail> {
     for (statements, expected) in CATALOGS {
         let text = format!(in alloc; "{BEFORE}{statements}{AFTER}")?;
         let catalog = read_catalog(alloc, text.as_str())?;
-        assert_eq!(rt; shown(alloc, &catalog)?.as_str(), *expected);
+        same(&rt, shown(alloc, &catalog)?.as_str(), *expected);
     }
     Ok(())
 }

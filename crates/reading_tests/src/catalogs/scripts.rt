@@ -1,6 +1,7 @@
 //! Scripts.
 
 use super::script_cases::{SCRIPTED, SCRIPTS, STEPS};
+use crate::checks::{holds, same};
 use crate::fault::is_error;
 use filter_tree::Row;
 use pub_reader::{Catalog, Command, Line, Step, read_catalog, read_script};
@@ -95,9 +96,9 @@ fn reads_scripts_or_their_first_fault(rt: HostRuntime) -> Result<(), Fail> {
     let catalog = read_catalog(rt.alloc(), SCRIPTED)?;
     for (text, kind, place) in SCRIPTS {
         match read_script(rt.alloc(), &catalog, text) {
-            Ok(_) => assert_eq!(rt; *kind, "ok"),
+            Ok(_) => same(&rt, *kind, "ok"),
             Err(error) => {
-                assert!(rt; is_error(rt.alloc(), &error, kind, *place)?);
+                holds(&rt, is_error(rt.alloc(), &error, kind, *place)?);
             }
         }
     }
@@ -109,7 +110,7 @@ fn gives_the_steps_of_scripts(rt: HostRuntime) -> Result<(), Fail> {
     let catalog = read_catalog(rt.alloc(), SCRIPTED)?;
     for (text, steps) in STEPS {
         let found = outcome(rt.alloc(), &catalog, text)?;
-        assert_eq!(rt; found.as_str(), *steps);
+        same(&rt, found.as_str(), *steps);
     }
     Ok(())
 }
@@ -119,7 +120,7 @@ fn the_schema_public_is_known_without_a_table(rt: HostRuntime) -> Result<(), Fai
     let alloc = rt.alloc();
     let catalog = read_catalog(alloc, "")?;
     let found = outcome(alloc, &catalog, "COMMIT INSERT public.t (1);")?;
-    assert_eq!(rt; found.as_str(), "UnknownName 21");
+    same(&rt, found.as_str(), "UnknownName 21");
     Ok(())
 }
 
@@ -127,7 +128,7 @@ fn ends(rt: &impl Abort, alloc: Global, before: &str, end: &str, fault: &str) ->
     let catalog = read_catalog(alloc, "")?;
     let text = format!(in alloc; "{before}{end}")?;
     let found = outcome(alloc, &catalog, text.as_str())?;
-    assert_eq!(rt; found.as_str(), fault);
+    same(rt, found.as_str(), fault);
     Ok(())
 }
 
@@ -137,7 +138,7 @@ fn a_script_has_up_to_100000_steps(rt: HostRuntime) -> Result<(), Fail> {
     let most = "VIEW;".repeat(alloc, 100_000)?;
     let catalog = read_catalog(alloc, "")?;
     let lines = read_script(alloc, &catalog, most.as_str())?;
-    assert_eq!(rt; lines.len(), 100_000);
+    same(&rt, lines.len(), 100_000);
     ends(&rt, alloc, most.as_str(), " view;", "TooMany(Steps) 500001")?;
     ends(
         &rt,

@@ -1,5 +1,6 @@
 //! Calls that take memory, at the limits of what a catalog and its rows have, and past them.
 
+use crate::checks::{holds, same};
 use filter_tree::{
     Atom, Filter, Literal, Op, Row, Term, Text, Tri, Value, add_atom, add_atoms, add_distinct,
     atoms_of, columns_of, copy_in, copy_row, copy_value, eval, same_row, terms_of,
@@ -26,13 +27,17 @@ fn texts_of_any_length_are_copied(rt: HostRuntime) -> Result<(), Fail> {
         }
         let row = Row::from_values(values);
         let copy = copy_row(alloc, &row)?;
-        assert!(rt; same_row(&row, &copy));
-        assert!(rt; matches!(copy.get(99), Some(Value::Text(text)) if text.len() == length));
-        assert!(rt;
-            matches!(copy_value(&alloc, &copy.into_values()[0])?, Value::Text(text) if text.len() == length)
+        holds(&rt, same_row(&row, &copy));
+        holds(
+            &rt,
+            matches!(copy.get(99), Some(Value::Text(text)) if text.len() == length),
+        );
+        holds(
+            &rt,
+            matches!(copy_value(&alloc, &copy.into_values()[0])?, Value::Text(text) if text.len() == length),
         );
         let filter = copy_in(alloc, &is_text(alloc, length)?)?;
-        assert_eq!(rt; eval(&filter, &row), Tri::True);
+        same(&rt, eval(&filter, &row), Tri::True);
     }
     Ok(())
 }
@@ -47,21 +52,23 @@ fn a_tree_of_a_million_nodes_is_copied_and_listed(rt: HostRuntime) -> Result<(),
     }
     // 524,288 atoms under 524,287 ANDs
     let copy = copy_in(alloc, &filter)?;
-    assert_eq!(rt;
+    same(
+        &rt,
         eval(&copy, &Row::<Global>::from_values(Vec::new(alloc))),
-        Tri::True
+        Tri::True,
     );
     let atoms = atoms_of(alloc, &copy)?;
     let terms = atoms
         .iter()
         .map(|atom| atom.term())
         .collect::<Vec<Term>>(alloc)?;
-    assert_eq!(rt; terms.as_slice(), [Term::Col(99)].as_slice());
-    assert_eq!(rt;
+    same(&rt, terms.as_slice(), [Term::Col(99)].as_slice());
+    same(
+        &rt,
         terms_of(alloc, &copy)?.as_slice(),
-        [Term::Col(99)].as_slice()
+        [Term::Col(99)].as_slice(),
     );
-    assert_eq!(rt; columns_of(alloc, &copy)?.as_slice(), [99].as_slice());
+    same(&rt, columns_of(alloc, &copy)?.as_slice(), [99].as_slice());
     Ok(())
 }
 
@@ -72,7 +79,7 @@ fn lists_have_each_item_once(rt: HostRuntime) -> Result<(), Fail> {
     for column in [3, 1, 3, 2, 1, 3] {
         add_distinct(&mut columns, column)?;
     }
-    assert_eq!(rt; columns.as_slice(), [3, 1, 2].as_slice());
+    same(&rt, columns.as_slice(), [3, 1, 2].as_slice());
     let (null, other): (Filter, Atom) = (Filter::Atom(Atom::IsNull(1)), Atom::IsNull(2));
     let mut atoms = Vec::new(alloc);
     add_atom(&mut atoms, &other)?;
@@ -82,6 +89,6 @@ fn lists_have_each_item_once(rt: HostRuntime) -> Result<(), Fail> {
         .iter()
         .map(|atom| atom.term().column())
         .collect::<Vec<usize>>(alloc)?;
-    assert_eq!(rt; columns.as_slice(), [2, 1].as_slice());
+    same(&rt, columns.as_slice(), [2, 1].as_slice());
     Ok(())
 }

@@ -1,6 +1,7 @@
 //! The order of rows.
 
 use super::{Cell, row};
+use crate::checks::{holds, same};
 use std::collections::BTreeMap;
 use std::test::Fail;
 
@@ -47,9 +48,9 @@ fn rows_are_compared_as_they_are_sorted(rt: HostRuntime) -> Result<(), Fail> {
         for (other_place, other_cells) in ASCENDING.iter().enumerate() {
             let other = row(alloc, other_cells)?;
             let order = place.cmp(&other_place);
-            assert_eq!(rt; one.cmp(&other), order);
-            assert_eq!(rt; one.partial_cmp(&other), Some(order));
-            assert_eq!(rt; one == other, place == other_place);
+            same(&rt, one.cmp(&other), order);
+            same(&rt, one.partial_cmp(&other), Some(order));
+            same(&rt, one == other, place == other_place);
         }
     }
     Ok(())
@@ -60,13 +61,13 @@ fn an_ordered_map_has_rows_as_keys(rt: HostRuntime) -> Result<(), Fail> {
     let alloc = rt.alloc();
     let mut places = BTreeMap::new(alloc);
     for (place, cells) in ASCENDING.iter().enumerate().rev() {
-        assert!(rt; places.insert(row(alloc, cells)?, place)?.is_none());
+        holds(&rt, places.insert(row(alloc, cells)?, place)?.is_none());
     }
     let found = places.values().copied().collect::<Vec<usize>>(alloc)?;
-    assert_eq!(rt; found, (0..29).collect::<Vec<usize>>(alloc)?);
+    same(&rt, found, (0..29).collect::<Vec<usize>>(alloc)?);
     let key = row(alloc, &[Cell::Int(7), Cell::Text("eu")])?;
-    assert_eq!(rt; places.get(&key), Some(&12));
-    assert_eq!(rt; places.remove(&key), Some(12));
-    assert!(rt; places.get(&key).is_none());
+    same(&rt, places.get(&key), Some(&12));
+    same(&rt, places.remove(&key), Some(12));
+    holds(&rt, places.get(&key).is_none());
     Ok(())
 }

@@ -1,6 +1,7 @@
 //! Which rows fit a table, and how a fault is told.
 
 use super::{Cell, row};
+use crate::checks::same;
 use filter_tree::{ColType, Column, Identity, Items, RowFault, Table, Text, valid};
 use std::alloc::{AllocError, Global};
 use std::test::Fail;
@@ -99,11 +100,12 @@ fn valid_tells_the_first_fault(rt: HostRuntime) -> Result<(), Fail> {
         ),
     ];
     for (cells, answer) in cases {
-        assert_eq!(rt; valid(&table, &row(rt.alloc(), &cells)?), answer);
+        same(&rt, valid(&table, &row(rt.alloc(), &cells)?), answer);
     }
-    assert_eq!(rt;
+    same(
+        &rt,
         valid(&table, &row(rt.alloc(), &[Null])?),
-        Err(RowFault::Width)
+        Err(RowFault::Width),
     );
     Ok(())
 }
@@ -138,7 +140,7 @@ fn a_fault_is_told_in_words(rt: HostRuntime) -> Result<(), Fail> {
     ];
     for (fault, words) in cases {
         let told = format!(in rt.alloc(); "{fault}")?;
-        assert_eq!(rt; told.as_str(), words);
+        same(&rt, told.as_str(), words);
     }
     Ok(())
 }

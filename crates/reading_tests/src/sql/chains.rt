@@ -1,3 +1,4 @@
+use crate::checks::same;
 use filter_tree::{Atom, Filter};
 use sql_reader::{Limit, exceeded_limit};
 use std::alloc::{AllocError, Global};
@@ -33,7 +34,7 @@ fn chains_pass_the_limits(rt: HostRuntime) -> Result<(), Fail> {
     ];
     for (atoms, last, want) in cases {
         let filter = chain(rt.alloc(), atoms, 0, last)?;
-        assert_eq!(rt; exceeded_limit(rt.alloc(), &[&filter])?, want);
+        same(&rt, exceeded_limit(rt.alloc(), &[&filter])?, want);
     }
     Ok(())
 }
@@ -42,9 +43,13 @@ fn chains_pass_the_limits(rt: HostRuntime) -> Result<(), Fail> {
 fn a_not_is_a_node(rt: HostRuntime) -> Result<(), Fail> {
     let inner = chain(rt.alloc(), 500, 0, 9)?;
     let thousand = Filter::Not(Box::new(rt.alloc(), inner)?);
-    assert_eq!(rt; exceeded_limit(rt.alloc(), &[&thousand])?, None);
+    same(&rt, exceeded_limit(rt.alloc(), &[&thousand])?, None);
     let more = Filter::Not(Box::new(rt.alloc(), thousand)?);
-    assert_eq!(rt; exceeded_limit(rt.alloc(), &[&more])?, Some(Limit::Nodes));
+    same(
+        &rt,
+        exceeded_limit(rt.alloc(), &[&more])?,
+        Some(Limit::Nodes),
+    );
     Ok(())
 }
 
@@ -64,8 +69,8 @@ fn filters_count_together(rt: HostRuntime) -> Result<(), Fail> {
         ([&new, &long], Some(Limit::Atoms)),
     ];
     for (filters, want) in cases {
-        assert_eq!(rt; exceeded_limit(rt.alloc(), &filters)?, want);
+        same(&rt, exceeded_limit(rt.alloc(), &filters)?, want);
     }
-    assert_eq!(rt; exceeded_limit(rt.alloc(), &[])?, None);
+    same(&rt, exceeded_limit(rt.alloc(), &[])?, None);
     Ok(())
 }

@@ -1,11 +1,13 @@
 //! The elements of CREATE TABLE as they are read, and a reader by itself.
 
+use crate::checks::{holds, same};
 use crate::fault::is_error;
 use sql_reader::{
     Item, Keyword, Reader, TableParts, is_name_ahead, left_out_clause, read_elements, read_name,
     same_word,
 };
 use std::alloc::{AllocError, Global};
+use std::process::Abort;
 use std::test::Fail;
 
 /// What follows the parenthesis before the elements, and the columns, with a `!` after those that are NOT NULL,
@@ -55,45 +57,70 @@ fn shown(alloc: Global, parts: &TableParts) -> Result<String, AllocError> {
 fn reads_elements_or_their_first_fault(rt: HostRuntime) -> Result<(), Fail> {
     for (text, expected) in ELEMENTS {
         let parts = read_elements(&mut Reader::new(text), rt.alloc())?;
-        assert_eq!(rt; shown(rt.alloc(), &parts)?.as_str(), *expected);
+        same(&rt, shown(rt.alloc(), &parts)?.as_str(), *expected);
     }
     for (text, kind, place) in FAULTY {
         match read_elements(&mut Reader::new(text), rt.alloc()) {
             Ok(_) => panic!(rt; "{text} was read"),
             Err(error) => {
-                assert!(rt; is_error(rt.alloc(), &error, kind, *place)?);
+                holds(&rt, is_error(rt.alloc(), &error, kind, *place)?);
             }
         }
     }
     Ok(())
 }
 
-/// A token that is refused stays ahead.
+/// At `Table One ; $`: a word, which no name is.
+fn takes_a_keyword(rt: &impl Abort, r: &mut Reader) -> Result<(), Fail> {
+    holds(rt, r.more_ahead()?);
+    holds(rt, r.item().is_some());
+    holds(rt, same_word(r.written(), "TABLE"));
+    holds(rt, !is_name_ahead(r));
+    same(rt, r.expect(Item::Keyword(Keyword::Table), "TABLE")?, 0);
+    Ok(())
+}
+
+/// At `One ; $`.
+fn takes_a_name(rt: &impl Abort, alloc: Global, r: &mut Reader) -> Result<(), Fail> {
+    holds(rt, is_name_ahead(r));
+    let name = read_name(r, alloc, "a name")?;
+    same(rt, name.text.as_str(), "one");
+    same(rt, name.place, 6);
+    Ok(())
+}
+
+/// At `; $`: a token that is refused stays ahead.
+fn takes_no_comma(rt: &impl Abort, alloc: Global, r: &mut Reader) -> Result<(), Fail> {
+    r.look()?;
+    match r.expect(Item::Comma, "`,`") {
+        Ok(_) => panic!(rt; "the comma was taken"),
+        Err(error) => holds(rt, is_error(alloc, &error, "Expected", 10)?),
+    }
+    holds(rt, r.next_is(Item::Semicolon)?);
+    holds(rt, r.is(Item::Semicolon));
+    r.advance();
+    Ok(())
+}
+
+/// At `$`, which is no token.
+fn sees_no_token(rt: &impl Abort, alloc: Global, r: &Reader) -> Result<(), Fail> {
+    holds(rt, r.item().is_none());
+    holds(rt, r.look().is_err());
+    holds(rt, r.more_ahead().is_err());
+    let refusal = r.refusal("a name");
+    holds(rt, is_error(alloc, &refusal, "BadToken", 12)?);
+    let left_out = left_out_clause(r);
+    holds(rt, is_error(alloc, &left_out, "LeftOut(Constraint)", 12)?);
+    Ok(())
+}
+
 #[test]
 fn a_reader_looks_before_it_takes(rt: HostRuntime) -> Result<(), Fail> {
     let alloc = rt.alloc();
     let mut r = Reader::new("Table One ; $");
-    assert!(rt; r.more_ahead()?);
-    assert!(rt; r.item().is_some());
-    assert!(rt; same_word(r.written(), "TABLE"));
-    assert!(rt; !is_name_ahead(&r));
-    assert_eq!(rt; r.expect(Item::Keyword(Keyword::Table), "TABLE")?, 0);
-    assert!(rt; is_name_ahead(&r));
-    let name = read_name(&mut r, alloc, "a name")?;
-    assert_eq!(rt; name.text.as_str(), "one");
-    assert_eq!(rt; name.place, 6);
-    r.look()?;
-    match r.expect(Item::Comma, "`,`") {
-        Ok(_) => panic!(rt; "the comma was taken"),
-        Err(error) => assert!(rt; is_error(alloc, &error, "Expected", 10)?),
-    }
-    assert!(rt; r.next_is(Item::Semicolon)?);
-    assert!(rt; r.is(Item::Semicolon));
-    r.advance();
-    assert!(rt; r.item().is_none());
-    assert!(rt; r.look().is_err());
-    assert!(rt; r.more_ahead().is_err());
-    assert!(rt; is_error(alloc, &r.refusal("a name"), "BadToken", 12)?);
-    assert!(rt; is_error(alloc, &left_out_clause(&r), "LeftOut(Constraint)", 12)?);
+    takes_a_keyword(&rt, &mut r)?;
+    takes_a_name(&rt, alloc, &mut r)?;
+    takes_no_comma(&rt, alloc, &mut r)?;
+    sees_no_token(&rt, alloc, &r)?;
     Ok(())
 }

@@ -1,6 +1,7 @@
 //! Filters as they are read: their faults, their trees and what they mean.
 
 use super::expression_cases::{EXPRESSIONS, TREES, VALUES};
+use crate::checks::{holds, same};
 use crate::fault::is_error;
 use filter_tree::{ColType, Column, Filter, Text, eval};
 use sql_reader::{Item, ReadError, Reader, read_filter, read_row};
@@ -42,9 +43,9 @@ fn ended_filter(alloc: Global, text: &str) -> Result<Filter, ReadError> {
 fn reads_filters_or_their_first_fault(rt: HostRuntime) -> Result<(), Fail> {
     for (text, kind, place) in EXPRESSIONS {
         match ended_filter(rt.alloc(), text) {
-            Ok(_) => assert_eq!(rt; *kind, "ok"),
+            Ok(_) => same(&rt, *kind, "ok"),
             Err(error) => {
-                assert!(rt; is_error(rt.alloc(), &error, kind, *place)?);
+                holds(&rt, is_error(rt.alloc(), &error, kind, *place)?);
             }
         }
     }
@@ -62,7 +63,7 @@ fn gives_filters_as_trees(rt: HostRuntime) -> Result<(), Fail> {
     for (text, expected) in TREES {
         let filter = filter_of(rt.alloc(), text)?;
         let shown = format!(in rt.alloc(); "{filter:?}")?;
-        assert_eq!(rt; shown.as_str(), *expected);
+        same(&rt, shown.as_str(), *expected);
     }
     Ok(())
 }
@@ -73,7 +74,7 @@ fn gives_filters_that_mean_what_is_written(rt: HostRuntime) -> Result<(), Fail> 
         let filter = filter_of(rt.alloc(), text)?;
         let row = read_row(rt.alloc(), row)?;
         let value = format!(in rt.alloc(); "{:?}", eval(&filter, &row))?;
-        assert_eq!(rt; value.as_str(), *expected);
+        same(&rt, value.as_str(), *expected);
     }
     Ok(())
 }

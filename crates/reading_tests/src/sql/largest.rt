@@ -1,6 +1,7 @@
 //! Inputs at their limits. There is memory for all of them, so that none is refused for want of it.
 
 use super::expressions::columns;
+use crate::checks::{holds, same};
 use filter_tree::{Atom, Filter, Tri, eval};
 use sql_reader::{
     Limit, Reader, exceeded_limit, read_elements, read_filter, read_name, read_row, write_row,
@@ -39,8 +40,8 @@ fn reads_and_writes_the_largest_rows(rt: HostRuntime) -> Result<(), Fail> {
     for (values, count, times) in cases {
         let text = format!(in alloc; "({})", joined(alloc, values, ", ", times)?)?;
         let row = read_row(alloc, text.as_str())?;
-        assert_eq!(rt; row.values().len(), count * times);
-        assert!(rt; write_row(alloc, &row)?.as_str() == text.as_str());
+        same(&rt, row.values().len(), count * times);
+        holds(&rt, write_row(alloc, &row)?.as_str() == text.as_str());
     }
     Ok(())
 }
@@ -51,11 +52,11 @@ fn reads_the_longest_names(rt: HostRuntime) -> Result<(), Fail> {
     let letters = "N".repeat(alloc, NAME)?;
     let folded = "n".repeat(alloc, NAME)?;
     let name = read_name(&mut Reader::new(letters.as_str()), alloc, "a name")?;
-    assert_eq!(rt; name.text.as_str(), folded.as_str());
+    same(&rt, name.text.as_str(), folded.as_str());
     let doubled = format!(in alloc; "\"{}\"", "\"\"".repeat(alloc, NAME)?)?;
     let quotes = "\"".repeat(alloc, NAME)?;
     let name = read_name(&mut Reader::new(doubled.as_str()), alloc, "a name")?;
-    assert_eq!(rt; name.text.as_str(), quotes.as_str());
+    same(&rt, name.text.as_str(), quotes.as_str());
     Ok(())
 }
 
@@ -77,13 +78,13 @@ fn reads_a_hundred_columns(rt: HostRuntime) -> Result<(), Fail> {
     }
     text.push_str("))")?;
     let parts = read_elements(&mut Reader::new(text.as_str()), alloc)?;
-    assert_eq!(rt; parts.columns.len(), 100);
+    same(&rt, parts.columns.len(), 100);
     for (number, column) in parts.columns.iter().enumerate() {
         let name = format!(in alloc; "{start}{}", number + 100)?;
-        assert_eq!(rt; column.name.as_str(), name.as_str());
+        same(&rt, column.name.as_str(), name.as_str());
     }
     let order = (0..100).rev().collect::<Vec<usize>>(alloc)?;
-    assert_eq!(rt; parts.key.as_slice(), order.as_slice());
+    same(&rt, parts.key.as_slice(), order.as_slice());
     Ok(())
 }
 
@@ -109,7 +110,7 @@ fn reads_the_largest_filters(rt: HostRuntime) -> Result<(), Fail> {
     let row = read_row(alloc, row.as_str())?;
     for text in &cases {
         let filter = read_filter(&mut Reader::new(text.as_str()), alloc, columns.as_slice())?;
-        assert!(rt; eval(&filter, &row) == Tri::True);
+        holds(&rt, eval(&filter, &row) == Tri::True);
     }
     Ok(())
 }
@@ -132,7 +133,11 @@ fn counts_many_filters(rt: HostRuntime) -> Result<(), Fail> {
         for filter in &filters {
             listed.push(filter)?;
         }
-        assert_eq!(rt; exceeded_limit(rt.alloc(), listed.as_slice())?, expected);
+        same(
+            &rt,
+            exceeded_limit(rt.alloc(), listed.as_slice())?,
+            expected,
+        );
     }
     Ok(())
 }

@@ -1,5 +1,6 @@
 //! Rows and their texts.
 
+use crate::checks::{holds, same};
 use crate::fault::is_error;
 use filter_tree::{Row, Text, Value, same_row};
 use sql_reader::{read_row, write_row};
@@ -92,9 +93,9 @@ fn writes_rows_that_are_read_again(rt: HostRuntime) -> Result<(), Fail> {
     for (cells, expected) in READABLE {
         let row = row(rt.alloc(), cells)?;
         let text = write_row(rt.alloc(), &row)?;
-        assert_eq!(rt; text.as_str(), *expected);
+        same(&rt, text.as_str(), *expected);
         let read = read_row(rt.alloc(), text.as_str())?;
-        assert!(rt; same_row(&row, &read));
+        holds(&rt, same_row(&row, &read));
     }
     Ok(())
 }
@@ -104,11 +105,11 @@ fn writes_rows_that_are_refused(rt: HostRuntime) -> Result<(), Fail> {
     for (cells, expected, kind, place) in REFUSED {
         let row = row(rt.alloc(), cells)?;
         let text = write_row(rt.alloc(), &row)?;
-        assert_eq!(rt; text.as_str(), *expected);
+        same(&rt, text.as_str(), *expected);
         match read_row(rt.alloc(), text.as_str()) {
             Ok(_) => panic!(rt; "{expected} was read"),
             Err(error) => {
-                assert!(rt; is_error(rt.alloc(), &error, kind, *place)?);
+                holds(&rt, is_error(rt.alloc(), &error, kind, *place)?);
             }
         }
     }

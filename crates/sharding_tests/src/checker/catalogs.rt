@@ -1,75 +1,66 @@
-use super::{ID, REGION, by_halves, number, owner, table, text};
+use super::{BY_HALVES, certificate};
+use crate::calls::catalog_of;
+use crate::checks::{holds, same};
 use crate::takers::{both_take, takes_one_alone};
-use filter_tree::{Filter, Identity, Items, Op, Row, Text, Value};
-use pub_reader::{Catalog, Entry, Operations, Publication, Subscription};
+use filter_tree::{Row, Value};
+use pub_reader::{Catalog, Entry};
 use replica_identity::{Share, plan};
-use shard_checker::{CheckError, Operation, check, shares_in};
+use shard_checker::{CheckError, Checked, Operation, check, shares_in};
 use split_cert::Cert;
 use std::alloc::{AllocError, Global};
+use std::process::Abort;
 use std::test::Fail;
 
-/// The first operations, so many, in the order insert, update, delete, truncate.
-pub fn operations(count: usize) -> Operations {
-    Operations {
-        insert: count > 0,
-        update: count > 1,
-        delete: count > 2,
-        truncate: count > 3,
-    }
-}
+/// The operations that a publication has where nothing is said of them.
+pub const ALL: &str = "insert, update, delete, truncate";
 
-fn publication(
-    alloc: Global,
-    name: &str,
-    publishes: Operations,
-    filter: Filter,
-) -> Result<Publication, AllocError> {
-    let entry = Entry {
-        table: 0,
-        filter: Some(filter),
-    };
-    Ok(Publication {
-        name: Text::from_str(alloc, name)?,
-        publishes,
-        entries: vec![in alloc; entry]?,
-    })
-}
+/// The rows below 100.
+pub const LOW: &str = "id < 100";
 
-fn subscription(alloc: Global, name: &str, publication: usize) -> Result<Subscription, AllocError> {
-    Ok(Subscription {
-        name: Text::from_str(alloc, name)?,
-        publications: Items::from_vec(vec![in alloc; publication]?),
-    })
-}
-
-/// `t` with this replica identity, and three publications of it, of which two subscribers take the first and the second:
-/// `pa` with these operations and this filter, `pb` for `id >= 100`, and `pc`, which nobody takes.
+/// `t` with an index of each column and with this replica identity, and three publications of it: `pa` with these
+/// operations and this filter, `pb` for `id >= 100`, and `pc`. Two subscribers take the first and the second, and nobody
+/// the third.
 pub fn catalog(
     alloc: Global,
-    identity: Identity,
-    publishes: Operations,
-    filter: Filter,
-) -> Result<Catalog, AllocError> {
-    let whole = operations(4);
-    let none = operations(0);
-    let rest = text(alloc, REGION, Op::Eq, "us")?;
-    let first = publication(alloc, "pa", publishes, filter)?;
-    let second = publication(alloc, "pb", whole, number(ID, Op::Ge, 100))?;
-    let third = publication(alloc, "pc", none, rest)?;
-    let zero = subscription(alloc, "s0", 0)?;
-    let one = subscription(alloc, "s1", 1)?;
-    Ok(Catalog {
-        tables: vec![in alloc; table(alloc, identity)?]?,
-        publications: vec![in alloc; first, second, third]?,
-        subscriptions: vec![in alloc; zero, one]?,
-    })
+    identity: &str,
+    publishes: &str,
+    filter: &str,
+) -> Result<Catalog, Fail> {
+    let script = format!(in alloc;
+        "CREATE TABLE t (id integer, region text, PRIMARY KEY (id));
+CREATE UNIQUE INDEX i ON t (id);CREATE UNIQUE INDEX j ON t (region);
+ALTER TABLE t REPLICA IDENTITY {identity};
+CREATE PUBLICATION pa FOR TABLE t WHERE ({filter}) WITH (publish = '{publishes}');
+CREATE PUBLICATION pb FOR TABLE t WHERE (id >= 100);
+CREATE PUBLICATION pc FOR TABLE t WHERE (region = 'us') WITH (publish = '');
+CREATE SUBSCRIPTION s0 CONNECTION '' PUBLICATION pa;
+CREATE SUBSCRIPTION s1 CONNECTION '' PUBLICATION pb;"
+    )?;
+    catalog_of(alloc, &script)
 }
 
-pub fn low() -> Filter {
-    number(ID, Op::Lt, 100)
+/// A catalog whose two subscribers take the halves of `t`, which has this replica identity.
+pub fn halves(alloc: Global, identity: &str) -> Result<Catalog, Fail> {
+    catalog(alloc, identity, ALL, LOW)
 }
 
-fn refusal(
+/// The certificates that these texts spell.
+fn certificates(alloc: Global, spellings: &[&str]) -> Result<Vec<Cert>, Fail> {
+    let mut certs = Vec::new(alloc);
+    for spelling in spellings {
+        certs.push(certificate(alloc, *spelling)?)?;
+    }
+    Ok(certs)
+}
+
+/// The sharding that these certificates show to be sound.
+pub fn accepted(alloc: Global, catalog: Catalog, certs: &[Cert]) -> Result<Checked, Fail> {
+    let plan = plan(alloc, &catalog)?;
+    Ok(check(alloc, catalog, plan, certs)?)
+}
+
+/// Why the sharding is refused with these certificates, or `None`.
+pub fn refusal(
     alloc: Global,
     catalog: Catalog,
     certs: &[Cert],
@@ -82,131 +73,154 @@ fn row(alloc: Global, id: i64) -> Result<Row, AllocError> {
     Ok(Row::from_values(vec![in alloc; Value::Int(id), Value::Null]?))
 }
 
+/// Whether subscriber 0 takes the row of one number alone.
+fn takes_alone(alloc: Global, checked: &Checked, one: i64, other: i64) -> Result<bool, AllocError> {
+    let (one, other) = (row(alloc, one)?, row(alloc, other)?);
+    Ok(takes_one_alone(checked, 0, 0, &one, &other))
+}
+
 #[test]
 fn rows_of_a_checked_catalog_have_one_subscriber(rt: HostRuntime) -> Result<(), Fail> {
     let alloc = rt.alloc();
-    let catalog = catalog(alloc, Identity::Default, operations(4), low())?;
-    let plan = plan(alloc, &catalog)?;
-    let certs = vec![in alloc; by_halves(alloc)?]?;
-    let checked = check(alloc, catalog, plan, &certs)?;
-    let (low, high) = (row(alloc, 99)?, row(alloc, 100)?);
-    assert!(rt; takes_one_alone(&checked, 0, 0, &low, &high));
-    assert!(rt; !takes_one_alone(&checked, 0, 0, &low, &row(alloc, 99)?));
-    assert!(rt; both_take(&checked, 0, &low, 0, 0));
-    assert!(rt; !both_take(&checked, 0, &low, 0, 1));
+    let catalog = halves(alloc, "DEFAULT")?;
+    let checked = accepted(alloc, catalog, &certificates(alloc, &[BY_HALVES])?)?;
+    holds(&rt, takes_alone(alloc, &checked, 99, 100)?);
+    holds(&rt, !takes_alone(alloc, &checked, 99, 99)?);
+    let low = row(alloc, 99)?;
+    holds(&rt, both_take(&checked, 0, &low, 0, 0));
+    holds(&rt, !both_take(&checked, 0, &low, 0, 1));
+    Ok(())
+}
+
+/// The subscriber's share of the first table.
+fn share_of(checked: &Checked, subscriber: usize) -> &Share {
+    checked.plan().share(subscriber, 0)
+}
+
+/// The number of shares of the first table.
+fn share_count(alloc: Global, checked: &Checked) -> Result<usize, AllocError> {
+    let subscriptions = checked.catalog().subscriptions.as_slice();
+    Ok(shares_in(alloc, checked.plan(), 0, subscriptions)?.len())
+}
+
+/// Fails the test unless the sharding with this replica identity is accepted, and shows what it was made of.
+fn expect_accepted(rt: &impl Abort, alloc: Global, identity: &str) -> Result<(), Fail> {
+    let catalog = halves(alloc, identity)?;
+    let checked = accepted(alloc, catalog, &certificates(alloc, &[BY_HALVES])?)?;
+    same(rt, checked.catalog().tables.len(), 1);
+    holds(rt, matches!(share_of(&checked, 1), Share::Where(_)));
+    holds(rt, matches!(share_of(&checked, 2), Share::Nothing));
+    same(rt, share_count(alloc, &checked)?, 2);
     Ok(())
 }
 
 #[test]
 fn a_sound_sharding_is_accepted(rt: HostRuntime) -> Result<(), Fail> {
-    let alloc = rt.alloc();
-    for identity in [Identity::Default, Identity::Full] {
-        let catalog = catalog(alloc, identity, operations(4), low())?;
-        let plan = plan(alloc, &catalog)?;
-        let certs = vec![in alloc; by_halves(alloc)?]?;
-        let checked = check(alloc, catalog, plan, &certs)?;
-        assert_eq!(rt; checked.catalog().tables.len(), 1);
-        assert!(rt; matches!(checked.plan().share(1, 0), Share::Where(_)));
-        assert!(rt; matches!(checked.plan().share(2, 0), Share::Nothing));
-        let subscriptions = checked.catalog().subscriptions.as_slice();
-        assert_eq!(rt;
-            shares_in(alloc, checked.plan(), 0, subscriptions)?.len(),
-            2
-        );
-    }
-    Ok(())
+    expect_accepted(&rt, rt.alloc(), "DEFAULT")?;
+    expect_accepted(&rt, rt.alloc(), "FULL")
+}
+
+/// Why `t` with this replica identity is refused, where subscriber 0 takes the rows of `region = 'eu'` by a publication
+/// that publishes these operations, and there is no certificate.
+fn refusal_by_region(
+    alloc: Global,
+    identity: &str,
+    publishes: &str,
+) -> Result<Option<CheckError>, Fail> {
+    let catalog = catalog(alloc, identity, publishes, "region = 'eu'")?;
+    Ok(refusal(alloc, catalog, &[])?)
 }
 
 #[test]
 fn publications_that_are_taken_publish_changes(rt: HostRuntime) -> Result<(), Fail> {
-    let alloc = rt.alloc();
-    let missing = [
-        Operation::Insert,
-        Operation::Update,
-        Operation::Delete,
-        Operation::Truncate,
+    let cases = [
+        ("", Operation::Insert),
+        ("insert", Operation::Update),
+        ("insert, update", Operation::Delete),
+        ("insert, update, delete", Operation::Truncate),
     ];
-    for (count, operation) in missing.into_iter().enumerate() {
-        let publishes = operations(count);
-        let filter = text(alloc, REGION, Op::Eq, "eu")?;
-        let catalog = catalog(alloc, Identity::Nothing, publishes, filter)?;
-        let missing = CheckError::PublishMissing {
+    for (publishes, operation) in cases {
+        let found = refusal_by_region(rt.alloc(), "NOTHING", publishes)?;
+        let wanted = CheckError::PublishMissing {
             publication: 0,
             operation,
         };
-        assert_eq!(rt; refusal(alloc, catalog, &[])?, Some(missing));
+        same(&rt, found, Some(wanted));
     }
     Ok(())
 }
 
 #[test]
 fn filters_name_identity_columns(rt: HostRuntime) -> Result<(), Fail> {
-    let alloc = rt.alloc();
+    let not_covered = CheckError::NotCovered {
+        publication: 0,
+        table: 0,
+        column: 1,
+    };
     let cases = [
-        (Identity::Nothing, CheckError::NoIdentity { table: 0 }),
-        (
-            Identity::Default,
-            CheckError::NotCovered {
-                publication: 0,
-                table: 0,
-                column: 1,
-            },
-        ),
-        (
-            Identity::Index(0),
-            CheckError::NotCovered {
-                publication: 0,
-                table: 0,
-                column: 1,
-            },
-        ),
-        (Identity::Index(1), CheckError::NoIdentity { table: 0 }),
-        (Identity::Index(2), CheckError::NoIdentity { table: 0 }),
-        (Identity::Full, CheckError::CertCount),
+        ("NOTHING", CheckError::NoIdentity { table: 0 }),
+        ("DEFAULT", not_covered),
+        ("USING INDEX i", not_covered),
+        ("FULL", CheckError::CertCount),
     ];
-    for (identity, expected) in cases {
-        let filter = text(alloc, REGION, Op::Eq, "eu")?;
-        let catalog = catalog(alloc, identity, operations(4), filter)?;
-        assert_eq!(rt; refusal(alloc, catalog, &[])?, Some(expected));
+    for (identity, wanted) in cases {
+        let found = refusal_by_region(rt.alloc(), identity, ALL)?;
+        same(&rt, found, Some(wanted));
     }
     Ok(())
+}
+
+/// A table that one subscriber takes whole.
+const WHOLE: &str = "CREATE TABLE t (id integer PRIMARY KEY);
+CREATE PUBLICATION pa FOR TABLE t;
+CREATE SUBSCRIPTION s0 CONNECTION '' PUBLICATION pa;";
+
+/// The same, where the publication is also of a table that is not there.
+fn with_unknown_table(alloc: Global) -> Result<Catalog, Fail> {
+    let mut catalog = catalog_of(alloc, WHOLE)?;
+    let mut publication = catalog.publications.pop().ok_or("a publication")?;
+    publication.entries.push(Entry {
+        table: 7,
+        filter: None,
+    })?;
+    if catalog.publications.len() >= 64 {
+        return Err(Fail::from("too many publications"));
+    }
+    catalog.publications.push(publication)?;
+    Ok(catalog)
 }
 
 #[test]
 fn a_table_that_is_not_there_is_refused(rt: HostRuntime) -> Result<(), Fail> {
     let alloc = rt.alloc();
-    let mut catalog = catalog(alloc, Identity::Default, operations(4), low())?;
-    if let Some(first) = catalog.publications.get_mut(0) {
-        first.entries.push(Entry {
-            table: 7,
-            filter: None,
-        })?;
-    }
-    let certs = vec![in alloc; by_halves(alloc)?]?;
+    let certs = certificates(alloc, &["o 0"])?;
+    same(
+        &rt,
+        refusal(alloc, catalog_of(alloc, WHOLE)?, &certs)?,
+        None,
+    );
     let unknown = CheckError::UnknownTable {
         publication: 0,
         table: 7,
     };
-    assert_eq!(rt; refusal(alloc, catalog, &certs)?, Some(unknown));
+    let found = refusal(alloc, with_unknown_table(alloc)?, &certs)?;
+    same(&rt, found, Some(unknown));
     Ok(())
 }
 
 #[test]
 fn certificates_are_counted_and_checked(rt: HostRuntime) -> Result<(), Fail> {
     let alloc = rt.alloc();
-    let none = vec![in alloc;]?;
-    let not_owner = vec![in alloc; owner(0)]?;
-    let bad_index = vec![in alloc; owner(2)]?;
-    let two = vec![in alloc; by_halves(alloc)?, by_halves(alloc)?]?;
-    let cases = [
-        (none, CheckError::CertCount),
-        (not_owner, CheckError::NotOwner { table: 0, node: 0 }),
-        (bad_index, CheckError::BadIndex { table: 0, node: 0 }),
-        (two, CheckError::CertCount),
+    let cases: [(&[&str], CheckError); 4] = [
+        (&[], CheckError::CertCount),
+        (&["o 0"], CheckError::NotOwner { table: 0, node: 0 }),
+        (&["o 2"], CheckError::BadIndex { table: 0, node: 0 }),
+        (&[BY_HALVES, BY_HALVES], CheckError::CertCount),
     ];
-    for (certs, expected) in &cases {
-        let catalog = catalog(alloc, Identity::Full, operations(4), low())?;
-        assert_eq!(rt; refusal(alloc, catalog, certs)?, Some(*expected));
+    for (spellings, wanted) in cases {
+        let certs = certificates(alloc, spellings)?;
+        let found = refusal(alloc, halves(alloc, "FULL")?, &certs)?;
+        same(&rt, found, Some(wanted));
     }
     Ok(())
 }

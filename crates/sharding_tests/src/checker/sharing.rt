@@ -1,10 +1,8 @@
 //! Filters that have atoms and parts many times, and paths on which atoms are tested again.
 
-use super::{ID, REGION, number, or, table, text};
-use filter_tree::{Atom, Filter, Identity, Op, Test};
+use super::{ID, REGION, expect_answers, not_owner, number, or, second_owner, text};
+use filter_tree::{Atom, Filter, Op, Test};
 use replica_identity::Share;
-use shard_checker::{CheckError, check_one};
-use split_cert::read_in;
 use std::alloc::{AllocError, Global};
 use std::test::Fail;
 
@@ -25,22 +23,6 @@ fn below() -> Filter {
     number(ID, Op::Lt, 100)
 }
 
-/// What the check of a text says of `t` with these two shares.
-fn answer(
-    alloc: Global,
-    one: &Share,
-    other: &Share,
-    certificate: &str,
-) -> Result<Result<(), CheckError>, Fail> {
-    let table = table(alloc, Identity::Full)?;
-    let cert = read_in(alloc, certificate)?;
-    Ok(check_one(alloc, &table, &[one, other], &cert))
-}
-
-fn not_owner(node: usize) -> Result<(), CheckError> {
-    Err(CheckError::NotOwner { table: 0, node })
-}
-
 #[test]
 fn the_first_value_of_an_atom_counts(rt: HostRuntime) -> Result<(), Fail> {
     let alloc = rt.alloc();
@@ -55,25 +37,25 @@ fn the_first_value_of_an_atom_counts(rt: HostRuntime) -> Result<(), Fail> {
         ("s 0 o 0 s 0 o 1 o 1 o 1 n 0", Ok(())),
         ("s 0 o 0 s 0 s 0 o 1 o 0 o 1 o 1 o 1 n 0", not_owner(5)),
     ];
-    for (certificate, expected) in &cases {
-        assert_eq!(rt; answer(alloc, &low, &high, *certificate)?, *expected);
-    }
-    Ok(())
+    expect_answers(&rt, alloc, &[&low, &high], &cases)
 }
 
-/// `(id < 100 OR NOT id < 100) AND known`, where `known` is whether `region = 'eu'` is.
-fn by_region(alloc: Global, known: Filter) -> Result<Share, AllocError> {
+/// Whether `region = 'eu'` is unknown.
+fn region_is_unknown(alloc: Global) -> Result<Filter, AllocError> {
+    is_unknown(alloc, text(alloc, REGION, Op::Eq, "eu")?)
+}
+
+/// `(id < 100 OR NOT id < 100) AND part`.
+fn with_any(alloc: Global, part: Filter) -> Result<Share, AllocError> {
     let any = or(alloc, below(), not(alloc, below())?)?;
-    Ok(Share::Where(and(alloc, any, known)?))
+    Ok(Share::Where(and(alloc, any, part)?))
 }
 
 #[test]
 fn an_atom_is_open_again_after_its_split(rt: HostRuntime) -> Result<(), Fail> {
     let alloc = rt.alloc();
-    let eu = is_unknown(alloc, text(alloc, REGION, Op::Eq, "eu")?)?;
-    let known = by_region(alloc, not(alloc, eu)?)?;
-    let eu = is_unknown(alloc, text(alloc, REGION, Op::Eq, "eu")?)?;
-    let unknown = by_region(alloc, eu)?;
+    let known = with_any(alloc, not(alloc, region_is_unknown(alloc)?)?)?;
+    let unknown = with_any(alloc, region_is_unknown(alloc)?)?;
     let cases = [
         ("s 0 s 1 o 0 o 0 o 1 s 1 o 0 o 0 o 1 n 0", Ok(())),
         (
@@ -85,18 +67,19 @@ fn an_atom_is_open_again_after_its_split(rt: HostRuntime) -> Result<(), Fail> {
         ("s 0 s 1 o 0 o 0 o 0 o 1 n 0", not_owner(4)),
         ("s 1 o 0 o 0 o 1", not_owner(1)),
     ];
-    for (certificate, expected) in &cases {
-        assert_eq!(rt; answer(alloc, &known, &unknown, *certificate)?, *expected);
-    }
-    Ok(())
+    expect_answers(&rt, alloc, &[&known, &unknown], &cases)
+}
+
+/// `id < 100 AND region IS NULL`.
+fn below_nowhere(alloc: Global) -> Result<Filter, AllocError> {
+    and(alloc, below(), Filter::Atom(Atom::IsNull(1)))
 }
 
 /// `id < 100 AND region IS NULL`, joined by OR with itself 200 times.
 fn often(alloc: Global) -> Result<Filter, AllocError> {
-    let mut filter = and(alloc, below(), Filter::Atom(Atom::IsNull(1)))?;
+    let mut filter = below_nowhere(alloc)?;
     for _ in 0..200 {
-        let part = and(alloc, below(), Filter::Atom(Atom::IsNull(1)))?;
-        filter = or(alloc, filter, part)?;
+        filter = or(alloc, filter, below_nowhere(alloc)?)?;
     }
     Ok(filter)
 }
@@ -106,24 +89,15 @@ fn parts_that_filters_share_are_the_same(rt: HostRuntime) -> Result<(), Fail> {
     let alloc = rt.alloc();
     let inside = Share::Where(often(alloc)?);
     let outside = Share::Where(not(alloc, often(alloc)?)?);
-    let second = Err(CheckError::SecondOwner {
-        table: 0,
-        node: 2,
-        subscriber: 1,
-    });
     let cases = [
         ("s 0 s 1 o 0 o 1 n 1 o 1 n 0", Ok(())),
         ("s 1 s 0 o 0 o 1 n 0 o 1 n 1", Ok(())),
         ("s 0 s 1 o 0 o 1 n 1 o 0 n 0", not_owner(5)),
         ("s 1 s 0 o 0 o 1 n 0 o 0 n 1", not_owner(5)),
     ];
-    for (certificate, expected) in &cases {
-        assert_eq!(rt; answer(alloc, &inside, &outside, *certificate)?, *expected);
-    }
-    let everything = Share::Everything;
-    let both = answer(alloc, &inside, &everything, "s 0 s 1 o 0 o 1 n 1 o 1 n 0")?;
-    assert_eq!(rt; both, second);
-    Ok(())
+    expect_answers(&rt, alloc, &[&inside, &outside], &cases)?;
+    let of_both = [("s 0 s 1 o 0 o 1 n 1 o 1 n 0", second_owner(2, 1))];
+    expect_answers(&rt, alloc, &[&inside, &Share::Everything], &of_both)
 }
 
 /// `id < 0 OR id < 1 OR ..`, of 64 atoms.
@@ -140,12 +114,11 @@ fn many(alloc: Global) -> Result<Filter, AllocError> {
 fn one_after_another(alloc: Global, last: u32) -> Result<String, AllocError> {
     let mut certificate = String::new(alloc);
     for atom in 0..64 {
-        certificate.push_str(format!(in alloc; "s {atom} o 0 ")?.as_str())?;
+        write!(certificate, "s {atom} o 0 ")?;
     }
-    certificate.push_str(format!(in alloc; "o {last}")?.as_str())?;
-    for place in 0..64 {
-        let atom = 63_u32.saturating_sub(place);
-        certificate.push_str(format!(in alloc; " n {atom}")?.as_str())?;
+    write!(certificate, "o {last}")?;
+    for atom in (0..64).rev() {
+        write!(certificate, " n {atom}")?;
     }
     Ok(certificate)
 }
@@ -156,11 +129,8 @@ fn each_atom_of_a_deep_path_counts(rt: HostRuntime) -> Result<(), Fail> {
     let some = Share::Where(many(alloc)?);
     let none = Share::Where(not(alloc, many(alloc)?)?);
     let right = one_after_another(alloc, 1)?;
-    assert_eq!(rt; answer(alloc, &some, &none, right.as_str())?, Ok(()));
     let wrong = one_after_another(alloc, 0)?;
-    assert_eq!(rt;
-        answer(alloc, &some, &none, wrong.as_str())?,
-        not_owner(128)
-    );
-    Ok(())
+    let (right, wrong) = (right.as_str(), wrong.as_str());
+    let cases = [(right, Ok(())), (wrong, not_owner(128))];
+    expect_answers(&rt, alloc, &[&some, &none], &cases)
 }

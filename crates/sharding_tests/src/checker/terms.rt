@@ -1,28 +1,93 @@
 use super::{ID, ID_BY_2, REGION, number, or};
+use crate::checks::same;
 use filter_tree::{Atom, ColType, Filter, Op, Term};
 use replica_identity::Share;
 use shard_checker::{kind_at, numbered_atoms, numbered_terms, range_of};
 use std::test::Fail;
 
+/// The numbers of a term of a column of this type.
+#[derive(Clone, Copy)]
+struct NumberCase {
+    kind: ColType,
+    term: Term,
+    least: i64,
+    greatest: i64,
+}
+
 /// Of "8.1 Numeric Types", and of "9.3 Mathematical Functions and Operators": a remainder has the sign of the number.
+const NUMBER_CASES: [NumberCase; 9] = [
+    NumberCase {
+        kind: ColType::SmallInt,
+        term: ID,
+        least: -32768,
+        greatest: 32767,
+    },
+    NumberCase {
+        kind: ColType::Integer,
+        term: ID,
+        least: -2147483648,
+        greatest: 2147483647,
+    },
+    NumberCase {
+        kind: ColType::BigInt,
+        term: ID,
+        least: i64::MIN,
+        greatest: i64::MAX,
+    },
+    NumberCase {
+        kind: ColType::Integer,
+        term: Term::Mod(0, 3),
+        least: -2,
+        greatest: 2,
+    },
+    NumberCase {
+        kind: ColType::Integer,
+        term: Term::Mod(0, -3),
+        least: -2,
+        greatest: 2,
+    },
+    NumberCase {
+        kind: ColType::SmallInt,
+        term: Term::Mod(0, 1),
+        least: 0,
+        greatest: 0,
+    },
+    NumberCase {
+        kind: ColType::SmallInt,
+        term: Term::Mod(0, 32768),
+        least: -32767,
+        greatest: 32767,
+    },
+    NumberCase {
+        kind: ColType::SmallInt,
+        term: Term::Mod(0, 100_000),
+        least: -32768,
+        greatest: 32767,
+    },
+    NumberCase {
+        kind: ColType::BigInt,
+        term: Term::Mod(0, i64::MIN),
+        least: -i64::MAX,
+        greatest: i64::MAX,
+    },
+];
+
+/// The least number of a term and the greatest one.
+fn ends_of(kind: ColType, term: Term) -> (i64, i64) {
+    let range = range_of(kind, term);
+    (range.least, range.greatest)
+}
+
 #[test]
 fn terms_have_the_numbers_of_their_type_and_divisor(rt: HostRuntime) {
-    let cases = [
-        (ColType::SmallInt, ID, -32768, 32767),
-        (ColType::Integer, ID, -2147483648, 2147483647),
-        (ColType::BigInt, ID, i64::MIN, i64::MAX),
-        (ColType::Integer, Term::Mod(0, 3), -2, 2),
-        (ColType::Integer, Term::Mod(0, -3), -2, 2),
-        (ColType::SmallInt, Term::Mod(0, 1), 0, 0),
-        (ColType::SmallInt, Term::Mod(0, 32768), -32767, 32767),
-        (ColType::SmallInt, Term::Mod(0, 100_000), -32768, 32767),
-        (ColType::BigInt, Term::Mod(0, i64::MIN), -i64::MAX, i64::MAX),
-    ];
-    for (kind, term, least, greatest) in cases {
-        let range = range_of(kind, term);
-        assert_eq!(rt; (range.least, range.greatest), (least, greatest));
+    for case in NUMBER_CASES {
+        same(
+            &rt,
+            ends_of(case.kind, case.term),
+            (case.least, case.greatest),
+        );
     }
-    assert_eq!(rt; kind_at(&[], 0), ColType::BigInt);
+    same(&rt, kind_at(&[], 0), ColType::BigInt);
 }
 
 #[test]
@@ -34,11 +99,11 @@ fn atoms_and_terms_are_numbered_as_they_appear(rt: HostRuntime) -> Result<(), Fa
     let other = Share::Where(or(alloc, even_or_low, no_region)?);
     let shares = [&low, &Share::Everything, &other, &low];
     let terms = numbered_terms(alloc, &shares)?;
-    assert_eq!(rt; terms.as_slice(), [ID, ID_BY_2, REGION].as_slice());
+    same(&rt, terms.as_slice(), &[ID, ID_BY_2, REGION]);
     let atoms = numbered_atoms(alloc, &shares)?;
-    assert_eq!(rt; atoms.len(), 3);
+    same(&rt, atoms.len(), 3);
     for (atom, term) in atoms.iter().zip(terms.iter()) {
-        assert_eq!(rt; atom.term(), *term);
+        same(&rt, atom.term(), *term);
     }
     Ok(())
 }

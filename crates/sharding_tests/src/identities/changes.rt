@@ -1,27 +1,17 @@
 //! What is recorded of old rows, and what subscribers get of changes.
 
-use super::row;
-use filter_tree::{
-    ColType, Column, Identity, Items, Row, Table, Text, UniqueIndex, Value, copy_row, copy_value,
-};
-use pub_reader::{ReadError, read_catalog};
-use replica_identity::{Change, OldPart, Out, carries, old_part, plan, transform};
+mod cases;
+
+use crate::calls::{catalog_of, longest_text, plan_of, row_of, text};
+use crate::checks::{holds, same};
+use crate::tables::{columns_alike, table_of};
+use cases::{DELETIONS, Deletion, Recorded, SHARES, Side, UPDATES, Update};
+use filter_tree::{ColType, Identity, Row, Table, Text, Value, copy_value};
+use pub_reader::Catalog;
+use replica_identity::{Change, OldPart, Out, Plan, carries, old_part, transform};
 use std::alloc::{AllocError, Global};
+use std::process::Abort;
 use std::test::Fail;
-
-/// Three tables alike, of which the subscriber takes the rows of a filter on `id`, on `note` and on `code`.
-const SHARES: &str = "CREATE TABLE d (id integer PRIMARY KEY, code text, note text);
-CREATE TABLE f (id integer PRIMARY KEY, code text, note text);
-CREATE TABLE i (id integer PRIMARY KEY, code text, note text);
-CREATE PUBLICATION p FOR TABLE d WHERE (id < 100), f WHERE (note = 'x'), i WHERE (code = 'a' OR code = 'b');
-CREATE SUBSCRIPTION s CONNECTION '' PUBLICATION p;
-";
-
-const BY_ID: usize = 0;
-
-const BY_NOTE: usize = 1;
-
-const BY_CODE: usize = 2;
 
 /// A table of so many columns, with this key and a unique index of these columns.
 fn table(
@@ -31,292 +21,125 @@ fn table(
     indexed: &[usize],
     identity: Identity,
 ) -> Result<Table, AllocError> {
-    let mut columns = Vec::new(alloc);
-    for _ in 0..width {
-        columns.push(Column {
-            name: Text::from_str(alloc, "c")?,
-            kind: ColType::Text,
-            not_null: true,
-        })?;
-    }
-    let mut indexes = Vec::new(alloc);
-    indexes.push(UniqueIndex {
-        name: Text::from_str(alloc, "i")?,
-        columns: Items::from_vec(Vec::from_slice(alloc, indexed)?),
-    })?;
-    Ok(Table {
-        schema: Text::from_str(alloc, "public")?,
-        name: Text::from_str(alloc, "t")?,
-        columns: Items::from_vec(columns),
-        key: Items::from_vec(Vec::from_slice(alloc, key)?),
-        indexes: Items::from_vec(indexes),
-        identity,
-    })
+    let columns = columns_alike(alloc, width, ColType::Text, true)?;
+    table_of(alloc, "t", columns, key, &[indexed], identity)
 }
 
-/// What is to be recorded of an old row.
-#[derive(Clone, Copy)]
-enum Recorded {
-    Nothing,
-    Key(&'static str),
-    Whole,
+/// What is recorded of a row of the table, which becomes the new one, if there is one.
+fn part_of(
+    alloc: Global,
+    table: &Table,
+    old: &Row,
+    new: Option<&Row>,
+) -> Result<OldPart, AllocError> {
+    old_part(alloc, table, old, new)
 }
 
-fn part(alloc: Global, recorded: Recorded, old: &str) -> Result<OldPart, ReadError> {
+/// Fails the test where something else comes of the change for the subscriber.
+fn expect_out(
+    rt: &impl Abort,
+    plan: &Plan,
+    subscriber: usize,
+    change: &Change,
+    wanted: Option<Out<'_>>,
+) {
+    same(rt, transform(plan, subscriber, change), wanted);
+}
+
+/// Fails the test where a copy of the change differs from it.
+fn expect_copy(rt: &impl Abort, alloc: Global, change: &Change) -> Result<(), AllocError> {
+    let copy = change.copy(alloc)?;
+    same(rt, &copy, change);
+    Ok(())
+}
+
+/// What is to be recorded of the old row.
+fn wanted_part(alloc: Global, recorded: Recorded, old: &str) -> Result<OldPart, Fail> {
     match recorded {
         Recorded::Nothing => Ok(OldPart::None),
-        Recorded::Key(text) => Ok(OldPart::Key(row(alloc, text)?)),
-        Recorded::Whole => Ok(OldPart::Full(row(alloc, old)?)),
+        Recorded::Key(spelling) => Ok(OldPart::Key(row_of(alloc, spelling)?)),
+        Recorded::Whole => Ok(OldPart::Full(row_of(alloc, old)?)),
     }
 }
 
-/// What is to come of an update.
-#[derive(Clone, Copy)]
-enum Side {
-    Neither,
-    New,
-    Old,
-    Both,
+/// What is recorded of the old row in a table with three columns and this identity, if it becomes the new row, or is
+/// deleted where there is none.
+fn found_part(
+    alloc: Global,
+    identity: Identity,
+    old: &str,
+    new: Option<&Row>,
+) -> Result<OldPart, Fail> {
+    let table = table(alloc, 3, &[0], &[1], identity)?;
+    let old = row_of(alloc, old)?;
+    Ok(part_of(alloc, &table, &old, new)?)
 }
 
-/// The replica identity, the table, the old row and the new one; then what is recorded, and which sides pass.
-type Case = (Identity, usize, &'static str, &'static str, Recorded, Side);
+/// What is to come of an update with this part and this new row.
+fn wanted_out<'a>(side: Side, old: &'a OldPart, new: &'a Row) -> Option<Out<'a>> {
+    match side {
+        Side::Neither => None,
+        Side::New => Some(Out::Insert(new)),
+        Side::Old => Some(Out::Delete(old)),
+        Side::Both => Some(Out::Update(old, new)),
+    }
+}
 
-const KEY_OF_7: Recorded = Recorded::Key("(7, NULL, NULL)");
-
-const KEY_OF_150: Recorded = Recorded::Key("(150, NULL, NULL)");
-
-const CODE_A: Recorded = Recorded::Key("(NULL, 'a', NULL)");
-
-const CODE_C: Recorded = Recorded::Key("(NULL, 'c', NULL)");
-
-/// Worked out from the rules by hand: which columns change, what the identity records of the old row, and whether that and
-/// the new row pass.
-const UPDATES: [Case; 18] = [
-    (
-        Identity::Default,
-        BY_ID,
-        "(7, 'a', 'x')",
-        "(7, 'b', NULL)",
-        Recorded::Nothing,
-        Side::Both,
-    ),
-    (
-        Identity::Default,
-        BY_ID,
-        "(150, 'a', 'x')",
-        "(150, 'b', 'x')",
-        Recorded::Nothing,
-        Side::Neither,
-    ),
-    (
-        Identity::Default,
-        BY_ID,
-        "(7, 'a', 'x')",
-        "(8, 'a', 'x')",
-        KEY_OF_7,
-        Side::Both,
-    ),
-    (
-        Identity::Default,
-        BY_ID,
-        "(7, 'a', 'x')",
-        "(150, 'a', 'x')",
-        KEY_OF_7,
-        Side::Old,
-    ),
-    (
-        Identity::Default,
-        BY_ID,
-        "(150, 'a', 'x')",
-        "(7, 'a', 'x')",
-        KEY_OF_150,
-        Side::New,
-    ),
-    (
-        Identity::Default,
-        BY_ID,
-        "(150, 'a', 'x')",
-        "(160, 'a', 'x')",
-        KEY_OF_150,
-        Side::Neither,
-    ),
-    (
-        Identity::Full,
-        BY_NOTE,
-        "(7, 'a', 'x')",
-        "(7, 'a', 'x')",
-        Recorded::Whole,
-        Side::Both,
-    ),
-    (
-        Identity::Full,
-        BY_NOTE,
-        "(7, 'a', 'x')",
-        "(8, 'b', 'x')",
-        Recorded::Whole,
-        Side::Both,
-    ),
-    (
-        Identity::Full,
-        BY_NOTE,
-        "(7, 'a', 'x')",
-        "(7, 'a', 'y')",
-        Recorded::Whole,
-        Side::Old,
-    ),
-    (
-        Identity::Full,
-        BY_NOTE,
-        "(7, 'a', NULL)",
-        "(7, 'a', 'x')",
-        Recorded::Whole,
-        Side::New,
-    ),
-    (
-        Identity::Full,
-        BY_NOTE,
-        "(7, 'a', 'y')",
-        "(7, 'a', NULL)",
-        Recorded::Whole,
-        Side::Neither,
-    ),
-    (
-        Identity::Index(0),
-        BY_CODE,
-        "(7, 'a', 'x')",
-        "(8, 'a', 'y')",
-        Recorded::Nothing,
-        Side::Both,
-    ),
-    (
-        Identity::Index(0),
-        BY_CODE,
-        "(7, 'c', 'x')",
-        "(8, 'c', 'y')",
-        Recorded::Nothing,
-        Side::Neither,
-    ),
-    (
-        Identity::Index(0),
-        BY_CODE,
-        "(7, 'a', 'x')",
-        "(7, 'b', 'x')",
-        CODE_A,
-        Side::Both,
-    ),
-    (
-        Identity::Index(0),
-        BY_CODE,
-        "(7, 'a', 'x')",
-        "(7, 'c', 'x')",
-        CODE_A,
-        Side::Old,
-    ),
-    (
-        Identity::Index(0),
-        BY_CODE,
-        "(7, 'c', 'x')",
-        "(7, 'a', 'x')",
-        CODE_C,
-        Side::New,
-    ),
-    (
-        Identity::Index(0),
-        BY_CODE,
-        "(7, 'c', 'x')",
-        "(7, 'd', 'x')",
-        CODE_C,
-        Side::Neither,
-    ),
-    (
-        Identity::Nothing,
-        BY_ID,
-        "(7, 'a', 'x')",
-        "(8, 'a', 'x')",
-        Recorded::Nothing,
-        Side::Both,
-    ),
-];
+/// Fails the test where another part is recorded, or something else is to come.
+fn expect_update(rt: &impl Abort, alloc: Global, plan: &Plan, case: Update) -> Result<(), Fail> {
+    let new = row_of(alloc, case.new)?;
+    let found = found_part(alloc, case.identity, case.old, Some(&new))?;
+    let wanted = wanted_part(alloc, case.recorded, case.old)?;
+    same(rt, &found, &wanted);
+    let change = Change::Update {
+        table: case.table,
+        old: found,
+        new: row_of(alloc, case.new)?,
+    };
+    let out = wanted_out(case.side, &wanted, &new);
+    expect_out(rt, plan, 0, &change, out);
+    Ok(())
+}
 
 #[test]
 fn updates_are_turned_by_what_passes(rt: HostRuntime) -> Result<(), Fail> {
     let alloc = rt.alloc();
-    let plan = plan(alloc, &read_catalog(alloc, SHARES)?)?;
-    for (identity, number, old, new, recorded, side) in UPDATES {
-        let table = table(alloc, 3, &[0], &[1], identity)?;
-        let found = old_part(alloc, &table, &row(alloc, old)?, Some(&row(alloc, new)?))?;
-        let wanted = part(alloc, recorded, old)?;
-        assert_eq!(rt; found, wanted);
-        let change = Change::Update {
-            table: number,
-            old: found,
-            new: row(alloc, new)?,
-        };
-        let new_row = row(alloc, new)?;
-        let out = match side {
-            Side::Neither => None,
-            Side::New => Some(Out::Insert(&new_row)),
-            Side::Old => Some(Out::Delete(&wanted)),
-            Side::Both => Some(Out::Update(&wanted, &new_row)),
-        };
-        assert_eq!(rt; transform(&plan, 0, &change), out);
+    let plan = plan_of(alloc, &catalog_of(alloc, SHARES)?)?;
+    for case in UPDATES {
+        expect_update(&rt, alloc, &plan, case)?;
     }
+    Ok(())
+}
+
+/// Fails the test where another part is recorded, or something else is to come.
+fn expect_deletion(
+    rt: &impl Abort,
+    alloc: Global,
+    plan: &Plan,
+    case: Deletion,
+) -> Result<(), Fail> {
+    let found = found_part(alloc, case.identity, case.old, None)?;
+    let wanted = wanted_part(alloc, case.recorded, case.old)?;
+    same(rt, &found, &wanted);
+    let change = Change::Delete {
+        table: case.table,
+        old: found,
+    };
+    let out = if case.passes {
+        Some(Out::Delete(&wanted))
+    } else {
+        None
+    };
+    expect_out(rt, plan, 0, &change, out);
     Ok(())
 }
 
 #[test]
 fn rows_go_where_what_is_recorded_passes(rt: HostRuntime) -> Result<(), Fail> {
     let alloc = rt.alloc();
-    let plan = plan(alloc, &read_catalog(alloc, SHARES)?)?;
-    let cases = [
-        (Identity::Default, BY_ID, "(7, 'a', 'x')", KEY_OF_7, true),
-        (
-            Identity::Default,
-            BY_ID,
-            "(150, 'a', 'x')",
-            KEY_OF_150,
-            false,
-        ),
-        (
-            Identity::Full,
-            BY_NOTE,
-            "(7, 'a', 'x')",
-            Recorded::Whole,
-            true,
-        ),
-        (
-            Identity::Full,
-            BY_NOTE,
-            "(7, 'a', 'y')",
-            Recorded::Whole,
-            false,
-        ),
-        (Identity::Index(0), BY_CODE, "(7, 'a', 'x')", CODE_A, true),
-        (Identity::Index(0), BY_CODE, "(7, 'c', 'x')", CODE_C, false),
-        (
-            Identity::Nothing,
-            BY_ID,
-            "(7, 'a', 'x')",
-            Recorded::Nothing,
-            false,
-        ),
-    ];
-    for (identity, number, old, recorded, passes) in cases {
-        let table = table(alloc, 3, &[0], &[1], identity)?;
-        let found = old_part(alloc, &table, &row(alloc, old)?, None)?;
-        let wanted = part(alloc, recorded, old)?;
-        assert_eq!(rt; found, wanted);
-        let change = Change::Delete {
-            table: number,
-            old: found,
-        };
-        let out = if passes {
-            Some(Out::Delete(&wanted))
-        } else {
-            None
-        };
-        assert_eq!(rt; transform(&plan, 0, &change), out);
+    let plan = plan_of(alloc, &catalog_of(alloc, SHARES)?)?;
+    for case in DELETIONS {
+        expect_deletion(&rt, alloc, &plan, case)?;
     }
     Ok(())
 }
@@ -329,13 +152,38 @@ CREATE SUBSCRIPTION s0 CONNECTION '' PUBLICATION pa;
 CREATE SUBSCRIPTION s1 CONNECTION '' PUBLICATION pb;
 ";
 
-/// The change of a row of the table into another one.
-fn update(alloc: Global, table: &Table, old: &str, new: &str) -> Result<Change, Fail> {
-    let old = row(alloc, old)?;
-    let new = row(alloc, new)?;
+/// A row and the new one, and the shards that it leaves and enters.
+#[derive(Clone, Copy)]
+struct Move {
+    old: &'static str,
+    new: &'static str,
+    left: usize,
+    entered: usize,
+}
+
+const MOVES: [Move; 2] = [
+    Move {
+        old: "(7, 'eu')",
+        new: "(150, 'eu')",
+        left: 0,
+        entered: 1,
+    },
+    Move {
+        old: "(150, 'eu')",
+        new: "(7, 'eu')",
+        left: 1,
+        entered: 0,
+    },
+];
+
+/// The change of a row of the first table into another one.
+fn moved(alloc: Global, catalog: &Catalog, case: Move) -> Result<Change, Fail> {
+    let table = catalog.tables.first().ok_or("a table")?;
+    let old = row_of(alloc, case.old)?;
+    let new = row_of(alloc, case.new)?;
     Ok(Change::Update {
         table: 0,
-        old: old_part(alloc, table, &old, Some(&new))?,
+        old: part_of(alloc, table, &old, Some(&new))?,
         new,
     })
 }
@@ -344,45 +192,63 @@ fn update(alloc: Global, table: &Table, old: &str, new: &str) -> Result<Change, 
 #[test]
 fn a_row_goes_to_another_shard_and_comes_back(rt: HostRuntime) -> Result<(), Fail> {
     let alloc = rt.alloc();
-    let catalog = read_catalog(alloc, TWO_SHARDS)?;
-    let plan = plan(alloc, &catalog)?;
-    let table = catalog.tables.get(0).expect(&rt, "a table");
-    let cases = [
-        ("(7, 'eu')", "(150, 'eu')", 0, 1),
-        ("(150, 'eu')", "(7, 'eu')", 1, 0),
-    ];
-    for (old, new, left, entered) in cases {
-        let change = update(alloc, table, old, new)?;
-        let old_row = OldPart::Full(row(alloc, old)?);
-        let new_row = row(alloc, new)?;
-        assert_eq!(rt;
-            transform(&plan, left, &change),
-            Some(Out::Delete(&old_row))
-        );
-        assert_eq!(rt;
-            transform(&plan, entered, &change),
-            Some(Out::Insert(&new_row))
-        );
-        assert_eq!(rt; change.copy(alloc)?, change);
+    let catalog = catalog_of(alloc, TWO_SHARDS)?;
+    let plan = plan_of(alloc, &catalog)?;
+    for case in MOVES {
+        let change = moved(alloc, &catalog, case)?;
+        let old = OldPart::Full(row_of(alloc, case.old)?);
+        let new = row_of(alloc, case.new)?;
+        expect_out(&rt, &plan, case.left, &change, Some(Out::Delete(&old)));
+        expect_out(&rt, &plan, case.entered, &change, Some(Out::Insert(&new)));
+        expect_copy(&rt, alloc, &change)?;
     }
+    Ok(())
+}
+
+/// Of which of the four tables each of the five subscribers, and one more, takes anything.
+const CARRIED: [[bool; 4]; 6] = [
+    [true, false, false, false],
+    [true, false, true, false],
+    [true, true, false, false],
+    [true, true, true, false],
+    [false, false, false, false],
+    [false, false, false, false],
+];
+
+/// Of which of the four tables a subscriber takes anything.
+fn carried(plan: &Plan, subscriber: usize) -> [bool; 4] {
+    [0, 1, 2, 3].map(|table| carries(plan, subscriber, table))
+}
+
+/// Fails the test unless these of the subscribers get the command that empties the tables, and no others.
+fn expect_truncate(
+    rt: &impl Abort,
+    alloc: Global,
+    plan: &Plan,
+    tables: &[usize],
+    takers: [bool; 6],
+) -> Result<(), Fail> {
+    let change = Change::Truncate {
+        tables: Vec::from_slice(alloc, tables)?,
+    };
+    for (subscriber, takes) in takers.into_iter().enumerate() {
+        let out = if takes {
+            Some(Out::Truncate(tables))
+        } else {
+            None
+        };
+        expect_out(rt, plan, subscriber, &change, out);
+    }
+    expect_copy(rt, alloc, &change)?;
     Ok(())
 }
 
 #[test]
 fn tables_are_emptied_whatever_the_filters(rt: HostRuntime) -> Result<(), Fail> {
     let alloc = rt.alloc();
-    let plan = plan(alloc, &super::catalog(alloc)?)?;
-    let carried = [
-        [true, false, false, false],
-        [true, false, true, false],
-        [true, true, false, false],
-        [true, true, true, false],
-        [false, false, false, false],
-        [false, false, false, false],
-    ];
-    for (subscriber, expected) in carried.iter().enumerate() {
-        let found = [0, 1, 2, 3].map(|table| carries(&plan, subscriber, table));
-        assert_eq!(rt; &found, expected);
+    let plan = plan_of(alloc, &super::catalog(alloc)?)?;
+    for (subscriber, wanted) in CARRIED.into_iter().enumerate() {
+        same(&rt, carried(&plan, subscriber), wanted);
     }
     let cases: [(&[usize], [bool; 6]); 4] = [
         (&[0], [true, true, true, true, false, false]),
@@ -391,18 +257,7 @@ fn tables_are_emptied_whatever_the_filters(rt: HostRuntime) -> Result<(), Fail> 
         (&[], [false, false, false, false, false, false]),
     ];
     for (tables, takers) in cases {
-        let change = Change::Truncate {
-            tables: Vec::from_slice(alloc, tables)?,
-        };
-        for (subscriber, takes) in takers.iter().enumerate() {
-            let out = if *takes {
-                Some(Out::Truncate(tables))
-            } else {
-                None
-            };
-            assert_eq!(rt; transform(&plan, subscriber, &change), out);
-        }
-        assert_eq!(rt; change.copy(alloc)?, change);
+        expect_truncate(&rt, alloc, &plan, tables, takers)?;
     }
     Ok(())
 }
@@ -410,46 +265,47 @@ fn tables_are_emptied_whatever_the_filters(rt: HostRuntime) -> Result<(), Fail> 
 /// One of the longest texts, then this value 98 times, then this text.
 fn wide_row(alloc: Global, filling: &Value, last: &str) -> Result<Row, AllocError> {
     let mut values = Vec::new(alloc);
-    values.push(Value::Text(Text::new("a".repeat(alloc, 65_535)?)))?;
+    values.push(Value::Text(Text::new(longest_text(alloc)?)))?;
     for _ in 0..98 {
         values.push(copy_value(&alloc, filling)?)?;
     }
-    values.push(Value::Text(Text::from_str(alloc, last)?))?;
+    values.push(Value::Text(text(alloc, last)?))?;
     Ok(Row::from_values(values))
+}
+
+/// Fails the test where another part is recorded of a wide row in a table with this identity.
+fn expect_part(
+    rt: &impl Abort,
+    alloc: Global,
+    identity: Identity,
+    wanted: OldPart,
+) -> Result<(), AllocError> {
+    let key = (0..100).collect::<Vec<usize>>(alloc)?;
+    let table = table(alloc, 100, &key, &[99, 0], identity)?;
+    let old = wide_row(alloc, &Value::Int(7), "")?;
+    let new = wide_row(alloc, &Value::Int(7), "b")?;
+    let found = part_of(alloc, &table, &old, Some(&new))?;
+    holds(rt, found == wanted);
+    let change = Change::Update {
+        table: 0,
+        old: found,
+        new,
+    };
+    expect_copy(rt, alloc, &change)
 }
 
 #[test]
 fn rows_of_100_columns_and_the_longest_texts_are_recorded(rt: HostRuntime) -> Result<(), Fail> {
     let alloc = rt.alloc();
-    let key = (0..100).collect::<Vec<usize>>(alloc)?;
-    let number = Value::Int(7);
-    let old = wide_row(alloc, &number, "")?;
-    let new = wide_row(alloc, &number, "b")?;
-    let cases = [
-        (
-            Identity::Default,
-            OldPart::Key(wide_row(alloc, &number, "")?),
-        ),
-        (
-            Identity::Index(0),
-            OldPart::Key(wide_row(alloc, &Value::Null, "")?),
-        ),
-        (Identity::Full, OldPart::Full(wide_row(alloc, &number, "")?)),
-    ];
-    for (identity, wanted) in cases {
-        let table = table(alloc, 100, &key, &[99, 0], identity)?;
-        let found = old_part(alloc, &table, &old, Some(&new))?;
-        assert!(rt; found == wanted);
-        let change = Change::Update {
-            table: 0,
-            old: found,
-            new: copy_row(alloc, &new)?,
-        };
-        assert!(rt; change.copy(alloc)? == change);
-    }
+    let all = OldPart::Key(wide_row(alloc, &Value::Int(7), "")?);
+    let ends = OldPart::Key(wide_row(alloc, &Value::Null, "")?);
+    let whole = OldPart::Full(wide_row(alloc, &Value::Int(7), "")?);
+    expect_part(&rt, alloc, Identity::Default, all)?;
+    expect_part(&rt, alloc, Identity::Index(0), ends)?;
+    expect_part(&rt, alloc, Identity::Full, whole)?;
     let emptied = Change::Truncate {
         tables: (0..64).collect::<Vec<usize>>(alloc)?,
     };
-    assert_eq!(rt; emptied.copy(alloc)?, emptied);
+    expect_copy(&rt, alloc, &emptied)?;
     Ok(())
 }

@@ -1,11 +1,13 @@
 //! Tables, filters and texts at the limits of those that are read.
 
-use super::{ID, REGION, counter, sort, sort_of};
+use super::{ID, REGION, counter, expect_sort, sort_at, write_subscription};
+use crate::calls::{catalog_of, longest_text, plan_of};
+use crate::checks::same;
 use bumpalo::Bump;
 use cert_maker::{Made, make};
 use filter_tree::Value;
-use pub_reader::read_catalog;
-use replica_identity::plan;
+use pub_reader::Catalog;
+use replica_identity::Plan;
 use split_cert::Cert;
 use std::alloc::{AllocError, Global};
 use std::test::Fail;
@@ -38,71 +40,78 @@ fn a_table_of_100_columns_and_64_atoms_is_decided(rt: HostRuntime) -> Result<(),
     ];
     for (of_first, expected) in cases {
         let filters = wide_filters(alloc, of_first)?;
-        assert_eq!(rt; sort(alloc, columns.as_str(), filters.as_str())?, expected);
+        expect_sort(&rt, alloc, &columns, &filters, expected)?;
     }
     Ok(())
+}
+
+/// The length of the region that is left out of two lists of regions, and the number of owners of its row.
+fn left_out(alloc: Global, held: &str, other: &str) -> Result<(usize, usize), Fail> {
+    let filters = format!(in alloc;
+        "region = '{held}';(region = '{held}' OR region = '{other}') IS NOT TRUE"
+    )?;
+    let (row, owners) = counter(alloc, REGION, &filters)?;
+    match row.get(1) {
+        Some(Value::Text(region)) => Ok((region.len(), owners.len())),
+        _ => Err("the region is a text".into()),
+    }
 }
 
 #[test]
 fn texts_are_empty_or_of_65535_bytes(rt: HostRuntime) -> Result<(), Fail> {
     let alloc = rt.alloc();
-    let long = "a".repeat(alloc, 65_535)?;
+    let long = longest_text(alloc)?;
     let sound = format!(in alloc;
         "region = '{long}';region = '';(region = '{long}' OR region = '') IS NOT TRUE"
     )?;
-    assert_eq!(rt; sort(alloc, REGION, sound.as_str())?, "certificate");
-    let cases = [("", long.as_str(), 65_535), (long.as_str(), "", 0)];
-    for (held, left_out, length) in cases {
-        let filters = format!(in alloc;
-            "region = '{held}';(region = '{held}' OR region = '{left_out}') IS NOT TRUE"
-        )?;
-        let (row, owners) = counter(alloc, REGION, filters.as_str())?;
-        let Some(Value::Text(region)) = row.get(1) else {
-            return Err("the region is a text".into());
-        };
-        assert_eq!(rt; region.as_str().len(), length);
-        assert!(rt; owners.is_empty());
-    }
+    expect_sort(&rt, alloc, REGION, &sound, "certificate")?;
+    same(&rt, left_out(alloc, "", &long)?, (65_535, 0));
+    same(&rt, left_out(alloc, &long, "")?, (0, 0));
     Ok(())
 }
 
+/// Publishes two tables whole.
+fn write_publication(text: &mut String, number: usize, other: usize) -> Result<(), AllocError> {
+    write!(
+        text,
+        "CREATE PUBLICATION p{number} FOR TABLE t{number}, t{other};"
+    )
+}
+
 /// 64 tables, and 32 subscribers, each of which takes two tables whole.
-fn many_tables(alloc: Global) -> Result<String, AllocError> {
+fn many_tables(alloc: Global) -> Result<Catalog, Fail> {
     let mut text = String::new(alloc);
     for number in 0..64 {
         write!(text, "CREATE TABLE t{number} ({ID});")?;
     }
     for number in 0..32 {
-        write!(
-            text,
-            "CREATE PUBLICATION p{number} FOR TABLE t{number}, t{};",
-            number + 32
-        )?;
-        write!(
-            text,
-            "CREATE SUBSCRIPTION s{number} CONNECTION '' PUBLICATION p{number};"
-        )?;
+        write_publication(&mut text, number, number + 32)?;
+        write_subscription(&mut text, number)?;
     }
-    Ok(text)
+    catalog_of(alloc, &text)
+}
+
+/// The one owner of the table of this number.
+fn owner_made(alloc: Global, catalog: &Catalog, plan: &Plan, table: usize) -> Result<usize, Fail> {
+    let arena = Bump::new(alloc);
+    match make(alloc, &arena, catalog, plan, table) {
+        Made::Cert(Cert::Owner(owner)) => Ok(owner as usize),
+        _ => Err("the table has one owner".into()),
+    }
 }
 
 #[test]
 fn each_of_64_tables_has_its_owner_of_32(rt: HostRuntime) -> Result<(), Fail> {
     let alloc = rt.alloc();
-    let catalog = read_catalog(alloc, many_tables(alloc)?.as_str())?;
-    let plan = plan(alloc, &catalog)?;
+    let catalog = many_tables(alloc)?;
+    let plan = plan_of(alloc, &catalog)?;
     for number in 0..64 {
-        let arena = Bump::new(alloc);
-        let made = make(alloc, &arena, &catalog, &plan, number);
-        let Made::Cert(Cert::Owner(owner)) = &made else {
-            return Err("the table has one owner".into());
-        };
-        assert_eq!(rt; *owner as usize, number % 32);
+        same(
+            &rt,
+            owner_made(alloc, &catalog, &plan, number)?,
+            number % 32,
+        );
     }
-    let arena = Bump::new(alloc);
-    assert_eq!(rt;
-        sort_of(&make(alloc, &arena, &catalog, &plan, 64)),
-        "unknown"
-    );
+    same(&rt, sort_at(alloc, &catalog, &plan, 64), "unknown");
     Ok(())
 }

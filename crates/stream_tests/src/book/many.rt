@@ -1,6 +1,9 @@
-use super::{FULL, SPLIT, book, commit};
+use super::Order::{Delete, Insert, Update};
+use super::{FULL, SPLIT, book, commands, commit, log_len};
+use crate::checks::{holds, same};
 use filter_tree::{Row, Text, Value};
 use std::alloc::{AllocError, Global};
+use std::process::Abort;
 use std::test::Fail;
 use table_changes::Command;
 use tables_log::{Book, CommandFault, CommitError};
@@ -39,31 +42,67 @@ fn has_only(alloc: Global, book: &Book, first: i64, last: i64) -> Result<bool, A
     Ok(true)
 }
 
+/// Whether a commit of the commands is accepted.
+fn is_made(book: &mut Book, commands: &[Command]) -> bool {
+    commit(book, commands, 1).is_ok()
+}
+
+/// Inserts of the 100 rows before this number, from the last to the first.
+fn puts_before(alloc: Global, number: i64) -> Result<Vec<Command>, AllocError> {
+    let mut list = Vec::new(alloc);
+    let mut number = number;
+    for _ in 0..100 {
+        number = number.saturating_sub(1);
+        list.push(put(alloc, number, "a")?)?;
+    }
+    Ok(list)
+}
+
+/// Deletes of the 100 rows after this number, from the first to the last.
+fn takes_after(alloc: Global, number: i64) -> Result<Vec<Command>, AllocError> {
+    let mut list = Vec::new(alloc);
+    let mut number = number;
+    for _ in 0..100 {
+        number = number.saturating_add(1);
+        list.push(take(alloc, number)?)?;
+    }
+    Ok(list)
+}
+
 #[test]
 fn rows_come_from_the_last_and_go_from_the_first(rt: HostRuntime) -> Result<(), Fail> {
     let alloc = rt.alloc();
     let mut book = book(alloc, FULL, &[SPLIT], 1_000)?;
     let mut number: i64 = 10_001;
     for _ in 0..100 {
-        let mut list = Vec::new(alloc);
-        for _ in 0..100 {
-            number = number.saturating_sub(1);
-            list.push(put(alloc, number, "a")?)?;
-        }
-        assert!(rt; commit(&mut book, &list, 1).is_ok());
+        let list = puts_before(alloc, number)?;
+        holds(&rt, is_made(&mut book, &list));
+        number = number.saturating_sub(100);
     }
     let mut number: i64 = 0;
     for _ in 0..100 {
-        let mut list = Vec::new(alloc);
-        for _ in 0..100 {
-            number = number.saturating_add(1);
-            list.push(take(alloc, number)?)?;
-        }
-        assert!(rt; commit(&mut book, &list, 1).is_ok());
+        let list = takes_after(alloc, number)?;
+        holds(&rt, is_made(&mut book, &list));
+        number = number.saturating_add(100);
     }
-    assert_eq!(rt; book.log_len(), 200);
-    assert!(rt; has_only(alloc, &book, 0, 0)?);
+    same(&rt, log_len(&book), 200);
+    holds(&rt, has_only(alloc, &book, 0, 0)?);
     Ok(())
+}
+
+/// Adds inserts of these many rows, whose numbers come after this one; the answer is the last number.
+fn add_puts(
+    alloc: Global,
+    list: &mut Vec<Command>,
+    number: i64,
+    count: usize,
+) -> Result<i64, AllocError> {
+    let mut number = number;
+    for _ in 0..count {
+        number = number.saturating_add(1);
+        list.push(put(alloc, number, "a")?)?;
+    }
+    Ok(number)
 }
 
 /// A list of inserts of this length, in whose middle is the command; the answer is the command's number too.
@@ -73,18 +112,12 @@ fn around(
     command: Command,
 ) -> Result<(Vec<Command>, usize), AllocError> {
     let middle = length / 2;
+    let place = middle.saturating_add(1);
     let mut list = Vec::new(alloc);
-    let mut number: i64 = 0;
-    for _ in 0..middle {
-        number = number.saturating_add(1);
-        list.push(put(alloc, number, "a")?)?;
-    }
+    let number = add_puts(alloc, &mut list, 0, middle)?;
     list.push(command)?;
-    for _ in middle.saturating_add(1)..length {
-        number = number.saturating_add(1);
-        list.push(put(alloc, number, "a")?)?;
-    }
-    Ok((list, middle.saturating_add(1)))
+    add_puts(alloc, &mut list, number, length.saturating_sub(place))?;
+    Ok((list, place))
 }
 
 /// The command of this number that a table with the rows 1,050 and 1,060 alone refuses, and why.
@@ -118,26 +151,41 @@ fn change(alloc: Global, number: i64, other: i64) -> Result<Command, AllocError>
     })
 }
 
+/// Whether the rows of the table are 1,050 and 1,060, as they were made first.
+fn is_kept(alloc: Global, book: &Book) -> Result<bool, AllocError> {
+    let rows = book.rows(0)?;
+    let kept = [pair(alloc, 1_050, "a")?, pair(alloc, 1_060, "a")?];
+    Ok(rows.as_slice() == kept.as_slice())
+}
+
+/// That a list of this length is refused for the command of this kind in its middle, and leaves the rows.
+fn expect_refusal(
+    rt: &impl Abort,
+    alloc: Global,
+    book: &mut Book,
+    length: usize,
+    kind: u64,
+) -> Result<(), Fail> {
+    let (command, fault) = refused(alloc, kind)?;
+    let (list, number) = around(alloc, length, command)?;
+    let refusal = Err(CommitError::At(number, fault));
+    same(rt, commit(book, &list, 1), refusal);
+    holds(rt, is_kept(alloc, book)?);
+    Ok(())
+}
+
 #[test]
 fn a_refusal_in_the_middle_of_a_list_leaves_the_rows(rt: HostRuntime) -> Result<(), Fail> {
     let alloc = rt.alloc();
     let mut book = book(alloc, FULL, &[SPLIT], 10)?;
-    let first = vec![in alloc; put(alloc, 1_050, "a")?, put(alloc, 1_060, "a")?]?;
-    assert_eq!(rt; commit(&mut book, &first, 1), Ok(1));
+    let first = commands(alloc, &[Insert(0, "(1050, 'a')"), Insert(0, "(1060, 'a')")])?;
+    same(&rt, commit(&mut book, &first, 1), Ok(1));
     for length in [1, 2, 3, 10, 100, 999, 1_000] {
         for kind in 0..6u64 {
-            let (command, fault) = refused(alloc, kind)?;
-            let (list, number) = around(alloc, length, command)?;
-            assert_eq!(rt;
-                commit(&mut book, &list, 1),
-                Err(CommitError::At(number, fault))
-            );
-            let rows = book.rows(0)?;
-            let kept = [pair(alloc, 1_050, "a")?, pair(alloc, 1_060, "a")?];
-            assert!(rt; rows.as_slice() == kept.as_slice());
+            expect_refusal(&rt, alloc, &mut book, length, kind)?;
         }
     }
-    assert_eq!(rt; book.log_len(), 1);
+    same(&rt, log_len(&book), 1);
     Ok(())
 }
 
@@ -146,16 +194,12 @@ fn a_list_has_at_most_1000_commands(rt: HostRuntime) -> Result<(), Fail> {
     let alloc = rt.alloc();
     let mut book = book(alloc, FULL, &[SPLIT], 10)?;
     let mut list = Vec::new(alloc);
-    for number in 1..=1_001 {
-        list.push(put(alloc, number, "a")?)?;
-    }
-    assert_eq!(rt;
-        commit(&mut book, &list, 1),
-        Err(CommitError::TooManyCommands)
-    );
+    add_puts(alloc, &mut list, 0, 1_001)?;
+    let refused = Err(CommitError::TooManyCommands);
+    same(&rt, commit(&mut book, &list, 1), refused);
     let _ = list.pop();
-    assert_eq!(rt; commit(&mut book, &list, 1), Ok(1));
-    assert_eq!(rt; book.rows(0)?.len(), 1_000);
+    same(&rt, commit(&mut book, &list, 1), Ok(1));
+    same(&rt, book.rows(0)?.len(), 1_000);
     Ok(())
 }
 
@@ -163,27 +207,24 @@ fn a_list_has_at_most_1000_commands(rt: HostRuntime) -> Result<(), Fail> {
 fn a_commit_without_memory_leaves_the_rows(rt: HostRuntime) -> Result<(), Fail> {
     let alloc = rt.alloc();
     let mut book = book(alloc, FULL, &[SPLIT], 10)?;
-    let first = vec![in alloc; put(alloc, 1, "a")?, put(alloc, 2, "b")?]?;
-    assert!(rt; commit(&mut book, &first, 1).is_ok());
-    let second = vec![in alloc;
-        put(alloc, 3, "c")?,
-        Command::Update {
-            table: 0,
-            key: key(alloc, 1)?,
-            row: pair(alloc, 4, "d")?
-        },
-        take(alloc, 2)?,
-    ]?;
+    let first = commands(alloc, &[Insert(0, "(1, 'a')"), Insert(0, "(2, 'b')")])?;
+    holds(&rt, is_made(&mut book, &first));
+    let orders = [
+        Insert(0, "(3, 'c')"),
+        Update(0, "(1)", "(4, 'd')"),
+        Delete(0, "(2)"),
+    ];
+    let second = commands(alloc, &orders)?;
     // An allocation may be refused here, as `rt try --fail-alloc` has it; the same commit is accepted next.
     let number = commit(&mut book, &second, 2);
     if number == Err(CommitError::OutOfMemory) {
-        assert_eq!(rt; book.log_len(), 1);
-        assert!(rt; has_only(alloc, &book, 1, 2)?);
-        assert_eq!(rt; commit(&mut book, &second, 2), Ok(2));
+        same(&rt, log_len(&book), 1);
+        holds(&rt, has_only(alloc, &book, 1, 2)?);
+        same(&rt, commit(&mut book, &second, 2), Ok(2));
     } else {
-        assert_eq!(rt; number, Ok(2));
+        same(&rt, number, Ok(2));
     }
-    assert!(rt; has_only(alloc, &book, 3, 4)?);
+    holds(&rt, has_only(alloc, &book, 3, 4)?);
     Ok(())
 }
 
@@ -196,6 +237,6 @@ fn rows_and_texts_may_be_as_long_as_they_may(rt: HostRuntime) -> Result<(), Fail
         put(alloc, 1, long.as_str())?,
         put(alloc, -2_147_483_648, "")?,
     ]?;
-    assert_eq!(rt; commit(&mut book, &list, u64::MAX), Ok(1));
+    same(&rt, commit(&mut book, &list, u64::MAX), Ok(1));
     Ok(())
 }

@@ -1,6 +1,8 @@
 use super::{MIXED, book, commit};
+use crate::checks::{holds, same};
 use filter_tree::{Row, Value};
 use std::alloc::{AllocError, Global};
+use std::process::Abort;
 use std::test::Fail;
 use table_changes::Command;
 use tables_log::{Book, CommandFault, CommitError};
@@ -167,6 +169,29 @@ fn commands(alloc: Global, deeds: &[Deed]) -> Result<Vec<Command>, AllocError> {
     Ok(commands)
 }
 
+/// The rows after a list of deeds, of which the book says the same.
+fn turned(
+    rt: &impl Abort,
+    alloc: Global,
+    book: &mut Book,
+    rows: Vec<Plain>,
+    deeds: &[Deed],
+) -> Result<Vec<Plain>, AllocError> {
+    let found = commit(book, &commands(alloc, deeds)?, 1);
+    match all_done(alloc, &rows, deeds)? {
+        Ok(next) => {
+            holds(rt, found.is_ok());
+            let mut next = next;
+            next.sort_unstable();
+            Ok(next)
+        }
+        Err((number, fault)) => {
+            same(rt, found, Err(CommitError::At(number, fault)));
+            Ok(rows)
+        }
+    }
+}
+
 #[test]
 fn a_book_does_what_a_plain_list_does(rt: HostRuntime) -> Result<(), Fail> {
     let alloc = rt.alloc();
@@ -178,17 +203,9 @@ fn a_book_does_what_a_plain_list_does(rt: HostRuntime) -> Result<(), Fail> {
         let (deeds, later) = some_deeds(alloc, state)?;
         state = later;
         given = given.saturating_add(deeds.len());
-        let found = commit(&mut book, &commands(alloc, &deeds)?, 1);
-        match all_done(alloc, &rows, &deeds)? {
-            Ok(next) => {
-                assert!(rt; found.is_ok());
-                rows = next;
-                rows.sort_unstable();
-            }
-            Err((number, fault)) => assert_eq!(rt; found, Err(CommitError::At(number, fault))),
-        }
-        assert!(rt; has_rows(alloc, &book, &rows)?);
+        rows = turned(&rt, alloc, &mut book, rows, &deeds)?;
+        holds(&rt, has_rows(alloc, &book, &rows)?);
     }
-    assert!(rt; 20_000 <= given);
+    holds(&rt, 20_000 <= given);
     Ok(())
 }

@@ -3,8 +3,11 @@
 //! f with FULL (smallint, bigint, boolean, varchar(12) and numeric(10,2)), u with USING INDEX, and "Tabelle 1" with
 //! NOTHING.
 
+use crate::checks::same;
 use crate::messages::{bytes_of, hexadecimal, spelled};
 use pgoutput_msgs::decode;
+use std::alloc::Global;
+use std::process::Abort;
 use std::test::Fail;
 
 pub(super) const SERVER_MESSAGES: [&str; 24] = [
@@ -60,13 +63,20 @@ pub(super) const SERVER_MESSAGES: [&str; 24] = [
     "4300000000000153ace0000000000153ad10000303f0146fc589",
 ];
 
+/// That the message is decoded, and then spelled again.
+fn expect_again(rt: &impl Abort, alloc: Global, text: &str) -> Result<(), Fail> {
+    let bytes = bytes_of(alloc, text)?;
+    let message = decode(alloc, bytes.as_slice())?;
+    let again = spelled(alloc, &message)?;
+    let found = hexadecimal(alloc, again.as_slice())?;
+    same(rt, found.as_str(), text);
+    Ok(())
+}
+
 #[test]
 fn messages_of_a_server_are_decoded_and_spelled_again(rt: HostRuntime) -> Result<(), Fail> {
     for text in SERVER_MESSAGES {
-        let bytes = bytes_of(rt.alloc(), text)?;
-        let message = decode(rt.alloc(), bytes.as_slice())?;
-        let again = spelled(rt.alloc(), &message)?;
-        assert_eq!(rt; hexadecimal(rt.alloc(), again.as_slice())?.as_str(), text);
+        expect_again(&rt, rt.alloc(), text)?;
     }
     Ok(())
 }

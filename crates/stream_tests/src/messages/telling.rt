@@ -1,11 +1,8 @@
-ghost use Rattle.std.specs.Arc.{arc_value};
-ghost use Rattle.pub_reader.specs.CatalogLimits.{IsLimited};
-ghost use Rattle.shard_checker.specs.CheckedView.{checked_view};
-
-use crate::messages::{bytes_of, spelled};
+use crate::checks::{holds, same};
+use crate::messages::{bytes_of, longest, spelled};
 use crate::sharding::accepted;
 use filter_tree::{Row, Text, Value};
-use pgoutput_msgs::{Msg, limited_tables_fit, messages_are_read_back, messages_of};
+use pgoutput_msgs::{Msg, messages_are_read_back, messages_of};
 use pub_reader::{Step, read_script};
 use shard_checker::Checked;
 use std::alloc::{AllocError, Global};
@@ -41,10 +38,11 @@ CREATE PUBLICATION pb FOR TABLE v;
 CREATE SUBSCRIPTION s0 CONNECTION '' PUBLICATION pa;
 CREATE SUBSCRIPTION s1 CONNECTION '' PUBLICATION pb;";
 
+/// The certificates of the three tables.
+const WHOLE: [&str; 3] = ["o 0", "o 0", "o 1"];
+
 /// A book in which the transactions of the script are committed, each at the time of its number.
-fn book(alloc: Global, checked: &Arc<Checked, Global>, script: &str) -> Result<Book, Fail>
-    requires { IsLimited (checked_view (arc_value checked.now)).catalog }
-{
+fn book(alloc: Global, checked: &Arc<Checked, Global>, script: &str) -> Result<Book, Fail> {
     let mut book = Book::new(alloc, Arc::try_clone(checked)?, 10)?;
     let lines = read_script(alloc, checked.catalog(), script)?;
     let mut time: u64 = 0;
@@ -75,9 +73,7 @@ fn told_of(
     checked: &Arc<Checked, Global>,
     script: &str,
     subscriber: usize,
-) -> Result<Vec<Vec<u8>>, Fail>
-    requires { IsLimited (checked_view (arc_value checked.now)).catalog }
-{
+) -> Result<Vec<Vec<u8>>, Fail> {
     let book = book(alloc, checked, script)?;
     let mut told = vec![in alloc; false; checked.catalog().tables.len()]?;
     let mut found = Vec::new(alloc);
@@ -89,6 +85,18 @@ fn told_of(
         }
     }
     Ok(found)
+}
+
+/// What the subscriber of a sharding is told of the commits of a script.
+fn told(
+    alloc: Global,
+    catalog: &str,
+    certificates: &[&str],
+    script: &str,
+    subscriber: usize,
+) -> Result<Vec<Vec<u8>>, Fail> {
+    let checked = accepted(alloc, catalog, certificates)?;
+    told_of(alloc, &checked, script, subscriber)
 }
 
 /// Whether these are the bytes that the texts write.
@@ -134,7 +142,6 @@ fn an_update_is_a_delete_and_an_insert_where_the_row_changes_its_subscriber(
     rt: HostRuntime,
 ) -> Result<(), Fail> {
     let alloc = rt.alloc();
-    let checked = accepted(alloc, FULL, &[SPLIT])?;
     let script =
         "COMMIT INSERT t (7, 'eu'); COMMIT UPDATE t (7) (150, 'eu'), UPDATE t (150) (7, 'eu');";
     let first = [
@@ -158,8 +165,10 @@ fn an_update_is_a_delete_and_an_insert_where_the_row_changes_its_subscriber(
         END_2,
         "",
     ];
-    assert!(rt; are(alloc, &told_of(alloc, &checked, script, 0)?, &first)?);
-    assert!(rt; are(alloc, &told_of(alloc, &checked, script, 1)?, &second)?);
+    let found = told(alloc, FULL, &[SPLIT], script, 0)?;
+    holds(&rt, are(alloc, &found, &first)?);
+    let found = told(alloc, FULL, &[SPLIT], script, 1)?;
+    holds(&rt, are(alloc, &found, &second)?);
     Ok(())
 }
 
@@ -168,7 +177,6 @@ fn an_update_under_default_sends_the_old_key_only_if_it_changes(
     rt: HostRuntime,
 ) -> Result<(), Fail> {
     let alloc = rt.alloc();
-    let checked = accepted(alloc, DEFAULT, &[SPLIT])?;
     let script =
         "COMMIT INSERT t (7, 'eu'); COMMIT UPDATE t (7) (7, 'us'); COMMIT UPDATE t (7) (8, 'us');";
     let wanted = [
@@ -186,7 +194,8 @@ fn an_update_under_default_sends_the_old_key_only_if_it_changes(
         END_3,
         "",
     ];
-    assert!(rt; are(alloc, &told_of(alloc, &checked, script, 0)?, &wanted)?);
+    let found = told(alloc, DEFAULT, &[SPLIT], script, 0)?;
+    holds(&rt, are(alloc, &found, &wanted)?);
     Ok(())
 }
 
@@ -195,7 +204,6 @@ fn a_truncate_names_the_tables_of_the_subscriber_after_their_relations(
     rt: HostRuntime,
 ) -> Result<(), Fail> {
     let alloc = rt.alloc();
-    let checked = accepted(alloc, THREE, &["o 0", "o 0", "o 1"])?;
     let script =
         "COMMIT TRUNCATE (u, v, t); COMMIT INSERT v (1); COMMIT INSERT t (1), TRUNCATE (t);";
     let first = [
@@ -224,8 +232,10 @@ fn a_truncate_names_the_tables_of_the_subscriber_after_their_relations(
         "",
         "",
     ];
-    assert!(rt; are(alloc, &told_of(alloc, &checked, script, 0)?, &first)?);
-    assert!(rt; are(alloc, &told_of(alloc, &checked, script, 1)?, &second)?);
+    let found = told(alloc, THREE, &WHOLE, script, 0)?;
+    holds(&rt, are(alloc, &found, &first)?);
+    let found = told(alloc, THREE, &WHOLE, script, 1)?;
+    holds(&rt, are(alloc, &found, &second)?);
     Ok(())
 }
 
@@ -242,12 +252,11 @@ fn inserts(alloc: Global, count: u32) -> Result<String, AllocError> {
 #[test]
 fn a_commit_of_1000_commands_is_told_in_parts(rt: HostRuntime) -> Result<(), Fail> {
     let alloc = rt.alloc();
-    let checked = accepted(alloc, DEFAULT, &[SPLIT])?;
     let script = inserts(alloc, 1_000)?;
     // Begin, the Relation, each insert, Commit, and the end: 99 rows are below 100.
     for (subscriber, rows) in [(0, 99), (1, 901)] {
-        let found = told_of(alloc, &checked, script.as_str(), subscriber)?;
-        assert_eq!(rt; found.len(), rows + 4);
+        let found = told(alloc, DEFAULT, &[SPLIT], script.as_str(), subscriber)?;
+        same(&rt, found.len(), rows + 4);
     }
     Ok(())
 }
@@ -267,31 +276,29 @@ fn told_again(
     }
 }
 
+/// How many messages `told_again` has.
+fn count_told(
+    alloc: Global,
+    checked: &Checked,
+    commit: &Commit,
+    told: &mut [bool],
+) -> Result<usize, Fail> {
+    Ok(told_again(alloc, checked, commit, told)?.len())
+}
+
 #[test]
 fn want_of_memory_leaves_what_was_told(rt: HostRuntime) -> Result<(), Fail> {
     let alloc = rt.alloc();
-    let checked = accepted(alloc, THREE, &["o 0", "o 0", "o 1"])?;
-    let script = "COMMIT INSERT u (1), TRUNCATE (t, u);";
-    let book = book(alloc, &checked, script)?;
+    let checked = accepted(alloc, THREE, &WHOLE)?;
+    let book = book(alloc, &checked, "COMMIT INSERT u (1), TRUNCATE (t, u);")?;
     let Some(commit) = book.entry(1) else {
         return Err(Fail::from("no commit"));
     };
     let mut told = [true, false, false];
-    let messages = told_again(alloc, &checked, commit, &mut told)?;
-    assert_eq!(rt; messages.len(), 5);
-    assert_eq!(rt; told, [true, true, false]);
-    assert_eq!(rt; told_again(alloc, &checked, commit, &mut told)?.len(), 4);
+    same(&rt, count_told(alloc, &checked, commit, &mut told)?, 5);
+    same(&rt, told, [true, true, false]);
+    same(&rt, count_told(alloc, &checked, commit, &mut told)?, 4);
     Ok(())
-}
-
-/// A row of 100 texts of 65,535 bytes, the first of which are this letter.
-fn longest(alloc: Global, letter: &str) -> Result<Row, AllocError> {
-    let mut values = Vec::new(alloc);
-    values.push(Value::Text(Text::new(letter.repeat(alloc, 65_535)?)))?;
-    for _ in 1..100 {
-        values.push(Value::Text(Text::new("a".repeat(alloc, 65_535)?)))?;
-    }
-    Ok(Row::from_values(values))
 }
 
 /// A catalog of a table of 100 texts under FULL.
@@ -305,33 +312,48 @@ fn wide_catalog(alloc: Global) -> Result<String, AllocError> {
     Ok(text)
 }
 
-#[test]
-fn the_longest_message_is_an_update_of_the_longest_texts(rt: HostRuntime) -> Result<(), Fail> {
-    let alloc = rt.alloc();
-    let checked = accepted(alloc, wide_catalog(alloc)?.as_str(), &["o 0"])?;
-    let mut book = Book::new(alloc, Arc::try_clone(&checked)?, 2)?;
+/// A key of one of the longest texts.
+fn longest_key(alloc: Global) -> Result<Row, AllocError> {
+    let text = Value::Text(Text::new("a".repeat(alloc, 65_535)?));
+    Ok(Row::from_values(vec![in alloc; text]?))
+}
+
+/// An insert of the longest row, and an update of all that it has.
+fn longest_commands(alloc: Global) -> Result<Vec<Command>, AllocError> {
     let insert = Command::Insert {
         table: 0,
         row: longest(alloc, "a")?,
     };
     let update = Command::Update {
         table: 0,
-        key: Row::from_values(vec![in alloc; Value::Text(Text::new("a".repeat(alloc, 65_535)?))]?),
+        key: longest_key(alloc)?,
         row: longest(alloc, "b")?,
     };
-    book.commit(vec![in alloc; insert, update]?.as_slice(), 1)?;
+    Ok(vec![in alloc; insert, update]?)
+}
+
+/// The messages of the first commit of a sharding's book, where the Relation of its only table was sent.
+fn messages_of_first(alloc: Global, catalog: &str, commands: &[Command]) -> Result<Vec<Msg>, Fail> {
+    let checked = accepted(alloc, catalog, &["o 0"])?;
+    let mut book = Book::new(alloc, Arc::try_clone(&checked)?, 2)?;
+    book.commit(commands, 1)?;
     let Some(commit) = book.entry(1) else {
         return Err(Fail::from("no commit"));
     };
-    let messages = messages_of(alloc, &checked, 0, commit, &mut [true])?;
+    Ok(messages_of(alloc, &checked, 0, commit, &mut [true])?)
+}
+
+#[test]
+fn the_longest_message_is_an_update_of_the_longest_texts(rt: HostRuntime) -> Result<(), Fail> {
+    let alloc = rt.alloc();
+    let catalog = wide_catalog(alloc)?;
+    let commands = longest_commands(alloc)?;
+    let messages = messages_of_first(alloc, catalog.as_str(), &commands)?;
     let mut found = Vec::new(alloc);
     push_spelled(alloc, &messages, &mut found)?;
+    let length = found.as_slice().get(2).map(|bytes| bytes.len());
     // eleven bytes, and twice 100 columns of a letter, a length and a text
-    assert_eq!(rt;
-        found.as_slice().get(2).map(|bytes| bytes.len()),
-        Some(11 + 2 * 100 * (1 + 4 + 65_535))
-    );
+    same(&rt, length, Some(11 + 2 * 100 * (1 + 4 + 65_535)));
     messages_are_read_back();
-    limited_tables_fit();
     Ok(())
 }

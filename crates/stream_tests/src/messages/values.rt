@@ -1,59 +1,98 @@
-use filter_tree::ColType::{self, BigInt, Boolean, Integer, SmallInt, Text};
-use filter_tree::{Text as Bytes, Value};
+use crate::checks::{holds, same};
+use filter_tree::ColType::{self, BigInt, Boolean, Integer, SmallInt};
+use filter_tree::{Text, Value};
 use pgoutput_msgs::{Cell, rows_are_read_back, value_of};
+use std::alloc::{AllocError, Global};
+use std::process::Abort;
 use std::test::Fail;
+
+/// Texts, and the values that columns of each type read of them.
+const SMALL_INTEGERS: &[(&str, &str)] = &[
+    ("-32768", "Some(Int(-32768))"),
+    ("32767", "Some(Int(32767))"),
+    ("32768", "None"),
+];
+
+const INTEGERS: &[(&str, &str)] = &[
+    ("-2147483648", "Some(Int(-2147483648))"),
+    ("2147483648", "None"),
+    ("0", "Some(Int(0))"),
+    ("-0", "None"),
+    ("007", "None"),
+    ("+7", "None"),
+    (" 7", "None"),
+    ("", "None"),
+    ("-", "None"),
+    ("t", "None"),
+];
+
+const BIG_INTEGERS: &[(&str, &str)] = &[
+    ("-9223372036854775808", "Some(Int(-9223372036854775808))"),
+    ("9223372036854775807", "Some(Int(9223372036854775807))"),
+    ("9223372036854775808", "None"),
+];
+
+const BOOLEANS: &[(&str, &str)] = &[
+    ("t", "Some(Bool(true))"),
+    ("f", "Some(Bool(false))"),
+    ("true", "None"),
+    ("", "None"),
+];
+
+const TEXTS: &[(&str, &str)] = &[("a\0b", "None"), ("", "Some(Text(Text { text: \"\" }))")];
+
+/// The value of a column of this type that a cell of the text has.
+fn value(alloc: Global, kind: ColType, text: String) -> Result<Option<Value>, AllocError> {
+    value_of(alloc, kind, &Cell::Text(Text::new(text)))
+}
+
+/// That the text is read as this value.
+fn expect_value(
+    rt: &impl Abort,
+    alloc: Global,
+    kind: ColType,
+    text: &str,
+    expected: &str,
+) -> Result<(), AllocError> {
+    let found = value(alloc, kind, String::from_str(alloc, text)?)?;
+    let shown = format!(in alloc; "{found:?}")?;
+    same(rt, shown.as_str(), expected);
+    Ok(())
+}
+
+/// That the texts are read as these values.
+fn expect_values(
+    rt: &impl Abort,
+    alloc: Global,
+    kind: ColType,
+    cases: &[(&str, &str)],
+) -> Result<(), AllocError> {
+    for (text, expected) in cases {
+        expect_value(rt, alloc, kind, text, expected)?;
+    }
+    Ok(())
+}
 
 #[test]
 fn values_are_read_by_their_types(rt: HostRuntime) -> Result<(), Fail> {
-    let cases: [(ColType, &str, &str); 22] = [
-        (SmallInt, "-32768", "Some(Int(-32768))"),
-        (SmallInt, "32767", "Some(Int(32767))"),
-        (SmallInt, "32768", "None"),
-        (Integer, "-2147483648", "Some(Int(-2147483648))"),
-        (Integer, "2147483648", "None"),
-        (
-            BigInt,
-            "-9223372036854775808",
-            "Some(Int(-9223372036854775808))",
-        ),
-        (
-            BigInt,
-            "9223372036854775807",
-            "Some(Int(9223372036854775807))",
-        ),
-        (BigInt, "9223372036854775808", "None"),
-        (Integer, "0", "Some(Int(0))"),
-        (Integer, "-0", "None"),
-        (Integer, "007", "None"),
-        (Integer, "+7", "None"),
-        (Integer, " 7", "None"),
-        (Integer, "", "None"),
-        (Integer, "-", "None"),
-        (Integer, "t", "None"),
-        (Boolean, "t", "Some(Bool(true))"),
-        (Boolean, "f", "Some(Bool(false))"),
-        (Boolean, "true", "None"),
-        (Boolean, "", "None"),
-        (Text, "a\0b", "None"),
-        (Text, "", "Some(Text(Text { text: \"\" }))"),
-    ];
-    for (kind, text, expected) in cases {
-        let cell = Cell::Text(Bytes::from_str(rt.alloc(), text)?);
-        let found = value_of(rt.alloc(), kind, &cell)?;
-        assert_eq!(rt; format!(in rt.alloc(); "{found:?}")?.as_str(), expected);
-    }
-    let null = value_of(rt.alloc(), Integer, &Cell::Null)?;
-    assert!(rt; matches!(null, Some(Value::Null)));
+    let alloc = rt.alloc();
+    expect_values(&rt, alloc, SmallInt, SMALL_INTEGERS)?;
+    expect_values(&rt, alloc, Integer, INTEGERS)?;
+    expect_values(&rt, alloc, BigInt, BIG_INTEGERS)?;
+    expect_values(&rt, alloc, Boolean, BOOLEANS)?;
+    expect_values(&rt, alloc, ColType::Text, TEXTS)?;
+    let null = value_of(alloc, Integer, &Cell::Null)?;
+    holds(&rt, matches!(null, Some(Value::Null)));
     rows_are_read_back();
     Ok(())
 }
 
 #[test]
 fn the_longest_text_is_read(rt: HostRuntime) -> Result<(), Fail> {
-    for (length, is_read) in [(65_535, true), (65_536, false)] {
-        let cell = Cell::Text(Bytes::new("a".repeat(rt.alloc(), length)?));
-        let found = value_of(rt.alloc(), Text, &cell)?;
-        assert_eq!(rt; found.is_some(), is_read);
-    }
+    let alloc = rt.alloc();
+    let longest = "a".repeat(alloc, 65_535)?;
+    holds(&rt, value(alloc, ColType::Text, longest)?.is_some());
+    let longer = "a".repeat(alloc, 65_536)?;
+    holds(&rt, value(alloc, ColType::Text, longer)?.is_none());
     Ok(())
 }

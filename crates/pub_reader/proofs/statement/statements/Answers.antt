@@ -1,4 +1,4 @@
-use Rattle.std.proofs.Common.{arith, rules}
+use Rattle.std.proofs.Common.{arith}
 use Rattle.sql_reader.specs.Ahead.{to_read}
 use Rattle.sql_reader.specs.Written.{as_filter}
 use Rattle.sql_reader.proofs.Turning.{turns}

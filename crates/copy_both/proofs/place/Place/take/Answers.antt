@@ -1,6 +1,7 @@
-use Rattle.std.proofs.Common.{ℕ, ◌*◌, ◌++◌, Bool, List, ap, ◌∙◌, map}
+use Rattle.std.proofs.Common.{ℕ, ◌*◌, ◌++◌, Bool, List, All, ap, subst, ◌∙◌, map}
 use Rattle.std.specs.List.{flat_map}
 use Rattle.shard_checker.specs.CheckedView.{checked_view}
+use Rattle.pgoutput_msgs.specs.Sent.{IsSent}
 use Rattle.pgoutput_msgs.specs.Spelling.{spelling_of}
 use Rattle.pgoutput_msgs.specs.Telling.{messages_for}
 use Rattle.pgoutput_msgs.specs.declared.message.Msg.{Msg}
@@ -20,3 +21,10 @@ returns-clause-said c =
     ∙ ap (λ (x : List Msg). framed number (map spelling_of x)) (c.deref.ensures.value ∙ c.in_ok-messages.ensures.exact
     ∙ ap (λ (told : List Bool). messages_for (checked_view c.args.checked.now) c.args.self.now.slot told c.args.commit.now) c.as_mut_slice.ensures.value)
     ∙ ap (λ n. framed n told) (c.from-lsn.ensures ∙ c.number-number.ensures.shows))
+
+-- the messages are those of the definition
+pub returns-clause-read_back : goal.returns-clause-read_back
+returns-clause-read_back c =
+    subst (All IsSent) (c.in_ok-messages.ensures.exact
+    ∙ ap (λ (told : List Bool). messages_for (checked_view c.args.checked.now) c.args.self.now.slot told c.args.commit.now) c.as_mut_slice.ensures.value)
+    c.in_ok-messages.ensures.sent

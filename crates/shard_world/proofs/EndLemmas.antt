@@ -1,0 +1,165 @@
+-- The position of a subscriber is 0, or where a commit ends; so at the end of the log it is where the last one ends.
+use Rattle.std.proofs.Common.{◌≡◌, ℕ, ◌-◌, ◌<◌, ◌≤◌, Bool, true, false, List, [], ◌∷◌, ◌++◌, length, map, sym, ap, subst, arith, inr}
+use Rattle.std.specs.Prelude.{Option, Some, None, All, ◌⊎◌, ◌==◌, max, nat_le, nat_lt, slice_get, slice_index_or, if◌then◌else◌}
+use Rattle.std.proofs.lemmas.Bool.{ltb-true, ltb-false}
+use Rattle.std.proofs.lemmas.List.Elements.{All-nil, All-cons, All-head, All-tail, All-append}
+use Rattle.filter_tree.specs.declared.table.Table.{Table}
+use Rattle.table_changes.specs.Outs.{got}
+use Rattle.table_changes.specs.Records as r
+use Rattle.table_changes.proofs.TableLemmas.{by_test}
+use Rattle.shard_checker.specs.CheckedView.{CheckedOf, setting_in}
+use Rattle.tables_log.specs.Commits.{CommitOf}
+use Rattle.pgoutput_msgs.specs.Telling.{relation_at, introduced, relation_once, relations_of, told_one, told_by, named_in, message_of, said, said_each, begin_of, commit_of, enclosed, messages_for}
+use Rattle.pgoutput_msgs.specs.declared.message.Msg.{Msg}
+use Rattle.pgoutput_msgs.specs.declared.message.Msg.TheVariants as m
+use Rattle.copy_both.specs.Streams as s
+use Rattle.copy_both.specs.Streams.{Place, Move, count_before, end_of, place_at, place_after, taken_place, moved}
+use Rattle.copy_both.specs.Tellings.{telling_of}
+use Rattle.shard_world.specs.Cutting.{if_whole, whole_in}
+use Rattle.shard_world.specs.Following.{raised_by_message, raised_by, position_after}
+use Rattle.shard_world.specs.Items.{Item, Response, Carries, Alive, spelled, head_of, take_items, all_items, stream_items}
+
+-- ---- positions
+
+-- it is 0, or where the last of the commits ends that it counts
+abbrev pub IsEnd : ℕ → Type 0
+IsEnd position = (position ≡ 0) ⊎ (position ≡ end_of (count_before position))
+
+pub greater_end : (one other : ℕ) → IsEnd one → IsEnd other → IsEnd (max one other)
+greater_end one other first second = by_test (nat_lt one other)
+    (λ below. subst IsEnd (sym (is_other one other (ltb-true one other below))) second)
+    (λ above. subst IsEnd (sym (is_one one other (ltb-false one other above))) first)
+  where
+    is_other : (a b : ℕ) → a < b → max a b ≡ b
+    is_other a b h = omega (arith, h)
+
+    is_one : (a b : ℕ) → b ≤ a → max a b ≡ a
+    is_one a b h = omega (arith, h)
+
+pub end_is : (number : ℕ) → IsEnd (end_of number)
+end_is number = inr (omega arith)
+
+-- ---- what items tell
+
+abbrev TellsEnd : Msg → Type 0
+TellsEnd (m.Begin final_lsn time xid) = Unit {0}
+TellsEnd (m.Commit lsn end_lsn time) = IsEnd end_lsn
+TellsEnd (m.Relation relation) = Unit {0}
+TellsEnd (m.Insert relation new) = Unit {0}
+TellsEnd (m.Update relation old new) = Unit {0}
+TellsEnd (m.Delete relation old) = Unit {0}
+TellsEnd (m.Truncate options relations) = Unit {0}
+
+abbrev ItemTellsEnd : Item → Type 0
+ItemTellsEnd Response = Unit {0}
+ItemTellsEnd (Carries head message) = TellsEnd message
+ItemTellsEnd (Alive keepalive) = IsEnd keepalive.position
+
+message_end : (position : ℕ) (message : Msg) → TellsEnd message → IsEnd position → IsEnd (raised_by_message position message)
+message_end position (m.Begin final_lsn time xid) tells h = h
+message_end position (m.Commit lsn end_lsn time) tells h = greater_end position end_lsn h tells
+message_end position (m.Relation relation) tells h = h
+message_end position (m.Insert relation new) tells h = h
+message_end position (m.Update relation old new) tells h = h
+message_end position (m.Delete relation old) tells h = h
+message_end position (m.Truncate options relations) tells h = h
+
+item_end : (position : ℕ) (item : Item) → ItemTellsEnd item → IsEnd position → IsEnd (raised_by position item)
+item_end position Response tells h = h
+item_end position (Carries head message) tells h = message_end position message tells h
+item_end position (Alive keepalive) tells h = greater_end position keepalive.position h tells
+
+items_end : (position : ℕ) (items : List Item) → All ItemTellsEnd items → IsEnd position → IsEnd (position_after position items)
+items_end position [] tells h = h
+items_end position (item ∷ items) tells h =
+    items_end (raised_by position item) items (All-tail ItemTellsEnd item items tells) (item_end position item (All-head ItemTellsEnd item items tells) h)
+
+if_end : (whole : Bool) (item : Item) (others : List Item) → ItemTellsEnd item → All ItemTellsEnd others → All ItemTellsEnd (if_whole whole item others)
+if_end true item others first later = All-cons ItemTellsEnd item others first later
+if_end false item others first later = All-nil ItemTellsEnd
+
+whole_end : (count : ℕ) (items : List Item) → All ItemTellsEnd items → All ItemTellsEnd (whole_in count items)
+whole_end count [] tells = All-nil ItemTellsEnd
+whole_end count (item ∷ items) tells =
+    if_end (nat_le (length (spelled item)) count) item (whole_in (count - length (spelled item)) items) (All-head ItemTellsEnd item items tells)
+    (whole_end (count - length (spelled item)) items (All-tail ItemTellsEnd item items tells))
+
+-- ---- messages of a commit
+
+found_end : (number : ℕ) (found : Option Table) → All TellsEnd (relation_at number found)
+found_end number None = All-nil TellsEnd
+found_end number (Some table) = All-cons TellsEnd (m.Relation _) [] tt (All-nil TellsEnd)
+
+once_end : (tables : List Table) (told : Bool) (number : ℕ) → All TellsEnd (introduced tables told number)
+once_end tables true number = All-nil TellsEnd
+once_end tables false number = found_end number (slice_get tables number)
+
+relations_end : (tables : List Table) (told : List Bool) (numbers : List ℕ) → All TellsEnd (relations_of tables told numbers)
+unfolding relations_of relation_once
+relations_end tables told [] = All-nil TellsEnd
+relations_end tables told (number ∷ numbers) =
+    All-append TellsEnd (introduced tables (slice_index_or told number false) number) (relations_of tables (told_one told number) numbers)
+    (once_end tables (slice_index_or told number false) number) (relations_end tables (told_one told number) numbers)
+
+own_end : (change : r.ChangeOf) → All TellsEnd (message_of change)
+own_end (r.Insert table new) = All-cons TellsEnd (m.Insert _ _) [] tt (All-nil TellsEnd)
+own_end (r.Update table part new) = All-cons TellsEnd (m.Update _ _ _) [] tt (All-nil TellsEnd)
+own_end (r.Delete table None) = All-nil TellsEnd
+own_end (r.Delete table (Some part)) = All-cons TellsEnd (m.Delete _ _) [] tt (All-nil TellsEnd)
+own_end (r.Truncate numbers) = All-cons TellsEnd (m.Truncate _ _) [] tt (All-nil TellsEnd)
+
+change_end : (tables : List Table) (told : List Bool) (change : Option r.ChangeOf) → All TellsEnd (said tables told change)
+unfolding said
+change_end tables told None = All-nil TellsEnd
+change_end tables told (Some change) = All-append TellsEnd (relations_of tables told (named_in change)) (message_of change) (relations_end tables told (named_in change)) (own_end change)
+
+said_end : (checked : CheckedOf) (subscriber : ℕ) (told : List Bool) (changes : List r.ChangeOf) → All TellsEnd (said_each checked subscriber told changes)
+unfolding said_each
+said_end checked subscriber told [] = All-nil TellsEnd
+said_end checked subscriber told (change ∷ changes) =
+    All-append TellsEnd (said checked.catalog.tables told (got (setting_in checked) subscriber change)) (said_each checked subscriber (told_by told (got (setting_in checked) subscriber change)) changes)
+    (change_end checked.catalog.tables told (got (setting_in checked) subscriber change)) (said_end checked subscriber (told_by told (got (setting_in checked) subscriber change)) changes)
+
+enclosed_end : (commit : CommitOf) (messages : List Msg) → All TellsEnd messages → All TellsEnd (enclosed commit messages)
+enclosed_end commit [] all = All-nil TellsEnd
+enclosed_end commit (first ∷ others) all =
+    All-cons TellsEnd (begin_of commit) ((first ∷ others) ++ commit_of commit ∷ []) tt
+    (All-append TellsEnd (first ∷ others) (commit_of commit ∷ []) all (All-cons TellsEnd (commit_of commit) [] (end_is commit.number) (All-nil TellsEnd)))
+
+-- ---- items of a stream
+
+carried_end : (number clock : ℕ) (messages : List Msg) (rest : List Item) → All TellsEnd messages → All ItemTellsEnd rest → All ItemTellsEnd (map (Carries (head_of number clock)) messages ++ rest)
+carried_end number clock [] rest all later = later
+carried_end number clock (message ∷ messages) rest all later =
+    All-cons ItemTellsEnd (Carries (head_of number clock) message) (map (Carries (head_of number clock)) messages ++ rest) (All-head TellsEnd message messages all)
+    (carried_end number clock messages rest (All-tail TellsEnd message messages all) later)
+
+module _ (checked : CheckedOf) (log : List CommitOf) where
+  take_end : (moves : List Move) (place : Place) (clock : ℕ) (found : Option CommitOf) → IsEnd place.sent
+      → ((at : Place) → IsEnd at.sent → All ItemTellsEnd (all_items checked log at moves))
+      → All ItemTellsEnd (take_items checked place found clock ++ all_items checked log (taken_place (telling_of checked) place found) moves)
+  take_end moves place clock None sent later = later place sent
+  take_end moves place clock (Some commit) sent later =
+      carried_end commit.number clock (messages_for checked place.slot place.told commit) (all_items checked log (place_after (telling_of checked) place commit) moves)
+      (enclosed_end commit (said_each checked place.slot place.told commit.changes) (said_end checked place.slot place.told commit.changes))
+      (later (place_after (telling_of checked) place commit) (end_is commit.number))
+
+  moves_end : (moves : List Move) (place : Place) → IsEnd place.sent → All ItemTellsEnd (all_items checked log place moves)
+  moves_end [] place sent = All-nil ItemTellsEnd
+  moves_end (s.Take clock ∷ moves) place sent = take_end moves place clock (slice_get log place.done) sent (λ at tells. moves_end moves at tells)
+  moves_end (s.Keep clock want ∷ moves) place sent =
+      All-cons ItemTellsEnd (Alive (record { position = place.sent; clock = clock; wants_reply = want })) (all_items checked log place moves) sent (moves_end moves place sent)
+
+first_end : (position : ℕ) → IsEnd position → IsEnd (if position == 0 then 64 else position)
+first_end position h = by_test (position == 0)
+    (λ zero. subst IsEnd (sym (ap (λ b. if b then 64 else position) zero)) (end_is 0))
+    (λ more. subst IsEnd (sym (ap (λ b. if b then 64 else position) more)) h)
+
+-- the position after the items of a stream that are whole in some bytes
+pub stream_end : (checked : CheckedOf) (log : List CommitOf) (subscriber start : ℕ) (moves : List Move) (count position : ℕ) → IsEnd start → IsEnd position
+    → IsEnd (position_after position (whole_in count (stream_items checked log subscriber start moves)))
+stream_end checked log subscriber start moves count position begins h =
+    items_end position (whole_in count (stream_items checked log subscriber start moves))
+    (whole_end count (stream_items checked log subscriber start moves)
+    (All-cons ItemTellsEnd Response (all_items checked log (place_at subscriber (length checked.catalog.tables) start) moves) tt
+    (moves_end checked log moves (place_at subscriber (length checked.catalog.tables) start) (first_end start begins)))) h

@@ -1,0 +1,213 @@
+-- Streams grow, and so do their items that are whole, and the position that they tell.
+use Rattle.std.proofs.Common.{◌≡◌, ℕ, zero, suc, ◌+◌, ◌-◌, ◌<◌, ◌≤◌, ◌^◌, true, false, List, [], ◌∷◌, ◌++◌, length, map, refl, sym, ◌∙◌, ap, subst, arith, append_assoc, length-append}
+use Rattle.std.specs.Prelude.{Option, Some, None, All, fold, nat_le, slice_get}
+use Rattle.std.specs.List.{flat_map}
+use Rattle.std.proofs.lemmas.Bool.{leb-true, leb-false}
+use Rattle.std.proofs.lemmas.List.{append-nil}
+use Rattle.std.proofs.lemmas.Option.{slice_get_within}
+use Rattle.std.proofs.lemmas.List.Elements.{All-nil, All-cons, All-head, All-tail}
+use Rattle.table_changes.specs.Tables.{Tables, no_rows}
+use Rattle.table_changes.specs.Records.{record_of}
+use Rattle.table_changes.specs.Setting.{Setting}
+use Rattle.table_changes.proofs.TableLemmas.{by_test}
+use Rattle.shard_checker.specs.CheckedView.{CheckedOf, setting_in}
+use Rattle.tables_log.specs.Commits as log
+use Rattle.tables_log.specs.Commits.{CommitOf}
+use Rattle.tables_log.specs.StandsFor.{Transaction, left_by, AreAccepted, entries_from}
+use Rattle.pgoutput_msgs.specs.Sent.{IsSent}
+use Rattle.pgoutput_msgs.specs.Telling.{messages_for}
+use Rattle.pgoutput_msgs.specs.declared.message.Msg.{Msg}
+use Rattle.pgoutput_msgs.specs.declared.message.Msg.TheVariants as m
+use Rattle.copy_both.specs.StreamLaws.{IsThere, AllThere}
+use Rattle.copy_both.specs.Streams.{Place, Move, Take, Keep, count_before, place_at, place_after, taken_place, moved, all_moved}
+use Rattle.copy_both.specs.Tellings.{telling_of}
+use Rattle.shard_world.specs.Cutting.{if_whole, whole_in}
+use Rattle.shard_world.specs.Following.{raised_by_message, raised_by, position_after, log_of, IsSentItem}
+use Rattle.shard_world.specs.Items.{Item, Response, Carries, Alive, spelled, head_of, take_items, move_items, all_items, stream_items}
+use Rattle.shard_world.specs.Sayable.{IsSayable}
+use Rattle.shard_world.proofs.EntryLemmas.{entry_at}
+use Rattle.shard_world.proofs.FollowingLemmas.{first_sent}
+
+-- ---- items that are whole
+
+long_item : (item : Item) → 1 ≤ length (spelled item)
+long_item item = omega arith
+
+pub none_in_nothing : (items : List Item) → whole_in 0 items ≡ []
+none_in_nothing [] = refl
+none_in_nothing (item ∷ items) = by_test (nat_le (length (spelled item)) 0)
+    (λ fits. let short : length (spelled item) ≤ 0 = le_of (length (spelled item)) 0 fits in absurd (omega (arith, short, long_item item)))
+    (λ over. ap (λ b. if_whole b item (whole_in (0 - length (spelled item)) items)) over)
+  where
+    le_of : (a b : ℕ) → nat_le a b ≡ true → a ≤ b
+    le_of a b h = leb-true a b h
+
+-- more items change nothing of the bytes of those that are there
+pub whole_more : (count : ℕ) (items more : List Item) → count ≤ length (flat_map spelled items) → whole_in count (items ++ more) ≡ whole_in count items
+whole_more count [] more h = subst (λ n. whole_in n more ≡ []) (sym nothing) (none_in_nothing more)
+  where
+    nothing : count ≡ 0
+    nothing = omega (arith, h)
+whole_more count (item ∷ items) more h = by_test (nat_le (length (spelled item)) count)
+    (λ fits. ap (λ b. if_whole b item (whole_in (count - length (spelled item)) (items ++ more))) fits
+    ∙ ap (λ others. item ∷ others) (whole_more (count - length (spelled item)) items more (omega (arith, h, length-append (spelled item) (flat_map spelled items))))
+    ∙ ap (λ b. if_whole b item (whole_in (count - length (spelled item)) items)) (sym fits))
+    (λ over. ap (λ b. if_whole b item (whole_in (count - length (spelled item)) (items ++ more))) over
+    ∙ ap (λ b. if_whole b item (whole_in (count - length (spelled item)) items)) (sym over))
+
+-- ---- positions only rise
+
+message_raises : (position : ℕ) (message : Msg) → position ≤ raised_by_message position message
+message_raises position (m.Begin final_lsn time xid) = omega arith
+message_raises position (m.Commit lsn end_lsn time) = omega arith
+message_raises position (m.Relation relation) = omega arith
+message_raises position (m.Insert relation new) = omega arith
+message_raises position (m.Update relation old new) = omega arith
+message_raises position (m.Delete relation old) = omega arith
+message_raises position (m.Truncate options relations) = omega arith
+
+item_raises : (position : ℕ) (item : Item) → position ≤ raised_by position item
+item_raises position Response = omega arith
+item_raises position (Carries head message) = message_raises position message
+item_raises position (Alive keepalive) = omega arith
+
+pub items_raise : (position : ℕ) (items : List Item) → position ≤ position_after position items
+items_raise position [] = omega arith
+items_raise position (item ∷ items) =
+    let first = item_raises position item in
+    let others : raised_by position item ≤ position_after (raised_by position item) items = items_raise (raised_by position item) items in
+    omega (arith, first, others)
+
+pub more_raise : (position count more : ℕ) (items : List Item) → count ≤ more → position_after position (whole_in count items) ≤ position_after position (whole_in more items)
+more_raise position count more [] h = omega arith
+more_raise position count more (item ∷ items) h = by_test (nat_le (length (spelled item)) count)
+    (λ fits. by_test (nat_le (length (spelled item)) more)
+    (λ also. subst (λ b. position_after position (if_whole b item (whole_in (count - length (spelled item)) items)) ≤ position_after position (whole_in more (item ∷ items))) (sym fits)
+    (subst (λ b. position_after (raised_by position item) (whole_in (count - length (spelled item)) items) ≤ position_after position (if_whole b item (whole_in (more - length (spelled item)) items))) (sym also)
+    (more_raise (raised_by position item) (count - length (spelled item)) (more - length (spelled item)) items (omega (arith, h)))))
+    (λ over. absurd (let small = le_of (length (spelled item)) count fits in let big = not_le_of (length (spelled item)) more over in omega (arith, small, big, h))))
+    (λ over. subst (λ b. position_after position (if_whole b item (whole_in (count - length (spelled item)) items)) ≤ position_after position (whole_in more (item ∷ items))) (sym over)
+    (items_raise position (whole_in more (item ∷ items))))
+  where
+    le_of : (a b : ℕ) → nat_le a b ≡ true → a ≤ b
+    le_of a b k = leb-true a b k
+
+    not_le_of : (a b : ℕ) → nat_le a b ≡ false → b < a
+    not_le_of a b k = leb-false a b k
+
+-- ---- one move more
+
+pub items_append : (checked : CheckedOf) (log : List CommitOf) (place : Place) (moves : List Move) (move : Move)
+    → all_items checked log place (moves ++ move ∷ []) ≡ all_items checked log place moves ++ move_items checked log (all_moved (telling_of checked) log place moves) move
+items_append checked log place [] move = append-nil (move_items checked log place move)
+items_append checked log place (first ∷ moves) move =
+    ap (λ later. move_items checked log place first ++ later) (items_append checked log (moved (telling_of checked) log place first) moves move)
+    ∙ sym (append_assoc (move_items checked log place first) (all_items checked log (moved (telling_of checked) log place first) moves)
+    (move_items checked log (all_moved (telling_of checked) log (moved (telling_of checked) log place first) moves) move))
+
+-- ---- a longer log
+
+got_longer : {C : Type 0} (log more : List C) (n : ℕ) → n < length log → slice_get (log ++ more) n ≡ slice_get log n
+got_longer [] more n less = absurd (omega (arith, less))
+got_longer (first ∷ log) more zero less = refl
+got_longer (first ∷ log) more (suc n) less = got_longer log more n (omega (arith, less))
+
+move_longer : (checked : CheckedOf) (log more : List CommitOf) (place : Place) (move : Move) → IsThere log place move
+    → move_items checked (log ++ more) place move ≡ move_items checked log place move
+move_longer checked log more place (Take clock) there = ap (λ found. take_items checked place found clock) (got_longer log more place.done there)
+move_longer checked log more place (Keep clock want) there = refl
+
+pub moved_longer : (checked : CheckedOf) (log more : List CommitOf) (place : Place) (move : Move) → IsThere log place move
+    → moved (telling_of checked) (log ++ more) place move ≡ moved (telling_of checked) log place move
+moved_longer checked log more place (Take clock) there = ap (taken_place (telling_of checked) place) (got_longer log more place.done there)
+moved_longer checked log more place (Keep clock want) there = refl
+
+pub items_longer : (checked : CheckedOf) (log more : List CommitOf) (place : Place) (moves : List Move) → AllThere (telling_of checked) log place moves
+    → all_items checked (log ++ more) place moves ≡ all_items checked log place moves
+items_longer checked log more place [] there = refl
+items_longer checked log more place (move ∷ moves) there =
+    ap (λ at. move_items checked (log ++ more) place move ++ all_items checked (log ++ more) at moves) (moved_longer checked log more place move there.0)
+    ∙ ap (λ items. items ++ all_items checked (log ++ more) (moved (telling_of checked) log place move) moves) (move_longer checked log more place move there.0)
+    ∙ ap (λ later. move_items checked log place move ++ later) (items_longer checked log more (moved (telling_of checked) log place move) moves there.1)
+
+entries_append : (setting : Setting) (tables : Tables) (number : ℕ) (transactions more : List Transaction)
+    → entries_from setting tables number (transactions ++ more)
+    ≡ entries_from setting tables number transactions ++ entries_from setting (fold (left_by setting) tables transactions) (number + length transactions) more
+entries_append setting tables number [] more = ap (λ n. entries_from setting tables n more) (at_first number)
+  where
+    at_first : (n : ℕ) → n ≡ n + 0
+    at_first n = omega arith
+entries_append setting tables number (transaction ∷ transactions) more =
+    ap (λ others. log.commit_of number transaction.time (record_of setting tables transaction.commands) ∷ others)
+    (entries_append setting (left_by setting tables transaction) (number + 1) transactions more
+    ∙ ap (λ n. entries_from setting (left_by setting tables transaction) (number + 1) transactions ++ entries_from setting (fold (left_by setting) (left_by setting tables transaction) transactions) n more)
+    (at_later number (length transactions)))
+  where
+    at_later : (n count : ℕ) → n + 1 + count ≡ n + suc count
+    at_later n count = omega arith
+
+-- the log of more transactions goes on after that of the first ones
+pub record GoesOn (checked : CheckedOf) (transactions more : List Transaction) : Type 0 where
+  pub others : List CommitOf
+  pub is : log_of checked (transactions ++ more) ≡ log_of checked transactions ++ others
+
+pub log_goes_on : (checked : CheckedOf) (transactions more : List Transaction) → GoesOn checked transactions more
+log_goes_on checked transactions more = record {
+  others = entries_from (setting_in checked) (fold (left_by (setting_in checked)) no_rows transactions) (1 + length transactions) more;
+  is = entries_append (setting_in checked) no_rows 1 transactions more;
+}
+
+-- what can be said of more transactions can be said of the first ones
+pub sayable_first : (checked : CheckedOf) (transactions more : List Transaction) → IsSayable checked (transactions ++ more) → IsSayable checked transactions
+sayable_first checked transactions more h =
+    let on = log_goes_on checked transactions more in
+    record {
+      few = omega (arith, h.few, length-append transactions more);
+      said = λ subscriber told place commit at. h.said subscriber told place commit
+          (ap (λ all. slice_get all place) on.is ∙ got_longer (log_of checked transactions) on.others place (slice_get_within (log_of checked transactions) place commit at) ∙ at);
+    }
+
+-- ---- the items of a stream can be said
+
+abbrev pub IsClocked : Move → Type 0
+IsClocked (Take clock) = clock < 2 ^ 64
+IsClocked (Keep clock want) = clock < 2 ^ 64
+
+carried_sent : (number clock : ℕ) → number ≤ 1000000000 → clock < 2 ^ 64 → (messages : List Msg) (rest : List Item) → All IsSent messages → All IsSentItem rest
+    → All IsSentItem (map (Carries (head_of number clock)) messages ++ rest)
+carried_sent number clock few timed [] rest sent h = h
+carried_sent number clock few timed (message ∷ messages) rest sent h =
+    All-cons IsSentItem (Carries (head_of number clock) message) (map (Carries (head_of number clock)) messages ++ rest)
+    (record { start = omega (arith, few); end = omega (arith, few); clock = timed }, All-head IsSent message messages sent)
+    (carried_sent number clock few timed messages rest (All-tail IsSent message messages sent) h)
+
+module _ (checked : CheckedOf) (transactions : List Transaction) (accepted : AreAccepted (setting_in checked) no_rows transactions) (sayable : IsSayable checked transactions) where
+  take_sent : (moves : List Move) (place : Place) (clock : ℕ) → clock < 2 ^ 64 → count_before place.sent ≤ length transactions → (found : Option CommitOf)
+      → slice_get (log_of checked transactions) place.done ≡ found
+      → ((at : Place) → count_before at.sent ≤ length transactions → All IsSentItem (all_items checked (log_of checked transactions) at moves))
+      → All IsSentItem (take_items checked place found clock ++ all_items checked (log_of checked transactions) (taken_place (telling_of checked) place found) moves)
+  take_sent moves place clock timed low None e later = later place low
+  take_sent moves place clock timed low (Some commit) e later =
+      let entry = entry_at (setting_in checked) no_rows 1 transactions place.done commit accepted e in
+      let number : commit.number ≡ 1 + place.done = ap (λ (c : CommitOf). c.number) entry.is in
+      carried_sent commit.number clock (omega (arith, number, entry.within, sayable.few)) timed (messages_for checked place.slot place.told commit)
+      (all_items checked (log_of checked transactions) (place_after (telling_of checked) place commit) moves)
+      (sayable.said place.slot place.told place.done commit e)
+      (later (place_after (telling_of checked) place commit) (omega (arith, number, entry.within)))
+
+  moves_sent : (moves : List Move) (place : Place) → count_before place.sent ≤ length transactions → All IsClocked moves
+      → All IsSentItem (all_items checked (log_of checked transactions) place moves)
+  moves_sent [] place low timed = All-nil IsSentItem
+  moves_sent (Take clock ∷ moves) place low timed =
+      take_sent moves place clock (All-head IsClocked (Take clock) moves timed) low (slice_get (log_of checked transactions) place.done) refl
+      (λ at fits. moves_sent moves at fits (All-tail IsClocked (Take clock) moves timed))
+  moves_sent (Keep clock want ∷ moves) place low timed =
+      All-cons IsSentItem (Alive (record { position = place.sent; clock = clock; wants_reply = want })) (all_items checked (log_of checked transactions) place moves)
+      (omega (arith, low, sayable.few), All-head IsClocked (Keep clock want) moves timed)
+      (moves_sent moves place low (All-tail IsClocked (Keep clock want) moves timed))
+
+  pub stream_sent : (subscriber position : ℕ) (moves : List Move) → count_before position ≤ length transactions → All IsClocked moves
+      → All IsSentItem (stream_items checked (log_of checked transactions) subscriber position moves)
+  stream_sent subscriber position moves low timed =
+      All-cons IsSentItem Response (all_items checked (log_of checked transactions) (place_at subscriber (length checked.catalog.tables) position) moves) tt
+      (moves_sent moves (place_at subscriber (length checked.catalog.tables) position) (subst (λ n. n ≤ length transactions) (sym (first_sent position)) low) timed)

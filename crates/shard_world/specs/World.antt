@@ -1,0 +1,338 @@
+-- The world of a publisher and its subscribers, where any of them moves next: commits, connections that are opened and lost, and bytes that come in any pieces: PostgreSQL 15, "Logical Replication", 31.2 Subscription, and 55.4. Streaming Replication Protocol. Its events and answers are this project's own.
+use Rattle.std.specs.Prelude.{◌≡◌, ◌<◌, ◌⊎◌, ℕ, ◌+◌, ◌-◌, ◌==◌, max, min, nat_le, nat_lt, Bool, true, false, if◌then◌else◌, List, [], ◌∷◌, ◌++◌, drop, fold, length, map, slice_get, take, Option, Some, None}
+use Rattle.std.specs.List.{flat_map}
+use Rattle.copy_both.specs.Streams as s
+use Rattle.copy_both.specs.Streams.{Place, Move, place_at, all_moved, stream}
+use Rattle.copy_both.specs.Tellings.{telling_of}
+use Rattle.copy_frames.specs.Contents.{status_body}
+use Rattle.copy_frames.specs.Frames.{cut, framed}
+use Rattle.copy_frames.specs.declared.frame.Frame.{Frame}
+use Rattle.copy_frames.specs.declared.status.Status.{Status}
+use Rattle.pgoutput_msgs.specs.Telling.{messages_for}
+use Rattle.pgoutput_msgs.specs.declared.message.Msg.{Msg}
+use Rattle.pub_reader.specs.Catalogs.{CatalogOf, PublicationOf}
+use Rattle.filter_tree.specs.Expr.{Expr}
+use Rattle.pub_reader.specs.declared.catalog.Subscription.{Subscription}
+use Rattle.shard_checker.specs.CheckedView.{CheckedOf, setting_in}
+use Rattle.table_changes.specs.Commands.{Command, first_fault}
+use Rattle.tables_log.specs.Commits.{CommitOf}
+use Rattle.tables_log.specs.Committing.{IsTransaction}
+use Rattle.tables_log.specs.Faults.{fault_view}
+use Rattle.tables_log.specs.StandsFor.{Transaction, after, IsAccepted}
+use Rattle.tables_log.specs.declared.error.CommitError.{CommitError}
+use Rattle.tables_log.specs.declared.error.CommitError.TheVariants as e
+use Rattle.test_subscriber.specs.Feeding.{limit}
+use Rattle.test_subscriber.specs.Frames.{hear_cut}
+use Rattle.test_subscriber.specs.Machine.{Machine, lost, opened}
+use Rattle.test_subscriber.specs.StartQuery.{start_text}
+use Rattle.test_subscriber.specs.Subscribers.{first_machine, status_at}
+use Rattle.shard_world.specs.Cutting.{whole_in}
+use Rattle.shard_world.specs.Following.{log_of, position_after}
+use Rattle.shard_world.specs.FollowingBytes.{items_from}
+use Rattle.shard_world.specs.Items.{Item}
+
+-- ---- what a subscriber sends
+
+-- the command that asks for its stream at a position, and statuses
+pub data Up : Type 0 where
+  Asks : ℕ → Up
+  Says : Status → Up
+
+abbrev pub subscription_name : Option Subscription → List ℕ
+subscription_name None = []
+subscription_name (Some subscription) = subscription.name
+
+abbrev pub publications_taken : Option Subscription → List ℕ
+publications_taken None = []
+publications_taken (Some subscription) = subscription.publications
+
+abbrev pub publication_name : Option (PublicationOf Expr) → List ℕ
+publication_name None = []
+publication_name (Some publication) = publication.name
+
+-- by the name of its slot, which is that of its subscription, and its publications
+abbrev pub start_of : CatalogOf Expr → ℕ → ℕ → List ℕ
+start_of catalog subscriber position =
+    start_text (subscription_name (slice_get catalog.subscriptions subscriber))
+    (map (λ number. publication_name (slice_get catalog.publications number)) (publications_taken (slice_get catalog.subscriptions subscriber))) position
+
+abbrev pub up_frame : CheckedOf → ℕ → Up → Frame
+up_frame checked subscriber (Asks position) = record { kind = 81; body = start_of checked.catalog subscriber position ++ (0 ∷ []) }
+up_frame checked subscriber (Says status) = record { kind = 100; body = status_body status }
+
+abbrev pub spelled_up : CheckedOf → ℕ → Up → List ℕ
+spelled_up checked subscriber up = framed (up_frame checked subscriber up)
+
+abbrev pub if_heard : Bool → Up → List Up → List Up
+if_heard true up others = up ∷ others
+if_heard false up others = []
+
+-- those whose frames are whole in so many bytes
+abbrev pub whole_up : CheckedOf → ℕ → ℕ → List Up → List Up
+whole_up checked subscriber count [] = []
+whole_up checked subscriber count (up ∷ ups) =
+    if_heard (nat_le (length (spelled_up checked subscriber up)) count) up (whole_up checked subscriber (count - length (spelled_up checked subscriber up)) ups)
+
+-- ---- the state
+
+-- where the stream started, once it has; its moves; the statuses that were sent; and how many bytes were heard of what the subscriber sends, and delivered of the stream
+pub record Connection : Type 0 where
+  pub start : Option ℕ
+  pub moves : List Move
+  pub reports : List Status
+  pub heard : ℕ
+  pub delivered : ℕ
+
+-- the position and the machine as the connection was opened, or as they are without one; and the position that was confirmed
+pub record Peer : Type 0 where
+  pub position : ℕ
+  pub machine : Machine
+  pub confirmed : ℕ
+  pub connection : Option Connection
+
+-- subscribers by their numbers
+pub record World : Type 0 where
+  pub transactions : List Transaction
+  pub peers : ℕ → Peer
+
+abbrev pub first_peer : Peer
+first_peer = record { position = 0; machine = first_machine; confirmed = 0; connection = None }
+
+abbrev pub first_world : World
+first_world = record { transactions = []; peers = λ subscriber. first_peer }
+
+-- ---- what is seen of a subscriber
+
+-- the items of its stream, and their bytes; none before the start
+abbrev pub down_items : CheckedOf → List Transaction → ℕ → Option ℕ → List Move → List Item
+down_items checked transactions subscriber None moves = []
+down_items checked transactions subscriber (Some start) moves = items_from checked transactions subscriber start moves
+
+abbrev pub down_bytes : CheckedOf → List Transaction → ℕ → Option ℕ → List Move → List ℕ
+down_bytes checked transactions subscriber None moves = []
+down_bytes checked transactions subscriber (Some start) moves = stream (telling_of checked) (log_of checked transactions) subscriber (length checked.catalog.tables) start moves
+
+abbrev pub position_in : CheckedOf → List Transaction → ℕ → Peer → Option Connection → ℕ
+position_in checked transactions subscriber peer None = peer.position
+position_in checked transactions subscriber peer (Some c) = position_after peer.position (whole_in c.delivered (down_items checked transactions subscriber c.start c.moves))
+
+abbrev pub machine_in : CheckedOf → List Transaction → ℕ → Peer → Option Connection → Machine
+machine_in checked transactions subscriber peer None = peer.machine
+machine_in checked transactions subscriber peer (Some c) =
+    (hear_cut (cut limit (take c.delivered (down_bytes checked transactions subscriber c.start c.moves))) (opened peer.machine)).machine
+
+-- the position and the machine now
+abbrev pub position_now : CheckedOf → List Transaction → ℕ → Peer → ℕ
+position_now checked transactions subscriber peer = position_in checked transactions subscriber peer peer.connection
+
+abbrev pub machine_now : CheckedOf → List Transaction → ℕ → Peer → Machine
+machine_now checked transactions subscriber peer = machine_in checked transactions subscriber peer peer.connection
+
+-- ---- events and answers
+
+-- on the connection of a subscriber
+pub data PeerEvent : Type 0 where
+  Open : PeerEvent
+  Hear : ℕ → PeerEvent
+  Take : PeerEvent
+  Keep : Bool → PeerEvent
+  Deliver : ℕ → PeerEvent
+  Report : Bool → PeerEvent
+  Lose : PeerEvent
+
+pub data Event : Type 0 where
+  Commit : List Command → ℕ → Event
+  On : ℕ → PeerEvent → Event
+
+pub data Answer : Type 0 where
+  Committed : ℕ → Answer
+  Refused : CommitError → Answer
+  NoSubscriber : Answer
+  NotOpen : Answer
+  AlreadyOpen : Answer
+  Opened : Answer
+  Heard : ℕ → Answer
+  NotStarted : Answer
+  Idle : Answer
+  Skipped : ℕ → Answer
+  Sent : ℕ → Answer
+  Kept : Answer
+  Delivered : ℕ → Answer
+  Reported : Answer
+  Lost : Answer
+  OutOfMemory : Answer
+
+-- ---- what the publisher hears
+
+abbrev pub first_connection : Connection
+first_connection = record { start = None; moves = []; reports = []; heard = 0; delivered = 0 }
+
+abbrev pub ups_of : Peer → Connection → List Up
+ups_of peer c = Asks peer.position ∷ map Says c.reports
+
+pub record Session : Type 0 where
+  pub confirmed : ℕ
+  pub start : Option ℕ
+  pub moves : List Move
+
+-- the stream starts where it is asked to, or at what was confirmed if that is greater; another command changes nothing
+abbrev pub start_at : Option ℕ → ℕ → ℕ → Option ℕ
+start_at None position confirmed = Some (max position confirmed)
+start_at (Some start) position confirmed = Some start
+
+abbrev pub replied : Bool → ℕ → List Move
+replied true now = s.Keep now false ∷ []
+replied false now = []
+
+-- a status confirms what it says is flushed, and is answered if it wants a reply
+abbrev pub hear_up : ℕ → Session → Up → Session
+hear_up now session (Asks position) = record session { start = start_at session.start position session.confirmed }
+hear_up now session (Says status) = record session { confirmed = max session.confirmed status.flushed; moves = session.moves ++ replied status.wants_reply now }
+
+-- what is whole in these bytes and wasn't in those heard before
+abbrev pub newly : CheckedOf → ℕ → Peer → Connection → ℕ → List Up
+newly checked subscriber peer c more =
+    drop (length (whole_up checked subscriber c.heard (ups_of peer c))) (whole_up checked subscriber (c.heard + more) (ups_of peer c))
+
+abbrev pub heard_of : CheckedOf → ℕ → ℕ → Peer → Connection → ℕ → Session
+heard_of checked subscriber now peer c more = fold (hear_up now) (record { confirmed = peer.confirmed; start = c.start; moves = c.moves }) (newly checked subscriber peer c more)
+
+-- as many bytes as are asked for, or as wait
+abbrev pub as_many : ℕ → ℕ → ℕ → ℕ
+as_many asked all done = min asked (all - done)
+
+-- ---- steps of a subscriber's connection
+
+abbrev pub with_connection : Peer → Connection → Peer
+with_connection peer c = record peer { connection = Some c }
+
+abbrev pub hears : CheckedOf → ℕ → ℕ → Peer → Connection → ℕ → Peer
+hears checked subscriber now peer c more =
+    let session = heard_of checked subscriber now peer c more in
+    record peer { confirmed = session.confirmed; connection = Some (record c { start = session.start; moves = session.moves; heard = c.heard + more }) }
+
+abbrev pub delivers : Peer → Connection → ℕ → Peer
+delivers peer c more = with_connection peer (record c { delivered = c.delivered + more })
+
+-- the connection is lost: what was half read is dropped, and the position and rows stay
+abbrev pub loses : CheckedOf → List Transaction → ℕ → Peer → Peer
+loses checked transactions subscriber peer =
+    record peer { position = position_now checked transactions subscriber peer; machine = lost (machine_now checked transactions subscriber peer); connection = None }
+
+abbrev pub moves_on : Peer → Connection → Move → Peer
+moves_on peer c move = with_connection peer (record c { moves = c.moves ++ move ∷ [] })
+
+-- where a stream of these moves is
+abbrev pub place_of : CheckedOf → List Transaction → ℕ → ℕ → List Move → Place
+place_of checked transactions subscriber start moves =
+    all_moved (telling_of checked) (log_of checked transactions) (place_at subscriber (length checked.catalog.tables) start) moves
+
+abbrev pub took : ℕ → List Msg → Answer
+took number [] = Skipped number
+took number (message ∷ messages) = Sent number
+
+abbrev pub takes : CheckedOf → ℕ → Peer → Connection → Place → Option CommitOf → Answer × Peer
+takes checked now peer c place None = (Idle, peer)
+takes checked now peer c place (Some commit) = (took commit.number (messages_for checked place.slot place.told commit), moves_on peer c (s.Take now))
+
+abbrev pub take_step : CheckedOf → List Transaction → ℕ → ℕ → Peer → Connection → Option ℕ → Answer × Peer
+take_step checked transactions subscriber now peer c None = (NotStarted, peer)
+take_step checked transactions subscriber now peer c (Some start) =
+    let place = place_of checked transactions subscriber start c.moves in takes checked now peer c place (slice_get (log_of checked transactions) place.done)
+
+abbrev pub keep_step : ℕ → Bool → Peer → Connection → Option ℕ → Answer × Peer
+keep_step now want peer c None = (NotStarted, peer)
+keep_step now want peer c (Some start) = (Kept, moves_on peer c (s.Keep now want))
+
+abbrev pub open_step : CheckedOf → List Transaction → ℕ → ℕ → PeerEvent → Peer → Connection → Answer × Peer
+open_step checked transactions subscriber now Open peer c = (AlreadyOpen, peer)
+open_step checked transactions subscriber now (Hear count) peer c =
+    let more = as_many count (length (flat_map (spelled_up checked subscriber) (ups_of peer c))) c.heard in (Heard more, hears checked subscriber now peer c more)
+open_step checked transactions subscriber now Take peer c = take_step checked transactions subscriber now peer c c.start
+open_step checked transactions subscriber now (Keep want) peer c = keep_step now want peer c c.start
+open_step checked transactions subscriber now (Deliver count) peer c =
+    let more = as_many count (length (down_bytes checked transactions subscriber c.start c.moves)) c.delivered in (Delivered more, delivers peer c more)
+open_step checked transactions subscriber now (Report want) peer c =
+    (Reported, with_connection peer (record c { reports = c.reports ++ status_at (position_now checked transactions subscriber peer) now want ∷ [] }))
+open_step checked transactions subscriber now Lose peer c = (Lost, loses checked transactions subscriber peer)
+
+abbrev pub shut_step : PeerEvent → Peer → Answer × Peer
+shut_step Open peer = (Opened, with_connection peer first_connection)
+shut_step (Hear count) peer = (NotOpen, peer)
+shut_step Take peer = (NotOpen, peer)
+shut_step (Keep want) peer = (NotOpen, peer)
+shut_step (Deliver count) peer = (NotOpen, peer)
+shut_step (Report want) peer = (NotOpen, peer)
+shut_step Lose peer = (NotOpen, peer)
+
+abbrev pub peer_step : CheckedOf → List Transaction → ℕ → ℕ → PeerEvent → Peer → Option Connection → Answer × Peer
+peer_step checked transactions subscriber now event peer None = shut_step event peer
+peer_step checked transactions subscriber now event peer (Some c) = open_step checked transactions subscriber now event peer c
+
+-- Where memory was refused the connection is lost, after some of the bytes that were to be as_many.
+abbrev pub broken : CheckedOf → List Transaction → ℕ → ℕ → PeerEvent → Peer → ℕ → Option Connection → Peer
+broken checked transactions subscriber now event peer some None = peer
+broken checked transactions subscriber now (Hear count) peer some (Some c) =
+    loses checked transactions subscriber (hears checked subscriber now peer c (as_many (min some count) (length (flat_map (spelled_up checked subscriber) (ups_of peer c))) c.heard))
+broken checked transactions subscriber now (Deliver count) peer some (Some c) =
+    loses checked transactions subscriber (delivers peer c (as_many (min some count) (length (down_bytes checked transactions subscriber c.start c.moves)) c.delivered))
+broken checked transactions subscriber now Open peer some (Some c) = loses checked transactions subscriber peer
+broken checked transactions subscriber now Take peer some (Some c) = loses checked transactions subscriber peer
+broken checked transactions subscriber now (Keep want) peer some (Some c) = loses checked transactions subscriber peer
+broken checked transactions subscriber now (Report want) peer some (Some c) = loses checked transactions subscriber peer
+broken checked transactions subscriber now Lose peer some (Some c) = loses checked transactions subscriber peer
+
+-- ---- steps of the world
+
+abbrev pub with_peer : World → ℕ → Peer → World
+with_peer world subscriber peer = record world { peers = λ other. if other == subscriber then peer else world.peers other }
+
+abbrev pub with_transaction : World → List Command → ℕ → World
+with_transaction world commands time = record world { transactions = world.transactions ++ record { commands = commands; time = time } ∷ [] }
+
+-- why a list of commands is refused
+abbrev pub RefusedFor : CheckedOf → ℕ → World → List Command → CommitError → Type 0
+RefusedFor checked most world commands e.EmptyTransaction = commands ≡ []
+RefusedFor checked most world commands e.TooManyCommands = 1000 < length commands
+RefusedFor checked most world commands e.LogFull = IsTransaction commands × (length world.transactions ≡ most)
+RefusedFor checked most world commands (e.At number fault) = IsTransaction commands × (length world.transactions < most)
+    × (first_fault (setting_in checked) (after (setting_in checked) world.transactions) 1 commands ≡ Some (number, fault_view fault))
+RefusedFor checked most world commands e.OutOfMemory = Unit {0}
+
+-- it is accepted, or refused and nothing changes; the log takes at most so many
+pub record Commits (checked : CheckedOf) (most : ℕ) (world : World) (commands : List Command) (time : ℕ) (answer : Answer) (next : World) : Type 0 where
+  pub accepted : IsAccepted (setting_in checked) (after (setting_in checked) world.transactions) (record { commands = commands; time = time })
+  pub room : length world.transactions < most
+  pub answer_is : answer ≡ Committed (length world.transactions + 1)
+  pub next_is : next ≡ with_transaction world commands time
+
+pub record Refuses (checked : CheckedOf) (most : ℕ) (world : World) (commands : List Command) (answer : Answer) (next : World) : Type 0 where
+  pub error : CommitError
+  pub refused : RefusedFor checked most world commands error
+  pub answer_is : answer ≡ Refused error
+  pub next_is : next ≡ world
+
+-- the connection's own step, or memory was refused
+pub record Moves (checked : CheckedOf) (world : World) (subscriber now : ℕ) (event : PeerEvent) (answer : Answer) (next : World) : Type 0 where
+  pub answer_is : answer ≡ (peer_step checked world.transactions subscriber now event (world.peers subscriber) (world.peers subscriber).connection).0
+  pub next_is : next ≡ with_peer world subscriber (peer_step checked world.transactions subscriber now event (world.peers subscriber) (world.peers subscriber).connection).1
+
+pub record Breaks (checked : CheckedOf) (world : World) (subscriber now : ℕ) (event : PeerEvent) (answer : Answer) (next : World) : Type 0 where
+  pub some : ℕ
+  pub answer_is : answer ≡ OutOfMemory
+  pub next_is : next ≡ with_peer world subscriber (broken checked world.transactions subscriber now event (world.peers subscriber) some (world.peers subscriber).connection)
+
+abbrev pub StepsOn : Bool → CheckedOf → World → ℕ → ℕ → PeerEvent → Answer → World → Type 0
+StepsOn false checked world subscriber now event answer next = (answer ≡ NoSubscriber) × (next ≡ world)
+StepsOn true checked world subscriber now event answer next = Moves checked world subscriber now event answer next ⊎ Breaks checked world subscriber now event answer next
+
+-- at a time, an event is answered so, and leaves this
+abbrev pub Steps : CheckedOf → ℕ → World → ℕ → Event → Answer → World → Type 0
+Steps checked most world now (Commit commands time) answer next = Commits checked most world commands time answer next ⊎ Refuses checked most world commands answer next
+Steps checked most world now (On subscriber event) answer next = StepsOn (nat_lt subscriber (length checked.plan)) checked world subscriber now event answer next
+
+-- events, each with its time, lead from one world to another
+abbrev pub Leads : CheckedOf → ℕ → List (ℕ × Event) → World → World → Type 0
+Leads checked most [] world last = last ≡ world
+Leads checked most (event ∷ events) world last =
+    (answer : Answer) × (next : World) × Steps checked most world event.0 event.1 answer next × Leads checked most events next last

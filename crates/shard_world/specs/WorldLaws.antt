@@ -1,0 +1,72 @@
+-- What holds in each world that events lead to: each subscriber has exactly its shard of the publisher's tables after the commits that it applied; and where all have applied the same, each row is at exactly one of them: PostgreSQL 15, "Logical Replication", 31.2 Subscription and 31.3 Row Filters.
+use Rattle.std.specs.Prelude.{◌≡◌, ◌<◌, ◌≤◌, ◌^◌, ℕ, Bool, true, List, All, length, take}
+use Rattle.filter_tree.specs.Datum.{Datum}
+use Rattle.table_changes.specs.Standing.{Covered, KeepsApart, Sound}
+use Rattle.table_changes.specs.Tables.{is_row, holds}
+use Rattle.pub_reader.specs.CatalogLimits.{IsLimited}
+use Rattle.shard_checker.specs.CheckedView.{CheckedOf, setting_in}
+use Rattle.tables_log.specs.StandsFor.{after}
+use Rattle.pgoutput_msgs.specs.Telling.{oid_of}
+use Rattle.copy_both.specs.Streams.{count_before}
+use Rattle.shard_world.specs.Following.{own_key, HasShard}
+use Rattle.shard_world.specs.Sayable.{IsTextCommand, IsTextTable}
+use Rattle.shard_world.specs.World.{World, Event, Commit, On, first_world, position_now, machine_now, Leads}
+
+-- ---- what is asked of the publisher and of events
+
+-- A catalog that was checked, within its limits and with names that are texts; its log takes at most 1,000,000,000 commits.
+pub record IsPublisher (checked : CheckedOf) (most : ℕ) : Type 0 where
+  pub covered : Covered (setting_in checked)
+  pub apart : KeepsApart (setting_in checked)
+  pub limited : IsLimited checked.catalog
+  pub texts : All IsTextTable checked.catalog.tables
+  pub most_is : most ≤ 1000000000
+
+-- times have 64 bits, and rows are texts
+abbrev pub BringsTexts : Event → Type 0
+BringsTexts (Commit commands time) = (time < 2 ^ 64) × All IsTextCommand commands
+BringsTexts (On subscriber event) = Unit {0}
+
+abbrev pub IsTextEvent : ℕ × Event → Type 0
+IsTextEvent event = (event.0 < 2 ^ 64) × BringsTexts event.1
+
+-- ---- each has its shard
+
+-- how many commits a subscriber has applied: those among them without a change for it are counted too
+abbrev pub applied_in : CheckedOf → World → ℕ → ℕ
+applied_in checked world subscriber = count_before (position_now checked world.transactions subscriber (world.peers subscriber))
+
+abbrev pub HoldsExactly : CheckedOf → World → Type 0
+HoldsExactly checked world = (subscriber : ℕ)
+    → HasShard checked subscriber (machine_now checked world.transactions subscriber (world.peers subscriber)) (after (setting_in checked) (take (applied_in checked world subscriber) world.transactions))
+
+abbrev pub WorldsHoldExactly : Type 0
+WorldsHoldExactly = (checked : CheckedOf) (most : ℕ) → IsPublisher checked most → (events : List (ℕ × Event)) → All IsTextEvent events
+    → (world : World) → Leads checked most events first_world world → HoldsExactly checked world
+
+-- ---- all together have the tables
+
+-- the subscriber has the row
+abbrev pub has_row : CheckedOf → World → ℕ → ℕ → List Datum → Bool
+has_row checked world subscriber table row =
+    is_row ((machine_now checked world.transactions subscriber (world.peers subscriber)).rows (oid_of table) (own_key checked table row)) row
+
+abbrev pub HaveApplied : CheckedOf → World → ℕ → Type 0
+HaveApplied checked world count = (subscriber : ℕ) → subscriber < length checked.plan → applied_in checked world subscriber ≡ count
+
+-- exactly one subscriber has the row
+pub record IsAtOne (checked : CheckedOf) (world : World) (table : ℕ) (row : List Datum) : Type 0 where
+  pub owner : ℕ
+  pub is_one : owner < length checked.plan
+  pub has_it : has_row checked world owner table row ≡ true
+  pub no_other : (other : ℕ) → other < length checked.plan → has_row checked world other table row ≡ true → other ≡ owner
+
+-- each row of the tables after so many commits is at exactly one subscriber, and no subscriber has another row
+pub record Divides (checked : CheckedOf) (world : World) (count : ℕ) : Type 0 where
+  pub somewhere : (table : ℕ) (row : List Datum) → holds (setting_in checked).keys (after (setting_in checked) (take count world.transactions)) table row ≡ true → IsAtOne checked world table row
+  pub nothing_else : (subscriber table : ℕ) (row : List Datum) → subscriber < length checked.plan → has_row checked world subscriber table row ≡ true
+      → holds (setting_in checked).keys (after (setting_in checked) (take count world.transactions)) table row ≡ true
+
+abbrev pub WorldsDivideRows : Type 0
+WorldsDivideRows = (checked : CheckedOf) (most : ℕ) → IsPublisher checked most → Sound (setting_in checked) → (events : List (ℕ × Event)) → All IsTextEvent events
+    → (world : World) → Leads checked most events first_world world → (count : ℕ) → HaveApplied checked world count → Divides checked world count

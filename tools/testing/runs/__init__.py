@@ -1,0 +1,20 @@
+"""Runs of pgshard on texts that are written down or made here, with what each has to answer. They need no server.
+
+Each file has a topic, and its function `cases` gives the topic's runs.
+"""
+
+from programs import pgshard
+from tally import Tally
+
+from . import certificates, checks, command_lines, filters, inputs, inserts, limits, makes, rows
+
+TOPICS = [checks, certificates, makes, rows, inserts, filters, inputs, command_lines, limits]
+
+
+def check_runs(tally: Tally) -> None:
+    """Makes all the runs."""
+    # Where PGSHARD names no program, the first run proves and builds it, and none of those below may take so long.
+    pgshard("--version", text="")
+    for topic in TOPICS:
+        for case in topic.cases():
+            case.check(tally)

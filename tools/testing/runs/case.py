@@ -1,0 +1,77 @@
+"""What a run of pgshard is given, and what it has to answer."""
+
+from dataclasses import dataclass
+
+from programs import pgshard
+from tally import Tally
+
+# What check writes of a sound sharding.
+ACCEPTED = "accepted\n"
+
+# How long a run may take.
+SECONDS = 60
+
+
+@dataclass(frozen=True)
+class Outline:
+    """How an output begins and ends, a text that is in it, and its number of lines, where that is asked."""
+
+    begin: str = ""
+    end: str = ""
+    within: str = ""
+    lines: int | None = None
+
+    def of(self, output: str) -> "Outline":
+        """What an output has in place of these."""
+        return Outline(
+            begin=output[:len(self.begin)],
+            end=output[max(len(output) - len(self.end), 0):],
+            within=self.within if self.within in output else "",
+            lines=None if self.lines is None else output.count("\n"))
+
+
+@dataclass(frozen=True)
+class Case:
+    """A run, with the status that it has to have, and its whole output or an outline of it."""
+
+    name: str
+    words: tuple[str, ...]
+    text: str | bytes
+    status: int
+    expected: str | Outline
+
+    def check(self, tally: Tally) -> None:
+        """Makes the run."""
+        status, output = pgshard(*self.words, text=self.text, seconds=SECONDS)
+        if isinstance(self.expected, Outline):
+            found = status, self.expected.of(output)
+            tally.check(f"{self.name}, which wrote {output!r}", found, (self.status, self.expected))
+        else:
+            tally.check(self.name, ended(status, output), ended(self.status, self.expected))
+
+
+@dataclass(frozen=True)
+class Made:
+    """A catalog for whose tables `make` has to find certificates that `check` then accepts."""
+
+    name: str
+    catalog: str
+
+    def check(self, tally: Tally) -> None:
+        """Makes both runs."""
+        status, output = pgshard("make", text=self.catalog, seconds=SECONDS)
+        if status != 0:
+            tally.check(f"{self.name}, which wrote {output!r}", status, 0)
+            return
+        found = pgshard("check", text=two_parts(self.catalog, output), seconds=SECONDS)
+        tally.check(self.name, ended(*found), ended(0, ACCEPTED))
+
+
+def ended(status: int | None, output: str) -> str:
+    """An output with the status as its last line."""
+    return f"{output}status {status}\n"
+
+
+def two_parts(catalog: str, lines: str) -> str:
+    """An input of two parts, of which the first is empty or ends with a newline."""
+    return f"{catalog}%%\n{lines}"

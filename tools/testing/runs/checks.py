@@ -1,0 +1,147 @@
+"""Shardings of one table that are accepted or refused."""
+
+from collections.abc import Iterator
+
+from .case import ACCEPTED, Case, two_parts
+from .catalogs import REGIONS, halves
+
+# A certificate of two halves that two conditions on one column name.
+C = "s 0 s 1 e 0 o 0 n 1 s 1 o 1 e 0 n 1 n 0\n"
+
+# The same where the second half is named by two conditions.
+THREE = "s 0 s 1 e 0 s 2 e 0 o 0 n 2 n 1 s 1 o 1 s 2 o 1 e 0 n 2 n 1 n 0\n"
+
+# The same, but with the rows that neither of those two conditions takes left out.
+HOLE = "s 0 s 1 e 0 s 2 e 0 o 0 n 2 n 1 s 1 o 1 e 0 n 1 n 0\n"
+
+# Of REGIONS.
+BY_REGION = "s 0 s 1 e 0 s 2 e 0 o 0 n 2 e 0 s 1 s 2 e 0 o 1 n 2 e 0 e 0 s 1 e 0 e 0 s 2 o 2 e 0 n 2\n"
+
+LOW = " WHERE (id < 100)"
+HIGH = " WHERE (id >= 100)"
+
+# The conditions of two halves, the lines of certificates, and the status and the line.
+HALVES: list[tuple[str, str, str, int, str]] = [
+    (LOW, HIGH, C, 0, ACCEPTED),
+    (LOW, HIGH, "o 0", 1, "refused NotOwner public.t 0\n"),
+    (LOW, HIGH, "o 2\n", 1, "refused BadIndex public.t 0\n"),
+    (LOW, HIGH, "e 0\n", 1, "refused NotEmpty public.t 0\n"),
+    (LOW, HIGH, "n 0\n", 1, "refused MayBeNull public.t 0\n"),
+    (LOW, HIGH, "", 1, "refused CertCount\n"),
+    (LOW, HIGH, "o 0\no 1\n", 1, "refused CertCount\n"),
+    (LOW, HIGH, "s 0 o", 3, "certificate 1 Ended\n"),
+    (LOW, HIGH, "\n", 3, "certificate 1 Ended\n"),
+    (LOW, HIGH, "o 0 \n", 3, "certificate 1 Trailing\n"),
+    (LOW, HIGH, "o 0\r\n", 3, "certificate 1 BadToken\n"),
+    (LOW, HIGH, "o 0\no 1\n\n", 3, "certificate 3 Ended\n"),
+    (LOW, HIGH, "o 0\no 1\nx 1\n\n", 3, "certificate 3 BadToken\n"),
+    (
+        " WHERE (region = 'eu')", " WHERE (region <> 'eu')", "s 0 s 1 e 0 o 0 e 0 s 1 o 1 e 0 e 0 n 0\n",
+        1, "refused MayBeNull public.t 9\n",
+    ),
+    (" WHERE (id % 2 = 0)", " WHERE (id % 2 = 1 OR id % 2 = -1)", THREE, 0, ACCEPTED),
+    (" WHERE (id = 5)", " WHERE (id < 5 OR id > 5)", THREE, 0, ACCEPTED),
+    (" WHERE (id = 5)", " WHERE (id < 5 OR id > 5)", HOLE, 1, "refused NotEmpty public.t 10\n"),
+    ("", "", "o 0\n", 1, "refused SecondOwner public.t 0 s1\n"),
+    ("", "", "o 1\n", 1, "refused SecondOwner public.t 0 s0\n"),
+]
+
+# Two publications of a table. One of them publishes too little.
+INSERTS = """\
+CREATE TABLE t (id integer, region text, PRIMARY KEY (id));
+CREATE PUBLICATION pa FOR TABLE t WHERE (region = 'eu') WITH (publish = 'insert');
+CREATE PUBLICATION pb FOR TABLE t WHERE (id >= 100);
+CREATE SUBSCRIPTION s0 CONNECTION '' PUBLICATION pa;
+CREATE SUBSCRIPTION s1 CONNECTION '' PUBLICATION pb;
+"""
+
+# Halves of a table, of which one leaves out truncate.
+KEEPS = """\
+CREATE TABLE t (id integer PRIMARY KEY);
+CREATE PUBLICATION pa FOR TABLE t WHERE (id < 100) WITH (publish = 'insert, update, delete');
+CREATE PUBLICATION pb FOR TABLE t WHERE (id >= 100);
+CREATE SUBSCRIPTION s0 CONNECTION '' PUBLICATION pa;
+CREATE SUBSCRIPTION s1 CONNECTION '' PUBLICATION pb;
+"""
+
+# As INSERTS, but that it publishes all, and names a column outside the primary key.
+OUTSIDE = """\
+CREATE TABLE t (id integer, region text, PRIMARY KEY (id));
+CREATE PUBLICATION pa FOR TABLE t WHERE (region = 'eu');
+CREATE PUBLICATION pb FOR TABLE t WHERE (id >= 100);
+CREATE SUBSCRIPTION s0 CONNECTION '' PUBLICATION pa;
+CREATE SUBSCRIPTION s1 CONNECTION '' PUBLICATION pb;
+"""
+
+# Halves of a table whose rows are identified by a unique index, by the index's column.
+INDEXED = """\
+CREATE TABLE u (id integer, code text NOT NULL, note text, PRIMARY KEY (id));
+CREATE UNIQUE INDEX u_code ON u (code);
+ALTER TABLE u REPLICA IDENTITY USING INDEX u_code;
+CREATE PUBLICATION pa FOR TABLE u WHERE (code = 'a');
+CREATE PUBLICATION pb FOR TABLE u WHERE (code <> 'a');
+CREATE SUBSCRIPTION s0 CONNECTION '' PUBLICATION pa;
+CREATE SUBSCRIPTION s1 CONNECTION '' PUBLICATION pb;
+"""
+
+# The same, but that one half is by a column outside the index.
+BESIDE = """\
+CREATE TABLE u (id integer, code text NOT NULL, note text, PRIMARY KEY (id));
+CREATE UNIQUE INDEX u_code ON u (code);
+ALTER TABLE u REPLICA IDENTITY USING INDEX u_code;
+CREATE PUBLICATION pa FOR TABLE u WHERE (id < 5);
+CREATE PUBLICATION pb FOR TABLE u WHERE (code <> 'a');
+CREATE SUBSCRIPTION s0 CONNECTION '' PUBLICATION pa;
+CREATE SUBSCRIPTION s1 CONNECTION '' PUBLICATION pb;
+"""
+
+# The index's column may be null.
+NULLABLE = """\
+CREATE TABLE u (id integer, code text, note text, PRIMARY KEY (id));
+CREATE UNIQUE INDEX u_code ON u (code);
+ALTER TABLE u REPLICA IDENTITY USING INDEX u_code;
+"""
+
+# Halves of a table whose old rows are not recorded.
+NOTHING = """\
+CREATE TABLE t (id integer, region text, PRIMARY KEY (id));
+ALTER TABLE t REPLICA IDENTITY NOTHING;
+CREATE PUBLICATION pa FOR TABLE t WHERE (id < 100);
+CREATE PUBLICATION pb FOR TABLE t WHERE (id >= 100);
+CREATE SUBSCRIPTION s0 CONNECTION '' PUBLICATION pa;
+CREATE SUBSCRIPTION s1 CONNECTION '' PUBLICATION pb;
+"""
+
+# A catalog, the lines of certificates, and the status and the line.
+CATALOGS: list[tuple[str, str, int, str]] = [
+    (REGIONS, BY_REGION, 0, ACCEPTED),
+    (INSERTS, C, 1, "refused PublishMissing pa update\n"),
+    (INSERTS, "", 1, "refused PublishMissing pa update\n"),
+    (KEEPS, C, 1, "refused PublishMissing pa truncate\n"),
+    (OUTSIDE, C, 1, "refused NotCovered pa public.t region\n"),
+    (INDEXED, C, 0, ACCEPTED),
+    (BESIDE, C, 1, "refused NotCovered pa public.u id\n"),
+    (NULLABLE, C, 3, "catalog 152 NullableIndex\n"),
+    (NOTHING, C, 1, "refused NoIdentity public.t\n"),
+    (NOTHING, "o\n", 3, "certificate 1 Ended\n"),
+    ("", "", 0, ACCEPTED),
+    ("CREATE SCHEMA west;\n", "", 0, ACCEPTED),
+    ("", C, 1, "refused CertCount\n"),
+    ("", "\n", 3, "certificate 1 Ended\n"),
+    ("CREATE TABLE t (id integer);\n", "o\n", 3, "catalog 13 NoKey\n"),
+    ("%%\n", "o\n", 3, "input\n"),
+]
+
+# A certificate of 65 splits, one below another, and no more.
+DEEP = "s 0 " * 65
+
+
+def cases() -> Iterator[Case]:
+    """A run of check for each."""
+    words = ("check",)
+    for number, (first, second, certificates, status, expected) in enumerate(HALVES, 1):
+        text = two_parts(halves(first, second), certificates)
+        yield Case(f"check of halves, case {number}", words, text, status, expected)
+    for number, (catalog, certificates, status, expected) in enumerate(CATALOGS, 1):
+        yield Case(f"check of a catalog, case {number}", words, two_parts(catalog, certificates), status, expected)
+    yield Case("check of a deep certificate", words, two_parts(halves("", ""), DEEP), 3, "certificate 1 TooDeep\n")
