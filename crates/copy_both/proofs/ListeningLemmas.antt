@@ -6,13 +6,13 @@ use Rattle.tables_log.specs.BookView.{book_log, book_slots}
 use Rattle.tables_log.specs.Commits.{CommitOf}
 use Rattle.tables_log.specs.Committing.{ChangesSlots}
 use Rattle.tables_log.specs.declared.book.Book.{Book}
-use Rattle.copy_frames.specs.Frames.{Cut, Rest, Bad, Then, cut, cut_some, cut_after, front, frames_of}
+use Rattle.copy_frames.specs.Frames.{Cut, Rest, Bad, Then, cut, cut_some, cut_after, front, frames_of, rest_of}
 use Rattle.copy_frames.specs.Inboxes.{Inbox, Gives, GivesFrame, has_frame}
 use Rattle.copy_frames.specs.declared.fault.FrameFault.{FrameFault}
 use Rattle.copy_frames.specs.declared.frame.Frame.{Frame}
 use Rattle.copy_frames.specs.declared.front.Front.{Front}
 use Rattle.copy_frames.specs.declared.front.Front.TheVariants.{Part, Faulty, Whole}
-use Rattle.copy_both.specs.Hearing.{HearingOf, Served, is_over, is_over_by, unless_over, with_fault, next_heard, frames_heard, rest_of}
+use Rattle.copy_both.specs.Hearing.{HearingOf, Served, is_over, is_over_by, unless_over, with_fault, next_heard, frames_heard}
 use Rattle.copy_both.specs.Listening.{silence, held_frames, FramesHeard, resting, part_heard, Leaves}
 use Rattle.copy_both.specs.Sessions.{session_checked, served_by, hearing_view, FailsBy, KeepsRest}
 use Rattle.copy_both.specs.declared.link_fault.LinkFault.{LinkFault}

@@ -9,7 +9,7 @@ use Rattle.copy_frames.specs.declared.fault.FrameFault.{FrameFault}
 use Rattle.copy_frames.specs.declared.fault.FrameFault.TheVariants as frame
 use Rattle.copy_frames.specs.declared.frame.Frame.{Frame}
 use Rattle.copy_frames.specs.declared.status.Status.{Status}
-use Rattle.copy_frames.specs.Frames.{Cut, Rest, Bad, Then, cut, frames_of, fault_in}
+use Rattle.copy_frames.specs.Frames.{cut, frames_of, fault_in}
 use Rattle.copy_both.specs.Events.{event_of}
 use Rattle.copy_both.specs.Refusals.{state_of, error_response}
 use Rattle.copy_both.specs.StartAnswers.{AskedOf, Stream, Refused, asked_of}
@@ -156,12 +156,6 @@ then_fault (Some fault) h = unless_over (is_over h) h (with_fault (link_fault fa
 -- all bytes that are there
 abbrev pub bytes_heard : Served → ℕ → List ℕ → HearingOf → HearingOf
 bytes_heard served limit bytes h = then_fault (fault_in limit bytes) (frames_heard served h (frames_of (cut limit bytes)))
-
--- the bytes after the last whole frame
-abbrev pub rest_of : Cut → List ℕ
-rest_of (Rest bytes) = bytes
-rest_of (Bad fault bytes) = bytes
-rest_of (Then frame more) = rest_of more
 
 -- ---- what is answered
 

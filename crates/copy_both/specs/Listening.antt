@@ -2,10 +2,10 @@
 use Rattle.std.specs.Prelude.{◌≡◌, ℕ, List, ◌++◌, take, None, Result, Ok, Err}
 use Rattle.tables_log.specs.Committing.{ChangesSlots}
 use Rattle.tables_log.specs.declared.book.Book.{Book}
-use Rattle.copy_frames.specs.Frames.{cut, frames_of}
+use Rattle.copy_frames.specs.Frames.{cut, frames_of, rest_of}
 use Rattle.copy_frames.specs.Inboxes.{Inbox}
 use Rattle.copy_frames.specs.declared.frame.Frame.{Frame}
-use Rattle.copy_both.specs.Hearing.{HearingOf, Served, with_fault, frames_heard, bytes_heard, rest_of}
+use Rattle.copy_both.specs.Hearing.{HearingOf, Served, with_fault, frames_heard, bytes_heard}
 use Rattle.copy_both.specs.Sessions.{session_checked, served_by, hearing_view}
 use Rattle.copy_both.specs.declared.heard.Heard.{Heard}
 use Rattle.copy_both.specs.declared.link_fault.LinkFault.{LinkFault}

@@ -2,3 +2,4 @@ pub mod ContentLemmas
 pub mod CutLemmas
 pub mod FrontLemmas
 pub mod HistoryLemmas
+pub mod PieceLemmas

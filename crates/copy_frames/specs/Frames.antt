@@ -64,6 +64,12 @@ frames_of (Rest bytes) = []
 frames_of (Bad fault bytes) = []
 frames_of (Then frame more) = frame ∷ frames_of more
 
+-- what comes after the last whole frame
+abbrev pub rest_of : Cut → List ℕ
+rest_of (Rest bytes) = bytes
+rest_of (Bad fault bytes) = bytes
+rest_of (Then frame more) = rest_of more
+
 -- the fault of a length, after the frames before it
 abbrev pub fault_of : Cut → Option FrameFault
 fault_of (Rest bytes) = None

@@ -3,12 +3,11 @@ use Rattle.std.proofs.Common.{◌≡◌, ℕ, zero, suc, ◌+◌, ◌-◌, ◌<�
 use Rattle.std.specs.Prelude.{Option, Some, None, max, fold, nat_le, slice_get, if◌then◌else◌, ◌==◌}
 use Rattle.std.specs.List.{flat_map}
 use Rattle.std.proofs.lemmas.Bool.{leb-true, le-leb}
-use Rattle.table_changes.specs.Tables.{Tables, no_rows}
+use Rattle.table_changes.specs.Tables.{no_rows}
 use Rattle.table_changes.proofs.TableLemmas.{by_test}
 use Rattle.shard_checker.specs.CheckedView.{CheckedOf, setting_in}
 use Rattle.tables_log.specs.Commits.{CommitOf}
-use Rattle.table_changes.specs.Setting.{Setting}
-use Rattle.tables_log.specs.StandsFor.{Transaction, left_by, AreAccepted, entries_from}
+use Rattle.tables_log.specs.StandsFor.{Transaction, AreAccepted}
 use Rattle.copy_both.specs.Streams as s
 use Rattle.copy_both.specs.Streams.{Place, Move, count_before, end_of, place_at, moved, taken_place, all_moved}
 use Rattle.copy_both.specs.Tellings.{telling_of}
@@ -17,8 +16,8 @@ use Rattle.shard_world.specs.Cutting.{if_whole, whole_in}
 use Rattle.shard_world.specs.Following.{raised_by, position_after, IsPublished, log_of}
 use Rattle.shard_world.specs.Items.{Item, Response, Alive, spelled, stream_items}
 use Rattle.shard_world.specs.Sayable.{IsSayable}
-use Rattle.shard_world.specs.World.{Up, Asks, Says, Connection, Peer, PeerEvent, Hear, Take, Keep, Deliver, Session, down_items, down_bytes, position_now, spelled_up, if_heard, whole_up, ups_of, start_at, hear_up, newly, heard_of, hears, delivers, as_many, place_of, takes, take_step, keep_step, moves_on, open_step, peer_step}
-use Rattle.shard_world.proofs.EntryLemmas.{entry_at}
+use Rattle.shard_world.specs.World.{Up, Asks, Says, Connection, Peer, PeerEvent, Hear, Take, Keep, Deliver, Session, down_items, down_bytes, position_now, spelled_up, whole_up, ups_of, start_at, hear_up, newly, heard_of, hears, delivers, as_many, place_of, takes, take_step, keep_step, moves_on, open_step, peer_step}
+use Rattle.shard_world.proofs.EntryLemmas.{entry_at, entries_length}
 use Rattle.shard_world.proofs.FollowingLemmas.{first_sent}
 use Rattle.shard_world.proofs.WorldItems.{items_append}
 use Rattle.shard_world.proofs.WorldPeers.{IsGood, bytes_of_items, good_follows}
@@ -26,7 +25,7 @@ use Rattle.shard_world.proofs.WorldSteps.{peer_good}
 
 -- ---- the command that starts the stream is heard
 
-start_stays : (now start : ℕ) (ups : List Up) (session : Session) → session.start ≡ Some start → (fold (hear_up now) session ups).start ≡ Some start
+pub start_stays : (now start : ℕ) (ups : List Up) (session : Session) → session.start ≡ Some start → (fold (hear_up now) session ups).start ≡ Some start
 start_stays now start [] session h = h
 start_stays now start (Asks position ∷ ups) session h =
     start_stays now start ups (record session { start = start_at session.start position session.confirmed }) (ap (λ o. start_at o position session.confirmed) h)
@@ -37,7 +36,7 @@ pub record HasStart (start : Option ℕ) : Type 0 where
   pub is : start ≡ Some at
 
 -- where the first of what is new asks for the stream
-starts_by : (now : ℕ) (position : ℕ) (ups : List Up) (session : Session) → HasStart (fold (hear_up now) session (Asks position ∷ ups)).start
+pub starts_by : (now : ℕ) (position : ℕ) (ups : List Up) (session : Session) → HasStart (fold (hear_up now) session (Asks position ∷ ups)).start
 starts_by now position ups session = by_start session.start refl
   where
     by_start : (start : Option ℕ) → session.start ≡ start → HasStart (fold (hear_up now) session (Asks position ∷ ups)).start
@@ -65,18 +64,18 @@ hears_start checked subscriber now peer c more still whole = by_start c.start re
     }
     by_start None e =
         subst (λ b. HasStart (fold (hear_up now) (record { confirmed = peer.confirmed; start = c.start; moves = c.moves })
-        (drop (length (if_heard b (Asks peer.position) (whole_up checked subscriber (c.heard - length (spelled_up checked subscriber (Asks peer.position))) (map Says c.reports))))
+        (drop (length (if_whole b (Asks peer.position) (whole_up checked subscriber (c.heard - length (spelled_up checked subscriber (Asks peer.position))) (map Says c.reports))))
         (whole_up checked subscriber (c.heard + more) (ups_of peer c)))).start)
         (sym (not_yet (length (spelled_up checked subscriber (Asks peer.position))) c.heard (still e)))
         (subst (λ b. HasStart (fold (hear_up now) (record { confirmed = peer.confirmed; start = c.start; moves = c.moves })
-        (if_heard b (Asks peer.position) (whole_up checked subscriber (c.heard + more - length (spelled_up checked subscriber (Asks peer.position))) (map Says c.reports)))).start)
+        (if_whole b (Asks peer.position) (whole_up checked subscriber (c.heard + more - length (spelled_up checked subscriber (Asks peer.position))) (map Says c.reports)))).start)
         (sym (le-leb (length (spelled_up checked subscriber (Asks peer.position))) (c.heard + more) whole))
         (starts_by now peer.position (whole_up checked subscriber (c.heard + more - length (spelled_up checked subscriber (Asks peer.position))) (map Says c.reports))
         (record { confirmed = peer.confirmed; start = c.start; moves = c.moves })))
 
 -- ---- commits are taken up
 
-moved_append : (checked : CheckedOf) (log : List CommitOf) (place : Place) (moves : List Move) (move : Move)
+pub moved_append : (checked : CheckedOf) (log : List CommitOf) (place : Place) (moves : List Move) (move : Move)
     → all_moved (telling_of checked) log place (moves ++ move ∷ []) ≡ moved (telling_of checked) log (all_moved (telling_of checked) log place moves) move
 moved_append checked log place [] move = refl
 moved_append checked log place (first ∷ moves) move = moved_append checked log (moved (telling_of checked) log place first) moves move
@@ -286,10 +285,6 @@ module _ (checked : CheckedOf) (transactions : List Transaction) (published : Is
       at_some p = omega (arith, place_sent checked transactions subscriber start c.moves)
 
   -- ---- all of it
-
-  entries_length : (setting : Setting) (tables : Tables) (number : ℕ) (all : List Transaction) → length (entries_from setting tables number all) ≡ length all
-  entries_length setting tables number [] = refl
-  entries_length setting tables number (transaction ∷ all) = ap suc (entries_length setting (left_by setting tables transaction) (number + 1) all)
 
   hears_all : (peer : Peer) (c : Connection) → peer.connection ≡ Some c
       → next_peer checked transactions subscriber now (Hear (sent_by checked subscriber peer peer.connection)) peer

@@ -41,14 +41,18 @@ end_is number = inr (omega arith)
 
 -- ---- what items tell
 
+-- this is so of where a message says that a commit ends
+abbrev pub TellsBy : (ℕ → Type 0) → Msg → Type 0
+TellsBy P (m.Begin final_lsn time xid) = Unit {0}
+TellsBy P (m.Commit lsn end_lsn time) = P end_lsn
+TellsBy P (m.Relation relation) = Unit {0}
+TellsBy P (m.Insert relation new) = Unit {0}
+TellsBy P (m.Update relation old new) = Unit {0}
+TellsBy P (m.Delete relation old) = Unit {0}
+TellsBy P (m.Truncate options relations) = Unit {0}
+
 abbrev TellsEnd : Msg → Type 0
-TellsEnd (m.Begin final_lsn time xid) = Unit {0}
-TellsEnd (m.Commit lsn end_lsn time) = IsEnd end_lsn
-TellsEnd (m.Relation relation) = Unit {0}
-TellsEnd (m.Insert relation new) = Unit {0}
-TellsEnd (m.Update relation old new) = Unit {0}
-TellsEnd (m.Delete relation old) = Unit {0}
-TellsEnd (m.Truncate options relations) = Unit {0}
+TellsEnd message = TellsBy IsEnd message
 
 abbrev ItemTellsEnd : Item → Type 0
 ItemTellsEnd Response = Unit {0}
@@ -86,45 +90,49 @@ whole_end count (item ∷ items) tells =
 
 -- ---- messages of a commit
 
-found_end : (number : ℕ) (found : Option Table) → All TellsEnd (relation_at number found)
-found_end number None = All-nil TellsEnd
-found_end number (Some table) = All-cons TellsEnd (m.Relation _) [] tt (All-nil TellsEnd)
+module _ (P : ℕ → Type 0) where
+  found_by : (number : ℕ) (found : Option Table) → All (TellsBy P) (relation_at number found)
+  found_by number None = All-nil (TellsBy P)
+  found_by number (Some table) = All-cons (TellsBy P) (m.Relation _) [] tt (All-nil (TellsBy P))
 
-once_end : (tables : List Table) (told : Bool) (number : ℕ) → All TellsEnd (introduced tables told number)
-once_end tables true number = All-nil TellsEnd
-once_end tables false number = found_end number (slice_get tables number)
+  once_by : (tables : List Table) (told : Bool) (number : ℕ) → All (TellsBy P) (introduced tables told number)
+  once_by tables true number = All-nil (TellsBy P)
+  once_by tables false number = found_by number (slice_get tables number)
 
-relations_end : (tables : List Table) (told : List Bool) (numbers : List ℕ) → All TellsEnd (relations_of tables told numbers)
-unfolding relations_of relation_once
-relations_end tables told [] = All-nil TellsEnd
-relations_end tables told (number ∷ numbers) =
-    All-append TellsEnd (introduced tables (slice_index_or told number false) number) (relations_of tables (told_one told number) numbers)
-    (once_end tables (slice_index_or told number false) number) (relations_end tables (told_one told number) numbers)
+  relations_by : (tables : List Table) (told : List Bool) (numbers : List ℕ) → All (TellsBy P) (relations_of tables told numbers)
+  unfolding relations_of relation_once
+  relations_by tables told [] = All-nil (TellsBy P)
+  relations_by tables told (number ∷ numbers) =
+      All-append (TellsBy P) (introduced tables (slice_index_or told number false) number) (relations_of tables (told_one told number) numbers)
+      (once_by tables (slice_index_or told number false) number) (relations_by tables (told_one told number) numbers)
 
-own_end : (change : r.ChangeOf) → All TellsEnd (message_of change)
-own_end (r.Insert table new) = All-cons TellsEnd (m.Insert _ _) [] tt (All-nil TellsEnd)
-own_end (r.Update table part new) = All-cons TellsEnd (m.Update _ _ _) [] tt (All-nil TellsEnd)
-own_end (r.Delete table None) = All-nil TellsEnd
-own_end (r.Delete table (Some part)) = All-cons TellsEnd (m.Delete _ _) [] tt (All-nil TellsEnd)
-own_end (r.Truncate numbers) = All-cons TellsEnd (m.Truncate _ _) [] tt (All-nil TellsEnd)
+  own_by : (change : r.ChangeOf) → All (TellsBy P) (message_of change)
+  own_by (r.Insert table new) = All-cons (TellsBy P) (m.Insert _ _) [] tt (All-nil (TellsBy P))
+  own_by (r.Update table part new) = All-cons (TellsBy P) (m.Update _ _ _) [] tt (All-nil (TellsBy P))
+  own_by (r.Delete table None) = All-nil (TellsBy P)
+  own_by (r.Delete table (Some part)) = All-cons (TellsBy P) (m.Delete _ _) [] tt (All-nil (TellsBy P))
+  own_by (r.Truncate numbers) = All-cons (TellsBy P) (m.Truncate _ _) [] tt (All-nil (TellsBy P))
 
-change_end : (tables : List Table) (told : List Bool) (change : Option r.ChangeOf) → All TellsEnd (said tables told change)
-unfolding said
-change_end tables told None = All-nil TellsEnd
-change_end tables told (Some change) = All-append TellsEnd (relations_of tables told (named_in change)) (message_of change) (relations_end tables told (named_in change)) (own_end change)
+  change_by : (tables : List Table) (told : List Bool) (change : Option r.ChangeOf) → All (TellsBy P) (said tables told change)
+  unfolding said
+  change_by tables told None = All-nil (TellsBy P)
+  change_by tables told (Some change) = All-append (TellsBy P) (relations_of tables told (named_in change)) (message_of change) (relations_by tables told (named_in change)) (own_by change)
 
-said_end : (checked : CheckedOf) (subscriber : ℕ) (told : List Bool) (changes : List r.ChangeOf) → All TellsEnd (said_each checked subscriber told changes)
-unfolding said_each
-said_end checked subscriber told [] = All-nil TellsEnd
-said_end checked subscriber told (change ∷ changes) =
-    All-append TellsEnd (said checked.catalog.tables told (got (setting_in checked) subscriber change)) (said_each checked subscriber (told_by told (got (setting_in checked) subscriber change)) changes)
-    (change_end checked.catalog.tables told (got (setting_in checked) subscriber change)) (said_end checked subscriber (told_by told (got (setting_in checked) subscriber change)) changes)
+  said_by : (checked : CheckedOf) (subscriber : ℕ) (told : List Bool) (changes : List r.ChangeOf) → All (TellsBy P) (said_each checked subscriber told changes)
+  unfolding said_each
+  said_by checked subscriber told [] = All-nil (TellsBy P)
+  said_by checked subscriber told (change ∷ changes) =
+      All-append (TellsBy P) (said checked.catalog.tables told (got (setting_in checked) subscriber change)) (said_each checked subscriber (told_by told (got (setting_in checked) subscriber change)) changes)
+      (change_by checked.catalog.tables told (got (setting_in checked) subscriber change)) (said_by checked subscriber (told_by told (got (setting_in checked) subscriber change)) changes)
 
-enclosed_end : (commit : CommitOf) (messages : List Msg) → All TellsEnd messages → All TellsEnd (enclosed commit messages)
-enclosed_end commit [] all = All-nil TellsEnd
-enclosed_end commit (first ∷ others) all =
-    All-cons TellsEnd (begin_of commit) ((first ∷ others) ++ commit_of commit ∷ []) tt
-    (All-append TellsEnd (first ∷ others) (commit_of commit ∷ []) all (All-cons TellsEnd (commit_of commit) [] (end_is commit.number) (All-nil TellsEnd)))
+  enclosed_by : (commit : CommitOf) → P (end_of commit.number) → (messages : List Msg) → All (TellsBy P) messages → All (TellsBy P) (enclosed commit messages)
+  enclosed_by commit here [] all = All-nil (TellsBy P)
+  enclosed_by commit here (first ∷ others) all =
+      All-cons (TellsBy P) (begin_of commit) ((first ∷ others) ++ commit_of commit ∷ []) tt
+      (All-append (TellsBy P) (first ∷ others) (commit_of commit ∷ []) all (All-cons (TellsBy P) (commit_of commit) [] here (All-nil (TellsBy P))))
+
+  pub messages_tell : (checked : CheckedOf) (subscriber : ℕ) (told : List Bool) (commit : CommitOf) → P (end_of commit.number) → All (TellsBy P) (messages_for checked subscriber told commit)
+  messages_tell checked subscriber told commit here = enclosed_by commit here (said_each checked subscriber told commit.changes) (said_by checked subscriber told commit.changes)
 
 -- ---- items of a stream
 
@@ -141,7 +149,7 @@ module _ (checked : CheckedOf) (log : List CommitOf) where
   take_end moves place clock None sent later = later place sent
   take_end moves place clock (Some commit) sent later =
       carried_end commit.number clock (messages_for checked place.slot place.told commit) (all_items checked log (place_after (telling_of checked) place commit) moves)
-      (enclosed_end commit (said_each checked place.slot place.told commit.changes) (said_end checked place.slot place.told commit.changes))
+      (messages_tell IsEnd checked place.slot place.told commit (end_is commit.number))
       (later (place_after (telling_of checked) place commit) (end_is commit.number))
 
   moves_end : (moves : List Move) (place : Place) → IsEnd place.sent → All ItemTellsEnd (all_items checked log place moves)

@@ -65,3 +65,8 @@ right_at checked keeps tables (transaction ∷ transactions) (suc place) accepte
       fit = stay_fit setting (has_primary_keys checked.catalog checked.plan) tables 1 transaction.commands accepted.0.no_fault right.stands right.fit;
       apart = stay_apart setting keeps tables 1 transaction.commands accepted.0.no_fault right.stands right.apart;
     })
+
+-- there is an entry for each
+pub entries_length : (setting : Setting) (tables : Tables) (number : ℕ) (all : List Transaction) → length (entries_from setting tables number all) ≡ length all
+entries_length setting tables number [] = refl
+entries_length setting tables number (transaction ∷ all) = ap suc (entries_length setting (left_by setting tables transaction) (number + 1) all)

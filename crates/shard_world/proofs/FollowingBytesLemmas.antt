@@ -43,7 +43,7 @@ item_frame (Carries head message) sent = record {
 }
 item_frame (Alive keepalive) sent = record { within = omega arith; signed = omega arith }
 
-item_frames : (items : List Item) → All IsSentItem items → AreFrames limit (map frame_in items)
+pub item_frames : (items : List Item) → All IsSentItem items → AreFrames limit (map frame_in items)
 item_frames [] sent = tt
 item_frames (item ∷ items) sent = (item_frame item (All-head IsSentItem item items sent), item_frames items (All-tail IsSentItem item items sent))
 

@@ -1,4 +1,5 @@
 pub mod AskingLemmas
+pub mod CaseLemmas
 pub mod CatchingUpLemmas
 pub mod ChangeSteps
 pub mod CommandPieces
@@ -13,10 +14,19 @@ pub mod FollowingBytesLemmas
 pub mod FollowingLemmas
 pub mod Inside
 pub mod ItemLemmas
+pub mod JoinedEar
+pub mod JoinedFeeding
+pub mod JoinedHearing
+pub mod JoinedLoss
+pub mod JoinedSteps
 pub mod KeyLemmas
+pub mod PrefixLemmas
 pub mod RelationSteps
+pub mod ReportLemmas
 pub mod Safety
 pub mod SayableLemmas
+pub mod SentLemmas
+pub mod SlotLemmas
 pub mod StartAnswered
 pub mod StartTexts
 pub mod StreamSteps
@@ -24,6 +34,7 @@ pub mod SwapLemmas
 pub mod TextLemmas
 pub mod TruncateSteps
 pub mod UpsHeardLemmas
+pub mod WantsLemmas
 pub mod WorldHearing
 pub mod WorldItems
 pub mod WorldLemmas

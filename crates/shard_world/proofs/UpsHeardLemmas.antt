@@ -1,19 +1,23 @@
 -- The frames that a subscriber sends are heard as they are in the world.
-use Rattle.std.proofs.Common.{◌≡◌, ℕ, zero, suc, ◌+◌, ◌-◌, ◌^◌, ◌<◌, ◌≤◌, min, max, Bool, true, false, List, [], ◌∷◌, ◌++◌, length, map, replicate, Option, Some, None, refl, sym, ap, ◌∙◌, subst, arith, append_assoc, append-nil}
+use Rattle.std.proofs.Common.{◌≡◌, ℕ, zero, suc, ◌+◌, ◌-◌, ◌^◌, ◌<◌, ◌≤◌, ◌≢◌, min, max, Bool, true, false, List, [], ◌∷◌, ◌++◌, length, map, replicate, Option, Some, None, refl, sym, ap, ◌∙◌, subst, arith, append_assoc, append-nil}
 use Rattle.std.specs.Prelude.{fold, nat_lt, slice_get, All}
 use Rattle.std.proofs.Math.ListN.{length-set}
 use Rattle.std.proofs.lemmas.Bool.Decides.{nat_tests}
 use Rattle.std.proofs.lemmas.List.{replicate-append-replicate}
 use Rattle.std.proofs.lemmas.List.Elements.{All-head, All-tail}
-use Rattle.tables_log.specs.Slots.{end_after, confirmed_of, confirmed_at, changed, started, raised, with_stream, confirmed_up_to}
+use Rattle.pub_reader.specs.declared.catalog.Subscription.{Subscription}
+use Rattle.tables_log.specs.Slots.{end_after, confirmed_of, confirmed_at, start_fault, changed, started, raised, with_stream, confirmed_up_to}
 use Rattle.tables_log.specs.declared.slots.Slot.{Slot}
 use Rattle.copy_frames.proofs.ContentLemmas.{status_is_read}
 use Rattle.copy_frames.specs.declared.status.Status.{Status}
 use Rattle.copy_both.specs.Events.{read_event}
 use Rattle.copy_both.specs.Hearing.{HearingOf, Served, Begins, begun, one_more, confirmed_by, event_heard, next_heard, unless_over, frame_heard, frames_heard, is_over}
 use Rattle.copy_both.specs.Streams.{Move, Keep}
+use Rattle.shard_world.specs.Asking.{CanAsk}
 use Rattle.shard_world.specs.UpsHeard.{start_in, session_of, IsBegun, IsHearing, IsWithin, IsHeard, StartsAreHeard, StatusesAreHeard}
 use Rattle.shard_world.specs.World.{Asks, Says, Session, start_at, replied, hear_up, up_frame}
+use Rattle.shard_world.specs.Joined.{HasSlot}
+use Rattle.shard_world.proofs.SlotLemmas.{others_stay, raised_slot}
 use Rattle.shard_world.proofs.StartAnswered.{starts_are_answered}
 
 -- ---- slots
@@ -102,13 +106,18 @@ statuses_are_heard served subscriber start now moves statuses h hearing is withi
 
 -- ---- the start
 
+pub start_step : (served : Served) (subscriber position : ℕ) (subscription : Subscription) (h : HearingOf) → CanAsk served.checked.catalog subscriber subscription → position < 2 ^ 64
+    → start_fault h.slots (end_after served.commits) subscriber position ≡ None → is_over h ≡ false → h.started ≡ None
+    → frame_heard served h (up_frame served.checked subscriber (Asks position)) ≡ begun (Begins subscriber (max position (confirmed_at h.slots subscriber))) h
+start_step served subscriber position subscription h can small free goes_on none =
+    ap (λ over. unless_over over h (next_heard served (up_frame served.checked subscriber (Asks position)) h.started h)) goes_on
+    ∙ ap (λ its. next_heard served (up_frame served.checked subscriber (Asks position)) its h) none
+    ∙ ap (λ begins. begun begins h) (starts_are_answered served h.slots subscriber position subscription can small free)
+
 pub starts_are_heard : StartsAreHeard
 starts_are_heard served subscriber position now subscription moves h can small free hearing none =
     let from : ℕ = max position (confirmed_at h.slots subscriber) in
-    let step : frame_heard served h (up_frame served.checked subscriber (Asks position)) ≡ begun (Begins subscriber (max position (confirmed_at h.slots subscriber))) h =
-    ap (λ over. unless_over over h (next_heard served (up_frame served.checked subscriber (Asks position)) h.started h)) hearing.goes_on
-    ∙ ap (λ its. next_heard served (up_frame served.checked subscriber (Asks position)) its h) none
-    ∙ ap (λ begins. begun begins h) (starts_are_answered served h.slots subscriber position subscription can small free) in (
+    let step = start_step served subscriber position subscription h can small free hearing.goes_on none in (
       subst (λ next. IsHeard subscriber now moves next (hear_up now (session_of subscriber now moves h) (Asks position))) (sym step) (record {
         hearing = record {
           own = refl;
@@ -121,3 +130,44 @@ starts_are_heard served subscriber position now subscription moves h can small f
       }),
       subst (IsBegun subscriber (max position (confirmed_at h.slots subscriber))) (sym step) (record { started = refl; sent = refl }),
     )
+
+-- ---- slots
+
+pub record HasSlotBy (slots : List Slot) (number : ℕ) (taken : Bool) : Type 0 where
+  pub confirmed : ℕ
+  pub has : HasSlot slots number confirmed taken
+
+-- other slots stay, and this one is still a stream's or not
+pub record SlotsGo (number : ℕ) (before after : List Slot) : Type 0 where
+  pub others : (other : ℕ) → other ≢ number → slice_get after other ≡ slice_get before other
+  pub own : (confirmed : ℕ) (taken : Bool) → HasSlot before number confirmed taken → HasSlotBy after number taken
+
+slots_stay : (number : ℕ) (slots : List Slot) → SlotsGo number slots slots
+slots_stay number slots = record { others = λ other apart. refl; own = λ confirmed taken has. record { confirmed = confirmed; has = has } }
+
+slots_rise : (number : ℕ) (before after : List Slot) (position : ℕ) → after ≡ confirmed_up_to before number position → SlotsGo number before after
+slots_rise number before after position is = subst (SlotsGo number before) (sym is) (record {
+  others = λ other apart. others_stay before number other (raised position) apart;
+  own = λ confirmed taken has. record { confirmed = max confirmed position; has = raised_slot before number confirmed position taken has };
+})
+
+slots_both : (number : ℕ) (first second last : List Slot) → SlotsGo number first second → SlotsGo number second last → SlotsGo number first last
+slots_both number first second last one two = record {
+  others = λ other apart. two.others other apart ∙ one.others other apart;
+  own = λ confirmed taken has. two.own (one.own confirmed taken has).confirmed taken (one.own confirmed taken has).has;
+}
+
+module _ (served : Served) (subscriber start now : ℕ) (moves : List Move) where
+  pub statuses_go : (statuses : List Status) (h : HearingOf) → IsHearing subscriber h → h.started ≡ Some (subscriber, start)
+      → All (IsWithin (min h.sent (end_after served.commits))) statuses
+      → SlotsGo subscriber h.slots (frames_heard served h (map (up_frame served.checked subscriber) (map Says statuses))).slots
+  unfolding frames_heard
+  statuses_go [] h hearing is within = slots_stay subscriber h.slots
+  statuses_go (status ∷ statuses) h hearing is within =
+      let step = status_step served subscriber start now moves status h hearing.goes_on is (All-head (IsWithin (min h.sent (end_after served.commits))) status statuses within) in
+      let next = confirmed_by false subscriber status h in
+      subst (λ its. SlotsGo subscriber h.slots (frames_heard served its (map (up_frame served.checked subscriber) (map Says statuses))).slots) (sym step)
+      (slots_both subscriber h.slots next.slots (frames_heard served next (map (up_frame served.checked subscriber) (map Says statuses))).slots
+      (slots_rise subscriber h.slots next.slots status.flushed refl)
+      (statuses_go statuses next (still_hearing served subscriber start now moves status h hearing) is
+      (All-tail (IsWithin (min h.sent (end_after served.commits))) status statuses within)))

@@ -11,10 +11,10 @@ use Rattle.copy_both.specs.StreamLaws.{IsThere, AllThere}
 use Rattle.copy_both.specs.Streams.{Place, Move, Take, Keep, place_at, moved}
 use Rattle.copy_both.specs.Tellings.{telling_of}
 use Rattle.copy_frames.specs.declared.status.Status.{Status}
-use Rattle.shard_world.specs.Cutting.{whole_in}
+use Rattle.shard_world.specs.Cutting.{if_whole, whole_in}
 use Rattle.shard_world.specs.Following.{position_after, log_of}
 use Rattle.shard_world.specs.Items.{Item, Response, spelled, all_items}
-use Rattle.shard_world.specs.World.{Up, Asks, Says, Connection, Peer, Session, down_items, spelled_up, if_heard, whole_up, ups_of, start_at, replied, hear_up, newly, hears}
+use Rattle.shard_world.specs.World.{Up, Asks, Says, Connection, Peer, Session, down_items, spelled_up, whole_up, ups_of, start_at, replied, hear_up, newly, hears}
 use Rattle.shard_world.proofs.FollowingBytesLemmas.{follows_longer}
 use Rattle.shard_world.proofs.WorldItems.{none_in_nothing, moved_longer, items_longer, log_goes_on}
 use Rattle.shard_world.proofs.WorldPeers.{StartsAt, IsReported, IsConnected, IsConnectedAt, IsGood, moves_connected}
@@ -30,7 +30,7 @@ ups_fair : (position reached : ℕ) (reports : List Status) → All (IsReported 
 ups_fair position reached reports low =
     All-cons (IsFair position reached) (Asks position) (map Says reports) refl (All-map (IsFair position reached) Says reports low)
 
-if_fair : (P : Up → Type 0) (whole : Bool) (up : Up) (others : List Up) → P up → All P others → All P (if_heard whole up others)
+if_fair : (P : Up → Type 0) (whole : Bool) (up : Up) (others : List Up) → P up → All P others → All P (if_whole whole up others)
 if_fair P true up others here later = All-cons P up others here later
 if_fair P false up others here later = All-nil P
 

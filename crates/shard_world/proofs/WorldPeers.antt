@@ -16,7 +16,8 @@ use Rattle.test_subscriber.specs.Feeding.{limit}
 use Rattle.test_subscriber.specs.Frames.{hear_cut}
 use Rattle.test_subscriber.specs.Machine.{Machine, lost, opened}
 use Rattle.shard_world.specs.Cutting.{whole_in}
-use Rattle.shard_world.specs.Following.{position_after, Follows, IsPublished, log_of}
+use Rattle.shard_world.specs.Following.{position_after, Follows, IsPublished, log_of, IsSentItem}
+use Rattle.shard_world.specs.FollowingBytes.{IsFollowed}
 use Rattle.shard_world.specs.Items.{Item, Response, spelled, move_items}
 use Rattle.shard_world.specs.Sayable.{IsSayable}
 use Rattle.shard_world.specs.World.{Connection, Peer, down_items, down_bytes, position_in, machine_in, position_now, machine_now, loses}
@@ -64,26 +65,37 @@ no_bytes : List ℕ
 no_bytes = []
 
 module _ (checked : CheckedOf) (transactions : List Transaction) (published : IsPublished checked transactions) (sayable : IsSayable checked transactions) (subscriber : ℕ) where
-  delivered_follows : (position : ℕ) (machine : Machine) → Follows checked transactions subscriber position machine → (start : Option ℕ) → StartsAt position start
+  -- what it sends can be said
+  pub down_sent : (position : ℕ) (machine : Machine) → Follows checked transactions subscriber position machine → (start : Option ℕ) → StartsAt position start
+      → (moves : List Move) → All IsClocked moves → All IsSentItem (down_items checked transactions subscriber start moves)
+  down_sent position machine follows None at moves clocked = All-nil IsSentItem
+  down_sent position machine follows (Some start) at moves clocked =
+      subst (λ p. All IsSentItem (down_items checked transactions subscriber (Some p) moves)) (sym at)
+      (stream_sent checked transactions published.accepted sayable subscriber position moves follows.within clocked)
+
+  -- and is heard with no fault
+  pub delivered_followed : (position : ℕ) (machine : Machine) → Follows checked transactions subscriber position machine → (start : Option ℕ) → StartsAt position start
       → (moves : List Move) → All IsClocked moves → (delivered : ℕ) → delivered ≤ length (flat_map spelled (down_items checked transactions subscriber start moves))
-      → Follows checked transactions subscriber (position_after position (whole_in delivered (down_items checked transactions subscriber start moves)))
-      (hear_cut (cut limit (take delivered (down_bytes checked transactions subscriber start moves))) (opened machine)).machine
-  delivered_follows position machine follows None at moves clocked delivered within =
-      subst (λ n. Follows checked transactions subscriber position (hear_cut (cut limit (take n [])) (opened machine)).machine) zero_is
-      (subst (λ all. Follows checked transactions subscriber position (hear_cut all (opened machine)).machine) (sym (cut_nothing limit))
-      (follows_alike checked transactions subscriber position machine (opened machine) follows refl (λ oid key. refl) (λ oid. refl)))
+      → IsFollowed checked transactions subscriber (position_after position (whole_in delivered (down_items checked transactions subscriber start moves)))
+      (hear_cut (cut limit (take delivered (down_bytes checked transactions subscriber start moves))) (opened machine))
+  delivered_followed position machine follows None at moves clocked delivered within =
+      subst (λ n. IsFollowed checked transactions subscriber position (hear_cut (cut limit (take n [])) (opened machine))) zero_is
+      (subst (λ all. IsFollowed checked transactions subscriber position (hear_cut all (opened machine))) (sym (cut_nothing limit)) (record {
+        no_fault = refl;
+        follows = follows_alike checked transactions subscriber position machine (opened machine) follows refl (λ oid key. refl) (λ oid. refl);
+      }))
     where
       zero_is : 0 ≡ delivered
       zero_is = omega (arith, within)
-  delivered_follows position machine follows (Some start) at moves clocked delivered within =
-      subst (λ p. Follows checked transactions subscriber (position_after position (whole_in delivered (down_items checked transactions subscriber (Some p) moves)))
-      (hear_cut (cut limit (take delivered (down_bytes checked transactions subscriber (Some p) moves))) (opened machine)).machine) (sym at)
+  delivered_followed position machine follows (Some start) at moves clocked delivered within =
+      subst (λ p. IsFollowed checked transactions subscriber (position_after position (whole_in delivered (down_items checked transactions subscriber (Some p) moves)))
+      (hear_cut (cut limit (take delivered (down_bytes checked transactions subscriber (Some p) moves))) (opened machine))) (sym at)
       (by_length (length (take delivered (down_bytes checked transactions subscriber (Some position) moves))) long
       (opened_followed checked transactions published subscriber (opened machine) (record { waits = refl; known = λ oid. refl; work_is = λ oid key. refl }) position
       (follows_alike checked transactions subscriber position machine (opened machine) follows refl (λ oid key. refl) (λ oid. refl)) moves
       (stream_sent checked transactions published.accepted sayable subscriber position moves follows.within clocked)
       (take delivered (down_bytes checked transactions subscriber (Some position) moves)) (drop delivered (down_bytes checked transactions subscriber (Some position) moves))
-      (take-append-drop delivered (down_bytes checked transactions subscriber (Some position) moves))).follows)
+      (take-append-drop delivered (down_bytes checked transactions subscriber (Some position) moves))))
     where
       moved_within : delivered ≤ length (flat_map spelled (down_items checked transactions subscriber (Some position) moves))
       moved_within = subst (λ p. delivered ≤ length (flat_map spelled (down_items checked transactions subscriber (Some p) moves))) at within
@@ -93,18 +105,18 @@ module _ (checked : CheckedOf) (transactions : List Transaction) (published : Is
           (subst (λ bytes. delivered ≤ length bytes) (sym (bytes_of_items checked transactions subscriber (Some position) moves)) moved_within)
 
       by_length : (count : ℕ) → count ≡ delivered
-          → Follows checked transactions subscriber (position_after position (whole_in count (down_items checked transactions subscriber (Some position) moves)))
-          (hear_cut (cut limit (take delivered (down_bytes checked transactions subscriber (Some position) moves))) (opened machine)).machine
-          → Follows checked transactions subscriber (position_after position (whole_in delivered (down_items checked transactions subscriber (Some position) moves)))
-          (hear_cut (cut limit (take delivered (down_bytes checked transactions subscriber (Some position) moves))) (opened machine)).machine
-      by_length count e h = subst (λ n. Follows checked transactions subscriber (position_after position (whole_in n (down_items checked transactions subscriber (Some position) moves)))
-          (hear_cut (cut limit (take delivered (down_bytes checked transactions subscriber (Some position) moves))) (opened machine)).machine) e h
+          → IsFollowed checked transactions subscriber (position_after position (whole_in count (down_items checked transactions subscriber (Some position) moves)))
+          (hear_cut (cut limit (take delivered (down_bytes checked transactions subscriber (Some position) moves))) (opened machine))
+          → IsFollowed checked transactions subscriber (position_after position (whole_in delivered (down_items checked transactions subscriber (Some position) moves)))
+          (hear_cut (cut limit (take delivered (down_bytes checked transactions subscriber (Some position) moves))) (opened machine))
+      by_length count e h = subst (λ n. IsFollowed checked transactions subscriber (position_after position (whole_in n (down_items checked transactions subscriber (Some position) moves)))
+          (hear_cut (cut limit (take delivered (down_bytes checked transactions subscriber (Some position) moves))) (opened machine))) e h
 
   follows_at : (peer : Peer) (connection : Option Connection) → Follows checked transactions subscriber peer.position peer.machine → IsConnectedAt checked transactions subscriber peer connection
       → Follows checked transactions subscriber (position_in checked transactions subscriber peer connection) (machine_in checked transactions subscriber peer connection)
   follows_at peer None follows connected = follows
   follows_at peer (Some c) follows connected =
-      delivered_follows peer.position peer.machine follows c.start connected.1.started c.moves connected.1.clocked c.delivered connected.1.delivered
+      (delivered_followed peer.position peer.machine follows c.start connected.1.started c.moves connected.1.clocked c.delivered connected.1.delivered).follows
 
   pub good_follows : (peer : Peer) → IsGood checked transactions subscriber peer
       → Follows checked transactions subscriber (position_now checked transactions subscriber peer) (machine_now checked transactions subscriber peer)
@@ -135,11 +147,11 @@ spelled_longer (x ∷ xs) ys =
     let later = spelled_longer xs ys in
     omega (arith, later, length-append (spelled x) (flat_map spelled xs), length-append (spelled x) (flat_map spelled (xs ++ ys)))
 
-record Grows (checked : CheckedOf) (transactions : List Transaction) (subscriber : ℕ) (start : Option ℕ) (moves : List Move) (move : Move) : Type 0 where
-  more : List Item
-  is : down_items checked transactions subscriber start (moves ++ move ∷ []) ≡ down_items checked transactions subscriber start moves ++ more
+pub record Grows (checked : CheckedOf) (transactions : List Transaction) (subscriber : ℕ) (start : Option ℕ) (moves : List Move) (move : Move) : Type 0 where
+  pub more : List Item
+  pub is : down_items checked transactions subscriber start (moves ++ move ∷ []) ≡ down_items checked transactions subscriber start moves ++ more
 
-grows : (checked : CheckedOf) (transactions : List Transaction) (subscriber : ℕ) (start : Option ℕ) (moves : List Move) (move : Move) → Grows checked transactions subscriber start moves move
+pub grows : (checked : CheckedOf) (transactions : List Transaction) (subscriber : ℕ) (start : Option ℕ) (moves : List Move) (move : Move) → Grows checked transactions subscriber start moves move
 grows checked transactions subscriber None moves move = record { more = []; is = refl }
 grows checked transactions subscriber (Some start) moves move = record {
   more = move_items checked (log_of checked transactions) (all_moved (telling_of checked) (log_of checked transactions) (place_at subscriber (length checked.catalog.tables) start) moves) move;

@@ -2,23 +2,31 @@
 use Rattle.std.specs.Prelude.{◌≡◌, ℕ, ◌-◌, nat_le, Bool, true, false, List, [], ◌∷◌, ◌++◌, map, length}
 use Rattle.std.specs.List.{flat_map}
 use Rattle.copy_frames.specs.FrameLaws.{AreFrames}
-use Rattle.copy_frames.specs.Frames.{Rest, cut, after_frames}
+use Rattle.copy_frames.specs.Frames.{Rest, framed, cut, after_frames}
+use Rattle.copy_frames.specs.declared.frame.Frame.{Frame}
 use Rattle.shard_world.specs.Items.{Item, frame_in, spelled}
 
--- an item whose frame is whole, and those after it
-abbrev pub if_whole : Bool → Item → List Item → List Item
-if_whole true item others = item ∷ others
-if_whole false item others = []
+-- one whose frame is whole, and those after it
+abbrev pub if_whole : {X : Type 0} → Bool → X → List X → List X
+if_whole true first others = first ∷ others
+if_whole false first others = []
 
--- the items whose frames are whole in so many bytes
+-- of those that have these frames, one after another, those whose frames are whole in so many bytes
+abbrev pub whole_by : {X : Type 0} → (X → Frame) → ℕ → List X → List X
+whole_by frame count [] = []
+whole_by frame count (first ∷ others) =
+    if_whole (nat_le (length (framed (frame first))) count) first (whole_by frame (count - length (framed (frame first))) others)
+
 abbrev pub whole_in : ℕ → List Item → List Item
-whole_in count [] = []
-whole_in count (item ∷ items) = if_whole (nat_le (length (spelled item)) count) item (whole_in (count - length (spelled item)) items)
+whole_in count items = whole_by frame_in count items
 
 -- these bytes are the frames that are whole in them, and a rest that is none
-pub record IsCutAt (limit : ℕ) (items : List Item) (bytes : List ℕ) : Type 0 where
+pub record IsCutBy {X : Type 0} (frame : X → Frame) (limit : ℕ) (all : List X) (bytes : List ℕ) : Type 0 where
   pub rest : List ℕ
-  pub cuts : cut limit bytes ≡ after_frames (map frame_in (whole_in (length bytes) items)) (Rest rest)
+  pub cuts : cut limit bytes ≡ after_frames (map frame (whole_by frame (length bytes) all)) (Rest rest)
+
+abbrev pub IsCutAt : ℕ → List Item → List ℕ → Type 0
+IsCutAt limit items bytes = IsCutBy frame_in limit items bytes
 
 abbrev pub FirstPartsAreCut : Type 0
 FirstPartsAreCut = (limit : ℕ) (items : List Item) (bytes others : List ℕ) → AreFrames limit (map frame_in items)

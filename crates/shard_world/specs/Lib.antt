@@ -1,10 +1,13 @@
 pub mod Asking
 pub mod CatchingUp
+pub mod Connections
 pub mod Cutting
 pub mod Finding
 pub mod Following
 pub mod FollowingBytes
 pub mod Items
+pub mod Joined
+pub mod PeerSteps
 pub mod Sayable
 pub mod UpsHeard
 pub mod World

@@ -1,5 +1,5 @@
 -- The world of a publisher and its subscribers, where any of them moves next: commits, connections that are opened and lost, and bytes that come in any pieces: PostgreSQL 15, "Logical Replication", 31.2 Subscription, and 55.4. Streaming Replication Protocol. Its events and answers are this project's own.
-use Rattle.std.specs.Prelude.{◌≡◌, ◌<◌, ◌⊎◌, ℕ, ◌+◌, ◌-◌, ◌==◌, max, min, nat_le, nat_lt, Bool, true, false, if◌then◌else◌, List, [], ◌∷◌, ◌++◌, drop, fold, length, map, slice_get, take, Option, Some, None}
+use Rattle.std.specs.Prelude.{◌≡◌, ◌<◌, ◌⊎◌, ℕ, ◌+◌, ◌-◌, ◌==◌, max, min, nat_lt, Bool, true, false, if◌then◌else◌, List, [], ◌∷◌, ◌++◌, drop, fold, length, map, slice_get, take, Option, Some, None}
 use Rattle.std.specs.List.{flat_map}
 use Rattle.copy_both.specs.Streams as s
 use Rattle.copy_both.specs.Streams.{Place, Move, place_at, all_moved, stream}
@@ -26,7 +26,7 @@ use Rattle.test_subscriber.specs.Frames.{hear_cut}
 use Rattle.test_subscriber.specs.Machine.{Machine, lost, opened}
 use Rattle.test_subscriber.specs.StartQuery.{start_text}
 use Rattle.test_subscriber.specs.Subscribers.{first_machine, status_at}
-use Rattle.shard_world.specs.Cutting.{whole_in}
+use Rattle.shard_world.specs.Cutting.{whole_by, whole_in}
 use Rattle.shard_world.specs.Following.{log_of, position_after}
 use Rattle.shard_world.specs.FollowingBytes.{items_from}
 use Rattle.shard_world.specs.Items.{Item}
@@ -63,15 +63,9 @@ up_frame checked subscriber (Says status) = record { kind = 100; body = status_b
 abbrev pub spelled_up : CheckedOf → ℕ → Up → List ℕ
 spelled_up checked subscriber up = framed (up_frame checked subscriber up)
 
-abbrev pub if_heard : Bool → Up → List Up → List Up
-if_heard true up others = up ∷ others
-if_heard false up others = []
-
 -- those whose frames are whole in so many bytes
 abbrev pub whole_up : CheckedOf → ℕ → ℕ → List Up → List Up
-whole_up checked subscriber count [] = []
-whole_up checked subscriber count (up ∷ ups) =
-    if_heard (nat_le (length (spelled_up checked subscriber up)) count) up (whole_up checked subscriber (count - length (spelled_up checked subscriber up)) ups)
+whole_up checked subscriber count ups = whole_by (up_frame checked subscriber) count ups
 
 -- ---- the state
 

@@ -3,6 +3,7 @@
 ghost use Rattle.shard_world.specs.Items.{StreamsAreItems};
 ghost use Rattle.shard_world.specs.Asking.{CommandsAreRead, StartsAreAnswered};
 ghost use Rattle.shard_world.specs.CatchingUp.{SubscribersCatchUp};
+ghost use Rattle.shard_world.specs.Connections.{OpensStep, HearsStep, TakesStep, KeepsStep, DeliversStep, ReportsStep, LosesStep};
 ghost use Rattle.shard_world.specs.Cutting.{FirstPartsAreCut};
 ghost use Rattle.shard_world.specs.Following.{ItemsAreFollowed};
 ghost use Rattle.shard_world.specs.Sayable.{LogsCanBeSaid};
@@ -107,4 +108,22 @@ pub fn starts_are_answered()
 pub fn subscribers_are_heard()
     ensures start { StartsAreHeard }
     ensures statuses { StatusesAreHeard }
+{}
+
+/// A law, and no code, of a subscriber and the publisher's end of its connection, by what their calls leave (`Subscriber` of
+/// `test_subscriber`, `Link` of `copy_both`). Where they stand for a subscriber of a world that events lead to, a call that
+/// meets no want of memory leaves what stands for what the step of the world leaves, and answers what that answers: as the
+/// subscriber opens a connection (`opened`), as any first bytes of what it sent are heard (`heard`), as the next commit is
+/// taken up (`taken`) and a keepalive is said (`kept`), as any first bytes of what waits come to the subscriber
+/// (`delivered`), as it says how far it is (`reported`) and as the connection is lost (`lost`).
+///
+/// PostgreSQL 15, 31.2. Subscription, and 55.4. Streaming Replication Protocol.
+pub fn connections_step_as_the_world()
+    ensures opened { OpensStep }
+    ensures heard { HearsStep }
+    ensures taken { TakesStep }
+    ensures kept { KeepsStep }
+    ensures delivered { DeliversStep }
+    ensures reported { ReportsStep }
+    ensures lost { LosesStep }
 {}

@@ -4,7 +4,7 @@
 mod laws;
 
 pub use laws::{
-    commands_are_read, fed_subscribers_follow, logs_can_be_said, starts_are_answered,
-    streams_are_items, subscribers_are_heard, subscribers_catch_up, subscribers_divide_the_tables,
-    subscribers_follow_streams,
+    commands_are_read, connections_step_as_the_world, fed_subscribers_follow, logs_can_be_said,
+    starts_are_answered, streams_are_items, subscribers_are_heard, subscribers_catch_up,
+    subscribers_divide_the_tables, subscribers_follow_streams,
 };

@@ -1,16 +1,13 @@
 -- Bytes that come in two pieces are heard as if they had come at once.
-use Rattle.std.proofs.Common.{◌≡◌, ℕ, zero, suc, ◌≤◌, List, [], ◌∷◌, ◌++◌, length, drop, refl, sym, ap, subst, ◌∙◌, append_assoc, arith, length-drop}
+use Rattle.std.proofs.Common.{◌≡◌, ℕ, List, [], ◌∷◌, ◌++◌, length, refl, sym, ap, subst, ◌∙◌, append_assoc}
 use Rattle.std.specs.Prelude.{Option, Some, None, Result, Ok, Err, ◌==◌, slice_index}
 use Rattle.std.specs.Str.{bytes_eq}
 use Rattle.copy_frames.specs.Contents.{xlog_data_in, keepalive_in}
 use Rattle.copy_frames.specs.declared.frame.Frame.{Frame}
-use Rattle.copy_frames.specs.declared.front.Front.{Front}
-use Rattle.copy_frames.specs.declared.front.Front.TheVariants.{Part, Faulty, Whole}
 use Rattle.copy_frames.specs.declared.keepalive.Keepalive.{Keepalive}
 use Rattle.copy_frames.specs.declared.xlog_data.XLogData.{XLogData}
-use Rattle.copy_frames.specs.Frames.{front, frame_of, Cut, Rest, Bad, Then, cut_after, cut, fault_of, frames_of, after_frames}
-use Rattle.copy_frames.proofs.FrontLemmas.{IsWhole, whole_front}
-use Rattle.copy_frames.proofs.CutLemmas.{cut_by_front, cut_whole_more}
+use Rattle.copy_frames.specs.Frames.{Cut, Rest, Bad, Then, cut, fault_of, frames_of, rest_of, after_frames}
+use Rattle.copy_frames.proofs.PieceLemmas.{with_more, cut_more, rest_with_more, more_after, after_append}
 use Rattle.pgoutput_msgs.specs.Reading.{decoded}
 use Rattle.pgoutput_msgs.specs.declared.error.MsgError.{MsgError}
 use Rattle.pgoutput_msgs.specs.declared.message.Msg.{Msg}
@@ -19,7 +16,7 @@ use Rattle.pgoutput_msgs.specs.declared.relation.Relation.{Relation}
 use Rattle.table_changes.proofs.TableLemmas.{by_test}
 use Rattle.test_subscriber.specs.Answers.{SameOutcome}
 use Rattle.test_subscriber.specs.Copies.{told}
-use Rattle.test_subscriber.specs.Feeding.{limit, rest_of, hear_while, next_heard, hear_frames, StaysOf, StopsAmong, StopsFor}
+use Rattle.test_subscriber.specs.Feeding.{limit, hear_while, next_heard, hear_frames, StaysOf, StopsAmong, StopsFor}
 use Rattle.test_subscriber.specs.FeedingLaws.{PiecesAreFedAsOne, StopsComeAtOnce}
 use Rattle.test_subscriber.specs.Frames.{Heard, heard_then, hear_start, hear_keepalive, hear_decoded, hear_data, hear_content, hear_stream, hear_frame_in, hear_frame, hear_cut}
 use Rattle.test_subscriber.specs.Hearing.{Outcome, Change, table_of, change_of, staged, emptied, hear_empty, empty_rest, hear_truncate, learn_new, learn_as, hear_idle, hear_busy, hear_in}
@@ -36,46 +33,6 @@ use Rattle.test_subscriber.specs.declared.subscriber.Subscriber.{Subscriber}
 use Rattle.test_subscriber.proofs.AlikeLemmas.{alike_both}
 use Rattle.test_subscriber.proofs.FrameAlikeLemmas.{frame_alike}
 
--- ---- more bytes after those that were cut
-
--- the frames that were cut, and then the cut of the rest and what comes after it
-abbrev with_more : List ℕ → Cut → Cut
-with_more more (Rest bytes) = cut limit (bytes ++ more)
-with_more more (Bad fault bytes) = Bad fault bytes
-with_more more (Then frame others) = Then frame (with_more more others)
-
-abbrev CutsMore : List ℕ → List ℕ → Type 0
-CutsMore more bytes = fault_of (cut limit bytes) ≡ None → cut limit (bytes ++ more) ≡ with_more more (cut limit bytes)
-
-cut_with : (bytes : List ℕ) (found : Front) → front limit bytes ≡ found → cut limit bytes ≡ cut_after found bytes (cut limit)
-cut_with bytes found is = cut_by_front limit bytes ∙ ap (λ f. cut_after f bytes (cut limit)) is
-
-front_more : (bytes more : List ℕ) (found : Front) → front limit bytes ≡ found
-    → ((size : ℕ) → IsWhole limit bytes size → CutsMore more (drop size bytes)) → CutsMore more bytes
-front_more bytes more Part is later good = sym (ap (with_more more) (cut_with bytes Part is))
-front_more bytes more (Faulty fault) is later good =
-    let wrong : fault_of (cut limit bytes) ≡ Some fault = ap fault_of (cut_with bytes (Faulty fault) is) in absurd cc
-front_more bytes more (Whole size) is later good =
-    let whole : IsWhole limit bytes size = whole_front limit bytes size is in
-    let all : cut limit bytes ≡ Then (frame_of size bytes) (cut limit (drop size bytes)) = cut_with bytes (Whole size) is in
-    cut_whole_more limit bytes size whole more
-    ∙ ap (Then (frame_of size bytes)) (later size whole (sym (ap fault_of all) ∙ good))
-    ∙ sym (ap (with_more more) all)
-
-cut_some_more : (n : ℕ) (bytes more : List ℕ) → length bytes ≤ n → CutsMore more bytes
-cut_some_more zero bytes more few = front_more bytes more (front limit bytes) refl (λ size whole. absurd (omega (arith, few, whole.least, whole.within)))
-cut_some_more (suc n) bytes more few =
-    front_more bytes more (front limit bytes) refl
-    (λ size whole. cut_some_more n (drop size bytes) more (omega (arith, few, length-drop size bytes, whole.least)))
-
-cut_more : (bytes more : List ℕ) → CutsMore more bytes
-cut_more bytes more = cut_some_more (length bytes) bytes more (omega arith)
-
-rest_with_more : (more : List ℕ) (whole : Cut) → fault_of whole ≡ None → rest_of (with_more more whole) ≡ rest_of (cut limit (rest_of whole ++ more))
-rest_with_more more (Rest bytes) good = refl
-rest_with_more more (Bad fault bytes) good = absurd cc
-rest_with_more more (Then frame others) good = rest_with_more more others good
-
 -- ---- what is heard of them
 
 then_no_fault : (outcome : Outcome) (others : Cut) (machine : Machine) → ((next : Machine) → (hear_cut others next).fault ≡ None → fault_of others ≡ None)
@@ -83,23 +40,23 @@ then_no_fault : (outcome : Outcome) (others : Cut) (machine : Machine) → ((nex
 then_no_fault (Err fault) others machine later good = absurd cc
 then_no_fault (Ok next) others machine later good = later next good
 
-hears_no_fault : (whole : Cut) (machine : Machine) → (hear_cut whole machine).fault ≡ None → fault_of whole ≡ None
+pub hears_no_fault : (whole : Cut) (machine : Machine) → (hear_cut whole machine).fault ≡ None → fault_of whole ≡ None
 hears_no_fault (Rest bytes) machine good = refl
 hears_no_fault (Bad fault bytes) machine good = absurd cc
 hears_no_fault (Then frame others) machine good = then_no_fault (hear_frame frame machine) others machine (hears_no_fault others) good
 
-abbrev HearsMore : List ℕ → Cut → Machine → Type 0
+abbrev pub HearsMore : List ℕ → Cut → Machine → Type 0
 HearsMore more whole machine = (hear_cut whole machine).fault ≡ None
-    → hear_cut (with_more more whole) machine ≡ hear_cut (cut limit (rest_of whole ++ more)) (hear_cut whole machine).machine
+    → hear_cut (with_more limit more whole) machine ≡ hear_cut (cut limit (rest_of whole ++ more)) (hear_cut whole machine).machine
 
 then_hears_more : (more : List ℕ) (outcome : Outcome) (others : Cut) (machine : Machine) → ((next : Machine) → HearsMore more others next)
     → (heard_then machine outcome (hear_cut others)).fault ≡ None
-    → heard_then machine outcome (hear_cut (with_more more others))
+    → heard_then machine outcome (hear_cut (with_more limit more others))
     ≡ hear_cut (cut limit (rest_of others ++ more)) (heard_then machine outcome (hear_cut others)).machine
 then_hears_more more (Err fault) others machine later good = absurd cc
 then_hears_more more (Ok next) others machine later good = later next good
 
-hears_more : (more : List ℕ) (whole : Cut) (machine : Machine) → HearsMore more whole machine
+pub hears_more : (more : List ℕ) (whole : Cut) (machine : Machine) → HearsMore more whole machine
 hears_more more (Rest bytes) machine good = refl
 hears_more more (Bad fault bytes) machine good = absurd cc
 hears_more more (Then frame others) machine good = then_hears_more more (hear_frame frame machine) others machine (hears_more more others) good
@@ -125,20 +82,20 @@ cut_alike (Then frame others) one other alike =
 
 -- ---- a connection that is opens
 
-abbrev IsOpen : Phase → Type 0
+abbrev pub IsOpen : Phase → Type 0
 IsOpen Shut = ⊥
 IsOpen Waiting = Unit {0}
 IsOpen Idle = Unit {0}
 IsOpen (Busy begin) = Unit {0}
 
 -- a connection on which a cut is heard without a fault is opens
-while_open : (phase : Phase) (whole : Cut) (machine : Machine) → (hear_while phase whole machine).fault ≡ None → IsOpen phase
+pub while_open : (phase : Phase) (whole : Cut) (machine : Machine) → (hear_while phase whole machine).fault ≡ None → IsOpen phase
 while_open Shut whole machine good = absurd cc
 while_open Waiting whole machine good = tt
 while_open Idle whole machine good = tt
 while_open (Busy begin) whole machine good = tt
 
-hears_open : (phase : Phase) (whole : Cut) (machine : Machine) → IsOpen phase → hear_while phase whole machine ≡ hear_cut whole machine
+pub hears_open : (phase : Phase) (whole : Cut) (machine : Machine) → IsOpen phase → hear_while phase whole machine ≡ hear_cut whole machine
 hears_open Shut whole machine opens = absurd opens
 hears_open Waiting whole machine opens = refl
 hears_open Idle whole machine opens = refl
@@ -308,15 +265,6 @@ stays_alike (Ok one) (Ok other) new same stays = alike_both new (stopped one) (s
 stays_alike (Err one) other new same stays = absurd stays
 stays_alike (Ok one) (Err other) new same stays = absurd same
 
-after_append : (first second : List Frame) (rest : Cut) → after_frames (first ++ second) rest ≡ after_frames first (after_frames second rest)
-after_append [] second rest = refl
-after_append (frame ∷ first) second rest = ap (Then frame) (after_append first second rest)
-
-more_after : (more : List ℕ) (whole : Cut) → fault_of whole ≡ None → with_more more whole ≡ after_frames (frames_of whole) (cut limit (rest_of whole ++ more))
-more_after more (Rest bytes) good = refl
-more_after more (Bad fault bytes) good = absurd cc
-more_after more (Then frame others) good = ap (Then frame) (more_after more others good)
-
 -- ---- both pieces
 
 -- a piece without a fault, and one more
@@ -345,8 +293,8 @@ module _ (old between : Subscriber) (first second : List ℕ) (one : Feeds old f
   between_open : IsOpen (sub_machine between).phase
   between_open = subst IsOpen (sym machine_alike.phase) (cut_open whole (sub_machine old) old_open)
 
-  all_cut : fed_cut old (first ++ second) ≡ with_more second whole
-  all_cut = ap (cut limit) (sym (append_assoc (sub_held old) first second)) ∙ cut_more (sub_held old ++ first) second (hears_no_fault whole (sub_machine old) good)
+  all_cut : fed_cut old (first ++ second) ≡ with_more limit second whole
+  all_cut = ap (cut limit) (sym (append_assoc (sub_held old) first second)) ∙ cut_more limit (sub_held old ++ first) second (hears_no_fault whole (sub_machine old) good)
 
   next_cut : fed_cut between second ≡ later
   next_cut = ap (λ held. cut limit (held ++ second)) one.held
@@ -368,7 +316,7 @@ module _ (old between : Subscriber) (first second : List ℕ) (one : Feeds old f
   fed_as_one new two = record {
     fault = sym heard_alike.fault ∙ two.fault;
     machine = alike_both (sub_machine new) (fed_heard between second).machine (fed_heard old (first ++ second)).machine two.machine heard_alike.machine;
-    held = two.held ∙ ap rest_of next_cut ∙ sym (rest_with_more second whole (hears_no_fault whole (sub_machine old) good)) ∙ sym (ap rest_of all_cut);
+    held = two.held ∙ ap rest_of next_cut ∙ sym (rest_with_more limit second whole (hears_no_fault whole (sub_machine old) good)) ∙ sym (ap rest_of all_cut);
     output = two.output ∙ one.output;
     names = record { slot = two.names.slot ∙ one.names.slot; publications = two.names.publications ∙ one.names.publications };
   }
@@ -378,7 +326,7 @@ module _ (old between : Subscriber) (first second : List ℕ) (one : Feeds old f
     frames = frames_of whole ++ stops.frames;
     rest = stops.rest;
     first = after_append (frames_of whole) stops.frames stops.rest ∙ ap (after_frames (frames_of whole)) (stops.first ∙ next_cut)
-        ∙ sym (more_after second whole (hears_no_fault whole (sub_machine old) good)) ∙ sym all_cut;
+        ∙ sym (more_after limit second whole (hears_no_fault whole (sub_machine old) good)) ∙ sym all_cut;
     stays = subst (λ outcome. StaysOf outcome new)
         (sym (frames_append (frames_of whole) stops.frames (sub_machine old) ∙ ap (λ outcome. next_heard outcome (hear_frames stops.frames)) (hears_frames whole (sub_machine old) good)))
         (stays_alike (hear_frames stops.frames (sub_machine between)) (hear_frames stops.frames heard.machine) new

@@ -1,7 +1,7 @@
 -- What is heard of frames one after another is what is heard of all.
 use Rattle.std.proofs.Common.{◌≡◌, ℕ, ◌<◌, false, List, [], ◌∷◌, ◌++◌, length, refl, sym, ap, subst, ◌∙◌, append-nil, arith, length-append}
 use Rattle.std.specs.Prelude.{Option, Some, None, Ok, Err}
-use Rattle.copy_frames.specs.Frames.{framed, front, Cut, Rest, Bad, Then, cut, cut_after, after_frames}
+use Rattle.copy_frames.specs.Frames.{framed, front, Cut, Rest, Bad, Then, cut, cut_after, after_frames, rest_of}
 use Rattle.copy_frames.specs.Inboxes.{Inbox, GivesFrame, Gives, has_frame}
 use Rattle.copy_frames.specs.declared.frame.Frame.{Frame}
 use Rattle.copy_frames.specs.declared.front.Front.{Front}
@@ -10,7 +10,7 @@ use Rattle.copy_frames.proofs.CutLemmas.{cut_by_front}
 use Rattle.filter_tree.specs.Memory.{TellsFault}
 use Rattle.test_subscriber.specs.Answers.{Reaches, Stays, SameOutcome}
 use Rattle.test_subscriber.specs.Copies.{told, RefusedBy}
-use Rattle.test_subscriber.specs.Feeding.{rest_of, length_fault, hear_frames, next_heard, StaysOf, StopsBy, StopsAmong, StopsFor}
+use Rattle.test_subscriber.specs.Feeding.{length_fault, hear_frames, next_heard, StaysOf, StopsBy, StopsAmong, StopsFor}
 use Rattle.test_subscriber.specs.Frames.{Heard, heard_then, hear_frame, hear_cut}
 use Rattle.test_subscriber.specs.Hearing.{Outcome}
 use Rattle.test_subscriber.specs.Intake.{HearsHeld}

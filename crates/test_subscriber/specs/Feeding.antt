@@ -1,7 +1,7 @@
 -- What a subscriber makes of bytes that come in pieces, which are cut into frames, and what stays where it stops: PostgreSQL 15, 55.7. Message Formats.
 use Rattle.std.specs.Prelude.{◌≡◌, ℕ, List, [], ◌∷◌, Option, Some, None, Ok, Err}
 use Rattle.std.specs.Option.{option_map}
-use Rattle.copy_frames.specs.Frames.{Cut, Rest, Bad, Then, after_frames, fault_of}
+use Rattle.copy_frames.specs.Frames.{Cut, after_frames, fault_of}
 use Rattle.copy_frames.specs.declared.frame.Frame.{Frame}
 use Rattle.test_subscriber.specs.Frames.{Heard, hear_frame, hear_cut}
 use Rattle.test_subscriber.specs.Hearing.{Outcome}
@@ -14,12 +14,6 @@ use Rattle.test_subscriber.specs.declared.phase.Phase.TheVariants.{Shut, Waiting
 -- the length of a frame, which counts itself and not the kind, is at most this
 abbrev pub limit : ℕ
 limit = 16777216
-
--- what comes after the last whole frame
-abbrev pub rest_of : Cut → List ℕ
-rest_of (Rest bytes) = bytes
-rest_of (Bad fault bytes) = bytes
-rest_of (Then frame more) = rest_of more
 
 -- the fault of a length, which comes after the frames before it
 abbrev pub length_fault : Cut → Option SubFault

@@ -1,9 +1,9 @@
 -- What it leaves to take a piece into a deframer, and to hear what that holds: PostgreSQL 15, 55.7. Message Formats.
 use Rattle.std.specs.Prelude.{◌≡◌, List, ℕ, ◌++◌, Option, None}
-use Rattle.copy_frames.specs.Frames.{Cut, fault_in}
+use Rattle.copy_frames.specs.Frames.{Cut, fault_in, rest_of}
 use Rattle.copy_frames.specs.Inboxes.{Inbox, with_piece}
 use Rattle.copy_frames.specs.declared.fault.FrameFault.{FrameFault}
-use Rattle.test_subscriber.specs.Feeding.{rest_of, length_fault}
+use Rattle.test_subscriber.specs.Feeding.{length_fault}
 use Rattle.test_subscriber.specs.Frames.{Heard}
 use Rattle.test_subscriber.specs.Machine.{Machine, Alike}
 

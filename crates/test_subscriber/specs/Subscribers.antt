@@ -3,10 +3,10 @@ use Rattle.std.specs.Prelude.{◌≡◌, ℕ, Bool, false, List, [], ◌++◌, d
 use Rattle.std.specs.String.{string_bytes}
 use Rattle.filter_tree.specs.Datum.{Datum}
 use Rattle.copy_frames.specs.Contents.{copy_data, status_body}
-use Rattle.copy_frames.specs.Frames.{Cut, cut}
+use Rattle.copy_frames.specs.Frames.{Cut, cut, rest_of}
 use Rattle.copy_frames.specs.declared.status.Status.{Status}
 use Rattle.test_subscriber.specs.Copies.{told}
-use Rattle.test_subscriber.specs.Feeding.{limit, rest_of, hear_while, StopsFor}
+use Rattle.test_subscriber.specs.Feeding.{limit, hear_while, StopsFor}
 use Rattle.test_subscriber.specs.Frames.{Heard}
 use Rattle.test_subscriber.specs.Machine.{Machine, Alike, lost, opened}
 use Rattle.test_subscriber.specs.StartQuery.{start_query, Asks}

@@ -1,0 +1,114 @@
+-- One step on the connection of a subscriber, in a world that events lead to: PostgreSQL 15, 55.4. Streaming Replication Protocol.
+use Rattle.std.specs.Prelude.{◌≡◌, ◌≢◌, ◌<◌, ◌≤◌, ◌^◌, ℕ, false, is_some, min, List, All, length, slice_get, Option, Some, None}
+use Rattle.pub_reader.specs.declared.catalog.Subscription.{Subscription}
+use Rattle.shard_checker.specs.CheckedView.{CheckedOf}
+use Rattle.tables_log.specs.BookView.{book_checked, book_log, book_slots}
+use Rattle.tables_log.specs.Committing.{ChangesSlots}
+use Rattle.tables_log.specs.declared.book.Book.{Book}
+use Rattle.tables_log.specs.declared.slots.Slot.{Slot}
+use Rattle.copy_both.specs.Ears.{ear_phase, ear_started}
+use Rattle.copy_both.specs.Links.{link_ear}
+use Rattle.copy_both.specs.declared.link.Link.{Link}
+use Rattle.copy_both.specs.declared.phase.Phase.TheVariants.{Lost}
+use Rattle.test_subscriber.specs.Subscribers.{sub_machine}
+use Rattle.test_subscriber.specs.declared.subscriber.Subscriber.{Subscriber}
+use Rattle.shard_world.specs.Asking.{CanAsk}
+use Rattle.shard_world.specs.Following.{log_of}
+use Rattle.shard_world.specs.Joined.{HasSlot, IsNamed, PeerOf, PeerIs, StaysAlike, up_bytes, down_of}
+use Rattle.shard_world.specs.World as w
+use Rattle.shard_world.specs.World.{Answer, Connection, Event, PeerEvent, Open, Hear, Take, Keep, Deliver, Report, Lose, Leads, first_world, start_of, as_many, hears, delivers, loses, machine_now, peer_step}
+use Rattle.shard_world.specs.WorldLaws.{IsPublisher, IsTextEvent}
+
+-- ---- in which world
+
+-- events that led to the world, a subscriber, and the clock
+pub record Case : Type 0 where
+  pub checked : CheckedOf
+  pub most : ℕ
+  pub events : List (ℕ × Event)
+  pub world : w.World
+  pub number : ℕ
+  pub now : ℕ
+
+abbrev pub peer_of : Case → w.Peer
+peer_of case = case.world.peers case.number
+
+-- the subscriber is there, and the command by which it asks for its stream fits a frame and can be read
+pub record IsCase (case : Case) : Type 0 where
+  pub publisher : IsPublisher case.checked case.most
+  pub texts : All IsTextEvent case.events
+  pub few : length case.events < 2 ^ 32
+  pub leads : Leads case.checked case.most case.events first_world case.world
+  pub there : case.number < length case.checked.plan
+  pub subscription : Subscription
+  pub asks : CanAsk case.checked.catalog case.number subscription
+  pub short : (position : ℕ) → position < 2 ^ 64 → length (start_of case.checked.catalog case.number position) ≤ 65531
+  pub timed : case.now < 2 ^ 64
+
+-- the subscriber of a program stands for that of the world
+abbrev pub StandsIn : Case → List Slot → PeerOf → Type 0
+StandsIn case slots code = PeerIs case.checked case.world.transactions case.number slots code (peer_of case)
+
+-- the book has the log of the world
+pub record HasLog (case : Case) (book : Book) : Type 0 where
+  pub checked_is : book_checked book ≡ case.checked
+  pub log_is : book_log book ≡ log_of case.checked case.world.transactions
+
+-- ---- what a step leaves
+
+abbrev pub stepped : Case → PeerEvent → Answer × w.Peer
+stepped case event = peer_step case.checked case.world.transactions case.number case.now event (peer_of case) (peer_of case).connection
+
+-- it answers what the world's step answers, and leaves what stands for what that leaves
+pub record StepsTo (case : Case) (event : PeerEvent) (answer : Answer) (slots : List Slot) (code : PeerOf) : Type 0 where
+  pub answer_is : answer ≡ (stepped case event).0
+  pub peer_is : PeerIs case.checked case.world.transactions case.number slots code (stepped case event).1
+
+-- no other slot changes, and nothing else of the book
+pub record ChangesOwn (number : ℕ) (before after : Book) : Type 0 where
+  pub book : ChangesSlots before after (book_slots after)
+  pub others : (other : ℕ) → other ≢ number → slice_get (book_slots after) other ≡ slice_get (book_slots before) other
+
+-- ---- where memory is refused
+
+-- what was done before the connection is lost: some of the bytes were heard or delivered
+abbrev pub before_loss : Case → PeerEvent → ℕ → w.Peer → Option Connection → w.Peer
+before_loss case event some peer None = peer
+before_loss case (Hear count) some peer (Some c) =
+    hears case.checked case.number case.now peer c (as_many (min some count) (length (up_bytes case.checked case.number peer c)) c.heard)
+before_loss case (Deliver count) some peer (Some c) =
+    delivers peer c (as_many (min some count) (length (down_of case.checked case.world.transactions case.number c)) c.delivered)
+before_loss case Open some peer (Some c) = peer
+before_loss case Take some peer (Some c) = peer
+before_loss case (Keep want) some peer (Some c) = peer
+before_loss case (Report want) some peer (Some c) = peer
+before_loss case Lose some peer (Some c) = peer
+
+abbrev pub IsOwnStream : ℕ → Option (ℕ × ℕ) → Type 0
+IsOwnStream number None = Unit {0}
+IsOwnStream number (Some started) = started.0 ≡ number
+
+-- a stream that started has the slot
+pub record HasStream (slots : List Slot) (number confirmed : ℕ) (link : Link) : Type 0 where
+  pub own : IsOwnStream number (ear_started (link_ear link))
+  pub not_lost : ear_phase (link_ear link) ≢ Lost
+  pub slot : HasSlot slots number confirmed (is_some (ear_started (link_ear link)))
+
+abbrev pub HasStreamBy : List Slot → ℕ → ℕ → Option Link → Type 0
+HasStreamBy slots number confirmed None = HasSlot slots number confirmed false
+HasStreamBy slots number confirmed (Some link) = HasStream slots number confirmed link
+
+-- what stays over connections is that of this subscriber of the world
+pub record IsHalf (case : Case) (slots : List Slot) (link : Option Link) (subscriber : Subscriber) (peer : w.Peer) : Type 0 where
+  pub named : IsNamed case.checked case.number subscriber
+  pub machine : StaysAlike (sub_machine subscriber) (machine_now case.checked case.world.transactions case.number peer)
+  pub stream : HasStreamBy slots case.number peer.confirmed link
+
+pub record Halts (case : Case) (event : PeerEvent) (slots : List Slot) (code : PeerOf) : Type 0 where
+  pub some : ℕ
+  pub half : IsHalf case slots code.link code.subscriber (before_loss case event some (peer_of case) (peer_of case).connection)
+
+-- the connection is lost, if there is one
+abbrev pub lost_after : Case → w.Peer → Option Connection → w.Peer
+lost_after case peer None = peer
+lost_after case peer (Some c) = loses case.checked case.world.transactions case.number peer
