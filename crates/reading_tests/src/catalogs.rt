@@ -13,10 +13,10 @@ use self::catalog_cases::{AFTER_A_TABLE, Case, FILTERS, WHOLE};
 use self::parameter_cases::PARAMETERS;
 use self::publication_cases::{AFTER_PUBLICATIONS, AFTER_TABLES};
 use self::statement_cases::STATEMENTS;
-use crate::checks::{holds, same};
-use crate::fault::is_error;
-use filter_tree::{Identity, Tri, eval};
-use pub_reader::{Catalog, Entry, ReadError, read_catalog, read_row};
+use crate::calls::{catalog_of, repeated, said};
+use crate::checks::{expect, holds, same};
+use filter_tree::{Column, Identity, Tri};
+use pub_reader::{Catalog, Entry, ReadError};
 use std::alloc::{AllocError, Global};
 use std::process::Abort;
 use std::test::Fail;
@@ -28,6 +28,20 @@ const FILTER: &str = "CREATE PUBLICATION p FOR TABLE t WHERE (";
 const TABLES: &str =
     "CREATE SCHEMA s;\nCREATE TABLE t (id integer PRIMARY KEY, region text);\nCREATE TABLE s.u (id integer PRIMARY KEY);\n";
 
+/// That a text is read, or refused by this kind at this byte after what comes before it.
+fn check_catalog(
+    rt: &impl Abort,
+    alloc: Global,
+    before: &str,
+    text: &str,
+    kind: &str,
+    place: usize,
+) -> Result<(), AllocError> {
+    let whole = format!(in alloc; "{before}{text}")?;
+    let at = before.len().saturating_add(place);
+    expect(rt, alloc, text, catalog_of(alloc, whole.as_str()), kind, at)
+}
+
 fn check_catalogs(
     rt: &impl Abort,
     alloc: Global,
@@ -35,14 +49,7 @@ fn check_catalogs(
     cases: &[Case],
 ) -> Result<(), AllocError> {
     for (text, kind, place) in cases {
-        let whole = format!(in alloc; "{before}{text}")?;
-        match read_catalog(alloc, whole.as_str()) {
-            Ok(_) => assert_eq!(rt; *kind, "ok", "of {text:?}"),
-            Err(error) => {
-                let at = before.len().saturating_add(*place);
-                assert!(rt; is_error(alloc, &error, kind, at)?, "{error:?} of {text:?}");
-            }
-        }
+        check_catalog(rt, alloc, before, text, kind, *place)?;
     }
     Ok(())
 }
@@ -81,159 +88,189 @@ fn numbered(
         if number > 0 {
             text.push_str(between)?;
         }
-        let piece = format!(in alloc; "{before}{number}{after}")?;
-        text.push_str(piece.as_str())?;
+        write!(text, "{before}{number}{after}")?;
     }
     Ok(text)
 }
 
 /// Whether a text is read, and otherwise its fault by kind and place.
 fn outcome(alloc: Global, text: &str) -> Result<String, AllocError> {
-    match read_catalog(alloc, text) {
-        Ok(_) => format!(in alloc; "ok"),
+    match catalog_of(alloc, text) {
+        Ok(_catalog) => format!(in alloc; "ok"),
         Err(error) => format!(in alloc; "{:?} {}", error.kind, error.place),
     }
+}
+
+/// That a text is read, or has this fault.
+fn expect_outcome(
+    rt: &impl Abort,
+    alloc: Global,
+    text: &str,
+    wanted: &str,
+) -> Result<(), AllocError> {
+    same(rt, outcome(alloc, text)?.as_str(), wanted);
+    Ok(())
+}
+
+/// A subscription with a string of so many letters, and of a quote.
+fn with_string(alloc: Global, letters: usize) -> Result<String, AllocError> {
+    let letters = repeated(alloc, "a", letters)?;
+    format!(in alloc;
+        "CREATE PUBLICATION p;CREATE SUBSCRIPTION s CONNECTION '{letters}''' PUBLICATION p;"
+    )
 }
 
 #[test]
 fn strings_have_a_limit(rt: HostRuntime) -> Result<(), Fail> {
     let alloc = rt.alloc();
-    let before = "CREATE PUBLICATION p;CREATE SUBSCRIPTION s CONNECTION ";
-    let letters = "a".repeat(alloc, 65_534)?;
-    let longest = format!(in alloc; "{before}'{letters}''' PUBLICATION p;")?;
-    let one_more = format!(in alloc; "{before}'{letters}a''' PUBLICATION p;")?;
-    same(&rt, outcome(alloc, longest.as_str())?.as_str(), "ok");
-    same(
-        &rt,
-        outcome(alloc, one_more.as_str())?.as_str(),
-        "TooMany(LiteralBytes) 54",
-    );
+    let longest = with_string(alloc, 65_534)?;
+    expect_outcome(&rt, alloc, longest.as_str(), "ok")?;
+    let one_more = with_string(alloc, 65_535)?;
+    expect_outcome(&rt, alloc, one_more.as_str(), "TooMany(LiteralBytes) 54")?;
+    Ok(())
+}
+
+/// What a catalog has many of.
+struct Many {
+    /// What comes before them.
+    before: &'static str,
+    /// How each begins, before its number.
+    begin: &'static str,
+    /// How many there may be.
+    count: usize,
+    /// How each ends, after its number.
+    end: &'static str,
+    /// What comes between two of them.
+    between: &'static str,
+    /// What ends the catalog.
+    after: &'static str,
+    /// What ends it where there is one more.
+    one_more: &'static str,
+    /// The fault where there is one more.
+    fault: &'static str,
+}
+
+const LIMITS: &[Many] = &[
+    Many {
+        before: "",
+        begin: "CREATE TABLE t",
+        count: 64,
+        end: " (id integer PRIMARY KEY)",
+        between: ";\n",
+        after: ";",
+        one_more: ";\nCREATE TABLE u (id integer PRIMARY KEY);",
+        fault: "TooMany(Tables) 2755",
+    },
+    Many {
+        before: "CREATE TABLE t (",
+        begin: "c",
+        count: 99,
+        end: " integer",
+        between: ", ",
+        after: ", id integer PRIMARY KEY);",
+        one_more: ", id integer PRIMARY KEY, x text);",
+        fault: "TooMany(Columns) 1317",
+    },
+    Many {
+        before: TABLE,
+        begin: "CREATE PUBLICATION p",
+        count: 64,
+        end: " FOR TABLE t",
+        between: ";",
+        after: ";",
+        one_more: ";CREATE PUBLICATION q FOR TABLE t;",
+        fault: "TooMany(Publications) 2303",
+    },
+    Many {
+        before: "CREATE PUBLICATION p;",
+        begin: "CREATE SUBSCRIPTION s",
+        count: 32,
+        end: " CONNECTION '' PUBLICATION p",
+        between: ";",
+        after: ";",
+        one_more: ";CREATE SUBSCRIPTION t CONNECTION '' PUBLICATION p;",
+        fault: "TooMany(Subscriptions) 1695",
+    },
+];
+
+/// That a catalog has as many as it may have, and no more.
+fn expect_limit(rt: &impl Abort, alloc: Global, many: &Many) -> Result<(), AllocError> {
+    let listed = numbered(alloc, many.begin, many.count, many.end, many.between)?;
+    let most = format!(in alloc; "{}{listed}{}", many.before, many.after)?;
+    expect_outcome(rt, alloc, most.as_str(), "ok")?;
+    let more = format!(in alloc; "{}{listed}{}", many.before, many.one_more)?;
+    expect_outcome(rt, alloc, more.as_str(), many.fault)?;
     Ok(())
 }
 
 #[test]
 fn counts_up_to_the_limits(rt: HostRuntime) -> Result<(), Fail> {
-    let alloc = rt.alloc();
-    let tables = numbered(
-        alloc,
-        "CREATE TABLE t",
-        64,
-        " (id integer PRIMARY KEY)",
-        ";\n",
-    )?;
-    let one_more = format!(in alloc; "{tables};\nCREATE TABLE u (id integer PRIMARY KEY);")?;
-    let all = format!(in alloc; "{tables};")?;
-    same(&rt, outcome(alloc, all.as_str())?.as_str(), "ok");
-    same(
-        &rt,
-        outcome(alloc, one_more.as_str())?.as_str(),
-        "TooMany(Tables) 2755",
-    );
-
-    let columns = numbered(alloc, "c", 99, " integer", ", ")?;
-    let all = format!(in alloc; "CREATE TABLE t ({columns}, id integer PRIMARY KEY);")?;
-    let one_more = format!(in alloc;
-        "CREATE TABLE t ({columns}, id integer PRIMARY KEY, x text);"
-    )?;
-    same(&rt, outcome(alloc, all.as_str())?.as_str(), "ok");
-    same(
-        &rt,
-        outcome(alloc, one_more.as_str())?.as_str(),
-        "TooMany(Columns) 1317",
-    );
-
-    let publications = numbered(alloc, "CREATE PUBLICATION p", 64, " FOR TABLE t", ";")?;
-    let all = format!(in alloc; "{TABLE}{publications};")?;
-    let one_more = format!(in alloc; "{TABLE}{publications};CREATE PUBLICATION q FOR TABLE t;")?;
-    same(&rt, outcome(alloc, all.as_str())?.as_str(), "ok");
-    same(
-        &rt,
-        outcome(alloc, one_more.as_str())?.as_str(),
-        "TooMany(Publications) 2303",
-    );
-
-    let subscriptions = numbered(
-        alloc,
-        "CREATE SUBSCRIPTION s",
-        32,
-        " CONNECTION '' PUBLICATION p",
-        ";",
-    )?;
-    let all = format!(in alloc; "CREATE PUBLICATION p;{subscriptions};")?;
-    let one_more = format!(in alloc; "{all}CREATE SUBSCRIPTION t CONNECTION '' PUBLICATION p;")?;
-    same(&rt, outcome(alloc, all.as_str())?.as_str(), "ok");
-    same(
-        &rt,
-        outcome(alloc, one_more.as_str())?.as_str(),
-        "TooMany(Subscriptions) 1695",
-    );
+    for many in LIMITS {
+        expect_limit(&rt, rt.alloc(), many)?;
+    }
     Ok(())
 }
 
-/// A filter in a publication.
-fn with_filter(alloc: Global, filter: &str) -> Result<String, AllocError> {
-    let text = format!(in alloc; "{TABLES}{FILTER}{filter});")?;
-    outcome(alloc, text.as_str())
+/// That a publication with a filter of these parts is read, or has this fault.
+fn expect_filter(
+    rt: &impl Abort,
+    alloc: Global,
+    before: &str,
+    filter: &str,
+    after: &str,
+    wanted: &str,
+) -> Result<(), AllocError> {
+    let text = format!(in alloc; "{TABLES}{FILTER}{before}{filter}{after});")?;
+    expect_outcome(rt, alloc, text.as_str(), wanted)
 }
+
+/// What comes before and after a filter of 64 atoms, and what is said of it.
+const AROUND_ATOMS: &[(&str, &str, &str)] = &[
+    ("", "", "ok"),
+    ("", " OR id = 1", "ok"),
+    ("", " OR id = 64", "TooMany(Atoms) 147"),
+    ("id = 100), s.u WHERE (", "", "ok"),
+    ("id = 100), t WHERE (", "", "TooMany(Atoms) 167"),
+];
 
 #[test]
-fn limits_filters(rt: HostRuntime) -> Result<(), Fail> {
-    let alloc = rt.alloc();
-    let atoms = numbered(alloc, "id = ", 64, "", " OR ")?;
-    let one_more = format!(in alloc; "{atoms} OR id = 64")?;
-    let again = format!(in alloc; "{atoms} OR id = 1")?;
-    same(&rt, with_filter(alloc, atoms.as_str())?.as_str(), "ok");
-    same(&rt, with_filter(alloc, again.as_str())?.as_str(), "ok");
-    same(
-        &rt,
-        with_filter(alloc, one_more.as_str())?.as_str(),
-        "TooMany(Atoms) 147",
-    );
-
-    let mut nodes = String::from_str(alloc, "NOT id = 0")?;
-    for _ in 0..499 {
-        nodes.push_str(" AND id = 1")?;
+fn limits_atoms(rt: HostRuntime) -> Result<(), Fail> {
+    let atoms = numbered(rt.alloc(), "id = ", 64, "", " OR ")?;
+    for (before, after, wanted) in AROUND_ATOMS {
+        expect_filter(&rt, rt.alloc(), before, atoms.as_str(), after, wanted)?;
     }
-    let one_more = format!(in alloc; "NOT {nodes}")?;
-    same(&rt, with_filter(alloc, nodes.as_str())?.as_str(), "ok");
-    same(
-        &rt,
-        with_filter(alloc, one_more.as_str())?.as_str(),
-        "TooMany(Nodes) 147",
-    );
-
-    let other_table = format!(in alloc; "id = 100), s.u WHERE ({atoms}")?;
-    let same_table = format!(in alloc; "id = 100), t WHERE ({atoms}")?;
-    same(
-        &rt,
-        with_filter(alloc, other_table.as_str())?.as_str(),
-        "ok",
-    );
-    same(
-        &rt,
-        with_filter(alloc, same_table.as_str())?.as_str(),
-        "TooMany(Atoms) 167",
-    );
     Ok(())
+}
+
+/// What comes before 499 nodes, and what is said of it.
+const BEFORE_NODES: &[(&str, &str)] = &[
+    ("NOT id = 0", "ok"),
+    ("NOT NOT id = 0", "TooMany(Nodes) 147"),
+];
+
+#[test]
+fn limits_nodes(rt: HostRuntime) -> Result<(), Fail> {
+    let nodes = repeated(rt.alloc(), " AND id = 1", 499)?;
+    for (before, wanted) in BEFORE_NODES {
+        expect_filter(&rt, rt.alloc(), before, nodes.as_str(), "", wanted)?;
+    }
+    Ok(())
+}
+
+/// 64 parentheses around a filter.
+fn nested(alloc: Global, filter: &str) -> Result<String, AllocError> {
+    let open = repeated(alloc, "(", 64)?;
+    let close = repeated(alloc, ")", 64)?;
+    format!(in alloc; "{open}{filter}{close}")
 }
 
 #[test]
 fn nests_to_64(rt: HostRuntime) -> Result<(), Fail> {
     let alloc = rt.alloc();
-    let mut before = String::new(alloc);
-    let mut after = String::new(alloc);
-    for _ in 0..64 {
-        before.push_str("(")?;
-        after.push_str(")")?;
-    }
-    let all = format!(in alloc; "{before}id < 5{after}")?;
-    let one_more = format!(in alloc; "{before}NOT id < 5{after}")?;
-    same(&rt, with_filter(alloc, all.as_str())?.as_str(), "ok");
-    same(
-        &rt,
-        with_filter(alloc, one_more.as_str())?.as_str(),
-        "TooDeep 218",
-    );
+    let deepest = nested(alloc, "id < 5")?;
+    expect_filter(&rt, alloc, "", deepest.as_str(), "", "ok")?;
+    let deeper = nested(alloc, "NOT id < 5")?;
+    expect_filter(&rt, alloc, "", deeper.as_str(), "", "TooDeep 218")?;
     Ok(())
 }
 
@@ -244,7 +281,18 @@ CREATE PUBLICATION whole FOR TABLE \"T\u{e9}\";
 CREATE PUBLICATION part FOR TABLE \"T\u{e9}\" WHERE (a = 1 OR a = 2 AND NOT a < 3);";
 
 fn catalog(alloc: Global) -> Result<Catalog, ReadError> {
-    read_catalog(alloc, CATALOG)
+    catalog_of(alloc, CATALOG)
+}
+
+/// That there are three columns, all NOT NULL, of which the second has a quote in its name.
+fn expect_columns(rt: &impl Abort, columns: &[Column]) -> Result<(), Fail> {
+    same(rt, columns.len(), 3);
+    let second = columns.get(1).ok_or("a second column")?;
+    same(rt, second.name.as_str(), "B\"x");
+    for column in columns {
+        holds(rt, column.not_null);
+    }
+    Ok(())
 }
 
 #[test]
@@ -256,14 +304,7 @@ fn gives_the_tables_as_they_are_declared(rt: HostRuntime) -> Result<(), Fail> {
     same(&rt, table.name.as_str(), "T\u{e9}");
     same(&rt, table.identity, Identity::Full);
     same(&rt, table.key.as_slice(), [2, 0].as_slice());
-    let columns = table.columns.as_slice();
-    same(&rt, columns.len(), 3);
-    let second = columns.get(1).ok_or("a second column")?;
-    same(&rt, second.name.as_str(), "B\"x");
-    for column in columns {
-        holds(&rt, column.not_null);
-    }
-    Ok(())
+    expect_columns(&rt, table.columns.as_slice())
 }
 
 /// The first table of the publication of this number.
@@ -271,7 +312,14 @@ fn first_entry(catalog: &Catalog, number: usize) -> Option<&Entry> {
     catalog.publications.get(number)?.entries.first()
 }
 
-/// AND binds tighter than OR, and NOT tighter than AND.
+/// Rows, and what the filter of `part` says of them: AND binds tighter than OR, and NOT tighter than AND.
+const IN_PART: &[(&str, Tri)] = &[
+    ("(1, 'x', TRUE)", Tri::True),
+    ("(2, 'x', TRUE)", Tri::False),
+    ("(3, 'x', TRUE)", Tri::False),
+    ("(NULL, 'x', TRUE)", Tri::Null),
+];
+
 #[test]
 fn gives_the_filters_as_they_are_written(rt: HostRuntime) -> Result<(), Fail> {
     let catalog = catalog(rt.alloc())?;
@@ -281,15 +329,8 @@ fn gives_the_filters_as_they_are_written(rt: HostRuntime) -> Result<(), Fail> {
     let part = first_entry(&catalog, 1).ok_or("an entry")?;
     same(&rt, part.table, 0);
     let filter = part.filter.as_ref().ok_or("a filter")?;
-    let cases = [
-        ("(1, 'x', TRUE)", Tri::True),
-        ("(2, 'x', TRUE)", Tri::False),
-        ("(3, 'x', TRUE)", Tri::False),
-        ("(NULL, 'x', TRUE)", Tri::Null),
-    ];
-    for (text, expected) in cases {
-        let row = read_row(rt.alloc(), text)?;
-        same(&rt, eval(filter, &row), expected);
+    for (row, wanted) in IN_PART {
+        same(&rt, said(rt.alloc(), filter, row)?, *wanted);
     }
     Ok(())
 }

@@ -2,18 +2,20 @@ mod limits;
 mod order;
 mod validity;
 
+use crate::calls;
+use crate::calls::{copied, copied_row, is_same, repeated, says};
 use crate::checks::{holds, same};
 use filter_tree::{
     Atom, Filter, Items, Literal, Mask, Op, Row, Term, Test, Text, Tri, Value, atoms_of,
-    columns_of, compare, compare_literals, copy_in, copy_row, eval, possible, same_atom, same_row,
-    terms_of,
+    columns_of, compare, compare_literals, possible, same_atom, terms_of,
 };
 use std::alloc::{AllocError, Global};
+use std::process::Abort;
 use std::test::Fail;
 
 /// A value of a row, written without memory.
 #[derive(Clone, Copy)]
-enum Cell {
+pub(crate) enum Cell {
     Null,
     Int(i64),
     Bool(bool),
@@ -27,16 +29,16 @@ fn value(alloc: Global, cell: Cell) -> Result<Value, AllocError> {
         Cell::Null => Ok(Value::Null),
         Cell::Int(number) => Ok(Value::Int(number)),
         Cell::Bool(truth) => Ok(Value::Bool(truth)),
-        Cell::Text(text) => Ok(Value::Text(Text::from_str(alloc, text)?)),
+        Cell::Text(text) => Ok(Value::Text(calls::text(alloc, text)?)),
         Cell::Long(count, end) => {
-            let mut text = "a".repeat(alloc, count)?;
+            let mut text = repeated(alloc, "a", count)?;
             text.push_str(end)?;
             Ok(Value::Text(Text::new(text)))
         }
     }
 }
 
-fn row(alloc: Global, cells: &[Cell]) -> Result<Row, AllocError> {
+pub(crate) fn row(alloc: Global, cells: &[Cell]) -> Result<Row, AllocError> {
     let mut values = Vec::new(alloc);
     for cell in cells {
         values.push(value(alloc, *cell)?)?;
@@ -67,68 +69,82 @@ fn connectives_follow_the_truth_tables(rt: HostRuntime) {
     same(&rt, [Tri::from(true), Tri::from(false)], [True, False]);
 }
 
+/// That the operator says this of the number and -3, as a value and as a literal.
+fn expect_compared(rt: &impl Abort, op: Op, number: i64, answer: bool) {
+    let literal = Literal::<Global>::Int(-3);
+    let found = compare(op, &Value::<Global>::Int(number), &literal);
+    same(rt, found, Tri::from(answer));
+    let found = compare_literals(op, &Literal::<Global>::Int(number), &literal);
+    same(rt, found, answer);
+}
+
+/// The operators, and what each says of -4, -3 and 5 before -3.
+const OPERATORS: &[(Op, [bool; 3])] = &[
+    (Op::Eq, [false, true, false]),
+    (Op::Ne, [true, false, true]),
+    (Op::Lt, [true, false, false]),
+    (Op::Le, [true, true, false]),
+    (Op::Gt, [false, false, true]),
+    (Op::Ge, [false, true, true]),
+];
+
 #[test]
 fn operators_compare_numbers(rt: HostRuntime) {
-    let cases = [
-        (Op::Eq, [false, true, false]),
-        (Op::Ne, [true, false, true]),
-        (Op::Lt, [true, false, false]),
-        (Op::Le, [true, true, false]),
-        (Op::Gt, [false, false, true]),
-        (Op::Ge, [false, true, true]),
-    ];
-    let literal = Literal::<Global>::Int(-3);
-    for (op, answers) in cases {
-        for (number, answer) in [-4, -3, 5].iter().zip(answers) {
-            same(
-                &rt,
-                compare(op, &Value::<Global>::Int(*number), &literal),
-                Tri::from(answer),
-            );
-            same(
-                &rt,
-                compare_literals(op, &Literal::<Global>::Int(*number), &literal),
-                answer,
-            );
-        }
-        same(
-            &rt,
-            compare(op, &Value::<Global>::Null, &literal),
-            Tri::Null,
-        );
+    for (op, [below, equal, above]) in OPERATORS {
+        expect_compared(&rt, *op, -4, *below);
+        expect_compared(&rt, *op, -3, *equal);
+        expect_compared(&rt, *op, 5, *above);
+        let found = compare(*op, &Value::<Global>::Null, &Literal::<Global>::Int(-3));
+        same(&rt, found, Tri::Null);
     }
+}
+
+/// Values, a text or a truth value that they are compared to, and whether they are equal to it, and unequal.
+const EQUALITIES: &[(Cell, Cell, [Tri; 2])] = &[
+    (Cell::Text("eu"), Cell::Text("eu"), [Tri::True, Tri::False]),
+    (Cell::Text("us"), Cell::Text("eu"), [Tri::False, Tri::True]),
+    (Cell::Text("e"), Cell::Text("eu"), [Tri::False, Tri::True]),
+    (Cell::Text("EU"), Cell::Text("eu"), [Tri::False, Tri::True]),
+    (Cell::Null, Cell::Text("eu"), [Tri::Null, Tri::Null]),
+    (Cell::Bool(true), Cell::Bool(true), [Tri::True, Tri::False]),
+    (Cell::Bool(false), Cell::Bool(true), [Tri::False, Tri::True]),
+    // values of unlike types are neither equal nor unequal
+    (Cell::Int(1), Cell::Text("eu"), [Tri::False, Tri::False]),
+    (
+        Cell::Text("true"),
+        Cell::Bool(true),
+        [Tri::False, Tri::False],
+    ),
+];
+
+/// The literal of a text or a truth value.
+fn literal(alloc: Global, cell: Cell) -> Result<Literal, AllocError> {
+    match cell {
+        Cell::Text(text) => Ok(Literal::Text(calls::text(alloc, text)?)),
+        Cell::Bool(truth) => Ok(Literal::Bool(truth)),
+        _ => Ok(Literal::Int(0)),
+    }
+}
+
+/// Whether the value is equal to the literal, and unequal.
+fn compared(left: &Value, right: &Literal) -> [Tri; 2] {
+    [compare(Op::Eq, left, right), compare(Op::Ne, left, right)]
 }
 
 #[test]
 fn equality_compares_texts_and_truth_values(rt: HostRuntime) -> Result<(), Fail> {
-    let text = Literal::Text(Text::from_str(rt.alloc(), "eu")?);
-    let truth = Literal::<Global>::Bool(true);
-    let cases = [
-        (Cell::Text("eu"), &text, Tri::True, Tri::False),
-        (Cell::Text("us"), &text, Tri::False, Tri::True),
-        (Cell::Text("e"), &text, Tri::False, Tri::True),
-        (Cell::Text("EU"), &text, Tri::False, Tri::True),
-        (Cell::Null, &text, Tri::Null, Tri::Null),
-        (Cell::Bool(true), &truth, Tri::True, Tri::False),
-        (Cell::Bool(false), &truth, Tri::False, Tri::True),
-        // values of unlike types are neither equal nor unequal
-        (Cell::Int(1), &text, Tri::False, Tri::False),
-        (Cell::Text("true"), &truth, Tri::False, Tri::False),
-    ];
-    for (cell, literal, equal, unequal) in cases {
-        let left = value(rt.alloc(), cell)?;
-        let found = [
-            compare(Op::Eq, &left, literal),
-            compare(Op::Ne, &left, literal),
-        ];
-        same(&rt, found, [equal, unequal]);
+    let alloc = rt.alloc();
+    for (cell, other, answers) in EQUALITIES {
+        let left = value(alloc, *cell)?;
+        let right = literal(alloc, *other)?;
+        same(&rt, compared(&left, &right), *answers);
     }
     Ok(())
 }
 
 /// region = 'eu', where region is column 1
 fn in_europe(alloc: Global) -> Result<Filter, AllocError> {
-    let name = Literal::Text(Text::from_str(alloc, "eu")?);
+    let name = Literal::Text(calls::text(alloc, "eu")?);
     Ok(Filter::Atom(Atom::Cmp(Term::Col(1), Op::Eq, name)))
 }
 
@@ -139,20 +155,6 @@ fn leaves(divisor: i64, rest: i64) -> Filter {
 
 fn not(alloc: Global, part: Filter) -> Result<Filter, AllocError> {
     Ok(Filter::Not(Box::new(alloc, part)?))
-}
-
-fn is(alloc: Global, test: Test, part: Filter) -> Result<Filter, AllocError> {
-    Ok(Filter::Is(test, Box::new(alloc, part)?))
-}
-
-/// What the filter says of (-7, NULL), (7, NULL), (7, 'us') and (7, 'eu').
-fn answers(alloc: Global, filter: &Filter) -> Result<[Tri; 4], AllocError> {
-    Ok([
-        eval(filter, &row(alloc, &[Cell::Int(-7), Cell::Null])?),
-        eval(filter, &row(alloc, &[Cell::Int(7), Cell::Null])?),
-        eval(filter, &row(alloc, &[Cell::Int(7), Cell::Text("us")])?),
-        eval(filter, &row(alloc, &[Cell::Int(7), Cell::Text("eu")])?),
-    ])
 }
 
 fn both(alloc: Global, left: Filter, right: Filter) -> Result<Filter, AllocError> {
@@ -172,62 +174,6 @@ fn outside_or_rest(alloc: Global) -> Result<Filter, AllocError> {
 }
 
 #[test]
-fn connected_filters_have_their_meaning(rt: HostRuntime) -> Result<(), Fail> {
-    let alloc = rt.alloc();
-    let filter = outside_or_rest(alloc)?;
-    same(
-        &rt,
-        answers(alloc, &filter)?,
-        [Tri::True, Tri::Null, Tri::True, Tri::False],
-    );
-    let copy = copy_in(alloc, &filter)?;
-    same(
-        &rt,
-        answers(alloc, &copy)?,
-        [Tri::True, Tri::Null, Tri::True, Tri::False],
-    );
-    // id % 3 = 1 AND region = 'eu'
-    let filter = both(alloc, leaves(3, 1), in_europe(alloc)?)?;
-    same(
-        &rt,
-        answers(alloc, &filter)?,
-        [Tri::False, Tri::Null, Tri::False, Tri::True],
-    );
-    Ok(())
-}
-
-#[test]
-fn tests_of_filters_are_never_null(rt: HostRuntime) -> Result<(), Fail> {
-    let alloc = rt.alloc();
-    // region = 'eu' IS NOT TRUE
-    let is_not_true = not(alloc, is(alloc, Test::True, in_europe(alloc)?)?)?;
-    same(
-        &rt,
-        answers(alloc, &is_not_true)?,
-        [Tri::True, Tri::True, Tri::True, Tri::False],
-    );
-    let unknown = is(alloc, Test::Unknown, in_europe(alloc)?)?;
-    same(
-        &rt,
-        answers(alloc, &unknown)?,
-        [Tri::True, Tri::True, Tri::False, Tri::False],
-    );
-    let lies = is(alloc, Test::False, in_europe(alloc)?)?;
-    same(
-        &rt,
-        answers(alloc, &lies)?,
-        [Tri::False, Tri::False, Tri::True, Tri::False],
-    );
-    let nowhere = Filter::Atom(Atom::IsNull(1));
-    same(
-        &rt,
-        answers(alloc, &nowhere)?,
-        [Tri::True, Tri::True, Tri::False, Tri::False],
-    );
-    Ok(())
-}
-
-#[test]
 fn remainders_have_the_sign_of_the_value(rt: HostRuntime) -> Result<(), Fail> {
     let cases = [
         (7, 3, 1),
@@ -241,25 +187,8 @@ fn remainders_have_the_sign_of_the_value(rt: HostRuntime) -> Result<(), Fail> {
     ];
     for (number, divisor, rest) in cases {
         let row = row(rt.alloc(), &[Cell::Int(number)])?;
-        same(&rt, eval(&leaves(divisor, rest), &row), Tri::True);
+        same(&rt, says(&leaves(divisor, rest), &row), Tri::True);
     }
-    Ok(())
-}
-
-#[test]
-fn a_column_past_the_end_is_null(rt: HostRuntime) -> Result<(), Fail> {
-    let short = row(rt.alloc(), &[Cell::Int(7)])?;
-    same(&rt, eval(&in_europe(rt.alloc())?, &short), Tri::Null);
-    same(
-        &rt,
-        eval(&Filter::<Global>::Atom(Atom::IsNull(1)), &short),
-        Tri::True,
-    );
-    same(
-        &rt,
-        eval(&Filter::<Global>::Const(false), &short),
-        Tri::False,
-    );
     Ok(())
 }
 
@@ -306,76 +235,127 @@ fn a_row_shows_its_values(rt: HostRuntime) -> Result<(), Fail> {
 
 #[test]
 fn rows_are_copied(rt: HostRuntime) -> Result<(), Fail> {
-    let one = row(
-        rt.alloc(),
-        &[Cell::Int(7), Cell::Null, Cell::Bool(true), Cell::Text("eu")],
-    )?;
-    let copy = copy_row(rt.alloc(), &one)?;
-    holds(&rt, same_row(&one, &copy));
+    let alloc = rt.alloc();
+    let cells = [
+        Cell::Int(7),
+        Cell::Null,
+        Cell::Bool(true),
+        Cell::Text("eu"),
+        Cell::Null,
+    ];
+    let one = row(alloc, &cells[..4])?;
+    let copy = copied_row(alloc, &one)?;
+    holds(&rt, is_same(&one, &copy));
     let other = row(
-        rt.alloc(),
+        alloc,
         &[Cell::Int(7), Cell::Null, Cell::Bool(true), Cell::Text("e")],
     )?;
-    holds(&rt, !same_row(&one, &other));
-    let longer = row(
-        rt.alloc(),
-        &[
-            Cell::Int(7),
-            Cell::Null,
-            Cell::Bool(true),
-            Cell::Text("eu"),
-            Cell::Null,
-        ],
-    )?;
-    holds(&rt, !same_row(&one, &longer));
+    holds(&rt, !is_same(&one, &other));
+    let longer = row(alloc, &cells)?;
+    holds(&rt, !is_same(&one, &longer));
     Ok(())
+}
+
+/// The filter's terms.
+fn terms(alloc: Global, filter: &Filter) -> Result<Vec<Term>, AllocError> {
+    terms_of(alloc, filter)
+}
+
+/// The filter's columns.
+fn columns(alloc: Global, filter: &Filter) -> Result<Vec<usize>, AllocError> {
+    columns_of(alloc, filter)
+}
+
+/// The filter's atoms.
+fn atoms(alloc: Global, filter: &Filter) -> Result<Vec<&Atom>, AllocError> {
+    atoms_of(alloc, filter)
+}
+
+/// The terms of these atoms.
+fn terms_in(alloc: Global, atoms: &[&Atom]) -> Result<Vec<Term>, AllocError> {
+    let mut terms = Vec::new(alloc);
+    for atom in atoms {
+        terms.push(atom.term())?;
+    }
+    Ok(terms)
+}
+
+/// That the filter has these terms and columns, and an atom for each of the terms.
+fn expect_parts(
+    rt: &impl Abort,
+    alloc: Global,
+    filter: &Filter,
+    wanted: &[Term],
+    of_columns: &[usize],
+) -> Result<(), AllocError> {
+    same(rt, terms(alloc, filter)?.as_slice(), wanted);
+    same(rt, columns(alloc, filter)?.as_slice(), of_columns);
+    let atoms = atoms(alloc, filter)?;
+    same(rt, terms_in(alloc, &atoms)?.as_slice(), wanted);
+    Ok(())
+}
+
+/// (NOT region = 'eu' OR id % 3 = -1) AND (region = 'eu' OR id IS NULL)
+fn europe_twice(alloc: Global) -> Result<Filter, AllocError> {
+    let second = either(alloc, in_europe(alloc)?, Filter::Atom(Atom::IsNull(0)))?;
+    both(alloc, outside_or_rest(alloc)?, second)
+}
+
+/// Whether there are three atoms, the last of which is `id IS NULL`, and the first is the same as itself and no other.
+fn are_apart(atoms: &[&Atom]) -> bool {
+    match atoms {
+        [first, second, third] => {
+            matches!(third, Atom::IsNull(0)) && same_atom(first, first) && !same_atom(first, second)
+        }
+        _ => false,
+    }
 }
 
 #[test]
 fn parts_are_listed_once(rt: HostRuntime) -> Result<(), Fail> {
     let alloc = rt.alloc();
-    // (NOT region = 'eu' OR id % 3 = -1) AND (region = 'eu' OR id IS NULL)
-    let second = either(alloc, in_europe(alloc)?, Filter::Atom(Atom::IsNull(0)))?;
-    let filter = both(alloc, outside_or_rest(alloc)?, second)?;
-    same(
-        &rt,
-        terms_of(alloc, &filter)?.as_slice(),
-        [Term::Col(1), Term::Mod(0, 3), Term::Col(0)].as_slice(),
-    );
-    same(
-        &rt,
-        columns_of(alloc, &filter)?.as_slice(),
-        [1, 0].as_slice(),
-    );
-    let atoms = atoms_of(alloc, &filter)?;
-    same(&rt, atoms.len(), 3);
-    holds(&rt, matches!(atoms[2], Atom::IsNull(0)));
-    holds(
-        &rt,
-        same_atom(atoms[0], atoms[0]) && !same_atom(atoms[0], atoms[1]),
-    );
+    let filter = europe_twice(alloc)?;
+    let wanted = [Term::Col(1), Term::Mod(0, 3), Term::Col(0)];
+    expect_parts(&rt, alloc, &filter, &wanted, &[1, 0])?;
+    holds(&rt, are_apart(&atoms(alloc, &filter)?));
     Ok(())
 }
 
-#[test]
-fn large_filters_and_rows_are_copied(rt: HostRuntime) -> Result<(), Fail> {
-    let alloc = rt.alloc();
-    // id % 1 = 0 OR id % 2 = 0 OR .. OR id % 64 = 0
+/// id % 1 = 0 OR id % 2 = 0 OR .. OR id % 64 = 0
+fn many_remainders(alloc: Global) -> Result<Filter, AllocError> {
     let mut filter = leaves(1, 0);
     for divisor in 2..65 {
         filter = either(alloc, filter, leaves(divisor, 0))?;
     }
-    let copy = copy_in(alloc, &filter)?;
-    same(&rt, atoms_of(alloc, &copy)?.len(), 64);
-    same(&rt, terms_of(alloc, &copy)?.len(), 64);
-    same(&rt, columns_of(alloc, &copy)?.as_slice(), [0].as_slice());
+    Ok(filter)
+}
+
+/// The numbers from 0 to 1,599.
+fn wide_row(alloc: Global) -> Result<Row, AllocError> {
     let mut values = Vec::new(alloc);
     for number in 0..1_600 {
         values.push(Value::Int(number))?;
     }
-    let wide = Row::from_values(values);
-    let copy = copy_row(alloc, &wide)?;
-    holds(&rt, same_row(&wide, &copy));
+    Ok(Row::from_values(values))
+}
+
+#[test]
+fn large_filters_are_copied(rt: HostRuntime) -> Result<(), Fail> {
+    let alloc = rt.alloc();
+    let copy = copied(alloc, &many_remainders(alloc)?)?;
+    let mut wanted = Vec::new(alloc);
+    for divisor in 1..65 {
+        wanted.push(Term::Mod(0, divisor))?;
+    }
+    expect_parts(&rt, alloc, &copy, &wanted, &[0])?;
+    Ok(())
+}
+
+#[test]
+fn large_rows_are_copied(rt: HostRuntime) -> Result<(), Fail> {
+    let wide = wide_row(rt.alloc())?;
+    let copy = copied_row(rt.alloc(), &wide)?;
+    holds(&rt, is_same(&wide, &copy));
     holds(&rt, matches!(copy.get(1_599), Some(Value::Int(1_599))));
     Ok(())
 }
@@ -389,69 +369,57 @@ fn set(letters: &str) -> Mask {
     }
 }
 
+/// Two sets, what AND makes of them, and what OR does.
+const CONNECTED: &[[&str; 4]] = &[
+    ["n", "f", "f", "n"],
+    ["n", "tf", "nf", "tn"],
+    ["tn", "fn", "fn", "tn"],
+    ["tf", "tf", "tf", "tf"],
+    ["t", "n", "n", "t"],
+    ["t", "", "", ""],
+];
+
+/// That two sets are connected so, on either side.
+fn expect_connected(rt: &impl Abort, left: Mask, right: Mask, both: Mask, either: Mask) {
+    same(rt, [left.and(right), right.and(left)], [both, both]);
+    same(rt, [left.or(right), right.or(left)], [either, either]);
+}
+
 #[test]
 fn sets_are_connected_member_by_member(rt: HostRuntime) {
-    let cases = [
-        ("n", "f", "f", "n"),
-        ("n", "tf", "nf", "tn"),
-        ("tn", "fn", "fn", "tn"),
-        ("tf", "tf", "tf", "tf"),
-        ("t", "n", "n", "t"),
-        ("t", "", "", ""),
-    ];
-    for (left, right, both, either) in cases {
-        same(
-            &rt,
-            [set(left).and(set(right)), set(right).and(set(left))],
-            [set(both), set(both)],
-        );
-        same(
-            &rt,
-            [set(left).or(set(right)), set(right).or(set(left))],
-            [set(either), set(either)],
-        );
+    for [left, right, both, either] in CONNECTED {
+        expect_connected(&rt, set(left), set(right), set(both), set(either));
     }
-    same(
-        &rt,
-        [
-            set("tn").not(),
-            set("tn").is(Test::False),
-            set("n").is(Test::Unknown),
-        ],
-        [set("fn"), set("f"), set("t")],
-    );
-    same(
-        &rt,
-        [Mask::single(Tri::Null), Mask::single(Tri::True)],
-        [set("n"), set("t")],
-    );
+}
+
+#[test]
+fn sets_are_turned_member_by_member(rt: HostRuntime) {
+    same(&rt, set("tn").not(), set("fn"));
+    same(&rt, set("tn").is(Test::False), set("f"));
+    same(&rt, set("n").is(Test::Unknown), set("t"));
+    same(&rt, Mask::single(Tri::Null), set("n"));
+    same(&rt, Mask::single(Tri::True), set("t"));
     holds(&rt, set("n").has(Tri::Null) && !set("n").has(Tri::False));
     same(&rt, Tri::Null.is(Test::Unknown), Tri::True);
+}
+
+/// The truth values that a filter may have on a path.
+fn possibilities(filter: &Filter, path: &[(&Atom, Tri)]) -> Mask {
+    possible(filter, path)
 }
 
 #[test]
 fn the_first_entry_of_a_path_counts(rt: HostRuntime) -> Result<(), Fail> {
     let alloc = rt.alloc();
-    let europe = Atom::Cmp(
-        Term::Col(1),
-        Op::Eq,
-        Literal::Text(Text::from_str(alloc, "eu")?),
-    );
+    let name = Literal::Text(calls::text(alloc, "eu")?);
+    let europe = Atom::Cmp(Term::Col(1), Op::Eq, name);
     let filter = not(alloc, in_europe(alloc)?)?;
-    same(&rt, possible(&filter, &[]), set("tfn"));
-    same(&rt, possible(&filter, &[(&europe, Tri::Null)]), set("n"));
-    same(
-        &rt,
-        possible(&filter, &[(&europe, Tri::True), (&europe, Tri::Null)]),
-        set("f"),
-    );
-    same(
-        &rt,
-        possible(
-            &Filter::<Global>::Atom(Atom::IsNull(1)),
-            &[(&europe, Tri::Null)],
-        ),
-        set("tf"),
-    );
+    same(&rt, possibilities(&filter, &[]), set("tfn"));
+    let null = [(&europe, Tri::Null)];
+    same(&rt, possibilities(&filter, &null), set("n"));
+    let twice = [(&europe, Tri::True), (&europe, Tri::Null)];
+    same(&rt, possibilities(&filter, &twice), set("f"));
+    let nowhere = Filter::Atom(Atom::IsNull(1));
+    same(&rt, possibilities(&nowhere, &null), set("tf"));
     Ok(())
 }

@@ -7,12 +7,25 @@ mod row_cases;
 mod written_rows;
 
 use self::row_cases::ROWS;
-use crate::checks::{holds, same};
-use crate::fault::is_error;
+use crate::calls::row_of;
+use crate::checks::{expect, same};
 use filter_tree::{Row, Value};
-use sql_reader::{ErrorKind, read_row};
+use sql_reader::{ErrorKind, ReadError};
 use std::alloc::{AllocError, Global};
+use std::process::Abort;
 use std::test::Fail;
+
+/// A value as the cases show it.
+fn push_value(text: &mut String, value: &Value) -> Result<(), AllocError> {
+    match value {
+        Value::Null => text.push_str("NULL")?,
+        Value::Int(number) => write!(text, "{number}")?,
+        Value::Bool(true) => text.push_str("TRUE")?,
+        Value::Bool(false) => text.push_str("FALSE")?,
+        Value::Text(inner) => write!(text, "'{}'", inner.as_str())?,
+    }
+    Ok(())
+}
 
 /// A row as the cases show it.
 fn shown(alloc: Global, row: &Row) -> Result<String, AllocError> {
@@ -21,29 +34,31 @@ fn shown(alloc: Global, row: &Row) -> Result<String, AllocError> {
         if !text.is_empty() {
             text.push_str(" ")?;
         }
-        let word = match value {
-            Value::Null => format!(in alloc; "NULL")?,
-            Value::Int(number) => format!(in alloc; "{number}")?,
-            Value::Bool(true) => format!(in alloc; "TRUE")?,
-            Value::Bool(false) => format!(in alloc; "FALSE")?,
-            Value::Text(text) => format!(in alloc; "'{}'", text.as_str())?,
-        };
-        text.push_str(word.as_str())?;
+        push_value(&mut text, value)?;
     }
     Ok(text)
 }
 
+/// That the text is read as this row, or refused by this kind at the place.
+fn expect_row(
+    rt: &impl Abort,
+    alloc: Global,
+    text: &str,
+    wanted: &str,
+    place: Option<usize>,
+) -> Result<(), ReadError> {
+    let found = row_of(alloc, text);
+    match place {
+        Some(place) => expect(rt, alloc, text, found, wanted, place)?,
+        None => same(rt, shown(alloc, &found?)?.as_str(), wanted),
+    }
+    Ok(())
+}
+
 #[test]
 fn reads_rows_or_their_first_fault(rt: HostRuntime) -> Result<(), Fail> {
-    for (text, expected, place) in ROWS {
-        match (read_row(rt.alloc(), text), place) {
-            (Ok(row), None) => same(&rt, shown(rt.alloc(), &row)?.as_str(), *expected),
-            (Err(error), Some(place)) => {
-                holds(&rt, is_error(rt.alloc(), &error, expected, *place)?);
-            }
-            (Ok(_), Some(_)) => panic!(rt; "{text:?} was read"),
-            (Err(error), None) => panic!(rt; "{error:?} of {text:?}"),
-        }
+    for (text, wanted, place) in ROWS {
+        expect_row(&rt, rt.alloc(), text, wanted, *place)?;
     }
     Ok(())
 }
@@ -68,16 +83,18 @@ const MESSAGES: &[(&str, &str)] = &[
     ),
 ];
 
+/// The message of the fault of a text.
+fn message_of(alloc: Global, text: &str) -> Result<String, AllocError> {
+    match row_of(alloc, text) {
+        Ok(_row) => Ok(String::new(alloc)),
+        Err(error) => format!(in alloc; "{error}"),
+    }
+}
+
 #[test]
 fn says_what_is_wrong_and_where(rt: HostRuntime) -> Result<(), Fail> {
     for (text, message) in MESSAGES {
-        match read_row(rt.alloc(), text) {
-            Ok(_) => panic!(rt; "{text} was read"),
-            Err(error) => {
-                let said = format!(in rt.alloc(); "{error}")?;
-                same(&rt, said.as_str(), *message);
-            }
-        }
+        same(&rt, message_of(rt.alloc(), text)?.as_str(), *message);
     }
     Ok(())
 }

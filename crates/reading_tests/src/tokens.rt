@@ -357,17 +357,23 @@ fn literal(alloc: Global, letters: usize, end: &str) -> Result<String, AllocErro
     Ok(text)
 }
 
+/// How many letters are after the quote, what ends them, and how long the token is, or the fault.
+const STRINGS: &[(usize, &str, Result<usize, Fault>)] = &[
+    (65_535, "'", Ok(65_537)),
+    (65_536, "'", Err(Fault::LiteralBytes)),
+    (65_534, "'''", Ok(65_538)),
+    (65_535, "'''", Err(Fault::LiteralBytes)),
+    (65_536, "", Err(Fault::BadToken)),
+];
+
 #[test]
 fn bounds_string_constants(rt: HostRuntime) -> Result<(), Fail> {
-    let text = literal(rt.alloc(), 65_535, "'")?;
-    check(&rt, text.as_str(), &[(Kind::Text, 0, 65_537)], None);
-    let text = literal(rt.alloc(), 65_536, "'")?;
-    check(&rt, text.as_str(), &[], Some((0, Fault::LiteralBytes)));
-    let text = literal(rt.alloc(), 65_534, "'''")?;
-    check(&rt, text.as_str(), &[(Kind::Text, 0, 65_538)], None);
-    let text = literal(rt.alloc(), 65_535, "'''")?;
-    check(&rt, text.as_str(), &[], Some((0, Fault::LiteralBytes)));
-    let text = literal(rt.alloc(), 65_536, "")?;
-    check(&rt, text.as_str(), &[], Some((0, Fault::BadToken)));
+    for (letters, end, wanted) in STRINGS {
+        let text = literal(rt.alloc(), *letters, end)?;
+        match *wanted {
+            Ok(length) => check(&rt, text.as_str(), &[(Kind::Text, 0, length)], None),
+            Err(fault) => check(&rt, text.as_str(), &[], Some((0, fault))),
+        }
+    }
     Ok(())
 }

@@ -1,14 +1,16 @@
 //! The largest catalog. There is memory for it, so that it is not refused for want of it.
 
+use crate::calls::{catalog_of, repeated};
 use crate::checks::{holds, same};
-use filter_tree::Identity;
-use pub_reader::{Publication, read_catalog};
+use filter_tree::{Identity, Table};
+use pub_reader::{Catalog, Publication};
 use std::alloc::{AllocError, Global};
+use std::process::Abort;
 use std::test::Fail;
 
 /// A name of 63 bytes.
 fn name(alloc: Global, letter: &str, number: usize) -> Result<String, AllocError> {
-    format!(in alloc; "{}{number:03}", letter.repeat(alloc, 60)?)
+    format!(in alloc; "{}{number:03}", repeated(alloc, letter, 60)?)
 }
 
 /// 8 indexes of a table, each of these columns, of which the last identifies its rows.
@@ -16,10 +18,10 @@ fn indexes(alloc: Global, schema: &str, table: &str, columns: &str) -> Result<St
     let mut text = String::new(alloc);
     for number in 0..8 {
         let called = name(alloc, "i", number)?;
-        let piece = format!(in alloc;
+        write!(
+            text,
             "CREATE UNIQUE INDEX {called} ON {schema}.{table} ({columns});\n"
         )?;
-        text.push_str(piece.as_str())?;
     }
     let last = name(alloc, "i", 7)?;
     format!(in alloc; "{text}ALTER TABLE {schema}.{table} REPLICA IDENTITY USING INDEX {last};\n")
@@ -48,10 +50,10 @@ fn table(alloc: Global, number: usize) -> Result<String, AllocError> {
 /// and those on the last table together have 64 atoms and 1,000 nodes.
 fn filter(alloc: Global, publication: usize, table: usize) -> Result<String, AllocError> {
     if publication == 63 && table == 0 {
-        return format!(in alloc; "region = '{}'", "a".repeat(alloc, 65_535)?);
+        return format!(in alloc; "region = '{}'", repeated(alloc, "a", 65_535)?);
     }
     if publication == 2 && table == 63 {
-        let same = " OR id = 100".repeat(alloc, 468)?;
+        let same = repeated(alloc, " OR id = 100", 468)?;
         return format!(in alloc; "id = 101 OR id = 102{same}");
     }
     format!(in alloc; "id = {publication}")
@@ -92,7 +94,7 @@ fn names(alloc: Global, letter: &str) -> Result<String, AllocError> {
 /// 64 schemas, publications of every table and of every schema, a table in each schema, 62 publications that name each
 /// table with a filter, and 32 subscriptions to all publications. A comment before them makes up 16 MB.
 fn largest_catalog(alloc: Global) -> Result<String, AllocError> {
-    let mut text = format!(in alloc; "--{}\n", " ".repeat(alloc, 15_000_000)?)?;
+    let mut text = format!(in alloc; "--{}\n", repeated(alloc, " ", 15_000_000)?)?;
     for number in 0..64 {
         let piece = format!(in alloc; "CREATE SCHEMA {};\n", name(alloc, "s", number)?)?;
         text.push_str(piece.as_str())?;
@@ -111,7 +113,7 @@ fn largest_catalog(alloc: Global) -> Result<String, AllocError> {
         text.push_str(publication(alloc, number)?.as_str())?;
     }
     let all = names(alloc, "p")?;
-    let connection = "h".repeat(alloc, 65_535)?;
+    let connection = repeated(alloc, "h", 65_535)?;
     for number in 0..32 {
         let called = name(alloc, "u", number)?;
         let piece = format!(in alloc;
@@ -132,30 +134,38 @@ fn has_all_tables(publication: &Publication, filtered: bool) -> bool {
     publication.entries.len() == 64
 }
 
+/// That the table has 100 columns, all in its key and in each of its 8 indexes, of which the last identifies its rows.
+fn expect_table(rt: &impl Abort, table: &Table) {
+    same(rt, table.columns.len(), 100);
+    same(rt, table.key.len(), 100);
+    same(rt, table.indexes.len(), 8);
+    for index in table.indexes.as_slice() {
+        same(rt, index.name.len(), 63);
+        same(rt, index.columns.len(), 100);
+    }
+    same(rt, table.identity, Identity::Index(7));
+}
+
+/// That the catalog has all that its text says.
+fn expect_largest(rt: &impl Abort, catalog: &Catalog) {
+    same(rt, catalog.tables.len(), 64);
+    for table in &catalog.tables {
+        expect_table(rt, table);
+    }
+    same(rt, catalog.publications.len(), 64);
+    for (number, publication) in catalog.publications.iter().enumerate() {
+        holds(rt, has_all_tables(publication, number >= 2));
+    }
+    same(rt, catalog.subscriptions.len(), 32);
+    for subscription in &catalog.subscriptions {
+        same(rt, subscription.publications.len(), 64);
+    }
+}
+
 #[test]
 fn reads_the_largest_catalog(rt: HostRuntime) -> Result<(), Fail> {
-    let alloc = rt.alloc();
-    let text = largest_catalog(alloc)?;
+    let text = largest_catalog(rt.alloc())?;
     holds(&rt, text.len() > 16_777_216);
-    let catalog = read_catalog(alloc, text.as_str())?;
-    same(&rt, catalog.tables.len(), 64);
-    for table in &catalog.tables {
-        same(&rt, table.columns.len(), 100);
-        same(&rt, table.key.len(), 100);
-        same(&rt, table.indexes.len(), 8);
-        for index in table.indexes.as_slice() {
-            same(&rt, index.name.len(), 63);
-            same(&rt, index.columns.len(), 100);
-        }
-        same(&rt, table.identity, Identity::Index(7));
-    }
-    same(&rt, catalog.publications.len(), 64);
-    for (number, publication) in catalog.publications.iter().enumerate() {
-        holds(&rt, has_all_tables(publication, number >= 2));
-    }
-    same(&rt, catalog.subscriptions.len(), 32);
-    for subscription in &catalog.subscriptions {
-        same(&rt, subscription.publications.len(), 64);
-    }
+    expect_largest(&rt, &catalog_of(rt.alloc(), text.as_str())?);
     Ok(())
 }

@@ -1,13 +1,14 @@
 //! Whole catalogs, and what they have.
 
+use crate::calls::catalog_of;
 use crate::checks::same;
-use pub_reader::{Catalog, Operations, read_catalog};
+use filter_tree::Table;
+use pub_reader::{Operations, Publication, ReadError, Subscription};
 use std::alloc::{AllocError, Global};
 use std::test::Fail;
 
-/// A letter for each operation.
-fn shown_operations(alloc: Global, publishes: Operations) -> Result<String, AllocError> {
-    let mut text = String::new(alloc);
+/// Appends a letter for each operation.
+fn push_operations(text: &mut String, publishes: Operations) -> Result<(), AllocError> {
     for (letter, is_published) in [
         ("i", publishes.insert),
         ("u", publishes.update),
@@ -18,34 +19,46 @@ fn shown_operations(alloc: Global, publishes: Operations) -> Result<String, Allo
             text.push_str(letter)?;
         }
     }
-    Ok(text)
+    Ok(())
+}
+
+fn push_tables(text: &mut String, tables: &[Table]) -> Result<(), AllocError> {
+    for table in tables {
+        write!(text, "{}.{} ", table.schema.as_str(), table.name.as_str())?;
+    }
+    Ok(())
+}
+
+fn push_publication(text: &mut String, publication: &Publication) -> Result<(), AllocError> {
+    write!(text, "| {} ", publication.name.as_str())?;
+    push_operations(text, publication.publishes)?;
+    text.push_str(" ")?;
+    for entry in &publication.entries {
+        let mark = if entry.filter.is_some() { "?" } else { "" };
+        write!(text, "{}{mark} ", entry.table)?;
+    }
+    Ok(())
+}
+
+fn push_subscription(text: &mut String, subscription: &Subscription) -> Result<(), AllocError> {
+    write!(text, "> {} ", subscription.name.as_str())?;
+    for number in subscription.publications.as_slice() {
+        write!(text, "{number} ")?;
+    }
+    Ok(())
 }
 
 /// The tables, the publications with their operations and entries, of which those with a filter have a `?`, and the
 /// subscriptions with the numbers of their publications.
-fn shown(alloc: Global, catalog: &Catalog) -> Result<String, AllocError> {
+fn shown(alloc: Global, text: &str) -> Result<String, ReadError> {
+    let catalog = catalog_of(alloc, text)?;
     let mut text = String::new(alloc);
-    for table in &catalog.tables {
-        let piece = format!(in alloc; "{}.{} ", table.schema.as_str(), table.name.as_str())?;
-        text.push_str(piece.as_str())?;
-    }
+    push_tables(&mut text, catalog.tables.as_slice())?;
     for publication in &catalog.publications {
-        let operations = shown_operations(alloc, publication.publishes)?;
-        let piece = format!(in alloc; "| {} {operations} ", publication.name.as_str())?;
-        text.push_str(piece.as_str())?;
-        for entry in &publication.entries {
-            let mark = if entry.filter.is_some() { "?" } else { "" };
-            let piece = format!(in alloc; "{}{mark} ", entry.table)?;
-            text.push_str(piece.as_str())?;
-        }
+        push_publication(&mut text, publication)?;
     }
     for subscription in &catalog.subscriptions {
-        let piece = format!(in alloc; "> {} ", subscription.name.as_str())?;
-        text.push_str(piece.as_str())?;
-        for number in subscription.publications.as_slice() {
-            let piece = format!(in alloc; "{number} ")?;
-            text.push_str(piece.as_str())?;
-        }
+        push_subscription(&mut text, subscription)?;
     }
     Ok(text)
 }
@@ -115,22 +128,21 @@ CREATE SUBSCRIPTION s1 CONNECTION '' PUBLICATION pb;
 
 #[test]
 fn gives_the_publications_of_subscriptions(rt: HostRuntime) -> Result<(), Fail> {
-    let catalog = read_catalog(rt.alloc(), SHARDS)?;
-    same(
-        &rt,
-        shown(rt.alloc(), &catalog)?.as_str(),
-        "public.t | pa iudt 0? | pb iudt 0? > s0 0 > s1 1 ",
-    );
+    let wanted = "public.t | pa iudt 0? | pb iudt 0? > s0 0 > s1 1 ";
+    same(&rt, shown(rt.alloc(), SHARDS)?.as_str(), wanted);
     Ok(())
+}
+
+/// What a catalog has that these statements are in.
+fn covered(alloc: Global, statements: &str) -> Result<String, ReadError> {
+    let text = format!(in alloc; "{BEFORE}{statements}{AFTER}")?;
+    shown(alloc, text.as_str())
 }
 
 #[test]
 fn gives_what_publications_cover(rt: HostRuntime) -> Result<(), Fail> {
-    let alloc = rt.alloc();
-    for (statements, expected) in CATALOGS {
-        let text = format!(in alloc; "{BEFORE}{statements}{AFTER}")?;
-        let catalog = read_catalog(alloc, text.as_str())?;
-        same(&rt, shown(alloc, &catalog)?.as_str(), *expected);
+    for (statements, wanted) in CATALOGS {
+        same(&rt, covered(rt.alloc(), statements)?.as_str(), *wanted);
     }
     Ok(())
 }

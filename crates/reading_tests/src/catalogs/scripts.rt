@@ -1,18 +1,12 @@
 //! Scripts.
 
 use super::script_cases::{SCRIPTED, SCRIPTS, STEPS};
-use crate::checks::{holds, same};
-use crate::fault::is_error;
-use filter_tree::Row;
-use pub_reader::{Catalog, Command, Line, Step, read_catalog, read_script};
-use sql_reader::write_row;
+use crate::calls::{catalog_of, repeated, written};
+use crate::checks::{expect, same};
+use pub_reader::{Catalog, Command, Line, ReadError, Step, read_script};
 use std::alloc::{AllocError, Global};
 use std::process::Abort;
 use std::test::Fail;
-
-fn written(alloc: Global, row: &Row) -> Result<String, AllocError> {
-    write_row(alloc, row)
-}
 
 /// A command as it is written, but for the numbers of its tables.
 fn shown_command(alloc: Global, command: &Command) -> Result<String, AllocError> {
@@ -83,9 +77,14 @@ fn shown(alloc: Global, lines: &[Line]) -> Result<String, AllocError> {
     Ok(text)
 }
 
+/// The lines of a script.
+fn lines_of(alloc: Global, catalog: &Catalog, text: &str) -> Result<Vec<Line>, ReadError> {
+    read_script(alloc, catalog, text)
+}
+
 /// The steps of a script, or its fault by kind and place.
 fn outcome(alloc: Global, catalog: &Catalog, text: &str) -> Result<String, AllocError> {
-    match read_script(alloc, catalog, text) {
+    match lines_of(alloc, catalog, text) {
         Ok(lines) => shown(alloc, lines.as_slice()),
         Err(error) => format!(in alloc; "{:?} {}", error.kind, error.place),
     }
@@ -93,67 +92,68 @@ fn outcome(alloc: Global, catalog: &Catalog, text: &str) -> Result<String, Alloc
 
 #[test]
 fn reads_scripts_or_their_first_fault(rt: HostRuntime) -> Result<(), Fail> {
-    let catalog = read_catalog(rt.alloc(), SCRIPTED)?;
+    let alloc = rt.alloc();
+    let catalog = catalog_of(alloc, SCRIPTED)?;
     for (text, kind, place) in SCRIPTS {
-        match read_script(rt.alloc(), &catalog, text) {
-            Ok(_) => same(&rt, *kind, "ok"),
-            Err(error) => {
-                holds(&rt, is_error(rt.alloc(), &error, kind, *place)?);
-            }
-        }
+        let found = lines_of(alloc, &catalog, text);
+        expect(&rt, alloc, text, found, kind, *place)?;
     }
     Ok(())
 }
 
 #[test]
 fn gives_the_steps_of_scripts(rt: HostRuntime) -> Result<(), Fail> {
-    let catalog = read_catalog(rt.alloc(), SCRIPTED)?;
+    let catalog = catalog_of(rt.alloc(), SCRIPTED)?;
     for (text, steps) in STEPS {
-        let found = outcome(rt.alloc(), &catalog, text)?;
-        same(&rt, found.as_str(), *steps);
+        same(&rt, outcome(rt.alloc(), &catalog, text)?.as_str(), *steps);
     }
+    Ok(())
+}
+
+/// That a script on a catalog without tables has this outcome.
+fn expect_without_tables(
+    rt: &impl Abort,
+    alloc: Global,
+    script: &str,
+    wanted: &str,
+) -> Result<(), ReadError> {
+    let catalog = catalog_of(alloc, "")?;
+    same(rt, outcome(alloc, &catalog, script)?.as_str(), wanted);
     Ok(())
 }
 
 #[test]
 fn the_schema_public_is_known_without_a_table(rt: HostRuntime) -> Result<(), Fail> {
-    let alloc = rt.alloc();
-    let catalog = read_catalog(alloc, "")?;
-    let found = outcome(alloc, &catalog, "COMMIT INSERT public.t (1);")?;
-    same(&rt, found.as_str(), "UnknownName 21");
+    let script = "COMMIT INSERT public.t (1);";
+    expect_without_tables(&rt, rt.alloc(), script, "UnknownName 21")?;
     Ok(())
 }
 
-fn ends(rt: &impl Abort, alloc: Global, before: &str, end: &str, fault: &str) -> Result<(), Fail> {
-    let catalog = read_catalog(alloc, "")?;
-    let text = format!(in alloc; "{before}{end}")?;
-    let found = outcome(alloc, &catalog, text.as_str())?;
-    same(rt, found.as_str(), fault);
-    Ok(())
+/// What follows 100,000 steps, and what is said of it.
+const ENDS: &[(&str, &str)] = &[
+    (" view;", "TooMany(Steps) 500001"),
+    ("COMMIT $", "TooMany(Steps) 500000"),
+    (
+        ";",
+        "Expected(\"COMMIT, OPEN, HEAR, TAKE, KEEP, DELIVER, REPORT, LOSE, PUMP or VIEW\") 500000",
+    ),
+    ("$", "BadToken 500000"),
+];
+
+/// 100,000 steps, and this end.
+fn most(alloc: Global, end: &str) -> Result<String, AllocError> {
+    let steps = repeated(alloc, "VIEW;", 100_000)?;
+    format!(in alloc; "{steps}{end}")
 }
 
 #[test]
 fn a_script_has_up_to_100000_steps(rt: HostRuntime) -> Result<(), Fail> {
     let alloc = rt.alloc();
-    let most = "VIEW;".repeat(alloc, 100_000)?;
-    let catalog = read_catalog(alloc, "")?;
-    let lines = read_script(alloc, &catalog, most.as_str())?;
+    let catalog = catalog_of(alloc, "")?;
+    let lines = lines_of(alloc, &catalog, most(alloc, "")?.as_str())?;
     same(&rt, lines.len(), 100_000);
-    ends(&rt, alloc, most.as_str(), " view;", "TooMany(Steps) 500001")?;
-    ends(
-        &rt,
-        alloc,
-        most.as_str(),
-        "COMMIT $",
-        "TooMany(Steps) 500000",
-    )?;
-    ends(
-        &rt,
-        alloc,
-        most.as_str(),
-        ";",
-        "Expected(\"COMMIT, OPEN, HEAR, TAKE, KEEP, DELIVER, REPORT, LOSE, PUMP or VIEW\") 500000",
-    )?;
-    ends(&rt, alloc, most.as_str(), "$", "BadToken 500000")?;
+    for (end, wanted) in ENDS {
+        expect_without_tables(&rt, alloc, most(alloc, end)?.as_str(), wanted)?;
+    }
     Ok(())
 }

@@ -1,6 +1,7 @@
+use crate::calls::exceeded;
 use crate::checks::same;
 use filter_tree::{Atom, Filter};
-use sql_reader::{Limit, exceeded_limit};
+use sql_reader::Limit;
 use std::alloc::{AllocError, Global};
 use std::test::Fail;
 
@@ -20,57 +21,70 @@ fn chain(alloc: Global, atoms: usize, first: usize, last: usize) -> Result<Filte
     Ok(filter)
 }
 
+/// Chains from column 0: how many atoms, the last column, and the limit that is passed.
+const CHAINS: &[(usize, usize, Option<Limit>)] = &[
+    (1, 0, None),
+    (64, 63, None),
+    (65, 64, Some(Limit::Atoms)),
+    (500, 63, None),
+    (501, 63, Some(Limit::Nodes)),
+    (501, 64, Some(Limit::Atoms)),
+    (300_000, 9, Some(Limit::Nodes)),
+    (300_000, 299_999, Some(Limit::Atoms)),
+];
+
 #[test]
 fn chains_pass_the_limits(rt: HostRuntime) -> Result<(), Fail> {
-    let cases = [
-        (1, 0, None),
-        (64, 63, None),
-        (65, 64, Some(Limit::Atoms)),
-        (500, 63, None),
-        (501, 63, Some(Limit::Nodes)),
-        (501, 64, Some(Limit::Atoms)),
-        (300_000, 9, Some(Limit::Nodes)),
-        (300_000, 299_999, Some(Limit::Atoms)),
-    ];
-    for (atoms, last, want) in cases {
-        let filter = chain(rt.alloc(), atoms, 0, last)?;
-        same(&rt, exceeded_limit(rt.alloc(), &[&filter])?, want);
+    for (atoms, last, wanted) in CHAINS {
+        let filter = chain(rt.alloc(), *atoms, 0, *last)?;
+        same(&rt, exceeded(rt.alloc(), &[&filter])?, *wanted);
     }
     Ok(())
+}
+
+/// NOT before a filter.
+fn not(alloc: Global, filter: Filter) -> Result<Filter, AllocError> {
+    Ok(Filter::Not(Box::new(alloc, filter)?))
 }
 
 #[test]
 fn a_not_is_a_node(rt: HostRuntime) -> Result<(), Fail> {
-    let inner = chain(rt.alloc(), 500, 0, 9)?;
-    let thousand = Filter::Not(Box::new(rt.alloc(), inner)?);
-    same(&rt, exceeded_limit(rt.alloc(), &[&thousand])?, None);
-    let more = Filter::Not(Box::new(rt.alloc(), thousand)?);
-    same(
-        &rt,
-        exceeded_limit(rt.alloc(), &[&more])?,
-        Some(Limit::Nodes),
-    );
+    let alloc = rt.alloc();
+    let thousand = not(alloc, chain(alloc, 500, 0, 9)?)?;
+    same(&rt, exceeded(alloc, &[&thousand])?, None);
+    let more = not(alloc, thousand)?;
+    same(&rt, exceeded(alloc, &[&more])?, Some(Limit::Nodes));
     Ok(())
 }
 
+/// Chains of so many atoms, each from one column to another.
+const LONG: (usize, usize, usize) = (461, 0, 39);
+
+const ONE: (usize, usize, usize) = (40, 0, 39);
+
+const SHARED: (usize, usize, usize) = (40, 24, 63);
+
+const NEW: (usize, usize, usize) = (40, 25, 64);
+
+/// Two chains, and the limit that they pass together.
+const PAIRS: &[((usize, usize, usize), (usize, usize, usize), Option<Limit>)] = &[
+    (ONE, ONE, None),
+    (ONE, SHARED, None),
+    (ONE, NEW, Some(Limit::Atoms)),
+    (ONE, LONG, None),
+    (SHARED, LONG, None),
+    (LONG, LONG, Some(Limit::Nodes)),
+    (NEW, LONG, Some(Limit::Atoms)),
+];
+
 #[test]
 fn filters_count_together(rt: HostRuntime) -> Result<(), Fail> {
-    let one = chain(rt.alloc(), 40, 0, 39)?;
-    let shared = chain(rt.alloc(), 40, 24, 63)?;
-    let new = chain(rt.alloc(), 40, 25, 64)?;
-    let long = chain(rt.alloc(), 461, 0, 39)?;
-    let cases = [
-        ([&one, &one], None),
-        ([&one, &shared], None),
-        ([&one, &new], Some(Limit::Atoms)),
-        ([&one, &long], None),
-        ([&shared, &long], None),
-        ([&long, &long], Some(Limit::Nodes)),
-        ([&new, &long], Some(Limit::Atoms)),
-    ];
-    for (filters, want) in cases {
-        same(&rt, exceeded_limit(rt.alloc(), &filters)?, want);
+    let alloc = rt.alloc();
+    for ((atoms, first, last), (others, from, to), wanted) in PAIRS {
+        let one = chain(alloc, *atoms, *first, *last)?;
+        let other = chain(alloc, *others, *from, *to)?;
+        same(&rt, exceeded(alloc, &[&one, &other])?, *wanted);
     }
-    same(&rt, exceeded_limit(rt.alloc(), &[])?, None);
+    same(&rt, exceeded(alloc, &[])?, None);
     Ok(())
 }

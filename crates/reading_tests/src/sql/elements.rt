@@ -1,10 +1,10 @@
 //! The elements of CREATE TABLE as they are read, and a reader by itself.
 
-use crate::checks::{holds, same};
-use crate::fault::is_error;
+use crate::checks::{expect, holds, same};
+use filter_tree::Column;
 use sql_reader::{
-    Item, Keyword, Reader, TableParts, is_name_ahead, left_out_clause, read_elements, read_name,
-    same_word,
+    Item, Keyword, ReadError, Reader, TableParts, is_name_ahead, left_out_clause, read_elements,
+    read_name, same_word,
 };
 use std::alloc::{AllocError, Global};
 use std::process::Abort;
@@ -38,45 +38,63 @@ const FAULTY: &[(&str, &str, usize)] = &[
     ("a \"text\")", "LeftOut(DataType)", 2),
 ];
 
+fn push_column(text: &mut String, column: &Column) -> Result<(), AllocError> {
+    let mark = if column.not_null { "!" } else { "" };
+    write!(text, "{} {:?}{mark} ", column.name.as_str(), column.kind)
+}
+
 fn shown(alloc: Global, parts: &TableParts) -> Result<String, AllocError> {
     let mut text = String::new(alloc);
     for column in &parts.columns {
-        let mark = if column.not_null { "!" } else { "" };
-        let piece = format!(in alloc; "{} {:?}{mark} ", column.name.as_str(), column.kind)?;
-        text.push_str(piece.as_str())?;
+        push_column(&mut text, column)?;
     }
     text.push_str("key ")?;
     for number in &parts.key {
-        let piece = format!(in alloc; "{number} ")?;
-        text.push_str(piece.as_str())?;
+        write!(text, "{number} ")?;
     }
     Ok(text)
 }
 
+/// The elements of a text.
+pub fn elements(alloc: Global, text: &str) -> Result<TableParts, ReadError> {
+    read_elements(&mut Reader::new(text), alloc)
+}
+
 #[test]
 fn reads_elements_or_their_first_fault(rt: HostRuntime) -> Result<(), Fail> {
+    let alloc = rt.alloc();
     for (text, expected) in ELEMENTS {
-        let parts = read_elements(&mut Reader::new(text), rt.alloc())?;
-        same(&rt, shown(rt.alloc(), &parts)?.as_str(), *expected);
+        let parts = elements(alloc, text)?;
+        same(&rt, shown(alloc, &parts)?.as_str(), *expected);
     }
     for (text, kind, place) in FAULTY {
-        match read_elements(&mut Reader::new(text), rt.alloc()) {
-            Ok(_) => panic!(rt; "{text} was read"),
-            Err(error) => {
-                holds(&rt, is_error(rt.alloc(), &error, kind, *place)?);
-            }
-        }
+        expect(&rt, alloc, text, elements(alloc, text), kind, *place)?;
     }
     Ok(())
 }
 
+/// Whether the reader may go on.
+fn is_more_ahead(r: &Reader) -> Result<bool, ReadError> {
+    r.more_ahead()
+}
+
+/// Takes this token, whose place is given.
+fn taken(r: &mut Reader, item: Item, what: &'static str) -> Result<usize, ReadError> {
+    r.expect(item, what)
+}
+
+/// Looks at the token ahead.
+fn look(r: &Reader) -> Result<(), ReadError> {
+    r.look()
+}
+
 /// At `Table One ; $`: a word, which no name is.
 fn takes_a_keyword(rt: &impl Abort, r: &mut Reader) -> Result<(), Fail> {
-    holds(rt, r.more_ahead()?);
+    holds(rt, is_more_ahead(r)?);
     holds(rt, r.item().is_some());
     holds(rt, same_word(r.written(), "TABLE"));
     holds(rt, !is_name_ahead(r));
-    same(rt, r.expect(Item::Keyword(Keyword::Table), "TABLE")?, 0);
+    same(rt, taken(r, Item::Keyword(Keyword::Table), "TABLE")?, 0);
     Ok(())
 }
 
@@ -91,11 +109,9 @@ fn takes_a_name(rt: &impl Abort, alloc: Global, r: &mut Reader) -> Result<(), Fa
 
 /// At `; $`: a token that is refused stays ahead.
 fn takes_no_comma(rt: &impl Abort, alloc: Global, r: &mut Reader) -> Result<(), Fail> {
-    r.look()?;
-    match r.expect(Item::Comma, "`,`") {
-        Ok(_) => panic!(rt; "the comma was taken"),
-        Err(error) => holds(rt, is_error(alloc, &error, "Expected", 10)?),
-    }
+    look(r)?;
+    let found = taken(r, Item::Comma, "`,`");
+    expect(rt, alloc, "; $", found, "Expected", 10)?;
     holds(rt, r.next_is(Item::Semicolon)?);
     holds(rt, r.is(Item::Semicolon));
     r.advance();
@@ -105,12 +121,17 @@ fn takes_no_comma(rt: &impl Abort, alloc: Global, r: &mut Reader) -> Result<(), 
 /// At `$`, which is no token.
 fn sees_no_token(rt: &impl Abort, alloc: Global, r: &Reader) -> Result<(), Fail> {
     holds(rt, r.item().is_none());
-    holds(rt, r.look().is_err());
-    holds(rt, r.more_ahead().is_err());
-    let refusal = r.refusal("a name");
-    holds(rt, is_error(alloc, &refusal, "BadToken", 12)?);
-    let left_out = left_out_clause(r);
-    holds(rt, is_error(alloc, &left_out, "LeftOut(Constraint)", 12)?);
+    holds(rt, look(r).is_err());
+    holds(rt, is_more_ahead(r).is_err());
+    expect::<()>(rt, alloc, "$", Err(r.refusal("a name")), "BadToken", 12)?;
+    expect::<()>(
+        rt,
+        alloc,
+        "$",
+        Err(left_out_clause(r)),
+        "LeftOut(Constraint)",
+        12,
+    )?;
     Ok(())
 }
 

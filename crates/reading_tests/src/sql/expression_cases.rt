@@ -1,5 +1,7 @@
 //! Filters, and what is to be said of them.
 
+use filter_tree::Tri;
+
 /// A text, what is wrong with it ("ok" for nothing), and at which byte.
 pub type Case = (&'static str, &'static str, usize);
 
@@ -215,65 +217,92 @@ pub const TREES: &[(&str, &str)] = &[
     ),
 ];
 
-/// Filters, rows, and what the filter says of the row.
-pub const VALUES: &[(&str, &str, &str)] = &[
+/// Filters, rows, and what the filter says of the row. A column past the end of a row is null.
+pub const VALUES: &[(&str, &str, Tri)] = &[
     (
         "NOT region = 'eu' OR id % 3 = -1",
         "(-7, NULL, NULL, NULL, NULL)",
-        "True",
+        Tri::True,
     ),
     (
         "NOT region = 'eu' OR id % 3 = -1",
         "(7, NULL, NULL, NULL, NULL)",
-        "Null",
+        Tri::Null,
     ),
     (
         "NOT region = 'eu' OR id % 3 = -1",
         "(7, 'us', NULL, NULL, NULL)",
-        "True",
+        Tri::True,
     ),
     (
         "NOT region = 'eu' OR id % 3 = -1",
         "(7, 'eu', NULL, NULL, NULL)",
-        "False",
+        Tri::False,
     ),
     (
         "region = 'eu' IS NOT TRUE",
         "(1, NULL, NULL, NULL, NULL)",
-        "True",
+        Tri::True,
     ),
     (
         "region = 'eu' IS NOT TRUE",
         "(1, 'eu', NULL, NULL, NULL)",
-        "False",
+        Tri::False,
     ),
     (
         "region <> 'it''s'",
         "(1, 'it''s', NULL, NULL, NULL)",
-        "False",
+        Tri::False,
     ),
-    ("'eu'::text = region", "(1, 'eu', NULL, NULL, NULL)", "True"),
-    ("5 < id", "(6, NULL, NULL, NULL, NULL)", "True"),
-    ("5 < id", "(4, NULL, NULL, NULL, NULL)", "False"),
-    ("5 >= id", "(5, NULL, NULL, NULL, NULL)", "True"),
-    ("-2 > id % -5", "(-8, NULL, NULL, NULL, NULL)", "True"),
-    ("big % 2 IS NULL", "(1, NULL, NULL, NULL, NULL)", "True"),
-    ("big % 2 IS NULL", "(1, NULL, NULL, 4, NULL)", "False"),
-    ("b", "(1, NULL, TRUE, NULL, NULL)", "True"),
-    ("b", "(1, NULL, NULL, NULL, NULL)", "Null"),
-    ("NOT b", "(1, NULL, FALSE, NULL, NULL)", "True"),
-    ("b IS NOT TRUE", "(1, NULL, NULL, NULL, NULL)", "True"),
-    ("b IS FALSE", "(1, NULL, NULL, NULL, NULL)", "False"),
+    (
+        "'eu'::text = region",
+        "(1, 'eu', NULL, NULL, NULL)",
+        Tri::True,
+    ),
+    ("5 < id", "(6, NULL, NULL, NULL, NULL)", Tri::True),
+    ("5 < id", "(4, NULL, NULL, NULL, NULL)", Tri::False),
+    ("5 >= id", "(5, NULL, NULL, NULL, NULL)", Tri::True),
+    ("-2 > id % -5", "(-8, NULL, NULL, NULL, NULL)", Tri::True),
+    ("big % 2 IS NULL", "(1, NULL, NULL, NULL, NULL)", Tri::True),
+    ("big % 2 IS NULL", "(1, NULL, NULL, 4, NULL)", Tri::False),
+    ("b", "(1, NULL, TRUE, NULL, NULL)", Tri::True),
+    ("b", "(1, NULL, NULL, NULL, NULL)", Tri::Null),
+    ("NOT b", "(1, NULL, FALSE, NULL, NULL)", Tri::True),
+    ("b IS NOT TRUE", "(1, NULL, NULL, NULL, NULL)", Tri::True),
+    ("b IS FALSE", "(1, NULL, NULL, NULL, NULL)", Tri::False),
     (
         "(b AND id > 0) ISNULL",
         "(1, NULL, NULL, NULL, NULL)",
-        "True",
+        Tri::True,
     ),
     (
         "(b AND id > 0) ISNULL",
         "(0, NULL, NULL, NULL, NULL)",
-        "False",
+        Tri::False,
     ),
-    ("TRUE", "(1, NULL, NULL, NULL, NULL)", "True"),
-    ("FALSE OR b", "(1, NULL, NULL, NULL, NULL)", "Null"),
+    ("TRUE", "(1, NULL, NULL, NULL, NULL)", Tri::True),
+    ("FALSE OR b", "(1, NULL, NULL, NULL, NULL)", Tri::Null),
+    ("id % 3 = 1 AND region = 'eu'", "(-7, NULL)", Tri::False),
+    ("id % 3 = 1 AND region = 'eu'", "(7, NULL)", Tri::Null),
+    ("id % 3 = 1 AND region = 'eu'", "(7, 'us')", Tri::False),
+    ("id % 3 = 1 AND region = 'eu'", "(7, 'eu')", Tri::True),
+    ("NOT region = 'eu' IS TRUE", "(-7, NULL)", Tri::True),
+    ("NOT region = 'eu' IS TRUE", "(7, NULL)", Tri::True),
+    ("NOT region = 'eu' IS TRUE", "(7, 'us')", Tri::True),
+    ("NOT region = 'eu' IS TRUE", "(7, 'eu')", Tri::False),
+    ("region = 'eu' IS UNKNOWN", "(-7, NULL)", Tri::True),
+    ("region = 'eu' IS UNKNOWN", "(7, NULL)", Tri::True),
+    ("region = 'eu' IS UNKNOWN", "(7, 'us')", Tri::False),
+    ("region = 'eu' IS UNKNOWN", "(7, 'eu')", Tri::False),
+    ("region = 'eu' IS FALSE", "(-7, NULL)", Tri::False),
+    ("region = 'eu' IS FALSE", "(7, NULL)", Tri::False),
+    ("region = 'eu' IS FALSE", "(7, 'us')", Tri::True),
+    ("region = 'eu' IS FALSE", "(7, 'eu')", Tri::False),
+    ("region IS NULL", "(-7, NULL)", Tri::True),
+    ("region IS NULL", "(7, NULL)", Tri::True),
+    ("region IS NULL", "(7, 'us')", Tri::False),
+    ("region IS NULL", "(7, 'eu')", Tri::False),
+    ("region = 'eu'", "(7)", Tri::Null),
+    ("region IS NULL", "(7)", Tri::True),
+    ("FALSE", "(7)", Tri::False),
 ];

@@ -1,11 +1,12 @@
 //! Filters as they are read: their faults, their trees and what they mean.
 
 use super::expression_cases::{EXPRESSIONS, TREES, VALUES};
-use crate::checks::{holds, same};
-use crate::fault::is_error;
-use filter_tree::{ColType, Column, Filter, Text, eval};
-use sql_reader::{Item, ReadError, Reader, read_filter, read_row};
+use crate::calls::{copied, said, text};
+use crate::checks::{expect, same};
+use filter_tree::{ColType, Column, Filter, Tri};
+use sql_reader::{Item, ReadError, Reader, read_filter};
 use std::alloc::{AllocError, Global};
+use std::process::Abort;
 use std::test::Fail;
 
 const COLUMNS: [(&str, ColType); 5] = [
@@ -21,7 +22,7 @@ pub fn columns(alloc: Global) -> Result<Vec<Column>, AllocError> {
     let mut columns = Vec::new(alloc);
     for (name, kind) in COLUMNS {
         columns.push(Column {
-            name: Text::from_str(alloc, name)?,
+            name: text(alloc, name)?,
             kind,
             not_null: false,
         })?;
@@ -41,13 +42,9 @@ fn ended_filter(alloc: Global, text: &str) -> Result<Filter, ReadError> {
 
 #[test]
 fn reads_filters_or_their_first_fault(rt: HostRuntime) -> Result<(), Fail> {
+    let alloc = rt.alloc();
     for (text, kind, place) in EXPRESSIONS {
-        match ended_filter(rt.alloc(), text) {
-            Ok(_) => same(&rt, *kind, "ok"),
-            Err(error) => {
-                holds(&rt, is_error(rt.alloc(), &error, kind, *place)?);
-            }
-        }
+        expect(&rt, alloc, text, ended_filter(alloc, text), kind, *place)?;
     }
     Ok(())
 }
@@ -58,23 +55,39 @@ fn filter_of(alloc: Global, text: &str) -> Result<Filter, ReadError> {
     ended_filter(alloc, ended.as_str())
 }
 
+/// The tree of a filter, as it is shown for debugging.
+fn tree_of(alloc: Global, text: &str) -> Result<String, ReadError> {
+    let filter = filter_of(alloc, text)?;
+    Ok(format!(in alloc; "{filter:?}")?)
+}
+
 #[test]
 fn gives_filters_as_trees(rt: HostRuntime) -> Result<(), Fail> {
     for (text, expected) in TREES {
-        let filter = filter_of(rt.alloc(), text)?;
-        let shown = format!(in rt.alloc(); "{filter:?}")?;
-        same(&rt, shown.as_str(), *expected);
+        same(&rt, tree_of(rt.alloc(), text)?.as_str(), *expected);
     }
+    Ok(())
+}
+
+/// That a filter and a copy of it say this of a row.
+fn expect_value(
+    rt: &impl Abort,
+    alloc: Global,
+    text: &str,
+    row: &str,
+    wanted: Tri,
+) -> Result<(), ReadError> {
+    let filter = filter_of(alloc, text)?;
+    same(rt, said(alloc, &filter, row)?, wanted);
+    let copy = copied(alloc, &filter)?;
+    same(rt, said(alloc, &copy, row)?, wanted);
     Ok(())
 }
 
 #[test]
 fn gives_filters_that_mean_what_is_written(rt: HostRuntime) -> Result<(), Fail> {
-    for (text, row, expected) in VALUES {
-        let filter = filter_of(rt.alloc(), text)?;
-        let row = read_row(rt.alloc(), row)?;
-        let value = format!(in rt.alloc(); "{:?}", eval(&filter, &row))?;
-        same(&rt, value.as_str(), *expected);
+    for (text, row, wanted) in VALUES {
+        expect_value(&rt, rt.alloc(), text, row, *wanted)?;
     }
     Ok(())
 }

@@ -1,12 +1,13 @@
 //! Inputs at their limits. There is memory for all of them, so that none is refused for want of it.
 
+use super::elements::elements;
 use super::expressions::columns;
+use crate::calls::{exceeded, repeated, row_of, said, written};
 use crate::checks::{holds, same};
-use filter_tree::{Atom, Filter, Tri, eval};
-use sql_reader::{
-    Limit, Reader, exceeded_limit, read_elements, read_filter, read_name, read_row, write_row,
-};
+use filter_tree::{Atom, Column, Filter, Tri};
+use sql_reader::{Limit, ReadError, Reader, read_filter, read_name};
 use std::alloc::{AllocError, Global};
+use std::process::Abort;
 use std::test::Fail;
 
 /// The most bytes of a text, and of a name.
@@ -24,120 +25,182 @@ fn joined(alloc: Global, piece: &str, separator: &str, count: usize) -> Result<S
     Ok(text)
 }
 
+/// That so many values, so often, are read as a row and written again.
+fn expect_row(
+    rt: &impl Abort,
+    alloc: Global,
+    values: &str,
+    count: usize,
+    times: usize,
+) -> Result<(), ReadError> {
+    let text = format!(in alloc; "({})", joined(alloc, values, ", ", times)?)?;
+    let row = row_of(alloc, text.as_str())?;
+    same(rt, row.values().len(), count.saturating_mul(times));
+    holds(rt, written(alloc, &row)?.as_str() == text.as_str());
+    Ok(())
+}
+
+/// A text of so many pieces, in quotes.
+fn quoted(alloc: Global, piece: &str, quote: &str, count: usize) -> Result<String, AllocError> {
+    format!(in alloc; "{quote}{}{quote}", repeated(alloc, piece, count)?)
+}
+
 /// Rows as they are printed: values, how many they are, and how often they come. The last one has 16 MB.
 #[test]
 fn reads_and_writes_the_largest_rows(rt: HostRuntime) -> Result<(), Fail> {
     let alloc = rt.alloc();
-    let longest = format!(in alloc; "'{}'", "a".repeat(alloc, TEXT)?)?;
-    let quotes = format!(in alloc; "'{}'", "''".repeat(alloc, TEXT)?)?;
     let mixed = "7, NULL, FALSE, '', -9223372036854775807";
-    let cases = [
-        (mixed, 5, 20),
-        (mixed, 5, 400),
-        (quotes.as_str(), 1, 2),
-        (longest.as_str(), 1, 257),
-    ];
-    for (values, count, times) in cases {
-        let text = format!(in alloc; "({})", joined(alloc, values, ", ", times)?)?;
-        let row = read_row(alloc, text.as_str())?;
-        same(&rt, row.values().len(), count * times);
-        holds(&rt, write_row(alloc, &row)?.as_str() == text.as_str());
-    }
+    expect_row(&rt, alloc, mixed, 5, 20)?;
+    expect_row(&rt, alloc, mixed, 5, 400)?;
+    let quotes = quoted(alloc, "''", "'", TEXT)?;
+    expect_row(&rt, alloc, quotes.as_str(), 1, 2)?;
+    let longest = quoted(alloc, "a", "'", TEXT)?;
+    expect_row(&rt, alloc, longest.as_str(), 1, 257)?;
+    Ok(())
+}
+
+/// That the text is read as the name.
+fn expect_name(rt: &impl Abort, alloc: Global, text: &str, wanted: &str) -> Result<(), ReadError> {
+    let name = read_name(&mut Reader::new(text), alloc, "a name")?;
+    same(rt, name.text.as_str(), wanted);
     Ok(())
 }
 
 #[test]
 fn reads_the_longest_names(rt: HostRuntime) -> Result<(), Fail> {
     let alloc = rt.alloc();
-    let letters = "N".repeat(alloc, NAME)?;
-    let folded = "n".repeat(alloc, NAME)?;
-    let name = read_name(&mut Reader::new(letters.as_str()), alloc, "a name")?;
-    same(&rt, name.text.as_str(), folded.as_str());
-    let doubled = format!(in alloc; "\"{}\"", "\"\"".repeat(alloc, NAME)?)?;
-    let quotes = "\"".repeat(alloc, NAME)?;
-    let name = read_name(&mut Reader::new(doubled.as_str()), alloc, "a name")?;
-    same(&rt, name.text.as_str(), quotes.as_str());
+    let letters = repeated(alloc, "N", NAME)?;
+    let folded = repeated(alloc, "n", NAME)?;
+    expect_name(&rt, alloc, letters.as_str(), folded.as_str())?;
+    let doubled = quoted(alloc, "\"\"", "\"", NAME)?;
+    let quotes = repeated(alloc, "\"", NAME)?;
+    expect_name(&rt, alloc, doubled.as_str(), quotes.as_str())?;
     Ok(())
 }
 
-/// Columns c100 to c199 of the longest names, and all of them as the key, the last one first.
+/// Columns c100 to c199 of the longest names, which begin like this, and all of them as the key, the last one first.
+fn hundred_columns(alloc: Global, start: &str) -> Result<String, AllocError> {
+    let mut text = String::new(alloc);
+    for number in 100..200 {
+        write!(text, "{start}{number} text NOT NULL, ")?;
+    }
+    write!(text, "PRIMARY KEY ({start}199")?;
+    for number in (100..199).rev() {
+        write!(text, ", {start}{number}")?;
+    }
+    text.push_str("))")?;
+    Ok(text)
+}
+
+/// That the column at this place has the name that begins like this.
+fn expect_column(
+    rt: &impl Abort,
+    alloc: Global,
+    start: &str,
+    place: usize,
+    column: &Column,
+) -> Result<(), AllocError> {
+    let name = format!(in alloc; "{start}{}", place.saturating_add(100))?;
+    same(rt, column.name.as_str(), name.as_str());
+    Ok(())
+}
+
 #[test]
 fn reads_a_hundred_columns(rt: HostRuntime) -> Result<(), Fail> {
     let alloc = rt.alloc();
-    let start = "c".repeat(alloc, NAME - 3)?;
-    let mut text = String::new(alloc);
-    for number in 100..200 {
-        let column = format!(in alloc; "{start}{number} text NOT NULL, ")?;
-        text.push_str(column.as_str())?;
-    }
-    text.push_str("PRIMARY KEY (")?;
-    for number in (100..200).rev() {
-        let comma = if number < 199 { ", " } else { "" };
-        let column = format!(in alloc; "{comma}{start}{number}")?;
-        text.push_str(column.as_str())?;
-    }
-    text.push_str("))")?;
-    let parts = read_elements(&mut Reader::new(text.as_str()), alloc)?;
+    let start = repeated(alloc, "c", NAME - 3)?;
+    let text = hundred_columns(alloc, start.as_str())?;
+    let parts = elements(alloc, text.as_str())?;
     same(&rt, parts.columns.len(), 100);
-    for (number, column) in parts.columns.iter().enumerate() {
-        let name = format!(in alloc; "{start}{}", number + 100)?;
-        same(&rt, column.name.as_str(), name.as_str());
+    for (place, column) in parts.columns.iter().enumerate() {
+        expect_column(&rt, alloc, start.as_str(), place, column)?;
     }
-    let order = (0..100).rev().collect::<Vec<usize>>(alloc)?;
-    same(&rt, parts.key.as_slice(), order.as_slice());
+    same(&rt, parts.key.len(), 100);
+    for (place, number) in parts.key.iter().enumerate() {
+        same(&rt, *number, 99usize.saturating_sub(place));
+    }
     Ok(())
 }
 
-/// Filters that are true of the row (7, a text of 65,535 bytes, TRUE): deep ones, long ones, and one of long texts.
-#[test]
-fn reads_the_largest_filters(rt: HostRuntime) -> Result<(), Fail> {
-    let alloc = rt.alloc();
-    let longest = "a".repeat(alloc, TEXT)?;
-    let text = format!(in alloc; "region = '{longest}'")?;
-    let other = format!(in alloc; "region = 'b{}'", "a".repeat(alloc, TEXT - 1)?)?;
-    let open = "(".repeat(alloc, 64)?;
-    let cases = [
-        format!(in alloc; "{}b", "NOT ".repeat(alloc, 64)?)?,
-        format!(in alloc; "{open}b{}", ")".repeat(alloc, 64)?)?,
-        format!(in alloc; "{open}b{}", " IS NOT FALSE)".repeat(alloc, 64)?)?,
-        format!(in alloc; "{} OR id = 7", joined(alloc, "id = 1", " OR ", 2_000)?)?,
-        joined(alloc, "id <> 1", " AND ", 2_000)?,
-        String::from_str(alloc, "id % 9223372036854775807 = 7")?,
-        format!(in alloc; "{} OR {text}", joined(alloc, other.as_str(), " OR ", 2)?)?,
-    ];
+/// That the filter is true of the row (7, a text of 65,535 bytes, TRUE).
+fn expect_true(rt: &impl Abort, alloc: Global, text: &str) -> Result<(), ReadError> {
     let columns = columns(alloc)?;
-    let row = format!(in alloc; "(7, '{longest}', TRUE)")?;
-    let row = read_row(alloc, row.as_str())?;
-    for text in &cases {
-        let filter = read_filter(&mut Reader::new(text.as_str()), alloc, columns.as_slice())?;
-        holds(&rt, eval(&filter, &row) == Tri::True);
+    let row = format!(in alloc; "(7, '{}', TRUE)", repeated(alloc, "a", TEXT)?)?;
+    let filter = read_filter(&mut Reader::new(text), alloc, columns.as_slice())?;
+    same(rt, said(alloc, &filter, row.as_str())?, Tri::True);
+    Ok(())
+}
+
+/// A filter around another one: so many pieces before it, and so many after it.
+fn around(
+    alloc: Global,
+    count: usize,
+    before: &str,
+    filter: &str,
+    after: &str,
+) -> Result<String, AllocError> {
+    let mut text = repeated(alloc, before, count)?;
+    text.push_str(filter)?;
+    text.push_str(repeated(alloc, after, count)?.as_str())?;
+    Ok(text)
+}
+
+/// Deep filters: what comes 64 times before `b`, and what comes 64 times after it.
+const DEEP: &[(&str, &str)] = &[("NOT ", ""), ("(", ")"), ("(", " IS NOT FALSE)")];
+
+#[test]
+fn reads_the_deepest_filters(rt: HostRuntime) -> Result<(), Fail> {
+    for (before, after) in DEEP {
+        let text = around(rt.alloc(), 64, before, "b", after)?;
+        expect_true(&rt, rt.alloc(), text.as_str())?;
     }
     Ok(())
 }
 
-/// Filters that are one atom each: how many they are, how many of the atoms differ, and the limit that they pass.
+/// Long filters: what comes 2,000 times, and what comes after them.
+const LONG: &[(&str, &str)] = &[("id = 1 OR ", "id = 7"), ("id <> 1 AND ", "id <> 1")];
+
+#[test]
+fn reads_the_longest_filters(rt: HostRuntime) -> Result<(), Fail> {
+    for (before, filter) in LONG {
+        let text = around(rt.alloc(), 2_000, before, filter, "")?;
+        expect_true(&rt, rt.alloc(), text.as_str())?;
+    }
+    expect_true(&rt, rt.alloc(), "id % 9223372036854775807 = 7")?;
+    Ok(())
+}
+
+/// Two texts that differ, and then the one that the row has.
+#[test]
+fn reads_the_longest_texts(rt: HostRuntime) -> Result<(), Fail> {
+    let alloc = rt.alloc();
+    let longest = repeated(alloc, "a", TEXT)?;
+    let rest = repeated(alloc, "a", TEXT - 1)?;
+    let other = format!(in alloc; "region = 'b{rest}' OR ")?;
+    let text = format!(in alloc; "{other}{other}region = '{longest}'")?;
+    expect_true(&rt, alloc, text.as_str())?;
+    Ok(())
+}
+
+/// The limit that so many filters pass, each of which is one atom, and so many of the atoms differ.
+fn limit_of(alloc: Global, count: usize, different: usize) -> Result<Option<Limit>, AllocError> {
+    let mut filters: Vec<Filter> = Vec::new(alloc);
+    for number in 0..count {
+        filters.push(Filter::Atom(Atom::IsNull(number.checked_rem(different).unwrap_or(0))))?;
+    }
+    let mut listed: Vec<&Filter> = Vec::new(alloc);
+    for filter in &filters {
+        listed.push(filter)?;
+    }
+    exceeded(alloc, listed.as_slice())
+}
+
 #[test]
 fn counts_many_filters(rt: HostRuntime) -> Result<(), Fail> {
-    let cases = [
-        (64, 64, None),
-        (65, 65, Some(Limit::Atoms)),
-        (1_000, 64, None),
-        (1_001, 64, Some(Limit::Nodes)),
-    ];
-    for (count, different, expected) in cases {
-        let mut filters = Vec::new(rt.alloc());
-        for number in 0..count {
-            filters.push(Filter::Atom(Atom::IsNull(number % different)))?;
-        }
-        let mut listed: Vec<&Filter> = Vec::new(rt.alloc());
-        for filter in &filters {
-            listed.push(filter)?;
-        }
-        same(
-            &rt,
-            exceeded_limit(rt.alloc(), listed.as_slice())?,
-            expected,
-        );
-    }
+    let alloc = rt.alloc();
+    same(&rt, limit_of(alloc, 64, 64)?, None);
+    same(&rt, limit_of(alloc, 65, 65)?, Some(Limit::Atoms));
+    same(&rt, limit_of(alloc, 1_000, 64)?, None);
+    same(&rt, limit_of(alloc, 1_001, 64)?, Some(Limit::Nodes));
     Ok(())
 }

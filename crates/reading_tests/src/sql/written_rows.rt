@@ -1,20 +1,12 @@
 //! Rows and their texts.
 
-use crate::checks::{holds, same};
-use crate::fault::is_error;
-use filter_tree::{Row, Text, Value, same_row};
-use sql_reader::{read_row, write_row};
-use std::alloc::{AllocError, Global};
+use crate::calls::{is_same, row_of, written};
+use crate::checks::{expect, holds, same};
+use crate::filters::{Cell, row};
+use sql_reader::ReadError;
+use std::alloc::Global;
+use std::process::Abort;
 use std::test::Fail;
-
-/// A value of a row, written without memory.
-#[derive(Clone, Copy)]
-enum Cell {
-    Null,
-    Int(i64),
-    Bool(bool),
-    Text(&'static str),
-}
 
 /// Rows that are read again from their texts.
 const READABLE: &[(&[Cell], &str)] = &[
@@ -71,47 +63,36 @@ const REFUSED: &[(&[Cell], &str, &str, usize)] = &[
     ),
 ];
 
-fn value(alloc: Global, cell: Cell) -> Result<Value, AllocError> {
-    match cell {
-        Cell::Null => Ok(Value::Null),
-        Cell::Int(number) => Ok(Value::Int(number)),
-        Cell::Bool(truth) => Ok(Value::Bool(truth)),
-        Cell::Text(text) => Ok(Value::Text(Text::from_str(alloc, text)?)),
-    }
-}
-
-fn row(alloc: Global, cells: &[Cell]) -> Result<Row, AllocError> {
-    let mut values = Vec::new(alloc);
-    for cell in cells {
-        values.push(value(alloc, *cell)?)?;
-    }
-    Ok(Row::from_values(values))
+/// That the row has this text, and is read from it.
+fn expect_readable(
+    rt: &impl Abort,
+    alloc: Global,
+    cells: &[Cell],
+    wanted: &str,
+) -> Result<(), ReadError> {
+    let row = row(alloc, cells)?;
+    let text = written(alloc, &row)?;
+    same(rt, text.as_str(), wanted);
+    let found = row_of(alloc, text.as_str())?;
+    holds(rt, is_same(&row, &found));
+    Ok(())
 }
 
 #[test]
 fn writes_rows_that_are_read_again(rt: HostRuntime) -> Result<(), Fail> {
-    for (cells, expected) in READABLE {
-        let row = row(rt.alloc(), cells)?;
-        let text = write_row(rt.alloc(), &row)?;
-        same(&rt, text.as_str(), *expected);
-        let read = read_row(rt.alloc(), text.as_str())?;
-        holds(&rt, same_row(&row, &read));
+    for (cells, wanted) in READABLE {
+        expect_readable(&rt, rt.alloc(), cells, wanted)?;
     }
     Ok(())
 }
 
 #[test]
 fn writes_rows_that_are_refused(rt: HostRuntime) -> Result<(), Fail> {
-    for (cells, expected, kind, place) in REFUSED {
-        let row = row(rt.alloc(), cells)?;
-        let text = write_row(rt.alloc(), &row)?;
-        same(&rt, text.as_str(), *expected);
-        match read_row(rt.alloc(), text.as_str()) {
-            Ok(_) => panic!(rt; "{expected} was read"),
-            Err(error) => {
-                holds(&rt, is_error(rt.alloc(), &error, kind, *place)?);
-            }
-        }
+    let alloc = rt.alloc();
+    for (cells, wanted, kind, place) in REFUSED {
+        let text = written(alloc, &row(alloc, cells)?)?;
+        same(&rt, text.as_str(), *wanted);
+        expect(&rt, alloc, wanted, row_of(alloc, wanted), kind, *place)?;
     }
     Ok(())
 }

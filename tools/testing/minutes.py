@@ -1,0 +1,180 @@
+"""What a run of the gate costs: the processor minutes of each crate's proofs, must-fail edits and tests.
+
+They are added up from what /proc says of the prover's processes, twice a second. So what a process does in its last
+half second is left out.
+"""
+
+import os
+import resource
+import select
+import signal
+import subprocess
+import sys
+import time
+from collections import Counter
+from typing import NamedTuple
+
+# How long it is from one look at the processes to the next, in seconds.
+PAUSE = 0.5
+TICKS = os.sysconf("SC_CLK_TCK")
+PARTS = ["proofs", "edits", "tests"]
+
+
+class Part(NamedTuple):
+    """What the prover works for."""
+
+    crate: str
+    kind: str
+
+
+class Process(NamedTuple):
+    """What /proc says of a process: its parent, when it was started, and its processor time without its children's."""
+
+    parent: int
+    start: int
+    seconds: float
+
+
+def part_of(words: list[str], folder: str) -> Part | None:
+    """What the process with this command line works for in this folder. An edit is tried in a folder of its own."""
+    for at, word in enumerate(words):
+        if os.path.basename(word) == "rattle" and words[at + 1:at + 2] in (["check"], ["build"]):
+            options = words[at + 2:]
+            break
+    else:
+        return None
+    if "--crate-name" not in options[:-1]:
+        return None
+    crate = options[options.index("--crate-name") + 1]
+    if os.path.basename(folder).startswith("rt-edit-"):
+        return Part(crate, "edits")
+    return Part(crate, "tests" if "--test" in options else "proofs")
+
+
+def process_of(number: str) -> Process | None:
+    """A process, or None where it is gone."""
+    try:
+        with open(f"/proc/{number}/stat", "rb") as file:
+            # What comes before is the program's name in parentheses, which may have any bytes.
+            fields = file.read().rpartition(b")")[2].split()
+    except OSError:
+        return None
+    return Process(int(fields[1]), int(fields[19]), (int(fields[11]) + int(fields[12])) / TICKS)
+
+
+def processes() -> dict[int, Process]:
+    """All that run now."""
+    found = {int(number): process_of(number) for number in os.listdir("/proc") if number.isdigit()}
+    return {number: process for number, process in found.items() if process is not None}
+
+
+def part_now(number: int) -> Part | None:
+    """What a process works for."""
+    try:
+        with open(f"/proc/{number}/cmdline", "rb") as file:
+            words = os.fsdecode(file.read()).split("\0")
+        return part_of(words, os.readlink(f"/proc/{number}/cwd"))
+    except OSError:
+        return None
+
+
+class Meter:
+    """Adds up the processor time of what a command starts."""
+
+    def __init__(self, command: int):
+        self.command = command
+        self.parts: dict[tuple[int, int], Part] = {}
+        self.seconds: dict[tuple[int, int], float] = {}
+
+    def look(self) -> None:
+        """Looks at the processes. Several may have the same command line, since the prover makes some of itself."""
+        found = processes()
+        for number, process in found.items():
+            key = number, process.start
+            if key not in self.parts and self.is_below(number, found):
+                part = part_now(number)
+                if part is not None:
+                    self.parts[key] = part
+            if key in self.parts:
+                self.seconds[key] = process.seconds
+
+    def is_below(self, number: int, found: dict[int, Process]) -> bool:
+        """Whether the command started a process, or what it started did."""
+        while number in found and number != self.command:
+            number = found[number].parent
+        return number == self.command
+
+    def totals(self) -> Counter[Part]:
+        """The seconds of each part."""
+        totals: Counter[Part] = Counter()
+        for key, part in self.parts.items():
+            totals[part] += self.seconds[key]
+        return totals
+
+
+def row(name: str, cells: list[str]) -> str:
+    """A line of the table."""
+    return f"{name:<20}" + "".join(f"{cell:>10}" for cell in cells)
+
+
+def table(totals: Counter[Part], wall: float, whole: float) -> str:
+    """The minutes of each part, and those of the whole run, in which programs are built and run too."""
+    def cells(crates: list[str]) -> list[str]:
+        each = [sum(totals[Part(crate, kind)] for crate in crates) for kind in PARTS]
+        return [f"{seconds / 60:.1f}" for seconds in [*each, sum(each)]]
+
+    crates = list({part.crate for part in totals})
+    crates.sort(key=lambda crate: (-sum(totals[Part(crate, kind)] for kind in PARTS), crate))
+    lines = [row("processor minutes", [*PARTS, "all"])]
+    lines += [row(crate, cells([crate])) for crate in crates]
+    lines.append(row("all crates", cells(crates)))
+    lines.append(f"the whole: {wall / 60:.1f} minutes, {whole / 60:.1f} of processors")
+    return "".join(f"{line}\n" for line in lines)
+
+
+def write(output: bytes) -> None:
+    """Writes to the standard output, at once."""
+    sys.stdout.buffer.write(output)
+    sys.stdout.buffer.flush()
+
+
+def pass_on(command: subprocess.Popen[bytes], meter: Meter) -> bytes:
+    """Writes what a command writes but for the last line, which is returned. The processes are looked at meanwhile."""
+    held = b""
+    due = time.monotonic()
+    while True:
+        ready = select.select([command.stdout], [], [], PAUSE)[0]
+        if time.monotonic() >= due:
+            meter.look()
+            due = time.monotonic() + PAUSE
+        if ready:
+            some = os.read(command.stdout.fileno(), 65_536)
+            if not some:
+                return held
+            held += some
+            begin = held.rfind(b"\n", 0, len(held) - 1) + 1
+            write(held[:begin])
+            held = held[begin:]
+        elif command.poll() is not None:
+            # What the command left running may hold its output open.
+            return held
+
+
+def run(words: list[str]) -> int:
+    """Runs a command, and gives its status. The table comes before the last line of its output."""
+    started = time.monotonic()
+    try:
+        command = subprocess.Popen(words, stdout=subprocess.PIPE)
+    except OSError as error:
+        print(f"{words[0]}: {error.strerror}", file=sys.stderr)
+        return 127
+    with command:
+        signal.signal(signal.SIGTERM, lambda *_: command.terminate())
+        meter = Meter(command.pid)
+        last = pass_on(command, meter)
+        status = command.wait()
+    used = resource.getrusage(resource.RUSAGE_CHILDREN)
+    write(table(meter.totals(), time.monotonic() - started, used.ru_utime + used.ru_stime).encode())
+    write(last)
+    # A shell has the same status for a command that a signal ended.
+    return status if status >= 0 else 128 - status

@@ -1,0 +1,91 @@
+"""That gate_minutes passes on what it runs, and that it knows the prover's processes."""
+
+import os
+import pathlib
+import subprocess
+import tempfile
+from collections import Counter
+
+from minutes import Part, part_of, table
+from tally import Tally
+
+GATE_MINUTES = pathlib.Path(__file__).resolve().parent.parent / "gate_minutes"
+
+# Is run as the prover, for long enough to be seen.
+PROVER = "#!/bin/sh\nsleep 1.2\n"
+
+# What is found of a command line in a folder.
+LINES = [
+    ("/opt/rattle/bin/rattle check --crate-name one src/lib.rt --jobs 2", "/work/crates/one", Part("one", "proofs")),
+    ("/opt/rattle/bin/rattle build --crate-name one src/lib.rt -o one.rlib", "/work/crates/one", Part("one", "proofs")),
+    ("/opt/rattle/bin/rattle build --crate-name one --test src/lib.rt", "/work/crates/one", Part("one", "tests")),
+    ("/opt/rattle/bin/rattle check --crate-name one src/lib.rt --jobs 1", "/tmp/rt-edit-71-abc", Part("one", "edits")),
+    ("python3 -c code /opt/rattle/bin/rattle check --crate-name one src/lib.rt", "/work", Part("one", "proofs")),
+    ("/opt/rattle/bin/rattle fmt src/lib.rt", "/work/crates/one", None),
+    ("/opt/rattle/bin/rattle check src/lib.rt --crate-name", "/work/crates/one", None),
+    ("python3 /usr/local/bin/rt check --crate-name one", "/work/crates/one", None),
+    ("", "/work", None),
+]
+
+TOTALS = Counter({
+    Part("one", "proofs"): 60.0, Part("one", "edits"): 90.0, Part("two", "proofs"): 30.0, Part("two", "tests"): 240.0,
+})
+TABLE = """\
+processor minutes       proofs     edits     tests       all
+two                        0.5       0.0       4.0       4.5
+one                        1.0       1.5       0.0       2.5
+all crates                 1.5       1.5       4.0       7.0
+the whole: 2.0 minutes, 7.5 of processors
+"""
+
+
+def check_minutes(tally: Tally) -> None:
+    """The parts and the table by themselves, and then runs."""
+    for line, folder, part in LINES:
+        tally.check(f"the part of {line or 'no command line'}", part_of(line.split(), folder), part)
+    tally.check("a table of minutes", table(TOTALS, 120.0, 450.0), TABLE)
+    if os.path.exists("/proc/self/stat"):
+        check_runs_of_commands(tally)
+        check_parts_seen(tally)
+    else:
+        print("skipped: runs of gate_minutes, since there is no /proc")
+
+
+def check_runs_of_commands(tally: Tally) -> None:
+    """The output of a command and its status are kept, and the table comes before the last line."""
+    status, before, last, errors = gate_minutes("sh", "-c", "echo one; echo two; echo why >&2; echo 1 failed; exit 3")
+    tally.check("a command that fails", (status, before[:2], last, errors), (3, ["one", "two"], "1 failed\n", "why\n"))
+    tally.check("its table", [line.split()[0] for line in before[2:]], ["processor", "all", "the"])
+    status, _, last, _ = gate_minutes("sh", "-c", "echo one; printf two")
+    tally.check("a last line that has no end", (status, last), (0, "two"))
+    status, _, last, _ = gate_minutes("sh", "-c", "echo one; kill -KILL $$")
+    tally.check("a command that is killed", (status, last), (137, "one\n"))
+    status, before, _, _ = gate_minutes("sh", "-c", "seq 100000")
+    tally.check("a long output", (status, before[:-3]), (0, [str(number) for number in range(1, 100_000)]))
+    status, _, _, errors = gate_minutes("/none/there")
+    tally.check("a command that is not there", (status, errors), (127, "/none/there: No such file or directory\n"))
+
+
+def check_parts_seen(tally: Tally) -> None:
+    """Processes of the prover are seen while they run, one of them in the folder of an edit."""
+    with tempfile.TemporaryDirectory() as folder:
+        prover = pathlib.Path(folder) / "rattle"
+        prover.write_text(PROVER)
+        prover.chmod(0o755)
+        edit = pathlib.Path(folder) / "rt-edit-1"
+        edit.mkdir()
+        run = f"{prover} check --crate-name"
+        script = f"{run} one & (cd {edit} && exec {run} two) & {run} three --test; wait; echo last"
+        _, before, last, _ = gate_minutes("sh", "-c", script)
+    rows = [line.split() for line in before[1:-2]]
+    tally.check("the crates that were seen", rows, [[name, *["0.0"] * 4] for name in ("one", "three", "two")])
+    tally.check("the last line after them", last, "last\n")
+
+
+def gate_minutes(*words: str) -> tuple[int, list[str], str, str]:
+    """A run: its status, the lines of its output but the last one, that one, and its errors."""
+    answer = subprocess.run([GATE_MINUTES, *words], stdout=subprocess.PIPE, stderr=subprocess.PIPE, encoding="utf-8")
+    lines = answer.stdout.splitlines(keepends=True)
+    if not lines:
+        return answer.returncode, [], "", answer.stderr
+    return answer.returncode, [line.removesuffix("\n") for line in lines[:-1]], lines[-1], answer.stderr
