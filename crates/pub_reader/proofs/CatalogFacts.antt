@@ -1,5 +1,5 @@
--- A catalog is within its limits: what its fields keep, of which there is one proof at most.
-use Rattle.std.proofs.Common.{List, All, arith}
+-- A catalog is within its limits, and is named: what its fields keep, of which there is one proof at most.
+use Rattle.std.proofs.Common.{◌≡◌, ℕ, List, [], ◌∷◌, All, length, map, refl, sym, ap, subst, arith}
 use Rattle.std.proofs.Math.Logic.{∥∥₁_elim}
 use Rattle.std.proofs.Props.{props}
 use Rattle.std.proofs.lemmas.List.{length-map}
@@ -10,7 +10,12 @@ use Rattle.filter_tree.specs.declared.table.Identity.TheVariants.{Default, Index
 use Rattle.filter_tree.specs.declared.table.Table.{Table}
 use Rattle.filter_tree.specs.declared.table.UniqueIndex.{UniqueIndex}
 use Rattle.pub_reader.specs.declared.catalog.Catalog.{Catalog}
+use Rattle.pub_reader.specs.declared.catalog.Publication.{Publication}
+use Rattle.pub_reader.specs.declared.catalog.Subscription.{Subscription}
 use Rattle.pub_reader.specs.CatalogLimits.{IsIdentity, IsLimitedTable, IsLimited}
+use Rattle.pub_reader.specs.CatalogNames.{AreOwnNames, AreTaken, TakesKnown, IsNamedCatalog}
+use Rattle.pub_reader.specs.Catalogs.{PublicationOf}
+use Rattle.filter_tree.specs.Expr.{Expr}
 use Rattle.pub_reader.specs.CatalogView.{publication_view, catalog_view}
 
 IsIdentity-prop : (columns : List Column) (indexes : List UniqueIndex) (identity : Identity) → IsProp (IsIdentity columns indexes identity)
@@ -32,3 +37,29 @@ catalog_limited catalog = record {
   publications = omega (arith, length-map catalog.publications.items publication_view, catalog.few_publications);
   subscriptions = catalog.few_subscriptions;
 }
+
+-- ---- names
+
+AreOwnNames-prop : (names : List (List ℕ)) → IsProp (AreOwnNames names)
+AreOwnNames-prop names = Prim.hlevel props
+
+AreTaken-prop : (count : ℕ) (numbers : List ℕ) → IsProp (AreTaken count numbers)
+AreTaken-prop count numbers = Prim.hlevel props
+
+all_taken-prop : (count : ℕ) (subscriptions : List Subscription) → IsProp (All (TakesKnown count) subscriptions)
+all_taken-prop count subscriptions = Prim.hlevel (props, AreTaken-prop)
+
+-- the names that publications have are those of what they stand for
+pub names_viewed : (publications : List Publication) → map (λ (p : PublicationOf Expr). p.name) (map publication_view publications) ≡ map (λ (p : Publication). p.name) publications
+names_viewed [] = refl
+names_viewed (publication ∷ publications) = ap (λ names. publication.name ∷ names) (names_viewed publications)
+
+pub catalog_named : (catalog : Catalog) → IsNamedCatalog (catalog_view catalog)
+catalog_named catalog =
+    let publications = catalog.publications.items in
+    record {
+      publications = subst AreOwnNames (sym (names_viewed publications)) (∥∥₁_elim catalog.named_publications (AreOwnNames-prop _) (λ own. own));
+      subscriptions = ∥∥₁_elim catalog.named_subscriptions (AreOwnNames-prop _) (λ own. own);
+      taken = subst (λ count. All (TakesKnown count) catalog.subscriptions.items) (sym (length-map publications publication_view))
+          (∥∥₁_elim catalog.taken_publications (all_taken-prop (length publications) catalog.subscriptions.items) (λ taken. taken));
+    }

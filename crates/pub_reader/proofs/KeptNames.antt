@@ -1,7 +1,8 @@
--- Each statement keeps the names of tables plain: they are as a text writes them.
-use Rattle.std.proofs.Common.{◌≡◌, ℕ, zero, suc, ◌<◌, Bool, true, List, [], ◌∷◌, ◌++◌, All, length, get_or, subst, arith}
+-- Each statement keeps what is said of names: they are as a text writes them, and each publication and subscription has one of its own.
+use Rattle.std.proofs.Common.{◌≡◌, ℕ, zero, suc, ◌<◌, Bool, true, List, [], ◌∷◌, ◌++◌, All, length, get_or, subst, arith, rules}
 use Rattle.std.specs.Prelude.{Option, Some, Ok, Err}
 use Rattle.std.proofs.lemmas.List.Elements.{All-cons, All-head, All-tail, All-push}
+use Rattle.std.proofs.lemmas.Str.{IsUtf8-from_ascii}
 use Rattle.filter_tree.specs.declared.table.Identity.{Identity}
 use Rattle.filter_tree.specs.declared.table.Table.{Table}
 use Rattle.filter_tree.specs.declared.table.UniqueIndex.{UniqueIndex}
@@ -22,25 +23,21 @@ use Rattle.sql_reader.proofs.Leaving.{Leaves, then-leaves}
 use Rattle.sql_reader.proofs.PlainNames.{ArePlain, Any, NamesPlain, ColumnsPlain, any-plain, check-plain, expect-plain, look-plain, name-plain, elements-plain, rest_plain, reader_plain}
 use Rattle.pub_reader.specs.declared.table_name.NewName.{NewName}
 use Rattle.pub_reader.specs.CatalogLimits.{IsNamed}
+use Rattle.pub_reader.specs.CatalogNames.{IsNamedDraft}
 use Rattle.pub_reader.specs.Catalogs.{columns_at, indexes_at, identified, indexed}
 use Rattle.pub_reader.specs.Drafts.{DraftOf, public_schema}
 use Rattle.pub_reader.specs.Identities.{replica_identity, alter_table}
 use Rattle.pub_reader.specs.Indexes.{index_body, indexed_table, create_index}
-use Rattle.pub_reader.specs.Publications.{publication_name, for_clause, create_publication}
-use Rattle.pub_reader.specs.Publishing.{parameters_clause}
 use Rattle.pub_reader.specs.Schemas.{create_schema, known_schema, new_schema}
 use Rattle.pub_reader.specs.Statements.{created_by, created, create, statement_by, statement, ended_statement}
-use Rattle.pub_reader.specs.Subscriptions.{subscription_name, subscription_body, create_subscription}
 use Rattle.pub_reader.specs.TableNames.{table_number, name_in_schema, new_table, new_in_schema, new_by, new_named, head_by, table_head, new_name}
 use Rattle.pub_reader.specs.Tables.{keyed, table_of, tail_by, table_tail, table_body, create_table}
-
-abbrev AreNamed : {S : Type 0} → DraftOf S → Type 0
-AreNamed draft = All IsNamed draft.tables
+use Rattle.pub_reader.proofs.OwnNames.{first_of, create_publication-named, create_subscription-named}
 
 -- ---- the name of a new table
 
 public_plain : IsPlainName public_schema
-public_plain = record { some = omega arith; short = omega arith; no_zero = λ found. no_zero_at found.0 found.1 found.2 }
+public_plain = record { some = omega arith; short = omega arith; no_zero = λ found. no_zero_at found.0 found.1 found.2; utf8 = IsUtf8-from_ascii public_schema (search rules) }
   where
     no_zero_at : (n : ℕ) → n < length public_schema → get_or public_schema n 0 ≡ 0 → ⊥
     no_zero_at zero low is = cc
@@ -114,18 +111,18 @@ table_body-plain called ts h =
     any-plain ColumnsPlain (with_rest (keyed called parts) ts4) _ (check-plain (keyed called parts) ts4 r) (λ n ts5 s.
     any-plain ColumnsPlain (table_tail ts5) _ (table_tail-plain ts5 s) (λ m ts6 u. (q.0, u))))))
 
--- what is read is so, whatever is left
-first_of : {A : Type 0} (P : A → Type 0) (read : Outcome A) → Leaves (λ a ts. P a) read → Gives P read
-first_of P (Ok read) h = h
-first_of P (Err fault) h = tt
+-- the same names where tables change
+with_tables : {S : Type 0} (draft : DraftOf S) (tables : List Table) → IsNamedDraft draft → All IsNamed tables → IsNamedDraft (record draft { tables = tables })
+with_tables draft tables named all = record { tables = all; publications = named.publications; subscriptions = named.subscriptions; taken = named.taken }
 
-create_table-named : {S : Type 0} (draft : DraftOf S) (ts : Items) → ArePlain ts → AreNamed draft → Gives AreNamed (create_table draft ts)
+create_table-named : {S : Type 0} (draft : DraftOf S) (ts : Items) → ArePlain ts → IsNamedDraft draft → Gives IsNamedDraft (create_table draft ts)
 unfolding create_table
 create_table-named draft ts h named =
-    first_of AreNamed _ (
-    then-leaves NewPlain (λ made ts2. AreNamed made) (new_name draft ts) _ (new_name-plain draft ts h) (λ called ts2 p.
-    then-leaves ColumnsPlain (λ made ts3. AreNamed made) (table_body called.name ts2) _ (table_body-plain called.name ts2 p.1.1) (λ parts ts3 q.
-    All-push IsNamed draft.tables (table_of called parts) named (record { schema = p.0; name = p.1.0; columns = q.0 }))))
+    first_of IsNamedDraft _ (
+    then-leaves NewPlain (λ made ts2. IsNamedDraft made) (new_name draft ts) _ (new_name-plain draft ts h) (λ called ts2 p.
+    then-leaves ColumnsPlain (λ made ts3. IsNamedDraft made) (table_body called.name ts2) _ (table_body-plain called.name ts2 p.1.1) (λ parts ts3 q.
+    with_tables draft (draft.tables ++ table_of called parts ∷ []) named
+    (All-push IsNamed draft.tables (table_of called parts) named.tables (record { schema = p.0; name = p.1.0; columns = q.0 })))))
 
 -- ---- other statements
 
@@ -145,74 +142,66 @@ indexed-named (table ∷ tables) zero index h =
 indexed-named (table ∷ tables) (suc number) index h =
     All-cons IsNamed table (indexed tables number index) (All-head IsNamed table tables h) (indexed-named tables number index (All-tail IsNamed table tables h))
 
-alter_table-named : {S : Type 0} (draft : DraftOf S) (ts : Items) → AreNamed draft → Gives AreNamed (alter_table draft ts)
+alter_table-named : {S : Type 0} (draft : DraftOf S) (ts : Items) → IsNamedDraft draft → Gives IsNamedDraft (alter_table draft ts)
 unfolding alter_table
 alter_table-named draft ts h =
-    any-gives AreNamed (expect (i.Keyword k.Alter) ts) _ (λ a ts2.
-    any-gives AreNamed (expect (i.Keyword k.Table) ts2) _ (λ b ts3.
-    any-gives AreNamed (eat (i.Keyword k.Only) ts3) _ (λ c ts4.
-    any-gives AreNamed (table_number draft ts4) _ (λ number ts5.
-    any-gives AreNamed (replica_identity (columns_at draft.tables number) (indexes_at draft.tables number) ts5) _ (λ recorded ts6.
-    identified-named draft.tables number recorded h)))))
+    any-gives IsNamedDraft (expect (i.Keyword k.Alter) ts) _ (λ a ts2.
+    any-gives IsNamedDraft (expect (i.Keyword k.Table) ts2) _ (λ b ts3.
+    any-gives IsNamedDraft (eat (i.Keyword k.Only) ts3) _ (λ c ts4.
+    any-gives IsNamedDraft (table_number draft ts4) _ (λ number ts5.
+    any-gives IsNamedDraft (replica_identity (columns_at draft.tables number) (indexes_at draft.tables number) ts5) _ (λ recorded ts6.
+    with_tables draft (identified draft.tables number recorded) h (identified-named draft.tables number recorded h.tables))))))
 
-create_index-named : {S : Type 0} (draft : DraftOf S) (ts : Items) → AreNamed draft → Gives AreNamed (create_index draft ts)
+create_index-named : {S : Type 0} (draft : DraftOf S) (ts : Items) → IsNamedDraft draft → Gives IsNamedDraft (create_index draft ts)
 unfolding create_index
 create_index-named draft ts h =
-    any-gives AreNamed (expect (i.Keyword k.Index) ts) _ (λ a ts2.
-    any-gives AreNamed (name ts2) _ (λ called ts3.
-    any-gives AreNamed (indexed_table draft called ts3) _ (λ number ts4.
-    any-gives AreNamed (index_body (columns_at draft.tables number) ts4) _ (λ numbers ts5. indexed-named draft.tables number _ h))))
+    any-gives IsNamedDraft (expect (i.Keyword k.Index) ts) _ (λ a ts2.
+    any-gives IsNamedDraft (name ts2) _ (λ called ts3.
+    any-gives IsNamedDraft (indexed_table draft called ts3) _ (λ number ts4.
+    any-gives IsNamedDraft (index_body (columns_at draft.tables number) ts4) _ (λ numbers ts5. with_tables draft _ h (indexed-named draft.tables number _ h.tables)))))
 
-create_schema-named : {S : Type 0} (draft : DraftOf S) (ts : Items) → AreNamed draft → Gives AreNamed (create_schema draft ts)
+with_schemas : {S : Type 0} (draft : DraftOf S) (schemas : List (List ℕ)) → IsNamedDraft draft → IsNamedDraft (record draft { schemas = schemas })
+with_schemas draft schemas named = record { tables = named.tables; publications = named.publications; subscriptions = named.subscriptions; taken = named.taken }
+
+create_schema-named : {S : Type 0} (draft : DraftOf S) (ts : Items) → IsNamedDraft draft → Gives IsNamedDraft (create_schema draft ts)
 unfolding create_schema
 create_schema-named draft ts h =
-    any-gives AreNamed (name ts) _ (λ called ts2. any-gives AreNamed (with_rest (new_schema draft.schemas called) ts2) _ (λ n ts3. h))
-
-create_publication-named : {S : Type 0} (forms : Forms S) (draft : DraftOf S) (ts : Items) → AreNamed draft → Gives AreNamed (create_publication forms draft ts)
-unfolding create_publication
-create_publication-named forms draft ts h =
-    any-gives AreNamed (publication_name draft ts) _ (λ called ts2.
-    any-gives AreNamed (for_clause forms draft ts2) _ (λ coverage ts3. any-gives AreNamed (parameters_clause ts3) _ (λ given ts4. h)))
-
-create_subscription-named : {S : Type 0} (draft : DraftOf S) (ts : Items) → AreNamed draft → Gives AreNamed (create_subscription draft ts)
-unfolding create_subscription
-create_subscription-named draft ts h =
-    any-gives AreNamed (subscription_name draft ts) _ (λ called ts2. any-gives AreNamed (subscription_body draft ts2) _ (λ numbers ts3. h))
+    any-gives IsNamedDraft (name ts) _ (λ called ts2. any-gives IsNamedDraft (with_rest (new_schema draft.schemas called) ts2) _ (λ n ts3. with_schemas draft _ h))
 
 -- ---- statements
 
 module _ {S : Type 0} (forms : Forms S) where
-  created_by-named : (item : Option Item) (draft : DraftOf S) (ts : Items) → ArePlain ts → AreNamed draft → Gives AreNamed (created_by forms item draft ts)
+  created_by-named : (item : Option Item) (draft : DraftOf S) (ts : Items) → ArePlain ts → IsNamedDraft draft → Gives IsNamedDraft (created_by forms item draft ts)
   created_by-named (Some (i.Keyword k.Table)) draft ts p h = create_table-named draft (rest_of ts) (rest_plain ts p) h
-  created_by-named (Some (i.Keyword k.Publication)) draft ts p h = create_publication-named forms draft (rest_of ts) h
+  created_by-named (Some (i.Keyword k.Publication)) draft ts p h = create_publication-named forms draft (rest_of ts) (rest_plain ts p) h
   created_by-named (Some (i.Keyword k.Schema)) draft ts p h = create_schema-named draft (rest_of ts) h
-  created_by-named (Some (i.Keyword k.Subscription)) draft ts p h = create_subscription-named draft (rest_of ts) h
+  created_by-named (Some (i.Keyword k.Subscription)) draft ts p h = create_subscription-named draft (rest_of ts) (rest_plain ts p) h
   created_by-named (Some (i.Keyword k.Unique)) draft ts p h = create_index-named draft (rest_of ts) h
   created_by-named _ draft ts p h = tt
 
-  create-named : (draft : DraftOf S) (ts : Items) → ArePlain (rest_of ts) → AreNamed draft → Gives AreNamed (create forms draft ts)
+  create-named : (draft : DraftOf S) (ts : Items) → ArePlain (rest_of ts) → IsNamedDraft draft → Gives IsNamedDraft (create forms draft ts)
   unfolding create created
   create-named draft ts p h =
-      first_of AreNamed _ (
-      any-plain (λ made ts2. AreNamed made) (expect (i.Keyword k.Create) ts) _ (expect-plain (i.Keyword k.Create) ts p) (λ a ts2 q.
+      first_of IsNamedDraft _ (
+      any-plain (λ made ts2. IsNamedDraft made) (expect (i.Keyword k.Create) ts) _ (expect-plain (i.Keyword k.Create) ts p) (λ a ts2 q.
       any_left (created_by forms (item_ahead ts2) draft ts2) (created_by-named (item_ahead ts2) draft ts2 q h)))
     where
-      any_left : (read : Outcome (DraftOf S)) → Gives AreNamed read → Leaves (λ made ts2. AreNamed made) read
+      any_left : (read : Outcome (DraftOf S)) → Gives IsNamedDraft read → Leaves (λ made ts2. IsNamedDraft made) read
       any_left (Ok read) g = g
       any_left (Err fault) g = tt
 
-  statement_by-named : (item : Option Item) (draft : DraftOf S) (ts : Items) → ArePlain (rest_of ts) → AreNamed draft → Gives AreNamed (statement_by forms item draft ts)
+  statement_by-named : (item : Option Item) (draft : DraftOf S) (ts : Items) → ArePlain (rest_of ts) → IsNamedDraft draft → Gives IsNamedDraft (statement_by forms item draft ts)
   statement_by-named (Some (i.Keyword k.Create)) draft ts p h = create-named draft ts p h
   statement_by-named (Some (i.Keyword k.Alter)) draft ts p h = alter_table-named draft ts h
   statement_by-named (Some i.Semicolon) draft ts p h = h
   statement_by-named _ draft ts p h = tt
 
-  ended-named : (draft : DraftOf S) (ts : Items) → ArePlain (rest_of ts) → AreNamed draft → Gives AreNamed (ended_statement forms draft ts)
+  ended-named : (draft : DraftOf S) (ts : Items) → ArePlain (rest_of ts) → IsNamedDraft draft → Gives IsNamedDraft (ended_statement forms draft ts)
   unfolding ended_statement statement
   ended-named draft ts p h =
-      then-gives AreNamed AreNamed (statement forms draft ts) _ (statement_by-named (item_ahead ts) draft ts p h) (λ made ts2 named.
-      any-gives AreNamed (expect i.Semicolon ts2) _ (λ a ts3. named))
+      then-gives IsNamedDraft IsNamedDraft (statement forms draft ts) _ (statement_by-named (item_ahead ts) draft ts p h) (λ made ts2 named.
+      any-gives IsNamedDraft (expect i.Semicolon ts2) _ (λ a ts3. named))
 
   -- after a statement that a reader takes
-  pub statement_named : (r : Reader) (draft made : DraftOf S) (rest : Items) → ended_statement forms draft (to_read r) ≡ Ok (made, rest) → AreNamed draft → AreNamed made
-  statement_named r draft made rest e h = subst (Gives AreNamed) e (ended-named draft (to_read r) (reader_plain r) h)
+  pub statement_named : (r : Reader) (draft made : DraftOf S) (rest : Items) → ended_statement forms draft (to_read r) ≡ Ok (made, rest) → IsNamedDraft draft → IsNamedDraft made
+  statement_named r draft made rest e h = subst (Gives IsNamedDraft) e (ended-named draft (to_read r) (reader_plain r) h)

@@ -6,6 +6,7 @@ pub mod KeptIndexes
 pub mod KeptLimits
 pub mod KeptNames
 pub mod Listing
+pub mod OwnNames
 pub mod Positions
 pub mod StepWords
 pub mod TableLemmas

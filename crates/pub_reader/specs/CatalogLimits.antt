@@ -1,4 +1,4 @@
--- How much a catalog has at most, that what its tables say of their columns by number is there, and how long names are: PostgreSQL 15, "SQL Syntax", 4.1.1 Identifiers and Key Words.
+-- How much a catalog has at most, that what its tables say of their columns by number is there, and what names are: PostgreSQL 15, "SQL Syntax", 4.1.1 Identifiers and Key Words.
 use Rattle.std.specs.Prelude.{◌≡◌, ◌<◌, ◌≤◌, true, List, All, length, slice_get}
 use Rattle.filter_tree.specs.declared.table.Column.{Column}
 use Rattle.filter_tree.specs.declared.table.Identity.{Identity}
@@ -21,7 +21,7 @@ IsIdentity columns indexes _ = Unit {0}
 abbrev pub HasPlainName : Column → Type 0
 HasPlainName column = IsPlainName column.name
 
--- the table's schema, the table and its columns have names of 1 to 63 bytes, none of which is zero
+-- the table's schema, the table and its columns have names of 1 to 63 bytes of UTF-8, none of which is zero
 pub record IsNamed (table : Table) : Type 0 where
   pub schema : IsPlainName table.schema
   pub name : IsPlainName table.name

@@ -1,5 +1,6 @@
 pub mod CatalogLimits
 pub mod CatalogMeaning
+pub mod CatalogNames
 pub mod CatalogView
 pub mod Catalogs
 pub mod DraftView

@@ -1,7 +1,8 @@
 //! What a catalog has.
 
-ghost use Rattle.std.specs.Prelude.{◌≤◌, length, All};
+ghost use Rattle.std.specs.Prelude.{◌≤◌, length, map, All};
 ghost use Rattle.pub_reader.specs.CatalogLimits.{IsLimitedTable};
+ghost use Rattle.pub_reader.specs.CatalogNames.{AreOwnNames, TakesKnown};
 
 use filter_tree::{Filter, Items, Table, Text};
 
@@ -10,8 +11,11 @@ use filter_tree::{Filter, Items, Table, Text};
 ///
 /// It is always within its limits: at most 64 tables of at most 100 columns and 8 unique indexes, 64 publications and 32
 /// subscriptions. What a table says of its columns by number is there, an identity by an index names one of the table's,
-/// none of whose columns takes a null, and the names of schemas, tables and columns have 1 to 63 bytes, none of which is
-/// zero.
+/// none of whose columns takes a null, and the names of schemas, tables and columns have 1 to 63 bytes of UTF-8, none of
+/// which is zero.
+///
+/// Each publication has such a name of its own, and each subscription, which takes at least one of the publications, and
+/// none twice.
 #[derive(Drop)]
 pub struct Catalog {
     pub tables: Vec<Table>,
@@ -21,6 +25,9 @@ pub struct Catalog {
     ghost limited_tables: { ∥ All IsLimitedTable tables.items ∥₁ },
     ghost few_publications: { length publications.items ≤ 64 },
     ghost few_subscriptions: { length subscriptions.items ≤ 32 },
+    ghost named_publications: { ∥ AreOwnNames (map (λ p. p.name) publications.items) ∥₁ },
+    ghost named_subscriptions: { ∥ AreOwnNames (map (λ s. s.name) subscriptions.items) ∥₁ },
+    ghost taken_publications: { ∥ All (TakesKnown (length publications.items)) subscriptions.items ∥₁ },
 }
 
 /// The operations of which a publication sends the changes.

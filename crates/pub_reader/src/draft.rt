@@ -67,6 +67,7 @@ impl Draft {
     ghost use Rattle.filter_tree.specs.Shape.{expr_view};
     ghost use Rattle.sql_reader.specs.Reading.{Answers};
     ghost use Rattle.pub_reader.specs.CatalogLimits.{IsLimited};
+    ghost use Rattle.pub_reader.specs.CatalogNames.{IsNamedCatalog};
     ghost use Rattle.pub_reader.specs.Catalogs.{schema_at, columns_at, indexes_at, identified, indexed};
     ghost use Rattle.pub_reader.specs.CatalogView.{catalog_view};
     ghost use Rattle.pub_reader.specs.Drafts as spec;
@@ -342,7 +343,8 @@ impl Draft {
 
     /// The catalog, once it is read: what the publications cover is resolved.
     pub fn finish(self, alloc: Global) -> Result<Catalog, AllocError>
-        requires { IsLimited (spec.resolved (draft_view self)) }
+        requires limits { IsLimited (spec.resolved (draft_view self)) }
+        requires names { IsNamedCatalog (spec.resolved (draft_view self)) }
         ensures { IfOk result (λ catalog. catalog_view catalog ≡ spec.resolved (draft_view self)) }
     {
         let Draft {

@@ -1,12 +1,13 @@
 //! The statements of a catalog.
 
-ghost use Rattle.std.specs.Prelude.{◌<◌, All, IfOk, OnOk};
+ghost use Rattle.std.specs.Prelude.{◌<◌, IfOk, OnOk};
 ghost use Rattle.sql_reader.specs.Ahead.{to_read};
 ghost use Rattle.sql_reader.specs.Reading.{Reads, Answers};
 ghost use Rattle.sql_reader.specs.Taking.{Takes, TakesSome};
 ghost use Rattle.sql_reader.specs.Written.{as_filter, as_written};
-ghost use Rattle.pub_reader.specs.CatalogLimits.{IsLimited, IsNamed};
+ghost use Rattle.pub_reader.specs.CatalogLimits.{IsLimited};
 ghost use Rattle.pub_reader.specs.CatalogMeaning.{MeansAsWritten};
+ghost use Rattle.pub_reader.specs.CatalogNames.{IsNamedCatalog, IsNamedDraft};
 ghost use Rattle.pub_reader.specs.CatalogView.{catalog_view};
 ghost use Rattle.pub_reader.specs.DraftView.{draft_view};
 ghost use Rattle.pub_reader.specs.Statements as spec;
@@ -89,7 +90,7 @@ fn ended_statement(r: &mut Reader<'_>, alloc: Global, draft: &mut Draft) -> Resu
 fn statements(r: &mut Reader<'_>, alloc: Global, draft: &mut Draft) -> Result<(), ReadError>
     ensures reads { Reads (λ _. draft_view draft.new) (spec.statements as_filter (draft_view draft.old) (to_read r.old))
         result (to_read r.new) }
-    ensures named { All IsNamed (draft_view draft.old).tables → OnOk result (All IsNamed (draft_view draft.new).tables) }
+    ensures named { IsNamedDraft (draft_view draft.old) → OnOk result (IsNamedDraft (draft_view draft.new)) }
 {
     while r.more_ahead()? {
         ended_statement(r, alloc, draft)?;
@@ -102,17 +103,19 @@ fn statements(r: &mut Reader<'_>, alloc: Global, draft: &mut Draft) -> Result<()
 /// that it carries whole by FOR ALL TABLES or TABLES IN SCHEMA, wherever in the text the table is made. There are at most
 /// 64 tables of at most 100 columns and 8 unique indexes, 64 publications and 32 subscriptions. An identity by an index
 /// names one of the table's, none of whose columns takes a null. The names of schemas, tables and columns have 1 to 63
-/// bytes, none of which is zero.
+/// bytes of UTF-8, none of which is zero. Each publication has such a name of its own, and each subscription, which takes
+/// at least one of the publications, and none twice.
 ///
 /// # Errors
 ///
 /// The first fault of the text, or `OutOfMemory` where an allocation was refused.
-#[tactic(auto, using(crate::proofs::CarryingCatalogs::means_as_written, crate::proofs::CatalogFacts::catalog_limited))]
+#[tactic(auto, using(crate::proofs::CarryingCatalogs::means_as_written, crate::proofs::CatalogFacts::catalog_limited, crate::proofs::CatalogFacts::catalog_named))]
 pub fn read_catalog(alloc: Global, text: &str) -> Result<Catalog, ReadError>
     ensures catalog { Answers catalog_view (spec.catalog_by as_filter text.now) result }
     ensures written { IfOk result
         (λ catalog. MeansAsWritten (spec.catalog_by as_written text.now) (catalog_view catalog)) }
     ensures limits { IfOk result (λ catalog. IsLimited (catalog_view catalog)) }
+    ensures names { IfOk result (λ catalog. IsNamedCatalog (catalog_view catalog)) }
 {
     whole_catalog(alloc, text)
 }

@@ -1,8 +1,12 @@
--- The catalog of a sharding that was accepted is within its limits, as each catalog is.
+-- The catalog of a sharding that was accepted is within its limits, and is named, as each catalog is.
 use Rattle.pub_reader.specs.CatalogLimits.{IsLimited}
-use Rattle.pub_reader.proofs.CatalogFacts.{catalog_limited}
+use Rattle.pub_reader.specs.CatalogNames.{IsNamedCatalog}
+use Rattle.pub_reader.proofs.CatalogFacts.{catalog_limited, catalog_named}
 use Rattle.shard_checker.specs.CheckedView.{checked_view}
 use Rattle.shard_checker.specs.declared.checked.Checked.{Checked}
 
 pub checked_limited : (checked : Checked) → IsLimited (checked_view checked).catalog
 checked_limited checked = catalog_limited checked.catalog
+
+pub checked_named : (checked : Checked) → IsNamedCatalog (checked_view checked).catalog
+checked_named checked = catalog_named checked.catalog

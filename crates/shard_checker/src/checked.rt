@@ -12,7 +12,8 @@ use replica_identity::Plan;
 /// A catalog and its own plan that the check accepted. Whoever holds one knows that the catalog's sharding is sound, and
 /// of changes of its tables what the laws about them ask: that a row's replica identity tells to whom the row passes,
 /// that commands that are accepted leave no two rows of a table with one identity, and that each row that fits its table
-/// passes to exactly one subscriber. As each catalog, it is within its limits.
+/// passes to exactly one subscriber. As each catalog, it is within its limits, and its publications and subscriptions have
+/// names of their own.
 #[derive(Drop)]
 pub struct Checked {
     catalog: Catalog,
@@ -24,6 +25,7 @@ pub struct Checked {
 impl Checked {
     ghost use Rattle.std.specs.Prelude.{◌≡◌};
     ghost use Rattle.pub_reader.specs.CatalogLimits.{IsLimited};
+    ghost use Rattle.pub_reader.specs.CatalogNames.{IsNamedCatalog};
     ghost use Rattle.pub_reader.specs.CatalogView.{catalog_view};
     ghost use Rattle.replica_identity.specs.Plans.{TakesWhatPasses, plan_of};
     ghost use Rattle.replica_identity.specs.PlanView.{plan_view};
@@ -40,14 +42,15 @@ impl Checked {
         Checked { catalog, plan }
     }
 
-    /// The catalog, which is within its limits (`limits`) and whose sharding is sound. In the setting that it makes with
-    /// its plan a row's replica identity tells to whom the row passes (`covered`), commands that are accepted leave no two
-    /// rows of a table with one identity (`apart`), and each row that fits its table passes to exactly one subscriber
-    /// (`divided`).
+    /// The catalog, which is within its limits (`limits`), whose publications and subscriptions have names of their own
+    /// (`names`), and whose sharding is sound. In the setting that it makes with its plan a row's replica identity tells to
+    /// whom the row passes (`covered`), commands that are accepted leave no two rows of a table with one identity
+    /// (`apart`), and each row that fits its table passes to exactly one subscriber (`divided`).
     #[tactic(auto, using(crate::proofs::LimitFacts::checked_limited))]
     pub fn catalog(&self) -> &Catalog
         ensures shows { catalog_view result.now ≡ (checked_view self.now).catalog }
         ensures limits { IsLimited (checked_view self.now).catalog }
+        ensures names { IsNamedCatalog (checked_view self.now).catalog }
         ensures sound { IsSound (catalog_view result.now) }
         ensures covered { Covered (setting_in (checked_view self.now)) }
         ensures apart { KeepsApart (setting_in (checked_view self.now)) }

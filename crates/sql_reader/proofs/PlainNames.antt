@@ -1,7 +1,8 @@
--- A name that is read has 1 to 63 bytes, none of which is zero, and so have those of columns.
+-- A name that is read has 1 to 63 bytes of UTF-8, none of which is zero, and so have those of columns.
 use Rattle.std.proofs.Common.{◌≡◌, ℕ, zero, suc, Bool, true, false, ◌||◌, List, [], ◌∷◌, ◌++◌, All, refl}
 use Rattle.std.specs.Prelude.{if◌then◌else◌, Option, Some, None, Ok, Err}
 use Rattle.std.proofs.lemmas.List.Elements.{All-nil, All-cons, All-head, All-tail, All-push}
+use Rattle.std.proofs.lemmas.Str.{IsUtf8-had}
 use Rattle.filter_tree.specs.declared.table.ColType.{ColType}
 use Rattle.filter_tree.specs.declared.table.Column.{Column}
 use Rattle.sql_tokens.specs.declared.kinds.TokenKind.{TokenKind}
@@ -78,7 +79,7 @@ ahead_plain (a.Item item) place written rest h = h
 -- what a reader has still to read after the token ahead
 pub reader_plain : (r : Reader) → ArePlain (rest_of (to_read r))
 unfolding to_read
-reader_plain r = ahead_plain r.ahead r.place r.written.now (items (left r.tokens)) (items_plain (left r.tokens) (are_plain (text_of r.tokens) r.tokens.place))
+reader_plain r = ahead_plain r.ahead r.place r.written.now (items (left r.tokens)) (items_plain (left r.tokens) (are_plain (text_of r.tokens) r.tokens.place (IsUtf8-had (text_of r.tokens) r.tokens.utf8)))
 
 -- ---- rules
 

@@ -1,6 +1,7 @@
 pub mod CommentTurns
 pub mod QuoteTurns
 pub mod NumberTurns
+mod NameTexts
 pub mod PlainNames
 pub mod Ends
 pub mod Fronts

@@ -1,5 +1,5 @@
--- A token that is a name has 1 to 63 bytes once it is in lower case, or without its quotes, and none of them is zero.
-use Rattle.std.proofs.Common.{◌≡◌, ℕ, zero, suc, ◌+◌, ◌-◌, ◌<◌, ◌≤◌, Bool, true, false, ◌&&◌, ◌==◌, List, [], ◌∷◌, length, get_or, take, drop, refl, sym, ap, subst, ◌∙◌, arith, length-drop}
+-- A token that is a name has 1 to 63 bytes once it is in lower case, or without its quotes, and none of them is zero. In a text that is UTF-8 they are UTF-8.
+use Rattle.std.proofs.Common.{◌≡◌, ℕ, zero, suc, ◌+◌, ◌-◌, ◌<◌, ◌≤◌, Bool, true, false, ◌&&◌, ◌==◌, List, [], ◌∷◌, length, get_or, take, drop, IsUtf8, refl, sym, ap, subst, ◌∙◌, arith, length-drop}
 use Rattle.std.specs.Prelude.{nat_lt, if◌then◌else◌, Option, Some, None, IfSome, Contains, slice_index}
 use Rattle.std.specs.Char.{to_ascii_lowercase}
 use Rattle.std.specs.List.{prefix_len}
@@ -22,6 +22,7 @@ use Rattle.sql_tokens.specs.Numbers.{number_of, number}
 use Rattle.sql_tokens.specs.Operators.{operator_len, operator_of, operator_piece, signs_len, operator}
 use Rattle.sql_tokens.specs.Quotes.{inner_len, undoubled, name_piece, string_piece, quoted, quoted_name, string}
 use Rattle.sql_tokens.proofs.Cuts.{between_quotes-cut}
+use Rattle.sql_tokens.proofs.NameTexts.{AreTexts, texts_from, word_utf8, inner_utf8, undoubled_utf8}
 use Rattle.sql_tokens.proofs.QuoteTurns.{inner_len-at_quote}
 use Rattle.sql_tokens.specs.Lexed.{Lexed, begins, tokens_from, at}
 use Rattle.sql_tokens.specs.PlainNames.{IsPlainName, IsPlainToken, AreTokensPlain}
@@ -96,6 +97,7 @@ plain_word (b ∷ bytes) letter short =
       some = omega (arith, length-map text to_ascii_lowercase);
       short = omega (arith, length-map text to_ascii_lowercase, long, short);
       no_zero = none_zero (str_to_ascii_lowercase text) (lower_are_some text (letter_some b letter, run_some bytes));
+      utf8 = word_utf8 b bytes letter;
     })
 
 word_names : (bytes : List ℕ) → is_of class.Letter (slice_index bytes 0) ≡ true → NamesOf bytes (word bytes)
@@ -159,9 +161,9 @@ undoubled_any quote (b ∷ c ∷ bytes) some = either_one (b == quote && c == qu
     either_one true = omega arith
     either_one false = omega arith
 
-plain_quoted : (bytes : List ℕ) (n : ℕ) → n < length (drop 1 bytes) → AreSome (take n (drop 1 bytes)) → 0 < n → length (undoubled 34 (take n (drop 1 bytes))) ≤ 63
+plain_quoted : (bytes : List ℕ) (n : ℕ) → n < length (drop 1 bytes) → AreSome (take n (drop 1 bytes)) → IsUtf8 (take n (drop 1 bytes)) → 0 < n → length (undoubled 34 (take n (drop 1 bytes))) ≤ 63
     → IsPlainName (undoubled 34 (between_quotes (take (n + 2) bytes)))
-plain_quoted bytes n within none some short =
+plain_quoted bytes n within none utf8 some short =
     let inner = take n (drop 1 bytes) in
     let long : 0 + (n + 2) ≤ length bytes = omega (arith, within, length-drop 1 bytes) in
     let less : 0 + (n + 2) - 1 - (0 + 1) ≡ n = omega arith in
@@ -174,20 +176,21 @@ plain_quoted bytes n within none some short =
       some = undoubled_any 34 inner (omega (arith, there, some));
       short = short;
       no_zero = none_zero (undoubled 34 inner) (undoubled_some 34 (omega arith) inner none);
+      utf8 = undoubled_utf8 34 inner [] (omega arith) utf8;
     })
 
-quoted_by : (bytes : List ℕ) (found : Option ℕ) → IfSome found (λ n. (n < length (drop 1 bytes)) × (get_or (drop 1 bytes) n 0 ≡ 34)) → IfSome found (λ n. AreSome (take n (drop 1 bytes)))
-    → NamesOf bytes (quoted 34 name_piece (drop 1 bytes) found)
-quoted_by bytes None h k = tt
-quoted_by bytes (Some n) h k =
+quoted_by : (bytes : List ℕ) (found : Option ℕ) → slice_index bytes 0 ≡ 34 → IsUtf8 bytes → IfSome found (λ n. (n < length (drop 1 bytes)) × (get_or (drop 1 bytes) n 0 ≡ 34))
+    → IfSome found (λ n. AreSome (take n (drop 1 bytes))) → NamesOf bytes (quoted 34 name_piece (drop 1 bytes) found)
+quoted_by bytes None first utf8 h k = tt
+quoted_by bytes (Some n) first utf8 h k =
     let meant = length (undoubled 34 (take n (drop 1 bytes))) in
     either bytes (n == 0) (Faulty fault.BadToken) _ (λ _. tt)
     (λ e. either bytes (nat_lt 63 meant) (Faulty fault.NameTooLong) (Whole t.QuotedName (n + 2)) (λ _. tt)
-    (λ f. plain_quoted bytes n h.0 k (grind (arith, nat_tests)) (grind (arith, nat_tests))))
+    (λ f. plain_quoted bytes n h.0 k (inner_utf8 bytes n first utf8 h.0 h.1) (grind (arith, nat_tests)) (grind (arith, nat_tests))))
 
-quoted_names : (bytes : List ℕ) → NamesOf bytes (quoted_name bytes)
+quoted_names : (bytes : List ℕ) → slice_index bytes 0 ≡ 34 → IsUtf8 bytes → NamesOf bytes (quoted_name bytes)
 unfolding quoted_name
-quoted_names bytes = quoted_by bytes (inner_len 34 (drop 1 bytes)) (inner_len-at_quote 34 (drop 1 bytes)) (inner_some 34 (omega arith) (drop 1 bytes))
+quoted_names bytes first utf8 = quoted_by bytes (inner_len 34 (drop 1 bytes)) first utf8 (inner_len-at_quote 34 (drop 1 bytes)) (inner_some 34 (omega arith) (drop 1 bytes))
 
 -- ---- other tokens are no names
 
@@ -225,16 +228,16 @@ punctuation_names bytes b next =
     either bytes (b == 40) _ _ (λ _. tt) (λ _. either bytes (b == 41) _ _ (λ _. tt) (λ _. either bytes (b == 44) _ _ (λ _. tt)
     (λ _. either bytes (b == 59) _ _ (λ _. tt) (λ _. either bytes (b == 46) _ _ (λ _. tt) (λ _. either bytes (b == 58 && next == 58) _ _ (λ _. tt) (λ _. tt))))))
 
-front_names : (bytes : List ℕ) → NamesOf bytes (front bytes)
+front_names : (bytes : List ℕ) → (slice_index bytes 0 < 128 → IsUtf8 bytes) → NamesOf bytes (front bytes)
 unfolding front
-front_names bytes =
+front_names bytes utf8 =
     let b = slice_index bytes 0 in
     either bytes (is_of class.Space b) _ _ (λ _. tt)
     (λ _. either bytes (begins_line_comment bytes) _ _ (λ _. comment_names bytes (line_comment (drop 2 bytes)))
     (λ _. either bytes (begins_block_comment bytes) _ _ (λ _. comment_names bytes (block_comment 0 (drop 2 bytes)))
     (λ _. either bytes (is_of class.Letter b) _ _ (λ e. word_names bytes e)
     (λ _. either bytes (is_of class.Digit b) _ _ (λ _. number_names bytes)
-    (λ _. either bytes (b == 34) _ _ (λ _. quoted_names bytes)
+    (λ _. either bytes (b == 34) _ _ (λ e. let first = eqb-true b 34 e in quoted_names bytes first (utf8 (omega (arith, first))))
     (λ _. either bytes (b == 39) _ _ (λ _. string_names bytes)
     (λ _. either bytes (is_of class.Sign b) _ _ (λ _. operator_names bytes) (λ _. punctuation_names bytes b (slice_index bytes 1)))))))))
 
@@ -245,12 +248,12 @@ begun place bytes (Blank n) h go_on more = more (n - 1)
 begun place bytes (Whole kind n) h go_on more = (h, more (n - 1))
 begun place bytes (Faulty fault) h go_on more = tt
 
-from_plain : (place skip : ℕ) (bytes : List ℕ) → AreTokensPlain (tokens_from place skip bytes)
+from_plain : (place skip : ℕ) (bytes : List ℕ) → AreTexts bytes → AreTokensPlain (tokens_from place skip bytes)
 unfolding tokens_from
-from_plain place skip [] = tt
-from_plain place (suc skip) (b ∷ bytes) = from_plain (place + 1) skip bytes
-from_plain place zero (b ∷ bytes) =
-    begun place (b ∷ bytes) (front (b ∷ bytes)) (front_names (b ∷ bytes)) (λ n. tokens_from (place + 1) n bytes) (λ n. from_plain (place + 1) n bytes)
+from_plain place skip [] texts = tt
+from_plain place (suc skip) (b ∷ bytes) texts = from_plain (place + 1) skip bytes texts.1
+from_plain place zero (b ∷ bytes) texts =
+    begun place (b ∷ bytes) (front (b ∷ bytes)) (front_names (b ∷ bytes) texts.0) (λ n. tokens_from (place + 1) n bytes) (λ n. from_plain (place + 1) n bytes texts.1)
 
-pub are_plain : (text : List ℕ) (place : ℕ) → AreTokensPlain (at text place)
-are_plain text place = from_plain place 0 (drop place text)
+pub are_plain : (text : List ℕ) (place : ℕ) → IsUtf8 text → AreTokensPlain (at text place)
+are_plain text place utf8 = from_plain place 0 (drop place text) (texts_from text (drop place text) place utf8 refl)

@@ -1,6 +1,6 @@
 //! The cursor.
 
-ghost use Rattle.std.specs.Prelude.{◌≤◌, length};
+ghost use Rattle.std.specs.Prelude.{◌≤◌, length, IsUtf8};
 
 use crate::kinds::{Token, TokenFault};
 use crate::scan::token_at;
@@ -11,6 +11,7 @@ pub struct Tokens<'a> {
     text: &'a str,
     place: usize,
     ghost in_range: { place ≤ length text.now },
+    ghost utf8: { ∥ IsUtf8 text.now ∥₁ },
 }
 
 impl<'a> Tokens<'a> {

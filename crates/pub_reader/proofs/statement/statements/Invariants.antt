@@ -1,10 +1,10 @@
-use Rattle.std.proofs.Common.{◌≡◌, All}
+use Rattle.std.proofs.Common.{◌≡◌}
 use Rattle.sql_reader.specs.Ahead.{to_read}
 use Rattle.sql_reader.specs.Items.{size}
 use Rattle.sql_reader.specs.Reading.{more_ahead}
 use Rattle.sql_reader.specs.Turns.{each, repeat}
 use Rattle.sql_reader.specs.Written.{as_filter}
-use Rattle.pub_reader.specs.CatalogLimits.{IsNamed}
+use Rattle.pub_reader.specs.CatalogNames.{IsNamedDraft}
 use Rattle.pub_reader.specs.DraftView.{draft_view}
 use Rattle.pub_reader.specs.Statements.{statements, ended_statement}
 use Rattle.pub_reader.proofs.statement.statements.Given as goal
@@ -12,7 +12,7 @@ use Rattle.pub_reader.proofs.statement.statements.Given as goal
 abbrev pub invariant-loop-r : goal.invariant-loop-r
 invariant-loop-r l =
     (statements as_filter (draft_view l.fn.draft) (to_read l.fn.r) ≡ repeat (each more_ahead (ended_statement as_filter)) (draft_view l.draft) (to_read l.r))
-    × (All IsNamed (draft_view l.fn.draft).tables → All IsNamed (draft_view l.draft).tables)
+    × (IsNamedDraft (draft_view l.fn.draft) → IsNamedDraft (draft_view l.draft))
 
 abbrev pub decreases-loop-r : goal.decreases-loop-r
 decreases-loop-r l = size (to_read l.r)

@@ -1,18 +1,19 @@
-use Rattle.std.proofs.Common.{rules, All, sym, subst}
-use Rattle.std.proofs.lemmas.List.Elements.{All-nil}
-use Rattle.filter_tree.specs.Expr.{Expr}
+use Rattle.std.proofs.Common.{rules, sym, subst}
 use Rattle.sql_reader.specs.Ahead.{to_read}
 use Rattle.sql_reader.specs.Items.{items_of}
 use Rattle.sql_reader.specs.Written.{as_filter}
-use Rattle.pub_reader.specs.CatalogLimits.{IsNamed}
+use Rattle.pub_reader.specs.CatalogNames.{IsNamedDraft}
 use Rattle.pub_reader.specs.DraftView.{draft_view}
-use Rattle.pub_reader.specs.Drafts.{DraftOf}
 use Rattle.pub_reader.proofs.KeptLimits.{resolved_limited}
+use Rattle.pub_reader.proofs.OwnNames.{none_named, resolved_named}
 use Rattle.pub_reader.proofs.statement.whole_catalog.Goals as goal
 
--- what was read is within the limits, since a reader's tokens are those of a text
-pub finish-requires : goal.finish-requires
-finish-requires c =
-    let none : All IsNamed (draft_view c.in_ok-draft.draft).tables = subst (λ (draft : DraftOf Expr). All IsNamed draft.tables) (sym c.in_ok-draft.ensures) (All-nil IsNamed) in
+-- what was read is named, since a reader's tokens are those of a text
+pub finish-requires-clause-limits : goal.finish-requires-clause-limits
+finish-requires-clause-limits c =
     resolved_limited as_filter (items_of c.args.text.now) (draft_view c.statements.new.draft) (to_read c.statements.new.r) (search rules)
-    (c.in_ok-statements.ensures.named none)
+    (c.in_ok-statements.ensures.named (subst IsNamedDraft (sym c.in_ok-draft.ensures) none_named)).tables
+
+pub finish-requires-clause-names : goal.finish-requires-clause-names
+finish-requires-clause-names c =
+    resolved_named (draft_view c.statements.new.draft) (c.in_ok-statements.ensures.named (subst IsNamedDraft (sym c.in_ok-draft.ensures) none_named))

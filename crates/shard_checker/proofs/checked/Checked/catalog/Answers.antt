@@ -1,5 +1,6 @@
 use Rattle.pub_reader.specs.CatalogView.{catalog_view}
 use Rattle.replica_identity.specs.PlanView.{plan_view}
+use Rattle.shard_checker.proofs.LimitFacts.{checked_named}
 use Rattle.shard_checker.proofs.PlanFacts.{kept_own}
 use Rattle.shard_checker.proofs.SoundFacts.{kept_sound}
 use Rattle.shard_checker.proofs.StandingLemmas.{own_covered, own_apart, own_divided}
@@ -20,3 +21,6 @@ returns-clause-apart c = let kept = c.args.self.now in
 pub returns-clause-divided : goal.returns-clause-divided
 returns-clause-divided c = let kept = c.args.self.now in
     own_divided (catalog_view kept.catalog) (plan_view kept.plan) (kept_own (catalog_view kept.catalog) (plan_view kept.plan) kept.own) (returns-clause-sound c)
+
+pub returns-clause-names : goal.returns-clause-names
+returns-clause-names c = checked_named c.args.self.now

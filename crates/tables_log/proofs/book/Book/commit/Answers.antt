@@ -5,6 +5,15 @@ use Rattle.tables_log.specs.Places.{widths}
 use Rattle.tables_log.proofs.PlaceLemmas.{same_count, written}
 use Rattle.tables_log.proofs.book.Book.commit.Goals as goal
 
+pub invariant_of-self : goal.invariant_of-self
+invariant_of-self c = record {
+  within = c.args.self.now.within;
+  room = grind (arith, common_steps);
+  numbered = grind (arith, common_steps);
+  maps = c.args.self.now.maps;
+  bounded = grind (arith, common_steps);
+}
+
 pub invariant_of-self-in-Break-branch-3 : goal.invariant_of-self-in-Break-branch-3
 invariant_of-self-in-Break-branch-3 c = record {
   within = search rules;
