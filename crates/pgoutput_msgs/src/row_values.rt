@@ -45,17 +45,17 @@ fn number_of(alloc: Global, kind: ColType, text: &str) -> Result<Option<i64>, Al
     }
 }
 
-/// A copy of the text, if it has no zero byte and at most 65,535 bytes.
+/// The text itself, if it has no zero byte and at most 65,535 bytes.
 #[tactic(auto, unfolding(crate::specs::ValueText::text_in))]
-fn text_value(alloc: Global, text: &Text) -> Result<Option<Value>, AllocError>
-    ensures { IfOk result (λ found. option_map datum_view found ≡ option_map Known (spec.text_in text.now)) }
+fn text_value(text: Text) -> Option<Value>
+    ensures { option_map datum_view result ≡ option_map Known (spec.text_in text) }
 {
     if text.as_bytes().contains(&0) {
-        Ok(None)
+        None
     } else if text.len() > MAX_TEXT_BYTES {
-        Ok(None)
+        None
     } else {
-        Ok(Some(Value::Text(Text::from_str(alloc, text.as_str())?)))
+        Some(Value::Text(text))
     }
 }
 
@@ -74,11 +74,11 @@ fn truth_of(text: &str) -> Option<bool>
 
 /// The value of a column of this type whose text the cell has; `None` where the type has no such value. A number has to be
 /// in decimal without leading zeros and in the type's range, a boolean is `t` or `f`, and a text has no zero byte and at
-/// most 65,535 bytes. The only error is want of memory.
+/// most 65,535 bytes; it is the cell's own, without a copy. The only error is want of memory.
 ///
 /// PostgreSQL 15, Chapter 8. Data Types, and 55.9. Logical Replication Message Formats.
-pub fn value_of(alloc: Global, kind: ColType, cell: &Cell) -> Result<Option<Value>, AllocError>
-    ensures { IfOk result (λ value. option_map datum_view value ≡ spec.datum_in kind cell.now) }
+pub fn value_of(alloc: Global, kind: ColType, cell: Cell) -> Result<Option<Value>, AllocError>
+    ensures { IfOk result (λ value. option_map datum_view value ≡ spec.datum_in kind cell) }
 {
     let Cell::Text(text) = cell else {
         return Ok(Some(Value::Null));
@@ -89,6 +89,6 @@ pub fn value_of(alloc: Global, kind: ColType, cell: &Cell) -> Result<Option<Valu
             Ok(number.map(|number| Value::Int(number)))
         }
         ColType::Boolean => Ok(truth_of(text.as_str()).map(|truth| Value::Bool(truth))),
-        ColType::Text => Ok(text_value(alloc, text)?),
+        ColType::Text => Ok(text_value(text)),
     }
 }

@@ -51,6 +51,14 @@ impl Tuple {
         self.cells.as_slice()
     }
 
+    /// The cells in the order of the columns, with their texts and without a copy.
+    pub fn into_cells(self) -> Vec<Cell>
+        ensures { result.items ≡ self }
+    {
+        let Tuple { cells } = self;
+        cells
+    }
+
     /// The number of columns.
     pub fn len(&self) -> usize
         ensures { result ≡ length self.now }

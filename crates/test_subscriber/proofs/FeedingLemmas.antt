@@ -200,7 +200,7 @@ then_open : (outcome : Outcome) (others : Cut) (machine : Machine) → IsOpen ma
 then_open (Err fault) others machine opens after later = opens
 then_open (Ok next) others machine opens after later = later next after
 
-cut_open : (whole : Cut) (machine : Machine) → IsOpen machine.phase → IsOpen (hear_cut whole machine).machine.phase
+pub cut_open : (whole : Cut) (machine : Machine) → IsOpen machine.phase → IsOpen (hear_cut whole machine).machine.phase
 cut_open (Rest bytes) machine opens = opens
 cut_open (Bad fault bytes) machine opens = opens
 cut_open (Then frame others) machine opens =

@@ -113,9 +113,9 @@ impl Replica {
     }
 
     /// Stages a new row of the table with this OID.
-    fn insert(&mut self, oid: u32, new: &Tuple) -> Result<(), SubFault>
-        ensures ok { OnOk result (Reaches (machine_of self.new) (hear_insert oid new.now (machine_of self.old))) }
-        ensures fault { IfErr result (RefusedBy (hear_insert oid new.now (machine_of self.old))) }
+    fn insert(&mut self, oid: u32, new: Tuple) -> Result<(), SubFault>
+        ensures ok { OnOk result (Reaches (machine_of self.new) (hear_insert oid new (machine_of self.old))) }
+        ensures fault { IfErr result (RefusedBy (hear_insert oid new (machine_of self.old))) }
         ensures stays { Stays (machine_of self.old) (machine_of self.new) }
     {
         let place = self.known_place(oid)?;
@@ -124,10 +124,9 @@ impl Replica {
     }
 
     /// Stages a row of the table with this OID in place of an old one.
-    fn update(&mut self, oid: u32, old: &Option<OldTuple>, new: &Tuple) -> Result<(), SubFault>
-        ensures ok { OnOk result (Reaches (machine_of self.new)
-            (hear_update oid old.now new.now (machine_of self.old))) }
-        ensures fault { IfErr result (RefusedBy (hear_update oid old.now new.now (machine_of self.old))) }
+    fn update(&mut self, oid: u32, old: Option<OldTuple>, new: Tuple) -> Result<(), SubFault>
+        ensures ok { OnOk result (Reaches (machine_of self.new) (hear_update oid old new (machine_of self.old))) }
+        ensures fault { IfErr result (RefusedBy (hear_update oid old new (machine_of self.old))) }
         ensures stays { Stays (machine_of self.old) (machine_of self.new) }
     {
         let place = self.known_place(oid)?;
@@ -136,9 +135,9 @@ impl Replica {
     }
 
     /// Stages that a row of the table with this OID is gone.
-    fn delete(&mut self, oid: u32, old: &OldTuple) -> Result<(), SubFault>
-        ensures ok { OnOk result (Reaches (machine_of self.new) (hear_delete oid old.now (machine_of self.old))) }
-        ensures fault { IfErr result (RefusedBy (hear_delete oid old.now (machine_of self.old))) }
+    fn delete(&mut self, oid: u32, old: OldTuple) -> Result<(), SubFault>
+        ensures ok { OnOk result (Reaches (machine_of self.new) (hear_delete oid old (machine_of self.old))) }
+        ensures fault { IfErr result (RefusedBy (hear_delete oid old (machine_of self.old))) }
         ensures stays { Stays (machine_of self.old) (machine_of self.new) }
     {
         let place = self.known_place(oid)?;
@@ -208,9 +207,9 @@ impl Replica {
             Msg::Begin { .. } => Err(SubFault::OutOfPlace),
             Msg::Commit { lsn, end_lsn, .. } => self.hear_commit(begin, lsn, end_lsn),
             Msg::Relation(relation) => self.hear_relation(relation),
-            Msg::Insert { relation, new } => self.insert(relation, &new),
-            Msg::Update { relation, old, new } => self.update(relation, &old, &new),
-            Msg::Delete { relation, old } => self.delete(relation, &old),
+            Msg::Insert { relation, new } => self.insert(relation, new),
+            Msg::Update { relation, old, new } => self.update(relation, old, new),
+            Msg::Delete { relation, old } => self.delete(relation, old),
             Msg::Truncate { relations, .. } => self.truncate(relations.as_slice()),
         }
     }

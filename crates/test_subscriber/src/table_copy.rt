@@ -69,11 +69,11 @@ impl TableCopy {
     }
 
     /// The row of a tuple.
-    fn read(&self, alloc: Global, tuple: &Tuple) -> Result<Row, SubFault>
-        ensures ok { IfOk result (λ row. read_in self.now.shape tuple.now ≡ Ok row) }
-        ensures fault { IfErr result (RefusedBy (read_in self.now.shape tuple.now)) }
+    fn read(&self, alloc: Global, tuple: Tuple) -> Result<Row, SubFault>
+        ensures ok { IfOk result (λ row. read_in self.now.shape tuple ≡ Ok row) }
+        ensures fault { IfErr result (RefusedBy (read_in self.now.shape tuple)) }
     {
-        match row_of(alloc, self.shape.kinds.as_slice(), tuple.cells())? {
+        match row_of(alloc, self.shape.kinds.as_slice(), tuple.into_cells())? {
             None => Err(SubFault::BadValue),
             Some(row) => Ok(row),
         }
@@ -100,10 +100,10 @@ impl TableCopy {
     }
 
     /// Stages a new row.
-    pub(crate) fn insert(&mut self, alloc: Global, new: &Tuple) -> Result<(), SubFault>
+    pub(crate) fn insert(&mut self, alloc: Global, new: Tuple) -> Result<(), SubFault>
         ensures stays { StaysCopy self.old self.new }
-        ensures ok { OnOk result (Leaves (inserted self.old.shape (seen self.old.rows) new.now) (seen self.new.rows)) }
-        ensures fault { IfErr result (RefusedBy (inserted self.old.shape (seen self.old.rows) new.now)) }
+        ensures ok { OnOk result (Leaves (inserted self.old.shape (seen self.old.rows) new) (seen self.new.rows)) }
+        ensures fault { IfErr result (RefusedBy (inserted self.old.shape (seen self.old.rows) new)) }
     {
         let row = self.read(alloc, new)?;
         let key = self.key_of(alloc, &row)?;
@@ -112,9 +112,9 @@ impl TableCopy {
     }
 
     /// The key of the row that an update or a delete is about: of what is sent of the old row.
-    fn key_in(&self, alloc: Global, old: &OldTuple) -> Result<Row, SubFault>
-        ensures ok { IfOk result (λ key. key_in self.now.shape old.now ≡ Ok key) }
-        ensures fault { IfErr result (RefusedBy (key_in self.now.shape old.now)) }
+    fn key_in(&self, alloc: Global, old: OldTuple) -> Result<Row, SubFault>
+        ensures ok { IfOk result (λ key. key_in self.now.shape old ≡ Ok key) }
+        ensures fault { IfErr result (RefusedBy (key_in self.now.shape old)) }
     {
         let tuple = match old {
             OldTuple::Key(tuple) | OldTuple::Full(tuple) => tuple,
@@ -124,9 +124,9 @@ impl TableCopy {
     }
 
     /// The key of the row that gives way to this one: of what is sent of the old row, or of the new row where nothing is.
-    fn gone_key(&self, alloc: Global, old: &Option<OldTuple>, row: &Row) -> Result<Row, SubFault>
-        ensures ok { IfOk result (λ key. gone_of self.now.shape old.now row.now ≡ Ok key) }
-        ensures fault { IfErr result (RefusedBy (gone_of self.now.shape old.now row.now)) }
+    fn gone_key(&self, alloc: Global, old: Option<OldTuple>, row: &Row) -> Result<Row, SubFault>
+        ensures ok { IfOk result (λ key. gone_of self.now.shape old row.now ≡ Ok key) }
+        ensures fault { IfErr result (RefusedBy (gone_of self.now.shape old row.now)) }
     {
         match old {
             None => Ok(self.key_of(alloc, row)?),
@@ -152,13 +152,12 @@ impl TableCopy {
     pub(crate) fn update(
         &mut self,
         alloc: Global,
-        old: &Option<OldTuple>,
-        new: &Tuple,
+        old: Option<OldTuple>,
+        new: Tuple,
     ) -> Result<(), SubFault>
         ensures stays { StaysCopy self.old self.new }
-        ensures ok { OnOk result (Leaves (updated self.old.shape (seen self.old.rows) old.now new.now)
-            (seen self.new.rows)) }
-        ensures fault { IfErr result (RefusedBy (updated self.old.shape (seen self.old.rows) old.now new.now)) }
+        ensures ok { OnOk result (Leaves (updated self.old.shape (seen self.old.rows) old new) (seen self.new.rows)) }
+        ensures fault { IfErr result (RefusedBy (updated self.old.shape (seen self.old.rows) old new)) }
     {
         let row = self.read(alloc, new)?;
         let gone = self.gone_key(alloc, old, &row)?;
@@ -168,10 +167,10 @@ impl TableCopy {
     }
 
     /// Stages that there is no row of this key.
-    pub(crate) fn delete(&mut self, alloc: Global, old: &OldTuple) -> Result<(), SubFault>
+    pub(crate) fn delete(&mut self, alloc: Global, old: OldTuple) -> Result<(), SubFault>
         ensures stays { StaysCopy self.old self.new }
-        ensures ok { OnOk result (Leaves (deleted self.old.shape (seen self.old.rows) old.now) (seen self.new.rows)) }
-        ensures fault { IfErr result (RefusedBy (deleted self.old.shape (seen self.old.rows) old.now)) }
+        ensures ok { OnOk result (Leaves (deleted self.old.shape (seen self.old.rows) old) (seen self.new.rows)) }
+        ensures fault { IfErr result (RefusedBy (deleted self.old.shape (seen self.old.rows) old)) }
     {
         let key = self.key_in(alloc, old)?;
         self.rows.stage(key, None)?;
