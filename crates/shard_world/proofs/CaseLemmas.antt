@@ -1,15 +1,19 @@
 -- What is known of a subscriber in a world that events lead to.
-use Rattle.std.proofs.Common.{◌≡◌, ℕ, ◌<◌, ◌^◌, List, refl, subst, arith}
+use Rattle.std.proofs.Common.{◌≡◌, ℕ, ◌<◌, ◌^◌, List, length, refl, ap, subst, arith}
 use Rattle.std.specs.Prelude.{Option, Some, None}
+use Rattle.std.proofs.lemmas.List.{length-map}
+use Rattle.replica_identity.specs.Plans.{shares_for}
 use Rattle.tables_log.specs.declared.slots.Slot.{Slot}
 use Rattle.copy_both.specs.declared.link.Link.{Link}
 use Rattle.test_subscriber.specs.Machine.{Machine}
 use Rattle.test_subscriber.specs.declared.subscriber.Subscriber.{Subscriber}
+use Rattle.shard_world.specs.Asking.{IsAsking}
 use Rattle.shard_world.specs.Following.{Follows, IsPublished}
 use Rattle.shard_world.specs.Joined.{PeerOf, IsApart, IsLinked, IsAt}
 use Rattle.shard_world.specs.PeerSteps.{Case, IsCase, peer_of, StandsIn}
 use Rattle.shard_world.specs.Sayable.{IsSayable}
 use Rattle.shard_world.specs.World.{Connection, position_now, machine_now}
+use Rattle.shard_world.proofs.StartLengths.{subscribers_can_ask}
 use Rattle.shard_world.proofs.WorldLemmas.{all_timed, can_be_said, good_at, published}
 use Rattle.shard_world.proofs.WorldPeers.{IsGood, good_follows}
 
@@ -33,6 +37,11 @@ module _ (case : Case) (is : IsCase case) where
 
   pub opened_small : (peer_of case).position < 2 ^ 64
   opened_small = small_position (peer_of case).position (peer_of case).machine case_good.follows
+
+  pub case_asks : IsAsking case.checked.catalog case.number
+  case_asks =
+      subscribers_can_ask case.checked.catalog case.number is.publisher.limited is.publisher.named
+      (omega (arith, is.there, ap length is.publisher.own, length-map case.checked.catalog.subscriptions (shares_for case.checked.catalog)))
 
   pub now_small : position_now case.checked case.world.transactions case.number (peer_of case) < 2 ^ 64
   now_small = small_position (position_now case.checked case.world.transactions case.number (peer_of case)) (machine_now case.checked case.world.transactions case.number (peer_of case)) case_follows

@@ -116,7 +116,7 @@ onto_short (suc fuel) k n acc small =
     let more = onto_short fuel left.0 (n / 16) (digit_glyph true (n % 16) ∷ acc) left.1.1 in
     rw e (omega (arith, more, left.1.0)))
 
-digits_short : (n : ℕ) → n < 2 ^ 32 → length (digits 16 true n) ≤ 8
+pub digits_short : (n : ℕ) → n < 2 ^ 32 → length (digits 16 true n) ≤ 8
 unfolding digits
 digits_short n small = onto_short 64 7 n [] (omega arith)
 

@@ -162,11 +162,11 @@ fed_follow checked transactions published number old between new follows opens m
 -- ---- where it stops
 
 -- the first frames of items are the frames of the first items
-record FirstFrames (frames : List Frame) (all : List Item) : Type 0 where
-  items : List Item
-  others : List Item
-  is : items ++ others ≡ all
-  frames_are : frames ≡ map frame_in items
+pub record FirstFrames (frames : List Frame) (all : List Item) : Type 0 where
+  pub items : List Item
+  pub others : List Item
+  pub is : items ++ others ≡ all
+  pub frames_are : frames ≡ map frame_in items
 
 same_frame : (one other : Frame) (more rest : Cut) → Then one more ≡ Then other rest → one ≡ other
 same_frame one other more rest h = cc
@@ -174,7 +174,7 @@ same_frame one other more rest h = cc
 same_more : (one other : Frame) (more rest : Cut) → Then one more ≡ Then other rest → more ≡ rest
 same_more one other more rest h = cc
 
-first_frames : (frames : List Frame) (more : Cut) (all : List Item) (rest : List ℕ) → after_frames frames more ≡ after_frames (map frame_in all) (Rest rest) → FirstFrames frames all
+pub first_frames : (frames : List Frame) (more : Cut) (all : List Item) (rest : List ℕ) → after_frames frames more ≡ after_frames (map frame_in all) (Rest rest) → FirstFrames frames all
 first_frames [] more all rest h = record { items = []; others = all; is = refl; frames_are = refl }
 first_frames (frame ∷ frames) more [] rest h = absurd cc
 first_frames (frame ∷ frames) more (item ∷ all) rest h =

@@ -115,7 +115,7 @@ module _ (case : Case) (is : IsCase case) (c : Connection) (some : (peer_of case
 
 -- ---- what is heard
 
-not_over : (h : HearingOf) → is_over h ≡ false → answer_of h ≡ Ok h.heard
+pub not_over : (h : HearingOf) → is_over h ≡ false → answer_of h ≡ Ok h.heard
 not_over h goes_on = by_both h.fault h.heard.ended goes_on
   where
     by_both : (fault : Option LinkFault) (ended : Option ℕ) → is_over_by fault ended ≡ false → answer_by fault h.heard ≡ Ok h.heard
@@ -169,7 +169,7 @@ streams_within case new start moves extra passed place streams =
     subst (λ bytes. length passed ≤ length bytes) streams.says.bytes (omega (arith, length-append passed (link_output new)))
 
 -- before the start nothing was delivered
-none_delivered : (case : Case) (c : Connection) → c.start ≡ None → c.delivered ≤ length (down_of case.checked case.world.transactions case.number c) → c.delivered ≡ 0
+pub none_delivered : (case : Case) (c : Connection) → c.start ≡ None → c.delivered ≤ length (down_of case.checked case.world.transactions case.number c) → c.delivered ≡ 0
 none_delivered case c none within =
     zero_of c.delivered (subst (λ start. c.delivered ≤ length (down_bytes case.checked case.world.transactions case.number start c.moves)) none within)
   where
@@ -263,41 +263,41 @@ module _ (case : Case) (is : IsCase case) (before after : Book) (old : PeerOf) (
   abbrev here : Open case (book_slots before) link old.subscriber
   here = is_open case (book_slots before) old link stands some
 
-  abbrev connection : Connection
+  abbrev pub connection : Connection
   connection = (is_open case (book_slots before) old link stands some).c
 
-  linked : IsLinked case.checked case.world.transactions case.number (book_slots before) link old.subscriber (peer_of case) connection
+  pub linked : IsLinked case.checked case.world.transactions case.number (book_slots before) link old.subscriber (peer_of case) connection
   linked = (is_open case (book_slots before) old link stands some).linked
 
-  abbrev ups : List ℕ
+  abbrev pub ups : List ℕ
   ups = up_bytes case.checked case.number (peer_of case) connection
 
-  abbrev more : ℕ
+  abbrev pub more : ℕ
   more = as_many count (length ups) connection.heard
 
-  abbrev piece : List ℕ
+  abbrev pub piece : List ℕ
   piece = front_of count (sub_output old.subscriber)
 
-  within : connection.heard + more ≤ length ups
+  pub within : connection.heard + more ≤ length ups
   within = stays_within count (length ups) connection.heard linked.heard
 
-  piece_is : piece ≡ take more (drop connection.heard ups)
+  pub piece_is : piece ≡ take more (drop connection.heard ups)
   piece_is = ap (front_of count) linked.sends ∙ ap (λ n. take (min count n) (drop connection.heard ups)) (length-drop connection.heard ups)
 
   piece_long : length piece ≡ more
   piece_long = length-take-le (min count (length (sub_output old.subscriber))) (sub_output old.subscriber) (omega arith)
       ∙ ap (λ bytes. min count (length bytes)) linked.sends ∙ ap (min count) (length-drop connection.heard ups)
 
-  cuts : IsPiece (up_frame case.checked case.number) 65536 (ups_of (peer_of case) connection) ups connection.heard more
+  pub cuts : IsPiece (up_frame case.checked case.number) 65536 (ups_of (peer_of case) connection) ups connection.heard more
   cuts = pieces_are_cut (up_frame case.checked case.number) 65536 (ups_of (peer_of case) connection) ups connection.heard more (ups_are_frames case is connection) refl within
 
-  ready : IsReady (link_ear link).frames (link_ear link).session.response.items
+  pub ready : IsReady (link_ear link).frames (link_ear link).session.response.items
   ready = (link_ear link).fits linked.hears.phase_is
 
-  abbrev start_view : HearingOf
+  abbrev pub start_view : HearingOf
   start_view = hearing_view (link_ear link).session (silence (link_sent link)) before
 
-  abbrev commits : ℕ
+  abbrev pub commits : ℕ
   commits = length (book_log before)
 
   commits_are : commits ≡ length case.world.transactions
@@ -312,7 +312,7 @@ module _ (case : Case) (is : IsCase case) (before after : Book) (old : PeerOf) (
       subst (Speaks case.checked case.world.transactions case.number link connection.moves connection.delivered) e linked.speaks in
       ap (λ stage. unwrap_or (sent_of stage) 0) streams.stage_is
 
-  heard_before : Before case is connection commits start_view
+  pub heard_before : Before case is connection commits start_view
   heard_before = record {
     commits_is = commits_are;
     started = linked.hears.started;
@@ -332,11 +332,11 @@ module _ (case : Case) (is : IsCase case) (before after : Book) (old : PeerOf) (
       unstarted none = sym at.is.reached_is
           ∙ ap (λ start. position_after (peer_of case).position (whole_in connection.delivered (down_items case.checked case.world.transactions case.number start connection.moves))) none
 
-  abbrev heard_all : HearingOf
+  abbrev pub heard_all : HearingOf
   heard_all = frames_heard (served_of case is connection commits start_view) start_view (map (up_frame case.checked case.number) (newly case.checked case.number (peer_of case) connection more))
 
   -- all bytes are these frames, without a fault
-  heard_is : link_heard link before piece ≡ heard_all
+  pub heard_is : link_heard link before piece ≡ heard_all
   heard_is =
       let bytes = take more (drop connection.heard ups) in
       let served_is : served_by (link_ear link).session before ≡ served_of case is connection commits start_view = ap (λ checked. record { checked = checked; commits = commits }) linked.hears.checked_is in

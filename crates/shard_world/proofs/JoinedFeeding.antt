@@ -33,7 +33,7 @@ use Rattle.shard_world.proofs.WorldPeers.{IsConnected, IsConnectedAt, bytes_of_i
 
 -- ---- what waits at the publisher's end
 
-output_by : (case : Case) (link : Link) (moves : List Move) (delivered : ℕ) (start : Option ℕ) → Speaks case.checked case.world.transactions case.number link moves delivered start
+pub output_by : (case : Case) (link : Link) (moves : List Move) (delivered : ℕ) (start : Option ℕ) → Speaks case.checked case.world.transactions case.number link moves delivered start
     → delivered ≤ length (down_bytes case.checked case.world.transactions case.number start moves)
     → link_output link ≡ drop delivered (down_bytes case.checked case.world.transactions case.number start moves)
 output_by case link moves delivered None silent within = silent.output ∙ nothing delivered within

@@ -19,7 +19,7 @@ use Rattle.shard_world.specs.Joined.{HasSlot, IsAsked, stream_of}
 use Rattle.shard_world.specs.PeerSteps.{Case, IsCase, peer_of}
 use Rattle.shard_world.specs.UpsHeard.{IsHearing, IsOwn, IsWithin, session_of, start_in}
 use Rattle.shard_world.specs.World.{Up, Asks, Says, Connection, Session, start_of, hear_up, newly, heard_of, spelled_up, up_frame, ups_of}
-use Rattle.shard_world.proofs.CaseLemmas.{case_good, opened_small}
+use Rattle.shard_world.proofs.CaseLemmas.{case_asks, case_good, opened_small}
 use Rattle.shard_world.proofs.SlotLemmas.{confirmed_is, others_stay, streams_slot}
 use Rattle.shard_world.proofs.UpsHeardLemmas.{HasSlotBy, start_step, starts_are_heard, statuses_are_heard, statuses_go}
 
@@ -45,8 +45,8 @@ module _ (checked : CheckedOf) (number : ℕ) where
 pub ups_are_frames : (case : Case) → IsCase case → (c : Connection) → AreFrames 65536 (map (up_frame case.checked case.number) (ups_of (peer_of case) c))
 ups_are_frames case is c = (
   record {
-    within = omega (arith, is.short (peer_of case).position (opened_small case is), length-append (start_of case.checked.catalog case.number (peer_of case).position) (0 ∷ []));
-    signed = omega (arith, is.short (peer_of case).position (opened_small case is), length-append (start_of case.checked.catalog case.number (peer_of case).position) (0 ∷ []));
+    within = omega (arith, (case_asks case is).fits (peer_of case).position (opened_small case is), length-append (start_of case.checked.catalog case.number (peer_of case).position) (0 ∷ []));
+    signed = omega (arith, (case_asks case is).fits (peer_of case).position (opened_small case is), length-append (start_of case.checked.catalog case.number (peer_of case).position) (0 ∷ []));
   },
   says_frames case.checked case.number c.reports,
 )
@@ -254,8 +254,8 @@ module _ (case : Case) (is : IsCase case) (c : Connection) (commits : ℕ) (h : 
         ap (max position) (confirmed_is h.slots case.number (peer_of case).confirmed (is_some c.start) before.slot) ∙ greater position (peer_of case).confirmed (before.starts none) in
         let first = frame_heard served_of h (up_frame case.checked case.number (Asks position)) in
         let step : first ≡ begun (Begins case.number position) h =
-        start_step served_of case.number position is.subscription h is.asks (opened_small case is) (free none) before.goes_on idle ∙ ap (λ at. begun (Begins case.number at) h) begun_at in
-        let one = starts_are_heard served_of case.number position case.now is.subscription c.moves h is.asks (opened_small case is) (free none) hearing idle in
+        start_step served_of case.number position (case_asks case is).subscription h (case_asks case is).asks (opened_small case is) (free none) before.goes_on idle ∙ ap (λ at. begun (Begins case.number at) h) begun_at in
+        let one = starts_are_heard served_of case.number position case.now (case_asks case is).subscription c.moves h (case_asks case is).asks (opened_small case is) (free none) hearing idle in
         let started : first.started ≡ Some (case.number, position) = ap (λ (its : HearingOf). its.started) step in
         let sent : first.sent ≡ first_sent position = ap (λ (its : HearingOf). its.sent) step in
         let replies : first.heard.replies ≡ 0 = ap (λ (its : HearingOf). its.heard.replies) step ∙ before.replies in

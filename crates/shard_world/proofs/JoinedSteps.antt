@@ -42,7 +42,7 @@ use Rattle.shard_world.specs.Joined.{PeerOf, AlikeBut, StaysAlike, IsNamed, IsSi
 use Rattle.shard_world.specs.PeerSteps.{Case, IsCase, peer_of, StepsTo}
 use Rattle.shard_world.specs.World as w
 use Rattle.shard_world.specs.World.{Answer, Opened, Reported, Connection, PeerEvent, start_of, spelled_up, with_connection, moves_on, place_of, position_now, down_items, down_bytes, took, keep_step, take_step, peer_step}
-use Rattle.shard_world.proofs.CaseLemmas.{case_good, case_follows, opened_small, Open, is_shut, is_open}
+use Rattle.shard_world.proofs.CaseLemmas.{case_asks, case_good, case_follows, opened_small, Open, is_shut, is_open}
 use Rattle.shard_world.proofs.CatchingUpLemmas.{moved_append}
 use Rattle.shard_world.proofs.CuttingLemmas.{cut_nothing}
 use Rattle.shard_world.proofs.WorldPeers.{bytes_of_items, grows}
@@ -71,14 +71,14 @@ query_fits text fits = by_test (nat_lt 65531 (length text))
     (λ long. absurd (omega (arith, fits, ltb-true 65531 (length text) long)))
     (λ short. rw short refl)
 
-asked_bytes : (case : Case) → IsCase case → (before : Subscriber) → IsNamed case.checked case.number before → StaysAlike (sub_machine before) (peer_of case).machine
+pub asked_bytes : (case : Case) → IsCase case → (before : Subscriber) → IsNamed case.checked case.number before → StaysAlike (sub_machine before) (peer_of case).machine
     → start_query (sub_slot before) (sub_publications before) (sub_machine before).position ≡ Ok (spelled_up case.checked case.number (w.Asks (peer_of case).position))
 asked_bytes case is before named stays =
     let at : (sub_machine before).position ≡ (peer_of case).position = stays.position ∙ (case_good case is).follows.position_is in
     ap (λ slot. start_query slot (sub_publications before) (sub_machine before).position) named.slot
     ∙ ap (λ names. start_query (w.subscription_name (slice_get case.checked.catalog.subscriptions case.number)) names (sub_machine before).position) named.publications
     ∙ ap (λ position. query_of (start_of case.checked.catalog case.number position)) at
-    ∙ query_fits (start_of case.checked.catalog case.number (peer_of case).position) (is.short (peer_of case).position (opened_small case is))
+    ∙ query_fits (start_of case.checked.catalog case.number (peer_of case).position) ((case_asks case is).fits (peer_of case).position (opened_small case is))
 
 asks_ok : (answer : Result (List ℕ) SubFault) (bytes old new : List ℕ) → answer ≡ Ok bytes → Asks answer old new → new ≡ old ++ bytes
 asks_ok (Ok found) bytes old new e asks = asks ∙ ap (λ more. old ++ more) (ok_of found bytes e)
@@ -175,11 +175,11 @@ reports case is slots old link after want stands some reported_is =
 -- ---- what is said
 
 -- the stream goes on
-record GrowsBy (before after : List ℕ) : Type 0 where
-  more : List ℕ
-  is : after ≡ before ++ more
+pub record GrowsBy (before after : List ℕ) : Type 0 where
+  pub more : List ℕ
+  pub is : after ≡ before ++ more
 
-stream_grows : (case : Case) (start : Option ℕ) (moves : List Move) (move : Move)
+pub stream_grows : (case : Case) (start : Option ℕ) (moves : List Move) (move : Move)
     → GrowsBy (down_bytes case.checked case.world.transactions case.number start moves) (down_bytes case.checked case.world.transactions case.number start (moves ++ move ∷ []))
 stream_grows case start moves move =
     let grown = grows case.checked case.world.transactions case.number start moves move in

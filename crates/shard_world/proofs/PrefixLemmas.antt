@@ -1,13 +1,16 @@
 -- The first frames of a stream, and how many bytes they are.
-use Rattle.std.proofs.Common.{◌≡◌, ℕ, ◌+◌, ◌-◌, ◌<◌, ◌≤◌, List, [], ◌∷◌, ◌++◌, drop, length, refl, sym, ap, subst, ◌∙◌, arith, length-append}
+use Rattle.std.proofs.Common.{◌≡◌, ℕ, ◌+◌, ◌-◌, ◌<◌, ◌≤◌, Bool, true, false, List, [], ◌∷◌, ◌++◌, drop, length, take, refl, sym, ap, subst, ◌∙◌, arith, append_assoc, append-nil, length-append}
 use Rattle.std.specs.Prelude.{nat_le}
 use Rattle.std.specs.Int.{to_be_bytes, w32}
 use Rattle.std.specs.List.{flat_map}
 use Rattle.std.proofs.lemmas.Bool.{leb-true, leb-false, le-leb}
+use Rattle.std.proofs.lemmas.Grind.{flat_map-append}
+use Rattle.std.proofs.lemmas.List.{drop_at, take-append-drop}
 use Rattle.copy_frames.specs.Frames.{framed}
 use Rattle.copy_frames.specs.declared.frame.Frame.{Frame}
 use Rattle.table_changes.proofs.TableLemmas.{by_test}
 use Rattle.shard_world.specs.Cutting.{if_whole, whole_by}
+use Rattle.shard_world.proofs.CuttingLemmas.{whole_more_by}
 
 abbrev pub bytes_by : {X : Type 0} → (X → Frame) → List X → List ℕ
 bytes_by frame all = flat_map (λ x. framed (frame x)) all
@@ -65,3 +68,84 @@ module _ {X : Type 0} (frame : X → Frame) where
       let is_y : x ≡ y = first_is x y others ys (sym (ap (λ xs. xs ++ x ∷ others) none) ∙ same) in
       subst (λ xs. count < length (bytes_by frame xs) + length (framed (frame x))) (sym none)
       (let less : count < length (framed (frame x)) = subst (λ z. count < length (framed (frame z))) (sym is_y) (leb-false (length (framed (frame y))) count part) in omega (arith, less)))
+
+  -- ---- the first frames of a piece
+
+  -- these are the first ones
+  record Begins (first all : List X) : Type 0 where
+    others : List X
+    is : first ++ others ≡ all
+
+  begin_with : (whole : Bool) (x : X) (first xs : List X) → Begins first xs → Begins (if_whole whole x first) (x ∷ xs)
+  begin_with true x first xs later = record { others = later.others; is = ap (λ rest. x ∷ rest) later.is }
+  begin_with false x first xs later = record { others = x ∷ xs; is = refl }
+
+  whole_begin : (count : ℕ) (all : List X) → Begins (whole_by frame count all) all
+  whole_begin count [] = record { others = []; is = refl }
+  whole_begin count (x ∷ xs) =
+      begin_with (nat_le (length (framed (frame x))) count) x (whole_by frame (count - length (framed (frame x))) xs) xs (whole_begin (count - length (framed (frame x))) xs)
+
+  -- what is whole in so many bytes and more, and wasn't before
+  abbrev pub new_in : List X → ℕ → ℕ → List X
+  new_in all done more = drop (length (whole_by frame done all)) (whole_by frame (done + more) all)
+
+  -- so many of the first frames of a piece are those of a smaller piece
+  pub record IsPart (all : List X) (done more count : ℕ) : Type 0 where
+    pub some : ℕ
+    pub within : some ≤ more
+    pub new_is : new_in all done some ≡ take count (new_in all done more)
+
+  module _ (all : List X) (done more count : ℕ) where
+    abbrev few : List X
+    few = whole_by frame done all
+
+    abbrev new : List X
+    new = drop (length (whole_by frame done all)) (whole_by frame (done + more) all)
+
+    -- all are the first ones, these and others
+    split : (part : List X) → take count new ≡ part → (few ++ part) ++ (drop count new ++ (whole_begin (done + more) all).others) ≡ all
+    split part e =
+        let others = (whole_begin (done + more) all).others in
+        append_assoc few part (drop count new ++ others)
+        ∙ ap (λ xs. few ++ xs) (sym (append_assoc part (drop count new) others) ∙ ap (λ xs. (xs ++ drop count new) ++ others) (sym e) ∙ ap (λ xs. xs ++ others) (take-append-drop count new))
+        ∙ sym (append_assoc few new others) ∙ ap (λ xs. xs ++ others) (whole_more_by frame done more all) ∙ (whole_begin (done + more) all).is
+
+    bytes_more : (xs ys : List X) → length (bytes_by frame (xs ++ ys)) ≡ length (bytes_by frame xs) + length (bytes_by frame ys)
+    bytes_more xs ys = ap length (flat_map-append (λ x. framed (frame x)) xs ys) ∙ length-append (bytes_by frame xs) (bytes_by frame ys)
+
+    part_fits : (part : List X) → take count new ≡ part → length (bytes_by frame (few ++ part)) ≤ done + more
+    part_fits part e =
+        let many : (few ++ part) ++ drop count new ≡ whole_by frame (done + more) all =
+        append_assoc few part (drop count new) ∙ ap (λ xs. few ++ (xs ++ drop count new)) (sym e) ∙ ap (λ xs. few ++ xs) (take-append-drop count new) ∙ whole_more_by frame done more all in
+        omega (arith, whole_fits (done + more) all, ap (λ xs. length (bytes_by frame xs)) many, bytes_more (few ++ part) (drop count new))
+
+    part_by : (part : List X) → take count new ≡ part → IsPart all done more count
+    part_by [] e = record {
+      some = 0;
+      within = omega arith;
+      new_is = ap (λ n. drop (length few) (whole_by frame n all)) (nothing_more done) ∙ none_left few ∙ sym e;
+    }
+      where
+        nothing_more : (n : ℕ) → n + 0 ≡ n
+        nothing_more n = omega arith
+
+        none_left : (xs : List X) → drop (length xs) xs ≡ []
+        none_left xs = ap (drop (length xs)) (sym (append-nil xs)) ∙ drop_at xs [] (length xs) refl
+    part_by (x ∷ xs) e =
+        let end : ℕ = length (bytes_by frame (few ++ x ∷ xs)) in
+        let fits : end ≤ done + more = part_fits (x ∷ xs) e in
+        let passes : done < length (bytes_by frame few) + length (framed (frame x)) =
+        next_is_more done x all (xs ++ (drop count new ++ (whole_begin (done + more) all).others))
+        (sym (append_assoc few (x ∷ xs) (drop count new ++ (whole_begin (done + more) all).others)) ∙ split (x ∷ xs) e) in
+        let long : done < end = omega (arith, passes, bytes_more few (x ∷ xs), length-append (framed (frame x)) (bytes_by frame xs)) in
+        let at_end : done + (end - done) ≡ end = omega (arith, long) in
+        let whole : whole_by frame end all ≡ few ++ x ∷ xs =
+        ap (whole_by frame end) (sym (split (x ∷ xs) e)) ∙ firsts_are_whole (few ++ x ∷ xs) (drop count new ++ (whole_begin (done + more) all).others) in
+        record {
+          some = end - done;
+          within = omega (arith, fits);
+          new_is = ap (λ n. drop (length few) (whole_by frame n all)) at_end ∙ ap (drop (length few)) whole ∙ drop_at few (x ∷ xs) (length few) refl ∙ sym e;
+        }
+
+    pub first_part : IsPart all done more count
+    first_part = part_by (take count new) refl

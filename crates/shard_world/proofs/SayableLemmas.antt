@@ -12,7 +12,7 @@ use Rattle.filter_tree.specs.Lists.{with_item, distinct}
 use Rattle.filter_tree.specs.declared.table.Column.{Column}
 use Rattle.filter_tree.specs.declared.table.Table.{Table}
 use Rattle.filter_tree.proofs.ValidLemmas.{no_fault_from_valid}
-use Rattle.pub_reader.specs.CatalogLimits.{IsLimited, IsLimitedTable}
+use Rattle.pub_reader.specs.CatalogLimits.{HasPlainName, IsNamed, IsLimited, IsLimitedTable}
 use Rattle.table_changes.specs.Commands.{Command, Insert, Update, Delete, Truncate, named, fault_of, applied, all_applied, first_fault}
 use Rattle.table_changes.specs.Outs.{got, as_recorded}
 use Rattle.table_changes.specs.Records as r
@@ -40,7 +40,7 @@ use Rattle.pgoutput_msgs.specs.declared.message.Msg.{Msg}
 use Rattle.pgoutput_msgs.specs.declared.message.Msg.TheVariants as m
 use Rattle.pgoutput_msgs.proofs.RecordedLemmas.{records_of_tables}
 use Rattle.pgoutput_msgs.proofs.SentLemmas.{messages_sent}
-use Rattle.shard_world.specs.Sayable.{IsTextRow, IsTextCommand, IsTextTransaction, IsTextColumn, IsTextTable, LogsCanBeSaid}
+use Rattle.shard_world.specs.Sayable.{IsTextRow, IsTextCommand, IsTextTransaction, LogsCanBeSaid}
 use Rattle.shard_world.proofs.CommandSteps.{insert_changes, update_changes, delete_changes, new_fits}
 use Rattle.shard_world.proofs.CommitSteps.{shows, no_first_fault}
 use Rattle.shard_world.proofs.EntryLemmas.{entry_at}
@@ -79,7 +79,7 @@ pub record IsSaid (setting : Setting) (tables : Tables) : Type 0 where
   pub fit : AllFit setting tables
   pub texts : AllTexts setting tables
 
-module _ (checked : CheckedOf) (limited : IsLimited checked.catalog) (named_so : All IsTextTable checked.catalog.tables) where
+module _ (checked : CheckedOf) (limited : IsLimited checked.catalog) where
   said_after : (tables : Tables) (command : Command) → fault_of (setting_in checked) tables command ≡ None → IsTextCommand command → IsSaid (setting_in checked) tables
       → IsSaid (setting_in checked) (applied (setting_in checked) tables command)
   said_after tables command h text so = record {
@@ -179,20 +179,20 @@ module _ (checked : CheckedOf) (limited : IsLimited checked.catalog) (named_so :
 
   -- ---- what is told are texts
 
-  relation_text : (number : ℕ) (table : Table) → IsTextTable table → HasTexts (m.Relation (relation_of number table))
-  relation_text number table text = record { namespace = text.schema; name = text.name; columns = columns_text 0 table.columns text.columns }
+  relation_text : (number : ℕ) (table : Table) → IsNamed table → HasTexts (m.Relation (relation_of number table))
+  relation_text number table names = record { namespace = names.schema.utf8; name = names.name.utf8; columns = columns_text 0 table.columns names.columns }
     where
-      columns_text : (from : ℕ) (columns : List Column) → All IsTextColumn columns → All HasTextName (columns_from table from columns)
+      columns_text : (from : ℕ) (columns : List Column) → All HasPlainName columns → All HasTextName (columns_from table from columns)
       columns_text from [] all = All-nil HasTextName
       columns_text from (column ∷ columns) all =
-          All-cons HasTextName (column_of table from column) (columns_from table (from + 1) columns) (All-head IsTextColumn column columns all)
-          (columns_text (from + 1) columns (All-tail IsTextColumn column columns all))
+          All-cons HasTextName (column_of table from column) (columns_from table (from + 1) columns) (All-head HasPlainName column columns all).utf8
+          (columns_text (from + 1) columns (All-tail HasPlainName column columns all))
 
   found_text : (number : ℕ) (found : Option Table) → slice_get checked.catalog.tables number ≡ found → All HasTexts (relation_at number found)
   found_text number None e = All-nil HasTexts
   found_text number (Some table) e =
       All-cons HasTexts (m.Relation (relation_of number table)) []
-      (relation_text number table (subst IsTextTable (get_or_from_slice_get checked.catalog.tables number table table e) (named_so number table (slice_get_within checked.catalog.tables number table e))))
+      (relation_text number table (narrow number table e).named)
       (All-nil HasTexts)
 
   once_text : (told : Bool) (number : ℕ) → All HasTexts (introduced checked.catalog.tables told number)
@@ -314,7 +314,7 @@ module _ (checked : CheckedOf) (limited : IsLimited checked.catalog) (named_so :
       (all_after transaction.commands tables 1 accepted.0.no_fault (All-head IsTextTransaction transaction transactions texts).texts so)
 
 pub logs_can_be_said : LogsCanBeSaid
-logs_can_be_said checked covered limited named_so transactions accepted texts few = record {
+logs_can_be_said checked covered limited transactions accepted texts few = record {
   few = few;
   said = λ subscriber told place commit at.
       let entry = entry_at (setting_in checked) no_rows 1 transactions place commit accepted at in
@@ -326,9 +326,9 @@ logs_can_be_said checked covered limited named_so transactions accepted texts fe
       } in
       let own = text_of transactions entry.transaction place entry.there texts in
       subst (λ one. All IsSent (messages_for checked subscriber told one)) (sym entry.is)
-      (commit_sent checked limited named_so covered subscriber (1 + place) entry.transaction.time entry.transaction.commands
+      (commit_sent checked limited covered subscriber (1 + place) entry.transaction.time entry.transaction.commands
       (fold (left_by (setting_in checked)) no_rows (take place transactions)) (omega arith) (omega (arith, entry.within, few)) own.timed entry.accepted.no_fault own.texts
-      (said_at checked limited named_so transactions no_rows place accepted texts first) told);
+      (said_at checked limited transactions no_rows place accepted texts first) told);
 }
   where
     text_of : (all : List Transaction) (transaction : Transaction) (place : ℕ) → slice_get all place ≡ Some transaction → All IsTextTransaction all → IsTextTransaction transaction

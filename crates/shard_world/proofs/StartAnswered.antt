@@ -7,6 +7,7 @@ use Rattle.std.proofs.lemmas.Bool.Decides.{nat_tests}
 use Rattle.std.proofs.lemmas.List.{length-map}
 use Rattle.std.proofs.lemmas.List.Elements.{All-nil, All-cons, All-head, All-tail}
 use Rattle.filter_tree.specs.Expr.{Expr}
+use Rattle.pub_reader.specs.CatalogLimits.{IsPlainName}
 use Rattle.pub_reader.specs.Catalogs.{PublicationOf}
 use Rattle.pub_reader.specs.declared.catalog.Subscription.{Subscription}
 use Rattle.tables_log.specs.Slots.{end_after, confirmed_at, slot_fault, start_fault}
@@ -17,7 +18,7 @@ use Rattle.copy_both.specs.StartAnswers.{Stream, asked_in, asked_by, asked_at, u
 use Rattle.copy_both.specs.StartOrder.{is_called, unknown_refusal, same_publications, slot_refusal, publications_of}
 use Rattle.table_changes.proofs.TableLemmas.{by_test}
 use Rattle.test_subscriber.specs.StartQuery.{start_text}
-use Rattle.shard_world.specs.Asking.{IsShortName, IsTextName, HasTextName, CanAsk, start_command, StartsAreAnswered}
+use Rattle.shard_world.specs.Asking.{IsShortName, CanAsk, start_command, StartsAreAnswered}
 use Rattle.shard_world.specs.World.{publication_name, publications_taken, subscription_name}
 use Rattle.shard_world.proofs.CommandReading.{commands_are_read}
 use Rattle.shard_world.proofs.StartTexts.{start_is_text, query_text}
@@ -59,18 +60,18 @@ name_known [] number less = absurd (omega (arith, less))
 name_known (p ∷ publications) zero less = rw (same_bytes p.name) refl
 name_known (p ∷ publications) (suc number) less = rw (name_known publications number (omega (arith, less))) (or_true (bytes_eq (called publications number) p.name))
 
-name_is_text : (publications : List (PublicationOf Expr)) (number : ℕ) → number < length publications → All HasTextName publications → IsTextName (called publications number)
-name_is_text [] number less all = absurd (omega (arith, less))
-name_is_text (p ∷ publications) zero less all = All-head HasTextName p publications all
-name_is_text (p ∷ publications) (suc number) less all = name_is_text publications number (omega (arith, less)) (All-tail HasTextName p publications all)
+name_is_plain : (publications : List (PublicationOf Expr)) (number : ℕ) → number < length publications → All IsPlainName (known publications) → IsPlainName (called publications number)
+name_is_plain [] number less all = absurd (omega (arith, less))
+name_is_plain (p ∷ publications) zero less all = All-head IsPlainName p.name (known publications) all
+name_is_plain (p ∷ publications) (suc number) less all = name_is_plain publications number (omega (arith, less)) (All-tail IsPlainName p.name (known publications) all)
 
 module _ (publications : List (PublicationOf Expr)) where
-  names_are_texts : (numbers : List ℕ) → All (IsKnown publications) numbers → All HasTextName publications → All IsTextName (map (called publications) numbers)
-  names_are_texts [] all texts = All-nil IsTextName
-  names_are_texts (number ∷ numbers) all texts =
-      All-cons IsTextName (called publications number) (map (called publications) numbers)
-      (name_is_text publications number (All-head (IsKnown publications) number numbers all) texts)
-      (names_are_texts numbers (All-tail (IsKnown publications) number numbers all) texts)
+  pub names_are_plain : (numbers : List ℕ) → All (IsKnown publications) numbers → All IsPlainName (known publications) → All IsPlainName (map (called publications) numbers)
+  names_are_plain [] all texts = All-nil IsPlainName
+  names_are_plain (number ∷ numbers) all texts =
+      All-cons IsPlainName (called publications number) (map (called publications) numbers)
+      (name_is_plain publications number (All-head (IsKnown publications) number numbers all) texts)
+      (names_are_plain numbers (All-tail (IsKnown publications) number numbers all) texts)
 
   names_known : (numbers : List ℕ) → All (IsKnown publications) numbers → unknown_refusal (known publications) (map (called publications) numbers) ≡ None
   names_known [] all = refl
@@ -108,13 +109,13 @@ module _ (publications : List (PublicationOf Expr)) where
 
 -- ---- no refusal
 
-short_name : (name : List ℕ) → IsTextName name → IsShortName name
-short_name name is = record { some = is.plain.some; short = is.plain.short }
+short_name : (name : List ℕ) → IsPlainName name → IsShortName name
+short_name name is = record { some = is.some; short = is.short }
 
-all_short : (names : List (List ℕ)) → All IsTextName names → All IsShortName names
+all_short : (names : List (List ℕ)) → All IsPlainName names → All IsShortName names
 all_short [] all = All-nil IsShortName
 all_short (name ∷ names) all =
-    All-cons IsShortName name names (short_name name (All-head IsTextName name names all)) (all_short names (All-tail IsTextName name names all))
+    All-cons IsShortName name names (short_name name (All-head IsPlainName name names all)) (all_short names (All-tail IsPlainName name names all))
 
 not_ahead : (slot : Option Slot) (end position : ℕ) → slot_fault slot end position ≡ None → nat_lt end position ≡ false
 not_ahead None end position e = absurd cc
@@ -136,19 +137,19 @@ module _ (served : Served) (slots : List Slot) (subscriber position : ℕ) (subs
         not_ahead (slice_get slots subscriber) (end_after served.commits) position free,
       ) refl
 
-  texts : All IsTextName names
-  texts = names_are_texts served.checked.catalog.publications subscription.publications can.known can.publications
+  plain : All IsPlainName names
+  plain = names_are_plain served.checked.catalog.publications subscription.publications can.known can.publications
 
   some : 0 < length names
   some = omega (arith, length-map subscription.publications (called served.checked.catalog.publications), can.some)
 
   reads : command_of text ≡ Some (start_command subscription.name names position)
-  reads = commands_are_read subscription.name names position (short_name subscription.name can.named) some (all_short names texts) small
+  reads = commands_are_read subscription.name names position (short_name subscription.name can.named) some (all_short names plain) small
 
   is_asked : asked_of (offer_in served []) 81 (text ++ (0 ∷ [])) ≡ Stream subscriber position
   unfolding asked_of
   is_asked =
-      ap (asked_in (offer_in served [])) (query_text text (start_is_text subscription.name names position can.named texts small))
+      ap (asked_in (offer_in served [])) (query_text text (start_is_text subscription.name names position can.named plain small))
       ∙ ap (asked_by (offer_in served [])) reads
       ∙ ap (asked_at (offer_in served []) (start_command subscription.name names position)) can.found
       ∙ ap (λ its. unless_refused (slot_refusal (offer_in served []) (start_command subscription.name names position) subscriber its) subscriber position)

@@ -10,12 +10,12 @@ use Rattle.std.proofs.lemmas.List.{take_at}
 use Rattle.std.proofs.lemmas.List.Elements.{All-head, All-tail}
 use Rattle.std.proofs.lemmas.Str.{IsUtf8-append, IsUtf8-nil, IsUtf8-from_ascii, IsUtf8-take, IsUtf8-drop, IsCharBoundary-before_ascii, IsCharBoundary-after_ascii}
 use Rattle.std.proofs.lemmas.Str.Ascii.{IsAscii-cons}
+use Rattle.pub_reader.specs.CatalogLimits.{IsPlainName}
 use Rattle.sql_tokens.specs.Doubled.{doubled, in_quotes}
 use Rattle.copy_both.proofs.Utf8Texts.{is_text}
 use Rattle.copy_both.specs.StartAnswers.{text_in}
 use Rattle.table_changes.proofs.TableLemmas.{by_test}
 use Rattle.test_subscriber.specs.StartQuery.{lsn_text, names_text, start_text}
-use Rattle.shard_world.specs.Asking.{IsTextName}
 use Rattle.shard_world.proofs.CommandPieces.{hex_digits}
 
 abbrev is_clean : List ℕ → Bool
@@ -105,21 +105,21 @@ name_clean (b ∷ name) clean =
     let first : b == 0 ≡ false = by_test (b == 0) (λ e. absurd (clean (0, omega arith, eqb-true b 0 e))) (λ e. e) in
     rw (first, name_clean name (λ found. clean (suc found.0, omega (arith, found.1), found.2))) refl
 
-name_text : (name : List ℕ) → IsTextName name → IsQueryText name
-name_text name is = record { clean = name_clean name is.plain.no_zero; utf8 = is.utf8 }
+name_text : (name : List ℕ) → IsPlainName name → IsQueryText name
+name_text name is = record { clean = name_clean name is.no_zero; utf8 = is.utf8 }
 
-later_text : (names : List (List ℕ)) → All IsTextName names → IsQueryText (flat_map (λ name. codes "," ++ in_quotes 34 name) names)
+later_text : (names : List (List ℕ)) → All IsPlainName names → IsQueryText (flat_map (λ name. codes "," ++ in_quotes 34 name) names)
 later_text [] all = record { clean = refl; utf8 = IsUtf8-nil }
 later_text (name ∷ names) all =
     joined (44 ∷ in_quotes 34 name) (flat_map (λ name. codes "," ++ in_quotes 34 name) names)
-    (joined (44 ∷ []) (in_quotes 34 name) (plain_text (44 ∷ []) refl) (quoted_text 34 name refl (name_text name (All-head IsTextName name names all))))
-    (later_text names (All-tail IsTextName name names all))
+    (joined (44 ∷ []) (in_quotes 34 name) (plain_text (44 ∷ []) refl) (quoted_text 34 name refl (name_text name (All-head IsPlainName name names all))))
+    (later_text names (All-tail IsPlainName name names all))
 
-all_names : (names : List (List ℕ)) → All IsTextName names → IsQueryText (names_text names)
+all_names : (names : List (List ℕ)) → All IsPlainName names → IsQueryText (names_text names)
 all_names [] all = record { clean = refl; utf8 = IsUtf8-nil }
 all_names (name ∷ names) all =
     joined (in_quotes 34 name) (flat_map (λ name. codes "," ++ in_quotes 34 name) names)
-    (quoted_text 34 name refl (name_text name (All-head IsTextName name names all))) (later_text names (All-tail IsTextName name names all))
+    (quoted_text 34 name refl (name_text name (All-head IsPlainName name names all))) (later_text names (All-tail IsPlainName name names all))
 
 hex_plain : (written : List ℕ) → list_all is_ascii_hexdigit written ≡ true → list_all is_plain written ≡ true
 hex_plain [] e = refl
@@ -137,7 +137,7 @@ place_text position small =
     let low = plain_text (digits 16 true (position % 2 ^ 32)) (hex_plain (digits 16 true (position % 2 ^ 32)) (hex_digits (position % 2 ^ 32) (omega arith))) in
     joined (digits 16 true (position / 2 ^ 32)) (47 ∷ digits 16 true (position % 2 ^ 32)) high (joined (47 ∷ []) (digits 16 true (position % 2 ^ 32)) (plain_text (47 ∷ []) refl) low)
 
-pub start_is_text : (slot : List ℕ) (names : List (List ℕ)) (position : ℕ) → IsTextName slot → All IsTextName names → position < 2 ^ 64 → IsQueryText (start_text slot names position)
+pub start_is_text : (slot : List ℕ) (names : List (List ℕ)) (position : ℕ) → IsPlainName slot → All IsPlainName names → position < 2 ^ 64 → IsQueryText (start_text slot names position)
 start_is_text slot names position named all small =
     joined (codes "START_REPLICATION SLOT ") _ (plain_text (codes "START_REPLICATION SLOT ") refl)
     (joined (in_quotes 34 slot) _ (quoted_text 34 slot refl (name_text slot named))

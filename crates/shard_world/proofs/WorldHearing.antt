@@ -145,7 +145,7 @@ there_longer checked log more place (move ∷ moves) there = (
       (there_longer checked log more (moved (telling_of checked) log place move) moves there.1),
 )
 
-down_longer : (checked : CheckedOf) (transactions more : List Transaction) (subscriber position : ℕ) (start : Option ℕ) → StartsAt position start → (moves : List Move)
+pub down_longer : (checked : CheckedOf) (transactions more : List Transaction) (subscriber position : ℕ) (start : Option ℕ) → StartsAt position start → (moves : List Move)
     → AllThere (telling_of checked) (log_of checked transactions) (place_at subscriber (length checked.catalog.tables) position) moves
     → down_items checked (transactions ++ more) subscriber start moves ≡ down_items checked transactions subscriber start moves
 down_longer checked transactions more subscriber position None at moves there = refl

@@ -203,7 +203,7 @@ pub can_be_said : (checked : CheckedOf) (most : ℕ) → IsPublisher checked mos
     → IsSayable checked world.transactions
 can_be_said checked most publisher events texts world leads =
     let log = leads_texts checked most events texts first_world world leads (record { accepted = tt; texts = All-nil IsTextTransaction; few = omega arith }) in
-    logs_can_be_said checked publisher.covered publisher.limited publisher.texts world.transactions log.accepted log.texts (omega (arith, log.few, publisher.most_is))
+    logs_can_be_said checked publisher.covered publisher.limited world.transactions log.accepted log.texts (omega (arith, log.few, publisher.most_is))
 
 pub worlds_hold_exactly : WorldsHoldExactly
 worlds_hold_exactly checked most publisher events texts world leads =

@@ -1,9 +1,9 @@
 -- That the command by which a subscriber asks for its stream is read as it was meant, and which stream then starts: PostgreSQL 15, 55.4. Streaming Replication Protocol (START_REPLICATION SLOT slot_name LOGICAL), 55.5.1. Logical Streaming Replication Parameters, and 4.1.1. Identifiers and Key Words.
-use Rattle.std.specs.Prelude.{◌≡◌, ◌<◌, ◌≤◌, ◌^◌, ℕ, max, List, [], ◌∷◌, All, length, slice_get, Some, None, codes}
-use Rattle.std.specs.Str.{IsUtf8}
+use Rattle.std.specs.Prelude.{◌≡◌, ◌<◌, ◌≤◌, ◌^◌, ℕ, max, List, [], ◌∷◌, All, length, map, slice_get, Some, None, codes}
 use Rattle.filter_tree.specs.Expr.{Expr}
-use Rattle.pub_reader.specs.CatalogLimits.{IsPlainName}
-use Rattle.pub_reader.specs.Catalogs.{CatalogOf, PublicationOf}
+use Rattle.pub_reader.specs.CatalogLimits.{IsLimited, IsPlainName}
+use Rattle.pub_reader.specs.CatalogNames.{IsNamedCatalog}
+use Rattle.pub_reader.specs.Catalogs.{CatalogOf}
 use Rattle.pub_reader.specs.declared.catalog.Subscription.{Subscription}
 use Rattle.tables_log.specs.Slots.{end_after, confirmed_at, start_fault}
 use Rattle.tables_log.specs.declared.slots.Slot.{Slot}
@@ -13,7 +13,7 @@ use Rattle.copy_both.specs.declared.start_command.StartCommand.{StartCommand}
 use Rattle.copy_both.specs.Hearing.{Served, Begins, begin_of}
 use Rattle.copy_both.specs.StartOrder.{find_slot}
 use Rattle.test_subscriber.specs.StartQuery.{start_text}
-use Rattle.shard_world.specs.World.{Asks, up_frame}
+use Rattle.shard_world.specs.World.{Asks, start_of, up_frame}
 
 -- a name of a slot or a publication has 1 to 63 bytes
 pub record IsShortName (name : List ℕ) : Type 0 where
@@ -35,22 +35,14 @@ CommandsAreRead = (slot : List ℕ) (names : List (List ℕ)) (position : ℕ) �
 
 -- ---- what is answered
 
--- a name that is a text
-pub record IsTextName (name : List ℕ) : Type 0 where
-  pub plain : IsPlainName name
-  pub utf8 : IsUtf8 name
-
-abbrev pub HasTextName : PublicationOf Expr → Type 0
-HasTextName publication = IsTextName publication.name
-
 -- The subscription of this number is found by its name, and its publications, of which there is one at least, are the catalog's.
 pub record CanAsk (catalog : CatalogOf Expr) (subscriber : ℕ) (subscription : Subscription) : Type 0 where
   pub is_there : slice_get catalog.subscriptions subscriber ≡ Some subscription
   pub found : find_slot subscription.name catalog.subscriptions ≡ Some subscriber
-  pub named : IsTextName subscription.name
+  pub named : IsPlainName subscription.name
   pub some : 0 < length subscription.publications
   pub known : All (λ number. number < length catalog.publications) subscription.publications
-  pub publications : All HasTextName catalog.publications
+  pub publications : All IsPlainName (map (λ p. p.name) catalog.publications)
 
 -- Where the slot is free and the log reaches the position, the stream starts there, or where the slot is confirmed if that is later.
 abbrev pub StartsAreAnswered : Type 0
@@ -58,3 +50,15 @@ StartsAreAnswered = (served : Served) (slots : List Slot) (subscriber position :
     → position < 2 ^ 64 → start_fault slots (end_after served.commits) subscriber position ≡ None
     → begin_of served slots (up_frame served.checked subscriber (Asks position)).kind (up_frame served.checked subscriber (Asks position)).body
     ≡ Begins subscriber (max position (confirmed_at slots subscriber))
+
+-- ---- who can ask
+
+-- it has a subscription, and its command fits a frame
+pub record IsAsking (catalog : CatalogOf Expr) (subscriber : ℕ) : Type 0 where
+  pub subscription : Subscription
+  pub asks : CanAsk catalog subscriber subscription
+  pub fits : (position : ℕ) → position < 2 ^ 64 → length (start_of catalog subscriber position) ≤ 65531
+
+-- each subscriber of a catalog
+abbrev pub SubscribersCanAsk : Type 0
+SubscribersCanAsk = (catalog : CatalogOf Expr) (subscriber : ℕ) → IsLimited catalog → IsNamedCatalog catalog → subscriber < length catalog.subscriptions → IsAsking catalog subscriber

@@ -20,6 +20,7 @@ use Rattle.test_subscriber.specs.Subscribers.{sub_held, sub_machine, sub_output,
 use Rattle.test_subscriber.specs.declared.subscriber.Subscriber.{Subscriber}
 use Rattle.shard_world.specs.Following.{log_of}
 use Rattle.shard_world.specs.World as w
+use Rattle.shard_world.specs.declared.peer.Peer.{Peer}
 use Rattle.shard_world.specs.World.{Connection, spelled_up, ups_of, down_bytes, machine_in}
 
 -- ---- machines
@@ -127,9 +128,8 @@ IsAt checked transactions number slots (Some link) subscriber peer (Some c) = Is
 IsAt checked transactions number slots link subscriber peer connection = ⊥
 
 -- a subscriber of a program, and the publisher's end of its connection while there is one
-pub record PeerOf : Type 0 where
-  pub link : Option Link
-  pub subscriber : Subscriber
+abbrev pub PeerOf : Type 0
+PeerOf = Peer
 
 pub record PeerIs (checked : CheckedOf) (transactions : List Transaction) (number : ℕ) (slots : List Slot) (code : PeerOf) (peer : w.Peer) : Type 0 where
   pub named : IsNamed checked number code.subscriber

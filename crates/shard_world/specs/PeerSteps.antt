@@ -1,6 +1,5 @@
 -- One step on the connection of a subscriber, in a world that events lead to: PostgreSQL 15, 55.4. Streaming Replication Protocol.
-use Rattle.std.specs.Prelude.{◌≡◌, ◌≢◌, ◌<◌, ◌≤◌, ◌^◌, ℕ, false, is_some, min, List, All, length, slice_get, Option, Some, None}
-use Rattle.pub_reader.specs.declared.catalog.Subscription.{Subscription}
+use Rattle.std.specs.Prelude.{◌≡◌, ◌≢◌, ◌<◌, ◌^◌, ℕ, false, is_some, min, List, All, length, slice_get, Option, Some, None}
 use Rattle.shard_checker.specs.CheckedView.{CheckedOf}
 use Rattle.tables_log.specs.BookView.{book_checked, book_log, book_slots}
 use Rattle.tables_log.specs.Committing.{ChangesSlots}
@@ -12,11 +11,10 @@ use Rattle.copy_both.specs.declared.link.Link.{Link}
 use Rattle.copy_both.specs.declared.phase.Phase.TheVariants.{Lost}
 use Rattle.test_subscriber.specs.Subscribers.{sub_machine}
 use Rattle.test_subscriber.specs.declared.subscriber.Subscriber.{Subscriber}
-use Rattle.shard_world.specs.Asking.{CanAsk}
 use Rattle.shard_world.specs.Following.{log_of}
 use Rattle.shard_world.specs.Joined.{HasSlot, IsNamed, PeerOf, PeerIs, StaysAlike, up_bytes, down_of}
 use Rattle.shard_world.specs.World as w
-use Rattle.shard_world.specs.World.{Answer, Connection, Event, PeerEvent, Open, Hear, Take, Keep, Deliver, Report, Lose, Leads, first_world, start_of, as_many, hears, delivers, loses, machine_now, peer_step}
+use Rattle.shard_world.specs.World.{Answer, Connection, Event, PeerEvent, Open, Hear, Take, Keep, Deliver, Report, Lose, Leads, first_world, as_many, hears, delivers, machine_now, peer_step, statuses_in}
 use Rattle.shard_world.specs.WorldLaws.{IsPublisher, IsTextEvent}
 
 -- ---- in which world
@@ -33,16 +31,13 @@ pub record Case : Type 0 where
 abbrev pub peer_of : Case → w.Peer
 peer_of case = case.world.peers case.number
 
--- the subscriber is there, and the command by which it asks for its stream fits a frame and can be read
+-- the subscriber is there
 pub record IsCase (case : Case) : Type 0 where
   pub publisher : IsPublisher case.checked case.most
   pub texts : All IsTextEvent case.events
-  pub few : length case.events < 2 ^ 32
+  pub few : statuses_in case.events < 2 ^ 32
   pub leads : Leads case.checked case.most case.events first_world case.world
   pub there : case.number < length case.checked.plan
-  pub subscription : Subscription
-  pub asks : CanAsk case.checked.catalog case.number subscription
-  pub short : (position : ℕ) → position < 2 ^ 64 → length (start_of case.checked.catalog case.number position) ≤ 65531
   pub timed : case.now < 2 ^ 64
 
 -- the subscriber of a program stands for that of the world
@@ -107,8 +102,3 @@ pub record IsHalf (case : Case) (slots : List Slot) (link : Option Link) (subscr
 pub record Halts (case : Case) (event : PeerEvent) (slots : List Slot) (code : PeerOf) : Type 0 where
   pub some : ℕ
   pub half : IsHalf case slots code.link code.subscriber (before_loss case event some (peer_of case) (peer_of case).connection)
-
--- the connection is lost, if there is one
-abbrev pub lost_after : Case → w.Peer → Option Connection → w.Peer
-lost_after case peer None = peer
-lost_after case peer (Some c) = loses case.checked case.world.transactions case.number peer

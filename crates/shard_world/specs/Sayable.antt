@@ -2,8 +2,6 @@
 use Rattle.std.specs.Prelude.{◌≡◌, ◌<◌, ◌≤◌, ◌^◌, ℕ, Bool, List, All, length, slice_get, Some}
 use Rattle.std.specs.Str.{IsUtf8}
 use Rattle.filter_tree.specs.Datum.{Datum, Missing, Known, Number, Truth, Bytes}
-use Rattle.filter_tree.specs.declared.table.Column.{Column}
-use Rattle.filter_tree.specs.declared.table.Table.{Table}
 use Rattle.pub_reader.specs.CatalogLimits.{IsLimited}
 use Rattle.shard_checker.specs.CheckedView.{CheckedOf, setting_in}
 use Rattle.table_changes.specs.Commands.{Command, Insert, Update, Delete, Truncate}
@@ -43,18 +41,10 @@ pub record IsTextTransaction (transaction : Transaction) : Type 0 where
   pub timed : transaction.time < 2 ^ 64
   pub texts : All IsTextCommand transaction.commands
 
-abbrev pub IsTextColumn : Column → Type 0
-IsTextColumn column = IsUtf8 column.name
-
-pub record IsTextTable (table : Table) : Type 0 where
-  pub schema : IsUtf8 table.schema
-  pub name : IsUtf8 table.name
-  pub columns : All IsTextColumn table.columns
-
 -- ---- the law
 
 -- So the layouts have room for what is told of each commit of a log of such transactions.
 abbrev pub LogsCanBeSaid : Type 0
-LogsCanBeSaid = (checked : CheckedOf) → Covered (setting_in checked) → IsLimited checked.catalog → All IsTextTable checked.catalog.tables
+LogsCanBeSaid = (checked : CheckedOf) → Covered (setting_in checked) → IsLimited checked.catalog
     → (transactions : List Transaction) → AreAccepted (setting_in checked) no_rows transactions → All IsTextTransaction transactions → length transactions ≤ 1000000000
     → IsSayable checked transactions

@@ -30,6 +30,10 @@ use Rattle.shard_world.specs.Cutting.{whole_by, whole_in}
 use Rattle.shard_world.specs.Following.{log_of, position_after}
 use Rattle.shard_world.specs.FollowingBytes.{items_from}
 use Rattle.shard_world.specs.Items.{Item}
+pub use Rattle.shard_world.specs.declared.answer.Answer.{Answer}
+pub use Rattle.shard_world.specs.declared.answer.Answer.TheVariants.{Committed, Refused, NoSubscriber, NotOpen, AlreadyOpen, Opened, Heard, NotStarted, Idle, Skipped, Sent, Kept, Delivered, Reported, Lost, At, OutOfMemory}
+pub use Rattle.shard_world.specs.declared.event.PeerEvent.{PeerEvent}
+pub use Rattle.shard_world.specs.declared.event.PeerEvent.TheVariants.{Open, Hear, Take, Keep, Deliver, Report, Lose}
 
 -- ---- what a subscriber sends
 
@@ -122,39 +126,29 @@ position_now checked transactions subscriber peer = position_in checked transact
 abbrev pub machine_now : CheckedOf → List Transaction → ℕ → Peer → Machine
 machine_now checked transactions subscriber peer = machine_in checked transactions subscriber peer peer.connection
 
--- ---- events and answers
-
--- on the connection of a subscriber
-pub data PeerEvent : Type 0 where
-  Open : PeerEvent
-  Hear : ℕ → PeerEvent
-  Take : PeerEvent
-  Keep : Bool → PeerEvent
-  Deliver : ℕ → PeerEvent
-  Report : Bool → PeerEvent
-  Lose : PeerEvent
+-- ---- events
 
 pub data Event : Type 0 where
   Commit : List Command → ℕ → Event
   On : ℕ → PeerEvent → Event
 
-pub data Answer : Type 0 where
-  Committed : ℕ → Answer
-  Refused : CommitError → Answer
-  NoSubscriber : Answer
-  NotOpen : Answer
-  AlreadyOpen : Answer
-  Opened : Answer
-  Heard : ℕ → Answer
-  NotStarted : Answer
-  Idle : Answer
-  Skipped : ℕ → Answer
-  Sent : ℕ → Answer
-  Kept : Answer
-  Delivered : ℕ → Answer
-  Reported : Answer
-  Lost : Answer
-  OutOfMemory : Answer
+-- how many statuses were said, after so many and this event
+abbrev pub said_after : PeerEvent → ℕ → ℕ
+said_after Open count = count
+said_after (Hear bytes) count = count
+said_after Take count = count
+said_after (Keep want) count = count
+said_after (Deliver bytes) count = count
+said_after (Report want) count = count + 1
+said_after Lose count = count
+
+abbrev pub statuses_after : Event → ℕ → ℕ
+statuses_after (Commit commands time) count = count
+statuses_after (On subscriber event) count = said_after event count
+
+-- how many of the events say a status
+abbrev pub statuses_in : List (ℕ × Event) → ℕ
+statuses_in events = fold (λ count event. statuses_after event.1 count) 0 events
 
 -- ---- what the publisher hears
 

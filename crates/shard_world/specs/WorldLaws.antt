@@ -4,23 +4,31 @@ use Rattle.filter_tree.specs.Datum.{Datum}
 use Rattle.table_changes.specs.Standing.{Covered, KeepsApart, Sound}
 use Rattle.table_changes.specs.Tables.{is_row, holds}
 use Rattle.pub_reader.specs.CatalogLimits.{IsLimited}
-use Rattle.shard_checker.specs.CheckedView.{CheckedOf, setting_in}
+use Rattle.pub_reader.specs.CatalogNames.{IsNamedCatalog}
+use Rattle.replica_identity.specs.Plans.{plan_of}
+use Rattle.shard_checker.specs.CheckedView.{CheckedOf, checked_view, setting_in}
+use Rattle.shard_checker.specs.declared.checked.Checked.{Checked}
 use Rattle.tables_log.specs.StandsFor.{after}
 use Rattle.pgoutput_msgs.specs.Telling.{oid_of}
 use Rattle.copy_both.specs.Streams.{count_before}
 use Rattle.shard_world.specs.Following.{own_key, HasShard}
-use Rattle.shard_world.specs.Sayable.{IsTextCommand, IsTextTable}
+use Rattle.shard_world.specs.Sayable.{IsTextCommand}
 use Rattle.shard_world.specs.World.{World, Event, Commit, On, first_world, position_now, machine_now, Leads}
 
 -- ---- what is asked of the publisher and of events
 
--- A catalog that was checked, within its limits and with names that are texts; its log takes at most 1,000,000,000 commits.
+-- A catalog that was checked, within its limits and named, and its own plan; its log takes at most 1,000,000,000 commits.
 pub record IsPublisher (checked : CheckedOf) (most : ℕ) : Type 0 where
+  pub own : checked.plan ≡ plan_of checked.catalog
   pub covered : Covered (setting_in checked)
   pub apart : KeepsApart (setting_in checked)
   pub limited : IsLimited checked.catalog
-  pub texts : All IsTextTable checked.catalog.tables
+  pub named : IsNamedCatalog checked.catalog
   pub most_is : most ≤ 1000000000
+
+-- whoever holds a `Checked` has that
+abbrev pub CheckedPublish : Type 0
+CheckedPublish = (checked : Checked) (most : ℕ) → most ≤ 1000000000 → IsPublisher (checked_view checked) most
 
 -- times have 64 bits, and rows are texts
 abbrev pub BringsTexts : Event → Type 0

@@ -1,14 +1,17 @@
 //! Laws of streams.
 
 ghost use Rattle.shard_world.specs.Items.{StreamsAreItems};
-ghost use Rattle.shard_world.specs.Asking.{CommandsAreRead, StartsAreAnswered};
+ghost use Rattle.shard_world.specs.Asking.{CommandsAreRead, StartsAreAnswered, SubscribersCanAsk};
 ghost use Rattle.shard_world.specs.CatchingUp.{SubscribersCatchUp};
 ghost use Rattle.shard_world.specs.Connections.{OpensStep, HearsStep, TakesStep, KeepsStep, DeliversStep, ReportsStep, LosesStep};
 ghost use Rattle.shard_world.specs.Cutting.{FirstPartsAreCut};
 ghost use Rattle.shard_world.specs.Following.{ItemsAreFollowed};
+ghost use Rattle.shard_world.specs.Refusals.{OpensAreAnswered, HearsAreAnswered, TakesAreAnswered, KeepsAreAnswered};
+ghost use Rattle.shard_world.specs.Refusals.{DeliversAreAnswered, ReportsAreAnswered, OpenStays, OpenBreaks};
+ghost use Rattle.shard_world.specs.Refusals.{HearHalts, TakeHalts, KeepHalts, DeliverHalts, ReportHalts, LossBreaks};
 ghost use Rattle.shard_world.specs.Sayable.{LogsCanBeSaid};
 ghost use Rattle.shard_world.specs.UpsHeard.{StartsAreHeard, StatusesAreHeard};
-ghost use Rattle.shard_world.specs.WorldLaws.{WorldsHoldExactly, WorldsDivideRows};
+ghost use Rattle.shard_world.specs.WorldLaws.{CheckedPublish, WorldsHoldExactly, WorldsDivideRows};
 ghost use Rattle.shard_world.specs.FollowingBytes.{BytesAreFollowed, FedFollow, StoppedFollow, LostFollow, FirstFollows, FollowsLonger};
 
 /// A law, and no code, of streams. A stream is the frames of its items, one after another (`spelled`), and bytes that are
@@ -89,8 +92,19 @@ pub fn commands_are_read()
     ensures { CommandsAreRead }
 {}
 
+/// A law, and no code, of catalogs that were checked. Each, with its own plan, is a publisher as the laws of the world ask,
+/// where its log takes at most 1,000,000,000 commits (`publish`). Each subscriber of a catalog can ask for its stream: its
+/// subscription is found by its name, its publications are those of the catalog, names are plain, and the command fits a
+/// frame of a client (`ask`).
+///
+/// PostgreSQL 15, 55.4. Streaming Replication Protocol.
+pub fn checked_catalogs_publish()
+    ensures publish { CheckedPublish }
+    ensures ask { SubscribersCanAsk }
+{}
+
 /// A law, and no code, of the first frame of a subscriber of the world, where its subscription is found by its name, its
-/// publications are those of the catalog, and names are texts. If its slot is free and the log reaches the position, the
+/// publications are those of the catalog, and names are plain. If its slot is free and the log reaches the position, the
 /// publisher starts the stream of its slot there, or where the slot is confirmed if that is later.
 ///
 /// PostgreSQL 15, 55.4. Streaming Replication Protocol.
@@ -126,4 +140,30 @@ pub fn connections_step_as_the_world()
     ensures delivered { DeliversStep }
     ensures reported { ReportsStep }
     ensures lost { LosesStep }
+{}
+
+/// A law, and no code, of a subscriber and the publisher's end of its connection, where memory is refused to a call. While
+/// they stand for a subscriber of a world that events lead to, no call answers a fault (`opens`, `hears`, `takes`, `keeps`,
+/// `delivers`, `reports`), so that an error says that memory was refused. A subscriber that can't open a connection stays
+/// without one (`stays`, `opened`). A call on a connection leaves the position, the rows and the slot as the world has them
+/// after some of the bytes that were to be heard (`heard`) or delivered (`delivered`), and otherwise as they were (`taken`,
+/// `kept`, `reported`). As the connection is lost then, what is left stands for what the step of the world leaves where
+/// memory is refused (`lost`).
+///
+/// PostgreSQL 15, 31.2. Subscription, and 55.4. Streaming Replication Protocol.
+pub fn refused_connections_are_lost()
+    ensures opens { OpensAreAnswered }
+    ensures hears { HearsAreAnswered }
+    ensures takes { TakesAreAnswered }
+    ensures keeps { KeepsAreAnswered }
+    ensures delivers { DeliversAreAnswered }
+    ensures reports { ReportsAreAnswered }
+    ensures stays { OpenStays }
+    ensures opened { OpenBreaks }
+    ensures heard { HearHalts }
+    ensures taken { TakeHalts }
+    ensures kept { KeepHalts }
+    ensures delivered { DeliverHalts }
+    ensures reported { ReportHalts }
+    ensures lost { LossBreaks }
 {}

@@ -1,4 +1,4 @@
-//! Tests of the book, the messages, the frames and both ends of a connection, by their public calls.
+//! Tests of the book, the messages, the frames, both ends of a connection and the world, by their public calls.
 #![tactic(auto)]
 
 #[cfg(test)]
@@ -24,5 +24,7 @@ mod start;
 mod subscriber;
 #[cfg(test)]
 mod voice;
+#[cfg(test)]
+mod world;
 
 pub use sharding::accepted;

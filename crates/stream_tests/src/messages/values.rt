@@ -43,7 +43,7 @@ const TEXTS: &[(&str, &str)] = &[("a\0b", "None"), ("", "Some(Text(Text { text: 
 
 /// The value of a column of this type that a cell of the text has.
 fn value(alloc: Global, kind: ColType, text: String) -> Result<Option<Value>, AllocError> {
-    value_of(alloc, kind, &Cell::Text(Text::new(text)))
+    value_of(alloc, kind, Cell::Text(Text::new(text)))
 }
 
 /// That the text is read as this value.
@@ -81,7 +81,7 @@ fn values_are_read_by_their_types(rt: HostRuntime) -> Result<(), Fail> {
     expect_values(&rt, alloc, BigInt, BIG_INTEGERS)?;
     expect_values(&rt, alloc, Boolean, BOOLEANS)?;
     expect_values(&rt, alloc, ColType::Text, TEXTS)?;
-    let null = value_of(alloc, Integer, &Cell::Null)?;
+    let null = value_of(alloc, Integer, Cell::Null)?;
     holds(&rt, matches!(null, Some(Value::Null)));
     rows_are_read_back();
     Ok(())

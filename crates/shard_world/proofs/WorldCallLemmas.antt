@@ -1,0 +1,137 @@
+-- A program's world that stands for a world of the model still does after each event.
+use Rattle.std.proofs.Common.{◌≡◌, ℕ, ◌≤◌, List, [], ◌∷◌, ◌++◌, length, take, refl, sym, ap, subst, ◌∙◌}
+use Rattle.std.specs.Prelude.{Option, Some, None, slice_get}
+use Rattle.shard_checker.specs.CheckedView.{CheckedOf}
+use Rattle.std.specs.List.{flat_map}
+use Rattle.tables_log.specs.Commits.{CommitOf}
+use Rattle.tables_log.specs.StandsFor.{Transaction}
+use Rattle.tables_log.specs.declared.slots.Slot.{Slot}
+use Rattle.copy_both.specs.LinkLaws.{Run, IsStreaming}
+use Rattle.copy_both.specs.StreamLaws.{AllThere}
+use Rattle.copy_both.specs.Streams.{Place, Move, all_moved, moved, place_at}
+use Rattle.copy_both.specs.Tellings.{telling_of}
+use Rattle.copy_both.specs.declared.link.Link.{Link}
+use Rattle.copy_both.proofs.LinkStreams.{log_grows}
+use Rattle.copy_frames.specs.Frames.{cut, rest_of}
+use Rattle.test_subscriber.specs.Feeding.{limit}
+use Rattle.test_subscriber.specs.Frames.{hear_cut}
+use Rattle.test_subscriber.specs.Machine.{opened}
+use Rattle.test_subscriber.specs.Subscribers.{sub_machine}
+use Rattle.test_subscriber.specs.declared.subscriber.Subscriber.{Subscriber}
+use Rattle.shard_world.specs.Following.{log_of}
+use Rattle.shard_world.specs.Joined.{PeerOf, PeerIs, IsAt, IsLinked, AlikeBut, Speaks, run_of}
+use Rattle.shard_world.specs.Items.{spelled}
+use Rattle.shard_world.specs.World as w
+use Rattle.shard_world.specs.World.{Connection, Event, Answer, Steps, Leads, down_bytes, machine_in, place_of}
+use Rattle.shard_world.proofs.WorldHearing.{down_longer}
+use Rattle.shard_world.proofs.WorldItems.{log_goes_on, moved_longer}
+use Rattle.shard_world.proofs.WorldPeers.{StartsAt, IsConnected, IsConnectedAt, IsGood, bytes_of_items}
+
+-- ---- one event more
+
+pub leads_one_more : (checked : CheckedOf) (most : ℕ) (events : List (ℕ × Event)) (first world : w.World) (now : ℕ) (event : Event) (answer : Answer) (next : w.World)
+    → Leads checked most events first world → Steps checked most world now event answer next → Leads checked most (events ++ (now, event) ∷ []) first next
+leads_one_more checked most [] first world now event answer next leads steps =
+    (answer, next, subst (λ from. Steps checked most from now event answer next) leads steps, refl)
+leads_one_more checked most (one ∷ events) first world now event answer next leads steps =
+    (leads.0, leads.1, leads.2, leads_one_more checked most events leads.1 world now event answer next leads.3 steps)
+
+-- ---- another slot changes
+
+module _ (checked : CheckedOf) (transactions : List Transaction) (number : ℕ) (before after : List Slot) (same : slice_get after number ≡ slice_get before number) where
+  at_elsewhere : (link : Option Link) (subscriber : Subscriber) (peer : w.Peer) (connection : Option Connection) → IsAt checked transactions number before link subscriber peer connection
+      → IsAt checked transactions number after link subscriber peer connection
+  at_elsewhere None subscriber peer None at = record { machine = at.machine; slot = same ∙ at.slot }
+  at_elsewhere (Some link) subscriber peer (Some c) at = record {
+    heard = at.heard;
+    delivered = at.delivered;
+    sends = at.sends;
+    held = at.held;
+    machine = at.machine;
+    checked_is = at.checked_is;
+    hears = at.hears;
+    speaks = at.speaks;
+    slot = same ∙ at.slot;
+  }
+  at_elsewhere None subscriber peer (Some c) at = absurd at
+  at_elsewhere (Some link) subscriber peer None at = absurd at
+
+  pub is_elsewhere : (code : PeerOf) (peer : w.Peer) → PeerIs checked transactions number before code peer → PeerIs checked transactions number after code peer
+  is_elsewhere code peer is = record { named = is.named; at = at_elsewhere code.link code.subscriber peer peer.connection is.at }
+
+-- ---- the log grows
+
+all_moved_longer : (checked : CheckedOf) (log more : List CommitOf) (place : Place) (moves : List Move) → AllThere (telling_of checked) log place moves
+    → all_moved (telling_of checked) (log ++ more) place moves ≡ all_moved (telling_of checked) log place moves
+all_moved_longer checked log more place [] there = refl
+all_moved_longer checked log more place (move ∷ moves) there =
+    ap (λ at. all_moved (telling_of checked) (log ++ more) at moves) (moved_longer checked log more place move there.0)
+    ∙ all_moved_longer checked log more (moved (telling_of checked) log place move) moves there.1
+
+module _ (checked : CheckedOf) (transactions more : List Transaction) (number position : ℕ) where
+  abbrev IsThereAt : List Move → Type 0
+  IsThereAt moves = AllThere (telling_of checked) (log_of checked transactions) (place_at number (length checked.catalog.tables) position) moves
+
+  bytes_longer : (start : Option ℕ) → StartsAt position start → (moves : List Move) → IsThereAt moves
+      → down_bytes checked (transactions ++ more) number start moves ≡ down_bytes checked transactions number start moves
+  bytes_longer start at moves there =
+      bytes_of_items checked (transactions ++ more) number start moves
+      ∙ ap (flat_map spelled) (down_longer checked transactions more number position start at moves there)
+      ∙ sym (bytes_of_items checked transactions number start moves)
+
+  place_longer : (start : ℕ) → start ≡ position → (moves : List Move) → IsThereAt moves
+      → place_of checked (transactions ++ more) number start moves ≡ place_of checked transactions number start moves
+  place_longer start at moves there =
+      let on = log_goes_on checked transactions more in
+      ap (λ log. all_moved (telling_of checked) log (place_at number (length checked.catalog.tables) start) moves) on.is
+      ∙ all_moved_longer checked (log_of checked transactions) on.others (place_at number (length checked.catalog.tables) start) moves
+      (subst (λ p. AllThere (telling_of checked) (log_of checked transactions) (place_at number (length checked.catalog.tables) p) moves) (sym at) there)
+
+  abbrev run_with : ℕ → List Move → List CommitOf → List ℕ → Run
+  run_with start moves log passed = record {
+    checked = checked;
+    log = log;
+    start = record { slot = number; tables = length checked.catalog.tables; position = start };
+    moves = moves;
+    passed = passed;
+  }
+
+  speaks_longer : (link : Link) (moves : List Move) (delivered : ℕ) → IsThereAt moves → (start : Option ℕ) → StartsAt position start
+      → Speaks checked transactions number link moves delivered start → Speaks checked (transactions ++ more) number link moves delivered start
+  speaks_longer link moves delivered there None at speaks = speaks
+  speaks_longer link moves delivered there (Some start) at speaks =
+      let on = log_goes_on checked transactions more in
+      let place : Place = place_of checked transactions number start moves in
+      let grown : IsStreaming link (run_with start moves (log_of checked transactions ++ on.others) (take delivered (down_bytes checked transactions number (Some start) moves))) place =
+      log_grows link (run_of checked transactions number start moves delivered) place on.others speaks in
+      subst (IsStreaming link (run_of checked (transactions ++ more) number start moves delivered)) (sym (place_longer start at moves there))
+      (subst (λ bytes. IsStreaming link (run_with start moves (log_of checked (transactions ++ more)) (take delivered bytes)) place) (sym (bytes_longer (Some start) at moves there))
+      (subst (λ log. IsStreaming link (run_with start moves log (take delivered (down_bytes checked transactions number (Some start) moves))) place) (sym on.is) grown))
+
+module _ (checked : CheckedOf) (transactions more : List Transaction) (number : ℕ) where
+  linked_longer : (slots : List Slot) (link : Link) (subscriber : Subscriber) (peer : w.Peer) (reached : ℕ) (c : Connection) → IsConnected checked transactions number peer.position peer.confirmed reached c
+      → IsLinked checked transactions number slots link subscriber peer c → IsLinked checked (transactions ++ more) number slots link subscriber peer c
+  linked_longer slots link subscriber peer reached c connected linked =
+      let same = bytes_longer checked transactions more number peer.position c.start connected.started c.moves connected.there in
+      record {
+        heard = linked.heard;
+        delivered = subst (λ bytes. c.delivered ≤ length bytes) (sym same) linked.delivered;
+        sends = linked.sends;
+        held = linked.held ∙ ap (λ bytes. rest_of (cut limit (take c.delivered bytes))) (sym same);
+        machine = subst (λ bytes. AlikeBut (sub_machine subscriber) (hear_cut (cut limit (take c.delivered bytes)) (opened peer.machine)).machine) (sym same) linked.machine;
+        checked_is = linked.checked_is;
+        hears = linked.hears;
+        speaks = speaks_longer checked transactions more number peer.position link c.moves c.delivered connected.there c.start connected.started linked.speaks;
+        slot = linked.slot;
+      }
+
+  at_longer : (slots : List Slot) (link : Option Link) (subscriber : Subscriber) (peer : w.Peer) (connection : Option Connection) → IsConnectedAt checked transactions number peer connection
+      → IsAt checked transactions number slots link subscriber peer connection → IsAt checked (transactions ++ more) number slots link subscriber peer connection
+  at_longer slots None subscriber peer None good at = record { machine = at.machine; slot = at.slot }
+  at_longer slots (Some link) subscriber peer (Some c) good at = linked_longer slots link subscriber peer good.0 c good.1 at
+  at_longer slots None subscriber peer (Some c) good at = absurd at
+  at_longer slots (Some link) subscriber peer None good at = absurd at
+
+  pub is_longer : (slots : List Slot) (code : PeerOf) (peer : w.Peer) → IsGood checked transactions number peer → PeerIs checked transactions number slots code peer
+      → PeerIs checked (transactions ++ more) number slots code peer
+  is_longer slots code peer good is = record { named = is.named; at = at_longer slots code.link code.subscriber peer peer.connection good.connected is.at }

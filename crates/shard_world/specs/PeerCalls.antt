@@ -1,0 +1,66 @@
+-- What calls on a subscriber and its connection do, in each world that they stand for at a time: PostgreSQL 15, 31.2. Subscription, and 55.4. Streaming Replication Protocol.
+use Rattle.std.specs.Prelude.{◌≡◌, ◌⊎◌, ℕ, Option, Some, None}
+use Rattle.shard_checker.specs.CheckedView.{CheckedOf}
+use Rattle.tables_log.specs.BookView.{book_slots}
+use Rattle.tables_log.specs.Committing.{IsKept}
+use Rattle.tables_log.specs.declared.book.Book.{Book}
+use Rattle.copy_both.specs.Links.{LinkLoses}
+use Rattle.copy_both.specs.declared.link.Link.{Link}
+use Rattle.test_subscriber.specs.Subscribers.{Loses}
+use Rattle.shard_world.specs.Joined.{PeerOf}
+use Rattle.shard_world.specs.PeerSteps.{Case, ChangesOwn, HasLog, IsCase, StandsIn, StepsTo}
+use Rattle.shard_world.specs.Refusals.{BreaksOn, HaltsOn}
+use Rattle.shard_world.specs.World.{Answer, OutOfMemory, PeerEvent}
+
+-- ---- memory is not refused
+
+-- a world for which they stand at this time
+pub record Stands (checked : CheckedOf) (now : ℕ) (book : Book) (code : PeerOf) (case : Case) : Type 0 where
+  pub is : IsCase case
+  pub checked_is : case.checked ≡ checked
+  pub now_is : case.now ≡ now
+  pub log : HasLog case book
+  pub peer : StandsIn case (book_slots book) code
+
+-- the step of the world is made, and no slot changes but its own
+pub record Made (case : Case) (event : PeerEvent) (answer : Answer) (before after : Book) (new : PeerOf) : Type 0 where
+  pub steps : StepsTo case event answer (book_slots after) new
+  pub own : ChangesOwn case.number before after
+
+abbrev pub Makes : CheckedOf → ℕ → PeerEvent → Book → Book → PeerOf → PeerOf → Answer → Type 0
+Makes checked now event before after old new answer = (case : Case) → Stands checked now before old case → Made case event answer before after new
+
+-- ---- memory is refused
+
+-- some of the bytes were heard or delivered; where there is no connection yet there is none
+abbrev pub IsStopped : Case → PeerEvent → Book → Book → PeerOf → Option Link → Type 0
+IsStopped case event before after new None = BreaksOn case event before after new
+IsStopped case event before after new (Some link) = HaltsOn case event before after new
+
+abbrev pub Stops : CheckedOf → ℕ → PeerEvent → Book → Book → PeerOf → PeerOf → Type 0
+Stops checked now event before after old new = (case : Case) → Stands checked now before old case → IsStopped case event before after new new.link
+
+-- the connection's end at the publisher is lost
+pub record LosesLink (link : Link) (before after : Book) : Type 0 where
+  pub lost : Link
+  pub loses : LinkLoses link lost before after
+
+abbrev pub LosesIfThere : Option Link → Book → Book → Type 0
+LosesIfThere None before after = IsKept before after
+LosesIfThere (Some link) before after = LosesLink link before after
+
+-- there is no connection any more
+pub record Drops (old new : PeerOf) (before after : Book) : Type 0 where
+  pub none : new.link ≡ None
+  pub subscriber : Loses old.subscriber new.subscriber
+  pub link : LosesIfThere old.link before after
+
+-- ---- the step of the world, or what want of memory leaves
+
+pub record Breaks (case : Case) (event : PeerEvent) (answer : Answer) (before after : Book) (new : PeerOf) : Type 0 where
+  pub answer_is : answer ≡ OutOfMemory
+  pub on : BreaksOn case event before after new
+
+abbrev pub Moves : CheckedOf → ℕ → PeerEvent → Book → Book → PeerOf → PeerOf → Answer → Type 0
+Moves checked now event before after old new answer =
+    (case : Case) → Stands checked now before old case → Made case event answer before after new ⊎ Breaks case event answer before after new

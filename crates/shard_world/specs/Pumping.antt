@@ -1,0 +1,81 @@
+-- What a pump makes happen on the connection of a subscriber, so that it gets all that was committed and says so: PostgreSQL 15, 55.4. Streaming Replication Protocol.
+use Rattle.std.specs.Prelude.{◌≡◌, ◌<◌, ◌⊎◌, ℕ, ◌-◌, ◌^◌, false, List, [], ◌∷◌, ◌++◌, length, map, replicate, Result, Ok, Err}
+use Rattle.tables_log.specs.BookView.{book_log}
+use Rattle.shard_world.specs.World as w
+use Rattle.shard_world.specs.World.{Answer, At, Event, Idle, On, PeerEvent, Hear, Take, Keep, Deliver, Report, position_now}
+use Rattle.shard_world.specs.WorldCalls.{IsWorld, RunsOn, world_book, world_checked}
+use Rattle.shard_world.specs.declared.world.World.{World}
+
+-- as many bytes as can wait
+abbrev pub all_bytes : ℕ
+all_bytes = 2 ^ 64 - 1
+
+-- ---- events on one connection, all at one clock
+
+abbrev pub on_clock : ℕ → ℕ → PeerEvent → ℕ × Event
+on_clock now subscriber event = (now, On subscriber event)
+
+-- they happen one after another
+pub record WalksAll (before after : World) (now subscriber : ℕ) (events : List PeerEvent) : Type 0 where
+  pub answers : List Answer
+  pub runs : RunsOn before after (map (on_clock now subscriber) events) answers
+
+-- the first of them happen, of which the last is answered so, and no more
+pub record WalksSome (before after : World) (now subscriber : ℕ) (events : List PeerEvent) (answer : Answer) : Type 0 where
+  pub done : List PeerEvent
+  pub others : List PeerEvent
+  pub are : done ++ others ≡ events
+  pub answers : List Answer
+  pub runs : RunsOn before after (map (on_clock now subscriber) done) (answers ++ answer ∷ [])
+
+abbrev pub Walks : World → World → ℕ → ℕ → List PeerEvent → Result (Unit {0}) Answer → Type 0
+Walks before after now subscriber events (Ok done) = WalksAll before after now subscriber events
+Walks before after now subscriber events (Err answer) = WalksSome before after now subscriber events answer
+
+-- the last of the answers says that there is no further commit
+pub record EndsIdle (answers : List Answer) : Type 0 where
+  pub earlier : List Answer
+  pub are : answers ≡ earlier ++ Idle ∷ []
+
+-- commits are taken up until there is none, or more often than there are commits
+pub record TakesAll (before after : World) (now subscriber : ℕ) : Type 0 where
+  pub takes : ℕ
+  pub walks : WalksAll before after now subscriber (replicate takes Take)
+  pub enough : EndsIdle walks.answers ⊎ (length (book_log (world_book before)) < takes)
+
+pub record TakesSome (before after : World) (now subscriber : ℕ) (answer : Answer) : Type 0 where
+  pub takes : ℕ
+  pub some : WalksSome before after now subscriber (replicate takes Take) answer
+
+abbrev pub Takes : World → World → ℕ → ℕ → Result (Unit {0}) Answer → Type 0
+Takes before after now subscriber (Ok done) = TakesAll before after now subscriber
+Takes before after now subscriber (Err answer) = TakesSome before after now subscriber answer
+
+-- ---- a pump
+
+-- all that was sent is heard, so many commits are taken up, a keepalive is said, all is delivered, and a status is said and heard
+abbrev pub pump_events : ℕ → List PeerEvent
+pump_events takes = Hear all_bytes ∷ (replicate takes Take ++ Keep false ∷ Deliver all_bytes ∷ Report false ∷ Hear all_bytes ∷ [])
+
+-- where a subscriber is in each world for which the program's stands
+abbrev pub IsPosition : World → ℕ → ℕ → Type 0
+IsPosition code subscriber position =
+    subscriber < length (world_checked code).plan → (most : ℕ) (events : List (ℕ × Event)) (world : w.World) → IsWorld code most events world
+    → position ≡ position_now (world_checked code) world.transactions subscriber (world.peers subscriber)
+
+pub record PumpsAll (before after : World) (now subscriber : ℕ) : Type 0 where
+  pub takes : ℕ
+  pub all : WalksAll before after now subscriber (pump_events takes)
+
+pub record PumpsSome (before after : World) (now subscriber : ℕ) (answer : Answer) : Type 0 where
+  pub takes : ℕ
+  pub some : WalksSome before after now subscriber (pump_events takes) answer
+
+abbrev pub PumpsThrough : World → World → ℕ → ℕ → Result (Unit {0}) Answer → Type 0
+PumpsThrough before after now subscriber (Ok done) = PumpsAll before after now subscriber
+PumpsThrough before after now subscriber (Err answer) = PumpsSome before after now subscriber answer
+
+-- it is answered by the subscriber's position, or else by the answer that ends it
+pub data PumpsOn (before after : World) (now subscriber : ℕ) : Answer → Type 0 where
+  Pumped : (position : ℕ) → PumpsAll before after now subscriber → IsPosition after subscriber position → PumpsOn before after now subscriber (At position)
+  Ended : (answer : Answer) → PumpsSome before after now subscriber answer → PumpsOn before after now subscriber answer

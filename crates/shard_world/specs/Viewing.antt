@@ -1,0 +1,75 @@
+-- What is shown of a publisher and its subscribers: each has its shard, and where all have applied the same commits each row is at exactly one of them. PostgreSQL 15, "Logical Replication", 31.2 Subscription and 31.3 Row Filters; 7.5 Sorting Rows.
+use Rattle.std.specs.Prelude.{◌≡◌, ◌<◌, ℕ, Bool, true, List, take, length, map, Contains, Some, slice_get}
+use Rattle.std.specs.List.Sorted.{IsStrictlySortedBy}
+use Rattle.filter_tree.specs.Datum.{Datum}
+use Rattle.filter_tree.specs.Order.{row_cmp}
+use Rattle.shard_checker.specs.CheckedView.{CheckedOf, setting_in}
+use Rattle.table_changes.specs.Tables.{Tables, holds}
+use Rattle.tables_log.specs.StandsFor.{Transaction, after}
+use Rattle.copy_both.specs.Streams.{count_before}
+use Rattle.shard_world.specs.Finding.{in_shard}
+use Rattle.shard_world.specs.Seeing.{AllAt}
+use Rattle.shard_world.specs.World as w
+use Rattle.shard_world.specs.World.{position_now}
+use Rattle.shard_world.specs.declared.view.SubscriberView.{SubscriberView}
+use Rattle.shard_world.specs.declared.view.View.{View}
+
+-- the rows of which this is true, each once, in their order
+pub record AreRows (test : List Datum → Bool) (rows : List (List Datum)) : Type 0 where
+  pub all : (row : List Datum) → test row ≡ true → Contains rows row
+  pub only : (row : List Datum) → Contains rows row → test row ≡ true
+  pub ascending : IsStrictlySortedBy row_cmp rows
+
+-- the publisher's tables after so many of the first commits
+abbrev pub tables_after : CheckedOf → List Transaction → ℕ → Tables
+tables_after checked transactions count = after (setting_in checked) (take count transactions)
+
+-- A subscriber's position, how many commits that counts, and its rows: those of its shard of the publisher's tables after these commits.
+pub record ShowsSubscriber (checked : CheckedOf) (transactions : List Transaction) (number : ℕ) (peer : w.Peer) (shown : SubscriberView) : Type 0 where
+  pub position_is : shown.position ≡ position_now checked transactions number peer
+  pub applied_is : shown.applied ≡ count_before shown.position
+  pub confirmed_is : shown.confirmed ≡ peer.confirmed
+  pub tables : length shown.rows.items ≡ length checked.catalog.tables
+  pub rows : AllAt (λ table rows. AreRows (in_shard (setting_in checked) number (tables_after checked transactions shown.applied) table) rows.items) shown.rows.items
+
+-- ---- all together
+
+abbrev pub shown_rows : SubscriberView → List (List (List Datum))
+shown_rows shown = map (λ rows. rows.items) shown.rows.items
+
+-- the subscriber of this number is shown with this row of the table
+pub record ShowsRow (shown : View) (number table : ℕ) (row : List Datum) : Type 0 where
+  pub subscriber : SubscriberView
+  pub rows : List (List Datum)
+  pub is : slice_get shown.subscribers.items number ≡ Some subscriber
+  pub of_table : slice_get (shown_rows subscriber) table ≡ Some rows
+  pub has : Contains rows row
+
+-- exactly one of them is
+pub record IsShownOnce (shown : View) (table : ℕ) (row : List Datum) : Type 0 where
+  pub owner : ℕ
+  pub has_it : ShowsRow shown owner table row
+  pub no_other : (other : ℕ) → ShowsRow shown other table row → other ≡ owner
+
+-- each row of the tables after so many commits is shown of exactly one subscriber, and no other row is shown of any
+pub record DividesShown (checked : CheckedOf) (transactions : List Transaction) (count : ℕ) (shown : View) : Type 0 where
+  pub somewhere : (table : ℕ) (row : List Datum) → table < length checked.catalog.tables
+      → holds (setting_in checked).keys (tables_after checked transactions count) table row ≡ true → IsShownOnce shown table row
+  pub nothing_else : (number table : ℕ) (row : List Datum) → ShowsRow shown number table row
+      → holds (setting_in checked).keys (tables_after checked transactions count) table row ≡ true
+
+-- where all have applied so many commits, and no more
+abbrev pub ShowsDivided : CheckedOf → List Transaction → View → Type 0
+ShowsDivided checked transactions shown =
+    (count : ℕ) → AllAt (λ number subscriber. subscriber.applied ≡ count) shown.subscribers.items → DividesShown checked transactions count shown
+
+-- ---- all that is shown
+
+-- the log's length, the publisher's tables, and each subscriber
+pub record ShowsWorld (checked : CheckedOf) (world : w.World) (shown : View) : Type 0 where
+  pub log_is : shown.log ≡ length world.transactions
+  pub tables : length shown.rows.items ≡ length checked.catalog.tables
+  pub rows : AllAt (λ table rows. AreRows (holds (setting_in checked).keys (after (setting_in checked) world.transactions) table) rows.items) shown.rows.items
+  pub count : length shown.subscribers.items ≡ length checked.plan
+  pub each : AllAt (λ number subscriber. ShowsSubscriber checked world.transactions number (world.peers number) subscriber) shown.subscribers.items
+  pub divided : ShowsDivided checked world.transactions shown

@@ -1,0 +1,81 @@
+-- For which world of the model a program's world stands, and what its calls do there: PostgreSQL 15, 31.2. Subscription, and 55.4. Streaming Replication Protocol.
+use Rattle.std.specs.Prelude.{◌≡◌, ◌<◌, ◌^◌, ℕ, List, [], ◌∷◌, ◌++◌, All, length, slice_get, Option, Some, None}
+use Rattle.std.specs.Arc.{arc_value}
+use Rattle.shard_checker.specs.CheckedView.{CheckedOf, checked_view}
+use Rattle.tables_log.specs.BookView.{book_checked, book_limit, book_slots}
+use Rattle.tables_log.specs.StandsFor.{Transaction, StandsFor}
+use Rattle.tables_log.specs.declared.book.Book.{Book}
+use Rattle.tables_log.specs.declared.slots.Slot.{Slot}
+use Rattle.shard_world.specs.Joined.{PeerOf, PeerIs}
+use Rattle.shard_world.specs.World as w
+use Rattle.shard_world.specs.World.{Answer, Event, first_world, statuses_in, Steps, Leads}
+use Rattle.shard_world.specs.WorldLaws.{IsPublisher, IsTextEvent}
+use Rattle.shard_world.specs.declared.world.World.{World}
+
+-- ---- views
+
+abbrev pub world_checked : World → CheckedOf
+world_checked world = checked_view (arc_value world.checked)
+
+abbrev pub world_book : World → Book
+world_book world = world.book
+
+-- its subscribers and their connections
+abbrev pub world_peers : World → List PeerOf
+world_peers world = world.peers.items
+
+-- ---- for which world it stands
+
+-- the subscriber of this number is there, and stands for that of the world
+abbrev pub PeerAt : CheckedOf → List Transaction → ℕ → List Slot → w.Peer → Option PeerOf → Type 0
+PeerAt checked transactions number slots peer None = ⊥
+PeerAt checked transactions number slots peer (Some code) = PeerIs checked transactions number slots code peer
+
+-- A book and subscribers stand for those of a world to which these events led. The log takes at most so many commits.
+pub record IsWorldBy (checked : CheckedOf) (most : ℕ) (book : Book) (peers : List PeerOf) (events : List (ℕ × Event)) (world : w.World) : Type 0 where
+  pub publisher : IsPublisher checked most
+  pub texts : All IsTextEvent events
+  pub leads : Leads checked most events first_world world
+  pub checked_is : book_checked book ≡ checked
+  pub limit_is : book_limit book ≡ most
+  pub stands : StandsFor book world.transactions
+  pub count : length peers ≡ length checked.plan
+  pub each : (number : ℕ) → number < length checked.plan → PeerAt checked world.transactions number (book_slots book) (world.peers number) (slice_get peers number)
+
+abbrev pub IsWorld : World → ℕ → List (ℕ × Event) → w.World → Type 0
+IsWorld code most events world = IsWorldBy (world_checked code) most (world_book code) (world_peers code) events world
+
+-- ---- what calls do
+
+-- an event is answered so, and leaves what stands for what the step of the world leaves
+pub record StepsInto (before after : World) (most : ℕ) (events : List (ℕ × Event)) (world : w.World) (now : ℕ) (event : Event) (answer : Answer) : Type 0 where
+  pub next : w.World
+  pub steps : Steps (world_checked before) most world now event answer next
+  pub is : IsWorld after most (events ++ (now, event) ∷ []) next
+  pub checked : world_checked after ≡ world_checked before
+
+-- in each world for which it stands, to which events led among which fewer than 2^32 said a status
+abbrev pub StepsOn : World → World → ℕ → Event → Answer → Type 0
+StepsOn before after now event answer =
+    (most : ℕ) (events : List (ℕ × Event)) (world : w.World) → IsWorld before most events world → statuses_in events < 2 ^ 32 → StepsInto before after most events world now event answer
+
+-- ---- several events
+
+-- events are answered one after another, and lead on
+abbrev pub Runs : CheckedOf → ℕ → List (ℕ × Event) → List Answer → w.World → w.World → Type 0
+Runs checked most [] [] world last = last ≡ world
+Runs checked most (event ∷ events) (answer ∷ answers) world last =
+    (next : w.World) × Steps checked most world event.0 event.1 answer next × Runs checked most events answers next last
+Runs checked most events answers world last = ⊥
+
+pub record RunsInto (before after : World) (most : ℕ) (events : List (ℕ × Event)) (world : w.World) (asked : List (ℕ × Event)) (answers : List Answer) : Type 0 where
+  pub next : w.World
+  pub runs : Runs (world_checked before) most asked answers world next
+  pub is : IsWorld after most (events ++ asked) next
+  pub checked : world_checked after ≡ world_checked before
+
+-- in each world for which it stands, where with these fewer than 2^32 events said a status
+abbrev pub RunsOn : World → World → List (ℕ × Event) → List Answer → Type 0
+RunsOn before after asked answers =
+    (most : ℕ) (events : List (ℕ × Event)) (world : w.World) → IsWorld before most events world → statuses_in (events ++ asked) < 2 ^ 32
+    → RunsInto before after most events world asked answers

@@ -1,0 +1,42 @@
+//! What is answered of what happens in a world.
+
+use tables_log::CommitError;
+
+/// What is answered of an event.
+#[derive(Clone, Copy, Debug, PartialEq, Eq)]
+pub enum Answer {
+    /// The commit has this number, from 1.
+    Committed(u32),
+    /// The commit is refused, and nothing changes.
+    Refused(CommitError),
+    /// There is no subscriber of this number, and nothing changes.
+    NoSubscriber,
+    /// The subscriber has no connection, and nothing changes.
+    NotOpen,
+    /// The subscriber has a connection already, and nothing changes.
+    AlreadyOpen,
+    /// The subscriber has a new connection.
+    Opened,
+    /// The publisher heard so many bytes.
+    Heard(usize),
+    /// The stream has not started, and nothing changes.
+    NotStarted,
+    /// The publisher has no further commit to take up, and nothing changes.
+    Idle,
+    /// The commit of this number has no change for the subscriber.
+    Skipped(u32),
+    /// The messages that tell the subscriber of the commit of this number wait to be delivered.
+    Sent(u32),
+    /// A keepalive waits to be delivered.
+    Kept,
+    /// So many bytes came to the subscriber.
+    Delivered(usize),
+    /// A status waits to be heard.
+    Reported,
+    /// The connection is lost.
+    Lost,
+    /// The subscriber is at this position, in bytes, and has all that was committed.
+    At(u64),
+    /// Memory was refused: the connection is lost, after some of the bytes were heard or delivered.
+    OutOfMemory,
+}

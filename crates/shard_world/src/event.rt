@@ -1,0 +1,33 @@
+//! What happens in a world.
+
+use table_changes::Command;
+
+/// What happens on the connection of a subscriber.
+///
+/// PostgreSQL 15, 55.4. Streaming Replication Protocol.
+#[derive(Clone, Copy, Debug, PartialEq, Eq)]
+pub enum PeerEvent {
+    /// The subscriber connects, and asks for the stream from its position on.
+    Open,
+    /// The publisher hears the next bytes of the subscriber, at most so many.
+    Hear { bytes: usize },
+    /// The publisher takes the next commit up, and says what tells the subscriber of it.
+    Take,
+    /// The publisher says a keepalive, which may want a status.
+    Keep { want: bool },
+    /// The next bytes of the publisher, at most so many, come to the subscriber.
+    Deliver { bytes: usize },
+    /// The subscriber says how far it is, and may want a keepalive.
+    Report { want: bool },
+    /// The connection is lost.
+    Lose,
+}
+
+/// What happens in a world of a publisher and its subscribers.
+#[derive(Debug, Drop, PartialEq, Eq)]
+pub enum Event {
+    /// These commands are committed as one transaction at this time, in microseconds since 2000-01-01.
+    Commit { commands: Vec<Command>, time: u64 },
+    /// Something happens on the connection of a subscriber, which is told by its number from 0 and need not be there.
+    On { subscriber: usize, event: PeerEvent },
+}

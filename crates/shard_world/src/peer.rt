@@ -1,0 +1,224 @@
+//! A subscriber and its connection.
+
+ghost use Rattle.std.specs.Prelude.{◌≡◌};
+ghost use Rattle.shard_world.specs.Connections.{front_of};
+ghost use Rattle.shard_world.specs.PeerCalls.{LosesIfThere};
+
+use crate::answer::Answer;
+use crate::event::PeerEvent;
+use crate::halted::Halted;
+use copy_both::{Link, Taken};
+use shard_checker::Checked;
+use std::alloc::{AllocError, Global};
+use std::sync::Arc;
+use tables_log::Book;
+use test_subscriber::Subscriber;
+
+/// The first of these bytes, at most so many.
+#[tactic(auto, using(crate::proofs::CallLemmas::front_short, crate::proofs::CallLemmas::front_whole))]
+fn front(bytes: &[u8], count: usize) -> &[u8]
+    ensures { result.now ≡ front_of count bytes.now }
+{
+    if count < bytes.len() {
+        &bytes[..count]
+    } else {
+        bytes
+    }
+}
+
+/// The publisher's end of a connection is lost, if there is one.
+fn lose_link(link: Option<Link>, book: &mut Book)
+    ensures { LosesIfThere link book.old book.new }
+{
+    match link {
+        Some(mut link) => link.lose(book),
+        None => {}
+    }
+}
+
+/// A subscriber, and the publisher's end of its connection while there is one.
+#[derive(Drop)]
+pub(crate) struct Peer {
+    pub(crate) link: Option<Link>,
+    pub(crate) subscriber: Subscriber,
+}
+
+impl Peer {
+    ghost use Rattle.std.specs.Prelude.{ℕ, IfOk, OnErr};
+    ghost use Rattle.std.specs.Arc.{arc_value};
+    ghost use Rattle.shard_checker.specs.CheckedView.{CheckedOf, checked_view};
+    ghost use Rattle.tables_log.specs.declared.book.Book.{Book as BookType};
+    ghost use Rattle.shard_world.specs.PeerCalls.{Drops, Makes, Moves, Stops};
+    ghost use Rattle.shard_world.specs.World.{Open, Hear, Take, Keep, Deliver, Report, Lose};
+
+    /// The subscriber connects, and asks for the stream from its position on.
+    #[tactic(auto, using(crate::proofs::CallLemmas::is_already_open, crate::proofs::CallLemmas::opens_one, crate::proofs::StopLemmas::open_stays_shut, crate::proofs::StopLemmas::open_is_refused))]
+    fn open(&mut self, alloc: Global, checked: &Arc<Checked, Global>) -> Result<Answer, Halted>
+        ensures made { (now : ℕ) (book : BookType) → IfOk result (λ answer.
+            Makes (checked_view (arc_value checked.now)) now Open book book self.old self.new answer) }
+        ensures stops { OnErr result ((now : ℕ) (book : BookType)
+            → Stops (checked_view (arc_value checked.now)) now Open book book self.old self.new) }
+    {
+        if self.link.is_some() {
+            return Ok(Answer::AlreadyOpen);
+        }
+        let link = Link::new(alloc, Arc::try_clone(checked)?)?;
+        self.subscriber.open()?;
+        self.link = Some(link);
+        Ok(Answer::Opened)
+    }
+
+    /// The publisher hears the next bytes of the subscriber, at most so many.
+    #[tactic(auto, using(crate::proofs::CallLemmas::is_not_open, crate::proofs::CallLemmas::hears_piece, crate::proofs::StopLemmas::hear_stops))]
+    fn hear(&mut self, book: &mut Book, now: u64, bytes: usize) -> Result<Answer, Halted>
+        ensures made { (checked : CheckedOf) → IfOk result (λ answer.
+            Makes checked now (Hear bytes) book.old book.new self.old self.new answer) }
+        ensures stops { OnErr result ((checked : CheckedOf)
+            → Stops checked now (Hear bytes) book.old book.new self.old self.new) }
+    {
+        let Some(link) = &mut self.link else {
+            return Ok(Answer::NotOpen);
+        };
+        let piece = front(self.subscriber.output(), bytes);
+        let count = piece.len();
+        link.hear(piece, book, now)?;
+        self.subscriber.passed(count);
+        Ok(Answer::Heard(count))
+    }
+
+    /// The publisher takes the next commit up.
+    #[tactic(auto, using(crate::proofs::CallLemmas::is_not_open, crate::proofs::CallLemmas::takes_one, crate::proofs::StopLemmas::take_stops))]
+    fn take(&mut self, book: &Book, now: u64) -> Result<Answer, Halted>
+        ensures made { (checked : CheckedOf) → IfOk result (λ answer.
+            Makes checked now Take book.now book.now self.old self.new answer) }
+        ensures stops { OnErr result ((checked : CheckedOf)
+            → Stops checked now Take book.now book.now self.old self.new) }
+    {
+        let Some(link) = &mut self.link else {
+            return Ok(Answer::NotOpen);
+        };
+        Ok(match link.take(book, now)? {
+            Taken::NotStarted => Answer::NotStarted,
+            Taken::Idle => Answer::Idle,
+            Taken::Skipped(number) => Answer::Skipped(number),
+            Taken::Sent(number) => Answer::Sent(number),
+        })
+    }
+
+    /// The publisher says a keepalive.
+    #[tactic(auto, using(crate::proofs::CallLemmas::is_not_open, crate::proofs::CallLemmas::keeps_one, crate::proofs::StopLemmas::keep_stops))]
+    fn keep(&mut self, now: u64, want: bool) -> Result<Answer, Halted>
+        ensures made { (checked : CheckedOf) (book : BookType) → IfOk result (λ answer.
+            Makes checked now (Keep want) book book self.old self.new answer) }
+        ensures stops { OnErr result ((checked : CheckedOf) (book : BookType)
+            → Stops checked now (Keep want) book book self.old self.new) }
+    {
+        let Some(link) = &mut self.link else {
+            return Ok(Answer::NotOpen);
+        };
+        if link.keepalive(now, want)? {
+            Ok(Answer::Kept)
+        } else {
+            Ok(Answer::NotStarted)
+        }
+    }
+
+    /// The next bytes of the publisher, at most so many, come to the subscriber.
+    #[tactic(auto, using(crate::proofs::CallLemmas::is_not_open, crate::proofs::CallLemmas::delivers_piece, crate::proofs::StopLemmas::deliver_stops))]
+    fn deliver(&mut self, bytes: usize) -> Result<Answer, Halted>
+        ensures made { (checked : CheckedOf) (now : ℕ) (book : BookType) → IfOk result (λ answer.
+            Makes checked now (Deliver bytes) book book self.old self.new answer) }
+        ensures stops { OnErr result ((checked : CheckedOf) (now : ℕ) (book : BookType)
+            → Stops checked now (Deliver bytes) book book self.old self.new) }
+    {
+        let Some(link) = &mut self.link else {
+            return Ok(Answer::NotOpen);
+        };
+        let piece = front(link.output(), bytes);
+        let count = piece.len();
+        self.subscriber.feed(piece)?;
+        link.passed(count);
+        Ok(Answer::Delivered(count))
+    }
+
+    /// The subscriber says how far it is.
+    #[tactic(auto, using(crate::proofs::CallLemmas::is_not_open, crate::proofs::CallLemmas::reports_one, crate::proofs::StopLemmas::report_stops))]
+    fn report(&mut self, now: u64, want: bool) -> Result<Answer, Halted>
+        ensures made { (checked : CheckedOf) (book : BookType) → IfOk result (λ answer.
+            Makes checked now (Report want) book book self.old self.new answer) }
+        ensures stops { OnErr result ((checked : CheckedOf) (book : BookType)
+            → Stops checked now (Report want) book book self.old self.new) }
+    {
+        if self.link.is_none() {
+            return Ok(Answer::NotOpen);
+        }
+        self.subscriber.status(now, want)?;
+        Ok(Answer::Reported)
+    }
+
+    /// There is no connection any more.
+    fn drop_connection(&mut self, book: &mut Book)
+        ensures { Drops self.old self.new book.old book.new }
+    {
+        lose_link(self.link.take(), book);
+        self.subscriber.lose();
+    }
+
+    /// The connection is lost.
+    #[tactic(auto, using(crate::proofs::CallLemmas::is_not_open, crate::proofs::CallLemmas::drops_lose))]
+    fn lose(&mut self, book: &mut Book) -> Answer
+        ensures { (checked : CheckedOf) (now : ℕ) → Makes checked now Lose book.old book.new self.old self.new result }
+    {
+        if self.link.is_none() {
+            return Answer::NotOpen;
+        }
+        self.drop_connection(book);
+        Answer::Lost
+    }
+
+    /// What happens on the connection, as far as memory allows.
+    fn try_step(
+        &mut self,
+        alloc: Global,
+        checked: &Arc<Checked, Global>,
+        book: &mut Book,
+        now: u64,
+        event: PeerEvent,
+    ) -> Result<Answer, Halted>
+        ensures made { IfOk result (λ answer.
+            Makes (checked_view (arc_value checked.now)) now event book.old book.new self.old self.new answer) }
+        ensures stops { OnErr result
+            (Stops (checked_view (arc_value checked.now)) now event book.old book.new self.old self.new) }
+    {
+        match event {
+            PeerEvent::Open => self.open(alloc, checked),
+            PeerEvent::Hear { bytes } => self.hear(book, now, bytes),
+            PeerEvent::Take => self.take(book, now),
+            PeerEvent::Keep { want } => self.keep(now, want),
+            PeerEvent::Deliver { bytes } => self.deliver(bytes),
+            PeerEvent::Report { want } => self.report(now, want),
+            PeerEvent::Lose => Ok(self.lose(book)),
+        }
+    }
+
+    /// What happens on the connection. Where memory is refused the connection is lost.
+    #[tactic(auto, using(crate::proofs::StopLemmas::makes_moves, crate::proofs::StopLemmas::drops_connection))]
+    pub(crate) fn step(
+        &mut self,
+        alloc: Global,
+        checked: &Arc<Checked, Global>,
+        book: &mut Book,
+        now: u64,
+        event: PeerEvent,
+    ) -> Answer
+        ensures { Moves (checked_view (arc_value checked.now)) now event book.old book.new self.old self.new result }
+    {
+        match self.try_step(alloc, checked, book, now, event) {
+            Ok(answer) => answer,
+            Err(_) => {
+                self.drop_connection(book);
+                Answer::OutOfMemory
+            }
+        }
+    }
+}
