@@ -54,6 +54,7 @@ module _ (words : List (List ℕ)) (known : Option (List ℕ)) where
   reason request input (i.Catalog error) asked there = record { request = request; input = input; asked = asked; is = there }
   reason request input (i.Table name) asked there = record { request = request; input = input; asked = asked; is = there }
   reason request input (i.Certificate line error) asked there = record { request = request; input = input; asked = asked; is = there }
+  reason request input (i.Script error) asked there = record { request = request; input = input; asked = asked; is = there }
 
   -- the first bytes of lines that are no whole answer are those of one that memory cuts short
   part_written : (request : Request) (input : List ℕ) (lines : List (List ℕ)) (old new : Option (List ℕ)) → IsAsked words known request input

@@ -6,7 +6,12 @@ pub mod Faults
 pub mod FindingLines
 pub mod Limits
 pub mod LineCuts
+pub mod RequestLemmas
 pub mod RowLines
 pub mod Saying
+pub mod ScriptLengths
+pub mod ScriptLines
+pub mod Simulating
+pub mod StepLines
 pub mod Verdicts
 pub mod Writing

@@ -13,29 +13,30 @@ use Rattle.shard_checker.specs.declared.error.CheckError.{CheckError}
 use Rattle.sql_reader.specs.Written.{as_filter}
 use Rattle.subcommands.proofs.Faults.{out_of_memory}
 use Rattle.subcommands.proofs.Writing.{text_of-one}
-use Rattle.subcommands.specs.Check.Checking.{IsCheck, IsFirstRefusal}
+use Rattle.subcommands.specs.Check.Checking.{IsFirstRefusal}
 use Rattle.subcommands.specs.Check.Refusals.{refused_line}
 use Rattle.subcommands.specs.Output.{StopsText, WritesFirst, ended}
 use Rattle.subcommands.specs.Parts.{Cut, lines_of, two_parts}
-use Rattle.subcommands.specs.Requests.{EndsRequest}
+use Rattle.subcommands.specs.Requests.{EndsRequest, IsAnswer}
+use Rattle.subcommands.specs.declared.arguments.Request.{Request}
 use Rattle.subcommands.specs.declared.arguments.Request.TheVariants.{Check}
 use Rattle.subcommands.specs.declared.failure.Failure.{Failure}
 use Rattle.subcommands.specs.declared.failure.Failure.TheVariants as f
 use Rattle.subcommands.specs.declared.failure.Status.{Status}
 use Rattle.subcommands.specs.declared.failure.Status.TheVariants.{Done, Refused}
 
--- the line of a check is written, or its writing stops
-line_ends : (input line : List ℕ) (status : Status) (old new : Option (List ℕ)) (result : Result Status Failure) → IsCheck input (line ∷ []) status → IfOk result (λ s. s ≡ status)
-    → OnOk result (Appends old new (ended line)) → IfErr result (StopsText (ended line) old new) → EndsRequest Check input old new result
-line_ends input line status old new (Ok told) is same appends stops = record {
+-- the one line of an answer is written, or its writing stops
+pub line_ends : (request : Request) (input line : List ℕ) (status : Status) (old new : Option (List ℕ)) (result : Result Status Failure) → IsAnswer request input (line ∷ []) status
+    → IfOk result (λ s. s ≡ status) → OnOk result (Appends old new (ended line)) → IfErr result (StopsText (ended line) old new) → EndsRequest request input old new result
+line_ends request input line status old new (Ok told) is same appends stops = record {
   lines = line ∷ [];
-  whole = subst (λ (s : Status). IsCheck input (line ∷ []) s) (sym same) is;
+  whole = subst (λ (s : Status). IsAnswer request input (line ∷ []) s) (sym same) is;
   appends = subst (λ (t : List ℕ). Appends old new t) (sym (text_of-one line)) appends;
 }
-line_ends input line status old new (Err (f.CommandLine why)) is same appends stops = absurd stops
-line_ends input line status old new (Err (f.Input fault)) is same appends stops = absurd stops
-line_ends input line status old new (Err f.OutOfMemory) is same appends stops = out_of_memory Check input old new stops
-line_ends input line status old new (Err f.Output) is same appends stops = record {
+line_ends request input line status old new (Err (f.CommandLine why)) is same appends stops = absurd stops
+line_ends request input line status old new (Err (f.Input fault)) is same appends stops = absurd stops
+line_ends request input line status old new (Err f.OutOfMemory) is same appends stops = out_of_memory request input old new stops
+line_ends request input line status old new (Err f.Output) is same appends stops = record {
   lines = line ∷ [];
   part = inr (status, is);
   first = subst (λ (t : List ℕ). WritesFirst t old new) (sym (text_of-one line)) stops;
@@ -45,13 +46,13 @@ module _ (input : List ℕ) (cut : Cut) (catalog : CatalogOf Expr) (parts : two_
   pub accepted : (old new : Option (List ℕ)) (result : Result Status Failure) → IsSound catalog → IsFirstRefusal catalog (trees_in (lines_of cut.rest)) None → IfOk result (λ s. s ≡ Done)
       → OnOk result (Appends old new (ended (codes "accepted"))) → IfErr result (StopsText (ended (codes "accepted")) old new) → EndsRequest Check input old new result
   accepted old new result sound unrefused same appends stops =
-      line_ends input (codes "accepted") Done old new result
+      line_ends Check input (codes "accepted") Done old new result
       (record { cut = cut; catalog = catalog; parts = parts; reads = reads; certificates = certificates; verdict = record { sound = sound; unrefused = unrefused; are = refl } })
       same appends stops
 
   pub refused : (error : CheckError) (old new : Option (List ℕ)) (result : Result Status Failure) → IsFirstRefusal catalog (trees_in (lines_of cut.rest)) (Some error) → ShardingIsWrong catalog (plan_of catalog) (trees_in (lines_of cut.rest)) error → IfOk result (λ s. s ≡ Refused)
       → OnOk result (Appends old new (ended (refused_line catalog error))) → IfErr result (StopsText (ended (refused_line catalog error)) old new) → EndsRequest Check input old new result
   refused error old new result refusal wrong same appends stops =
-      line_ends input (refused_line catalog error) Refused old new result
+      line_ends Check input (refused_line catalog error) Refused old new result
       (record { cut = cut; catalog = catalog; parts = parts; reads = reads; certificates = certificates; verdict = record { error = error; refusal = refusal; wrong = wrong; are = refl } })
       same appends stops

@@ -1,5 +1,6 @@
--- What the words of a command line ask, as the crate `clap` reads words: the subcommand `eval`, and for it a table's name and the flag `--insert`, in any order, or the subcommand `check` or `make`, and nothing for it; or the help or the version.
-use Rattle.std.specs.Prelude.{◌≡◌, ◌≢◌, ◌⊎◌, true, List, Option, Some, codes}
+-- What the words of a command line ask, as the crate `clap` reads words: the subcommand `eval`, and for it a table's name and the flag `--insert`, in any order; or `check` or `make`, and nothing for it; or `simulate`, and for it `--limit` and a number, or nothing; or the help or the version.
+use Rattle.std.specs.Prelude.{◌≡◌, ◌≢◌, ◌≤◌, ◌⊎◌, ℕ, true, List, Option, Some, None, codes}
+use Rattle.std.specs.Str.Parse.{IsNumeral, digits_value, without_leading_plus}
 use Rattle.clap.specs.Words.{App, IsAmong, Row, Rule, Text, fault_of, first_of, new_app, new_rule, one_of, subcommand_of, with_rule, with_subcommand}
 use Rattle.clap.specs.Simple.{on_top}
 use Rattle.clap.specs.declared.builder.action.ArgAction.TheVariants.{Set, SetTrue}
@@ -10,7 +11,7 @@ use Rattle.subcommands.specs.declared.arguments.Asked.TheVariants.{Help, Answer}
 use Rattle.subcommands.specs.declared.arguments.RowOutput.{RowOutput}
 use Rattle.subcommands.specs.declared.arguments.RowOutput.TheVariants.{Answers, Insert}
 use Rattle.subcommands.specs.declared.arguments.Request.{Request}
-use Rattle.subcommands.specs.declared.arguments.Request.TheVariants.{Eval, Check, Make}
+use Rattle.subcommands.specs.declared.arguments.Request.TheVariants.{Eval, Check, Make, Simulate}
 use Rattle.subcommands.specs.declared.failure.Failure.{Failure}
 use Rattle.subcommands.specs.declared.failure.Failure.TheVariants as f
 
@@ -29,11 +30,17 @@ check = new_app (codes "check")
 abbrev pub make : App
 make = new_app (codes "make")
 
+abbrev pub limit_rule : Rule
+limit_rule = record (new_rule (codes "limit")) { long = Some (codes "limit"); value_names = 1; action = Some Set }
+
+abbrev pub simulate : App
+simulate = with_rule (new_app (codes "simulate")) limit_rule
+
 abbrev pub bare : App
 bare = on_top (λ top. record top { has_version = true; propagate_version = true; subcommand_required = true }) (new_app (codes "pgshard"))
 
 abbrev pub pgshard : App
-pgshard = with_subcommand (with_subcommand (with_subcommand bare eval.top) check.top) make.top
+pgshard = with_subcommand (with_subcommand (with_subcommand (with_subcommand bare eval.top) check.top) make.top) simulate.top
 
 -- ---- what is asked of the input
 
@@ -47,6 +54,40 @@ abbrev pub IsEval : List Row → Request → Type 0
 IsEval found (Eval table wanted) = HasArguments found table.now wanted
 IsEval found Check = ⊥
 IsEval found Make = ⊥
+IsEval found (Simulate limit) = ⊥
+
+-- a number of commits that a log may take
+pub record IsWithin (limit : ℕ) : Type 0 where
+  pub some : 1 ≤ limit
+  pub most : limit ≤ 1000000000
+
+-- it is what the word spells in decimal digits, after which there is nothing; a plus may be before them
+pub record SpellsLimit (word : Text) (limit : ℕ) : Type 0 where
+  pub numeral : IsNumeral 10 (without_leading_plus word)
+  pub is : limit ≡ digits_value 10 (without_leading_plus word)
+  pub within : IsWithin limit
+
+-- where no word is given it is 1,000,000
+abbrev pub IsLimit : Option Text → ℕ → Type 0
+IsLimit None limit = limit ≡ 1000000
+IsLimit (Some word) limit = SpellsLimit word limit
+
+-- the argument of `simulate` is this limit
+abbrev pub HasLimit : List Row → ℕ → Type 0
+HasLimit found limit = IsLimit (first_of (codes "limit") found) limit
+
+abbrev pub IsSimulate : List Row → Request → Type 0
+IsSimulate found (Simulate limit) = HasLimit found limit
+IsSimulate found (Eval table wanted) = ⊥
+IsSimulate found Check = ⊥
+IsSimulate found Make = ⊥
+
+-- what is asked can be done
+abbrev pub CanDo : Request → Type 0
+CanDo (Eval table wanted) = Unit {0}
+CanDo Check = Unit {0}
+CanDo Make = Unit {0}
+CanDo (Simulate limit) = IsWithin limit
 
 -- what is taken is `eval` with its arguments
 pub record TakesEval (taken : Option (Text × List Row)) (word : Text) (wanted : RowOutput) : Type 0 where
@@ -59,10 +100,17 @@ pub record Takes (taken : Option (Text × List Row)) (name : Text) : Type 0 wher
   pub found : List Row
   pub is : taken ≡ Some (name, found)
 
+-- what is taken is `simulate` with its argument
+pub record TakesSimulate (taken : Option (Text × List Row)) (limit : ℕ) : Type 0 where
+  pub found : List Row
+  pub is : taken ≡ Some (codes "simulate", found)
+  pub argument : HasLimit found limit
+
 abbrev pub IsTaken : Option (Text × List Row) → Request → Type 0
 IsTaken taken (Eval table wanted) = TakesEval taken table.now wanted
 IsTaken taken Check = Takes taken (codes "check")
 IsTaken taken Make = Takes taken (codes "make")
+IsTaken taken (Simulate limit) = TakesSimulate taken limit
 
 abbrev pub IsRequest : List Text → Request → Type 0
 IsRequest words request = IsTaken (subcommand_of pgshard words) request

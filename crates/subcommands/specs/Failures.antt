@@ -37,6 +37,7 @@ fault_line i.Parts = codes "input"
 fault_line (i.Catalog error) = counted (codes "catalog") error.place ++ 32 ∷ kind_name error.kind
 fault_line (i.Table word) = codes "table " ++ word.now
 fault_line (i.Certificate line error) = counted (codes "certificate") line ++ 32 ∷ error_name error
+fault_line (i.Script error) = counted (codes "script") error.place ++ 32 ∷ kind_name error.kind
 
 -- For a command line that asks nothing there is a line, and then the text that says why. Where the writer failed nothing more is written.
 abbrev pub failure_lines : Failure → List (List ℕ)

@@ -10,3 +10,4 @@ pub mod Outcomes
 pub mod Output
 pub mod Parts
 pub mod Requests
+pub mod Simulate

@@ -54,3 +54,23 @@ only_cut (Some cut) = if is_none (cut_of cut.rest) then Some cut else None
 -- the parts of a text that has two
 abbrev pub two_parts : List ℕ → Option Cut
 two_parts text = only_cut (cut_of text)
+
+-- ---- three parts
+
+pub record CutTwice : Type 0 where
+  pub first : List ℕ
+  pub second : List ℕ
+  pub third : List ℕ
+
+abbrev pub after_part : List ℕ → Option Cut → Option CutTwice
+after_part first None = None
+after_part first (Some cut) = Some (record { first = first; second = cut.part; third = cut.rest })
+
+-- a cut whose rest has two parts
+abbrev pub cut_again : Option Cut → Option CutTwice
+cut_again None = None
+cut_again (Some cut) = after_part cut.part (two_parts cut.rest)
+
+-- the parts of a text that has three
+abbrev pub three_parts : List ℕ → Option CutTwice
+three_parts text = cut_again (cut_of text)

@@ -5,8 +5,9 @@ use Rattle.subcommands.specs.CommandLine.{IsRequest}
 use Rattle.subcommands.specs.Eval.Evaluation as evaluation
 use Rattle.subcommands.specs.Make.Making as making
 use Rattle.subcommands.specs.Output.{Ends}
+use Rattle.subcommands.specs.Simulate.Simulation as simulation
 use Rattle.subcommands.specs.declared.arguments.Request.{Request}
-use Rattle.subcommands.specs.declared.arguments.Request.TheVariants.{Eval, Check, Make}
+use Rattle.subcommands.specs.declared.arguments.Request.TheVariants.{Eval, Check, Make, Simulate}
 use Rattle.subcommands.specs.declared.failure.Failure.{Failure}
 use Rattle.subcommands.specs.declared.failure.Failure.TheVariants as f
 use Rattle.subcommands.specs.declared.failure.InputFault.{InputFault}
@@ -20,18 +21,21 @@ abbrev pub IsAnswer : Request → List ℕ → List (List ℕ) → Status → Ty
 IsAnswer (Eval table wanted) input lines status = evaluation.IsEvaluation wanted input table.now [] lines status
 IsAnswer Check input lines status = checking.IsCheck input lines status
 IsAnswer Make input lines status = making.IsMaking input 0 lines status
+IsAnswer (Simulate limit) input lines status = simulation.IsSimulation limit input [] lines status
 
 -- the lines are the first of an answer, and some are missing; before the first line nothing is known of the input
 abbrev pub IsBegun : Request → List ℕ → List (List ℕ) → Type 0
 IsBegun (Eval table wanted) input lines = (lines ≡ []) ⊎ evaluation.IsBegunEvaluation wanted input table.now lines
 IsBegun Check input lines = lines ≡ []
 IsBegun Make input lines = (lines ≡ []) ⊎ making.IsBegunMaking input lines
+IsBegun (Simulate limit) input lines = (lines ≡ []) ⊎ simulation.IsBegunSimulation limit input lines
 
 -- the input has this fault
 abbrev pub IsFault : Request → List ℕ → InputFault → Type 0
 IsFault (Eval table wanted) input fault = evaluation.IsFault input table.now fault
 IsFault Check input fault = checking.IsFault input fault
 IsFault Make input fault = making.IsFault input fault
+IsFault (Simulate limit) input fault = simulation.IsFault input fault
 
 -- the request is answered of this input, as far as memory and the writer go, or the input has a fault and nothing is written
 abbrev pub EndsRequest : Request → List ℕ → Option (List ℕ) → Option (List ℕ) → Result Status Failure → Type 0
@@ -73,6 +77,7 @@ IsReason words known i.Parts = HasFault words known i.Parts
 IsReason words known (i.Catalog error) = HasFault words known (i.Catalog error)
 IsReason words known (i.Table name) = HasFault words known (i.Table name)
 IsReason words known (i.Certificate line error) = HasFault words known (i.Certificate line error)
+IsReason words known (i.Script error) = HasFault words known (i.Script error)
 
 -- reading the input stops because it is not read, or for want of memory
 abbrev pub IsOfReading : Failure → Type 0

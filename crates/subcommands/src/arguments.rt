@@ -1,9 +1,9 @@
 //! The command line.
 
-ghost use Rattle.std.specs.Prelude.{◌≡◌, None, false, IfErr, IfOk, IfSome, codes, map};
+ghost use Rattle.std.specs.Prelude.{◌≡◌, ℕ, None, false, IfErr, IfOk, IfSome, codes, map};
 ghost use Rattle.clap.specs.Words.{app_of, first_of, found_of, kind_of, rows_of, subcommand_rows_of};
 ghost use Rattle.clap.specs.declared.builder.command.Command.TheViews.{out-Command};
-ghost use Rattle.subcommands.specs.CommandLine.{eval, pgshard, IsAsking, IsEval, IsHelp, IsHelpKind, IsOfError, IsOfWords, IsTaken};
+ghost use Rattle.subcommands.specs.CommandLine.{eval, pgshard, simulate, HasLimit, IsAsking, IsEval, IsHelp, IsHelpKind, IsOfError, IsOfWords, IsSimulate, IsTaken, SpellsLimit};
 ghost use Rattle.subcommands.specs.declared.arguments.Request.{Request as RequestType};
 
 use crate::failure::Failure;
@@ -30,6 +30,8 @@ pub enum Request<'a> {
     Check,
     /// Look for the certificates of a sharding.
     Make,
+    /// Make the steps of a script, with a log of at most so many commits.
+    Simulate { limit: u32 },
 }
 
 /// What the words of a command line ask.
@@ -42,7 +44,8 @@ pub enum Asked<'a> {
 
 const INPUT_HELP: &str =
     "The input comes from the standard input. Its parts are separated by lines that are exactly %%:
-eval takes a catalog and rows, check a catalog and certificates, make a catalog alone.
+eval takes a catalog and rows, check a catalog and certificates, make a catalog alone,
+simulate a catalog, certificates and a script.
 A catalog is SQL: CREATE SCHEMA, TABLE, PUBLICATION and SUBSCRIPTION, and ALTER TABLE .. REPLICA IDENTITY.
 
 Exit status:
@@ -72,10 +75,27 @@ fn eval_command<'a>(alloc: Global) -> Result<Command<'a>, AllocError>
         .arg(insert)
 }
 
+fn simulate_command<'a>(alloc: Global) -> Result<Command<'a>, AllocError>
+    ensures shape { IfOk result (λ command. app_of command ≡ simulate) }
+    ensures local { IfOk result (λ command. (out-Command command).has_globals ≡ false) }
+{
+    let limit = Arg::new(alloc, "limit")
+        .long("limit")
+        .value_name("N")
+        .help("the most commits that the log takes: 1 to 1000000000, 1000000 where it is not said")
+        .action(ArgAction::Set);
+    Command::new(alloc, "simulate")
+        .about(
+            "reads a catalog, certificates and a script, with a line %% between, and tells what becomes of each step",
+        )
+        .arg(limit)
+}
+
 fn command<'a>(alloc: Global) -> Result<Command<'a>, AllocError>
     ensures { IfOk result (λ command. app_of command ≡ pgshard) }
 {
     let eval = eval_command(alloc)?;
+    let simulate = simulate_command(alloc)?;
     let check = Command::new(alloc, "check").about(
         "reads a catalog, a line %% and certificates, and tells whether each row has one subscriber",
     );
@@ -92,7 +112,8 @@ fn command<'a>(alloc: Global) -> Result<Command<'a>, AllocError>
         .subcommand_required(true)
         .subcommand(eval)?
         .subcommand(check)?
-        .subcommand(make)
+        .subcommand(make)?
+        .subcommand(simulate)
 }
 
 /// The text of an error for the user, without a newline at its end.
@@ -129,6 +150,37 @@ fn eval_request<'a>(eval: &ArgMatches<'a>) -> Option<Request<'a>>
     Some(Request::Eval { table, wanted })
 }
 
+/// The most commits that a log may take.
+const MAX_LIMIT: u32 = 1_000_000_000;
+
+/// How many commits a log takes where it is not said.
+const LIMIT: u32 = 1_000_000;
+
+/// The number of commits that a word spells, if a log may take so many.
+fn read_limit(word: &str) -> Option<u32>
+    ensures some { IfSome result (SpellsLimit word.now) }
+    ensures none { result ≡ None → (limit : ℕ) → SpellsLimit word.now limit → ⊥ }
+{
+    match word.parse::<u32>() {
+        Ok(limit) if 1 <= limit && limit <= MAX_LIMIT => Some(limit),
+        _ => None,
+    }
+}
+
+/// What the arguments of `simulate` ask.
+fn simulate_request<'a>(simulate: &ArgMatches<'a>) -> Option<Request<'a>>
+    ensures some { IfSome result (IsSimulate (rows_of (found_of simulate.now))) }
+    ensures none { result ≡ None → (limit : ℕ) → HasLimit (rows_of (found_of simulate.now)) limit → ⊥ }
+{
+    match simulate.get_str("limit") {
+        Some(word) => {
+            let limit = read_limit(word)?;
+            Some(Request::Simulate { limit })
+        }
+        None => Some(Request::Simulate { limit: LIMIT }),
+    }
+}
+
 /// What is asked by the subcommand that the words name.
 fn request_of<'a>(matches: &ArgMatches<'a>) -> Option<Request<'a>>
     ensures some { IfSome result (IsTaken (subcommand_rows_of matches.now)) }
@@ -143,6 +195,9 @@ fn request_of<'a>(matches: &ArgMatches<'a>) -> Option<Request<'a>>
     if matches.subcommand_matches("make").is_some() {
         return Some(Request::Make);
     }
+    if let Some(simulate) = matches.subcommand_matches("simulate") {
+        return simulate_request(simulate);
+    }
     None
 }
 
@@ -151,7 +206,8 @@ fn request_of<'a>(matches: &ArgMatches<'a>) -> Option<Request<'a>>
 /// # Errors
 ///
 /// `CommandLine` where the words are neither `check` or `make` alone, nor `eval`, a table's name and at most one `--insert`,
-/// nor ask for the help or the version, with a text for the user; `OutOfMemory`.
+/// nor `simulate` and at most one `--limit` of 1 to 1,000,000,000, nor ask for the help or the version, with a text for the
+/// user; `OutOfMemory`.
 pub fn parse<'a, S: AsStr>(alloc: Global, words: &'a [S]) -> Result<Asked<'a>, Failure<'a>>
     ensures asked { IfOk result (IsAsking (map S.text words.entry.now)) }
     ensures stopped { IfErr result (IsOfWords (map S.text words.entry.now)) }
@@ -165,7 +221,7 @@ pub fn parse<'a, S: AsStr>(alloc: Global, words: &'a [S]) -> Result<Asked<'a>, F
         Some(request) => Ok(Asked::Answer(request)),
         None => Err(Failure::CommandLine(String::from_str(
             alloc,
-            "expected eval TABLE, check or make",
+            "expected eval TABLE, check, make or simulate, and a limit of 1 to 1000000000",
         )?)),
     }
 }

@@ -1,10 +1,11 @@
 //! `check`: whether a sharding is sound, by the certificates of its tables.
 
-ghost use Rattle.std.specs.Prelude.{◌≡◌, IfErr, IfOk, IfSome, OnOk, None, codes};
+ghost use Rattle.std.specs.Prelude.{◌≡◌, IfErr, IfOk, OnOk, None, Some, codes};
 ghost use Rattle.std.specs.Io.KnownBytes.{Appends};
 ghost use Rattle.pub_reader.specs.CatalogView.{catalog_view};
 ghost use Rattle.replica_identity.specs.Plans.{plan_of};
 ghost use Rattle.shard_checker.specs.CatalogTruth.{ShardingIsWrong};
+ghost use Rattle.shard_checker.specs.CheckedView.{checked_view};
 ghost use Rattle.shard_checker.specs.Sound.{IsSound};
 ghost use Rattle.shard_checker.specs.Texts.{text_fault, texts_view, trees_in};
 ghost use Rattle.subcommands.specs.Check.Certificates as certificates;
@@ -25,12 +26,12 @@ use crate::output::write_line;
 use crate::parts::{Lines, two_parts};
 use pub_reader::{Catalog, read_catalog};
 use replica_identity::plan;
-use shard_checker::{CheckError, TextError, check_text};
+use shard_checker::{CheckError, Checked, TextError, check_text};
 use std::alloc::{AllocError, Global};
 use std::io::Write;
 
 /// The lines of a text.
-fn lines_of(alloc: Global, text: &str) -> Result<Vec<&str>, AllocError>
+pub fn lines_of(alloc: Global, text: &str) -> Result<Vec<&str>, AllocError>
     ensures { IfOk result (λ lines. texts_view lines.items ≡ parts.lines_of text.now) }
 {
     let mut lines = Vec::new(alloc);
@@ -41,7 +42,7 @@ fn lines_of(alloc: Global, text: &str) -> Result<Vec<&str>, AllocError>
 }
 
 /// The refusal that the error of a check is.
-fn refusal_in<'a>(error: TextError) -> Result<Option<CheckError>, Failure<'a>>
+fn refusal_in<'a>(error: TextError) -> Result<CheckError, Failure<'a>>
     ensures { result ≡ certificates.refusal_in error }
 {
     match error {
@@ -50,28 +51,33 @@ fn refusal_in<'a>(error: TextError) -> Result<Option<CheckError>, Failure<'a>>
             error,
         })),
         TextError::Check(CheckError::OutOfMemory) => Err(Failure::OutOfMemory),
-        TextError::Check(refusal) => Ok(Some(refusal)),
+        TextError::Check(refusal) => Ok(refusal),
     }
 }
 
-/// The first reason to refuse the sharding of a catalog by the texts of certificates, if there is one.
-fn refusal_of<'a>(
+/// A sharding that is accepted by the texts of certificates, or the first reason to refuse it.
+pub fn verdict_of<'a>(
     alloc: Global,
     catalog: Catalog,
     texts: &[&str],
-) -> Result<Option<CheckError>, Failure<'a>>
+) -> Result<Result<Checked, CheckError>, Failure<'a>>
     ensures read { OnOk result (text_fault 1 (texts_view texts.now) ≡ None) }
-    ensures sound { IfOk result (λ refusal. refusal ≡ None → IsSound (catalog_view catalog)) }
-    ensures first { IfOk result (spec.IsFirstRefusal (catalog_view catalog) (trees_in (texts_view texts.now))) }
-    ensures wrong { IfOk result (λ refusal. IfSome refusal (ShardingIsWrong (catalog_view catalog)
+    ensures sound { IfOk result (λ verdict. OnOk verdict (IsSound (catalog_view catalog))) }
+    ensures kept { IfOk result (λ verdict. IfOk verdict (λ checked. checked_view checked
+        ≡ spec.checked_by (catalog_view catalog))) }
+    ensures unrefused { IfOk result (λ verdict. OnOk verdict (spec.IsFirstRefusal (catalog_view catalog)
+        (trees_in (texts_view texts.now)) None)) }
+    ensures refused { IfOk result (λ verdict. IfErr verdict (λ error. spec.IsFirstRefusal (catalog_view catalog)
+        (trees_in (texts_view texts.now)) (Some error))) }
+    ensures wrong { IfOk result (λ verdict. IfErr verdict (ShardingIsWrong (catalog_view catalog)
         (plan_of (catalog_view catalog)) (trees_in (texts_view texts.now)))) }
     ensures err { IfErr result (IsOfLines (texts_view texts.now)) }
 {
     let plan = plan(alloc, &catalog)?;
-    let Err(error) = check_text(alloc, catalog, plan, texts) else {
-        return Ok(None);
-    };
-    refusal_in(error)
+    match check_text(alloc, catalog, plan, texts) {
+        Ok(checked) => Ok(Ok(checked)),
+        Err(error) => Ok(Err(refusal_in(error)?)),
+    }
 }
 
 fn write_accepted<'a, W: Write>(alloc: Global, writer: &mut W) -> Result<Status, Failure<'a>>
@@ -85,7 +91,8 @@ fn write_accepted<'a, W: Write>(alloc: Global, writer: &mut W) -> Result<Status,
     Ok(Status::Done)
 }
 
-fn write_refused<'a, W: Write>(
+/// Writes the line of a refusal, by the names of its catalog.
+pub fn write_refused<'a, W: Write>(
     alloc: Global,
     catalog: &Catalog,
     refusal: CheckError,
@@ -115,9 +122,9 @@ pub fn check_input<'a, W: Write>(
     let (text, lines) = two_parts(input).ok_or(InputFault::Parts)?;
     let catalog = read_catalog(alloc, text)?;
     let texts = lines_of(alloc, lines)?;
-    match refusal_of(alloc, catalog, texts.as_slice())? {
-        None => write_accepted(alloc, writer),
-        Some(refusal) => {
+    match verdict_of(alloc, catalog, texts.as_slice())? {
+        Ok(_) => write_accepted(alloc, writer),
+        Err(refusal) => {
             let catalog = read_catalog(alloc, text)?;
             write_refused(alloc, &catalog, refusal, writer)
         }

@@ -36,6 +36,8 @@ pub enum InputFault<'a> {
     Table(&'a str),
     /// The line of this number, from 1, of the certificates is none.
     Certificate { line: usize, error: CertError },
+    /// The part that has to be a script is none.
+    Script(ReadError),
 }
 
 impl fmt::Display for InputFault<'_> {
@@ -56,6 +58,11 @@ impl fmt::Display for InputFault<'_> {
             InputFault::Certificate { line, error } => {
                 let name = error.name();
                 write!(f, "certificate {line} {name}")
+            }
+            InputFault::Script(error) => {
+                let place = error.place;
+                let name = error.kind.name();
+                write!(f, "script {place} {name}")
             }
         }
     }

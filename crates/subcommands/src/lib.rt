@@ -13,6 +13,7 @@ mod output;
 mod parts;
 mod program;
 mod reading;
+mod simulate;
 
 pub use failure::{Failure, InputFault, Status};
 pub use input::Input;

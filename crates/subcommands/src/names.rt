@@ -57,14 +57,23 @@ pub fn push_word(line: &mut String, word: &str) -> Result<(), AllocError>
     line.push_str(word)
 }
 
-/// Writes a space, and the name of a table after that of its schema.
-fn push_table_name(line: &mut String, table: &Table) -> Result<(), AllocError>
-    ensures { OnOk result (string_bytes line.new ≡ string_bytes line.old ++ spec.spaced
-        (spec.table_named (Some table.now) ∷ [])) }
+/// Writes the name of a table after that of its schema.
+fn push_named(line: &mut String, table: &Table) -> Result<(), AllocError>
+    ensures { OnOk result (string_bytes line.new ≡ string_bytes line.old ++ spec.table_named (Some table.now)) }
 {
-    push_word(line, table.schema.as_str())?;
+    line.push_str(table.schema.as_str())?;
     line.push('.')?;
     line.push_str(table.name.as_str())
+}
+
+/// Writes the name of the table of this number.
+pub fn push_table_name(line: &mut String, tables: &[Table], number: usize) -> Result<(), AllocError>
+    ensures { OnOk result (string_bytes line.new ≡ string_bytes line.old ++ spec.table_name tables.now number) }
+{
+    match tables.get(number) {
+        None => Ok(()),
+        Some(table) => push_named(line, table),
+    }
 }
 
 /// Writes a space, and the name of the table of this number.
@@ -72,8 +81,6 @@ pub fn push_table(line: &mut String, tables: &[Table], number: usize) -> Result<
     ensures { OnOk result (string_bytes line.new ≡ string_bytes line.old ++ spec.spaced
         (spec.table_name tables.now number ∷ [])) }
 {
-    match tables.get(number) {
-        None => push_word(line, ""),
-        Some(table) => push_table_name(line, table),
-    }
+    line.push(' ')?;
+    push_table_name(line, tables, number)
 }

@@ -75,3 +75,13 @@ pub fn two_parts(text: &str) -> Option<(&str, &str)>
         Some(_) => None,
     }
 }
+
+/// The three parts of a text that has two lines which are exactly `%%`.
+pub fn three_parts(text: &str) -> Option<(&str, &str, &str)>
+    ensures { option_map (λ cut. record { first = cut.0.now; second = cut.1.now; third = cut.2.now }) result
+        ≡ spec.three_parts text.now }
+{
+    let (first, rest) = cut(text)?;
+    let (second, third) = two_parts(rest)?;
+    Some((first, second, third))
+}

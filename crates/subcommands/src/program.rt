@@ -2,6 +2,7 @@
 
 ghost use Rattle.std.specs.Prelude.{◌≡◌, IfOk, map};
 ghost use Rattle.std.specs.String.{string_bytes};
+ghost use Rattle.subcommands.specs.CommandLine.{CanDo};
 ghost use Rattle.subcommands.specs.Failures.{failure_lines};
 ghost use Rattle.subcommands.specs.InputView.{reader_of};
 ghost use Rattle.subcommands.specs.Outcomes.{IsEnding, IsOutcome, IsReport, IsRun, IsWritten};
@@ -16,6 +17,7 @@ use crate::input::Input;
 use crate::make::make_input;
 use crate::output::{write_line, write_text};
 use crate::reading::read_input;
+use crate::simulate::simulate;
 use std::alloc::{AllocError, Global};
 use std::convert::AsStr;
 use std::io::{Read, Write};
@@ -27,12 +29,14 @@ fn answer<'a, W: Write>(
     input: &str,
     writer: &mut W,
 ) -> Result<Status, Failure<'a>>
+    requires { CanDo request }
     ensures { EndsRequest request.entry input.now (W.contents writer.old) (W.contents writer.new) result }
 {
     match request {
         Request::Eval { table, wanted } => evaluate(alloc, table, wanted, input, writer),
         Request::Check => check_input(alloc, input, writer),
         Request::Make => make_input(alloc, input, writer),
+        Request::Simulate { limit } => simulate(alloc, limit, input, writer),
     }
 }
 

@@ -1,4 +1,4 @@
-"""Catalogs that several topics share."""
+"""Catalogs that several topics share, and a certificate."""
 
 # Cuts a table in two.
 BASE = """\
@@ -19,6 +19,20 @@ CREATE SUBSCRIPTION s0 CONNECTION '' PUBLICATION pa;
 CREATE SUBSCRIPTION s1 CONNECTION '' PUBLICATION pb;
 CREATE SUBSCRIPTION s2 CONNECTION '' PUBLICATION pc;
 """
+
+# Halves of a table whose rows are identified by a unique index, by the index's column.
+INDEXED = """\
+CREATE TABLE u (id integer, code text NOT NULL, note text, PRIMARY KEY (id));
+CREATE UNIQUE INDEX u_code ON u (code);
+ALTER TABLE u REPLICA IDENTITY USING INDEX u_code;
+CREATE PUBLICATION pa FOR TABLE u WHERE (code = 'a');
+CREATE PUBLICATION pb FOR TABLE u WHERE (code <> 'a');
+CREATE SUBSCRIPTION s0 CONNECTION '' PUBLICATION pa;
+CREATE SUBSCRIPTION s1 CONNECTION '' PUBLICATION pb;
+"""
+
+# A certificate of two halves that two conditions on one column name.
+C = "s 0 s 1 e 0 o 0 n 1 s 1 o 1 e 0 n 1 n 0\n"
 
 
 def halves(first: str, second: str) -> str:

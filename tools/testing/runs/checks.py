@@ -3,12 +3,9 @@
 from collections.abc import Iterator
 
 from .case import ACCEPTED, Case, two_parts
-from .catalogs import REGIONS, halves
+from .catalogs import C, INDEXED, REGIONS, halves
 
-# A certificate of two halves that two conditions on one column name.
-C = "s 0 s 1 e 0 o 0 n 1 s 1 o 1 e 0 n 1 n 0\n"
-
-# The same where the second half is named by two conditions.
+# As C, where the second half is named by two conditions.
 THREE = "s 0 s 1 e 0 s 2 e 0 o 0 n 2 n 1 s 1 o 1 s 2 o 1 e 0 n 2 n 1 n 0\n"
 
 # The same, but with the rows that neither of those two conditions takes left out.
@@ -73,18 +70,7 @@ CREATE SUBSCRIPTION s0 CONNECTION '' PUBLICATION pa;
 CREATE SUBSCRIPTION s1 CONNECTION '' PUBLICATION pb;
 """
 
-# Halves of a table whose rows are identified by a unique index, by the index's column.
-INDEXED = """\
-CREATE TABLE u (id integer, code text NOT NULL, note text, PRIMARY KEY (id));
-CREATE UNIQUE INDEX u_code ON u (code);
-ALTER TABLE u REPLICA IDENTITY USING INDEX u_code;
-CREATE PUBLICATION pa FOR TABLE u WHERE (code = 'a');
-CREATE PUBLICATION pb FOR TABLE u WHERE (code <> 'a');
-CREATE SUBSCRIPTION s0 CONNECTION '' PUBLICATION pa;
-CREATE SUBSCRIPTION s1 CONNECTION '' PUBLICATION pb;
-"""
-
-# The same, but that one half is by a column outside the index.
+# Rows are identified by an index, and one half is by a column outside it.
 BESIDE = """\
 CREATE TABLE u (id integer, code text NOT NULL, note text, PRIMARY KEY (id));
 CREATE UNIQUE INDEX u_code ON u (code);

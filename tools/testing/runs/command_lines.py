@@ -22,7 +22,12 @@ REFUSED: list[tuple[str, ...]] = [
     ("check", "check"),
     ("check", "--insert"),
     ("Check",),
+    ("simulate", "t"),
+    ("simulate", "--limit"),
 ]
+
+# Limits of a log that are none.
+LIMITS = ["0", "1000000001", "4294967297", "1e3"]
 
 # Words that ask for a help, and a part of it.
 HELP: list[tuple[tuple[str, ...], str]] = [
@@ -43,6 +48,8 @@ HELP: list[tuple[tuple[str, ...], str]] = [
     (("eval", "t", "-h"), "--insert"),
     (("check", "--help"), "a catalog, a line %% and certificates"),
     (("make", "--help"), "reads a catalog"),
+    (("--help",), "simulate a catalog, certificates and a script"),
+    (("simulate", "--help"), "--limit <N>"),
     (("help",), "standard input"),
 ]
 
@@ -58,6 +65,10 @@ def cases() -> Iterator[Case]:
     refused = Outline(begin="command line\nerror: ", end="try '--help'.\n")
     for words in REFUSED:
         yield Case(f"the words {words} are refused", words, BASE, 2, refused)
+    unlimited = Outline(begin="command line\nexpected eval TABLE", end="a limit of 1 to 1000000000\n", lines=2)
+    for limit in LIMITS:
+        words = ("simulate", "--limit", limit)
+        yield Case(f"the words {words} are refused", words, BASE, 2, unlimited)
     for words, part in HELP:
         yield Case(f"the words {words} have {part!r} shown", words, BASE, 0, Outline(within=part))
     for words, expected in VERSIONS:

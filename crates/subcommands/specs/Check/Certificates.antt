@@ -1,5 +1,5 @@
 -- Why there is no verdict over a sharding by the texts of its certificates: the first line that is none, or want of memory. The format is this project's own.
-use Rattle.std.specs.Prelude.{◌≡◌, ℕ, List, Option, Some, Result, Ok, Err}
+use Rattle.std.specs.Prelude.{◌≡◌, ℕ, List, Some, Result, Ok, Err}
 use Rattle.shard_checker.specs.Texts.{text_fault}
 use Rattle.shard_checker.specs.declared.error.CheckError.{CheckError}
 use Rattle.shard_checker.specs.declared.error.CheckError.TheVariants as c
@@ -10,11 +10,11 @@ use Rattle.subcommands.specs.declared.failure.Failure.TheVariants as f
 use Rattle.subcommands.specs.declared.failure.InputFault.TheVariants as i
 
 -- what the check's error is to the program: a refusal is an answer
-abbrev pub refusal_in_check : CheckError → Result (Option CheckError) Failure
+abbrev pub refusal_in_check : CheckError → Result CheckError Failure
 refusal_in_check c.OutOfMemory = Err f.OutOfMemory
-refusal_in_check refusal = Ok (Some refusal)
+refusal_in_check refusal = Ok refusal
 
-abbrev pub refusal_in : TextError → Result (Option CheckError) Failure
+abbrev pub refusal_in : TextError → Result CheckError Failure
 refusal_in (t.Text line error) = Err (f.Input (i.Certificate line error))
 refusal_in (t.Check error) = refusal_in_check error
 

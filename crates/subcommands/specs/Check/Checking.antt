@@ -7,6 +7,7 @@ use Rattle.sql_reader.specs.Written.{as_filter}
 use Rattle.replica_identity.specs.Plans.{plan_of}
 use Rattle.shard_checker.specs.CatalogRefusal.{sharding_refusal}
 use Rattle.shard_checker.specs.CatalogTruth.{ShardingIsWrong}
+use Rattle.shard_checker.specs.CheckedView.{CheckedOf}
 use Rattle.shard_checker.specs.Emptiness.{Test, IsEmptiness}
 use Rattle.shard_checker.specs.Sound.{IsSound}
 use Rattle.shard_checker.specs.Texts.{text_fault, trees_in}
@@ -21,6 +22,10 @@ use Rattle.subcommands.specs.declared.failure.InputFault.{InputFault}
 use Rattle.subcommands.specs.declared.failure.InputFault.TheVariants as i
 use Rattle.subcommands.specs.declared.failure.Status.{Status}
 use Rattle.subcommands.specs.declared.failure.Status.TheVariants.{Done, Refused}
+
+-- the catalog and its own plan
+abbrev pub checked_by : CatalogOf Expr → CheckedOf
+checked_by catalog = record { catalog = catalog; plan = plan_of catalog }
 
 -- this is the first reason to refuse the sharding of a catalog with these certificates, by the catalog's own plan; none where there is no reason
 abbrev pub IsFirstRefusal : CatalogOf Expr → List Tree → Option CheckError → Type 0
@@ -71,3 +76,4 @@ IsFault input i.Parts = two_parts input ≡ None
 IsFault input (i.Catalog error) = IsBadCatalog input error
 IsFault input (i.Table name) = ⊥
 IsFault input (i.Certificate number error) = IsBadCertificate input number error
+IsFault input (i.Script error) = ⊥

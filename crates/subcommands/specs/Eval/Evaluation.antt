@@ -121,3 +121,4 @@ IsFault input word i.Parts = two_parts input ≡ None
 IsFault input word (i.Catalog error) = IsBadCatalog input error
 IsFault input word (i.Table name) = IsUnknown input word × (name.now ≡ word)
 IsFault input word (i.Certificate line error) = ⊥
+IsFault input word (i.Script error) = ⊥

@@ -106,6 +106,7 @@ IsFault input i.Parts = cut_of input ≢ None
 IsFault input (i.Catalog error) = (cut_of input ≡ None) × Tells error (catalog_by as_filter input) × (is_none (told error) ≡ false)
 IsFault input (i.Table name) = ⊥
 IsFault input (i.Certificate number error) = ⊥
+IsFault input (i.Script error) = ⊥
 
 -- ---- the line of a table
 

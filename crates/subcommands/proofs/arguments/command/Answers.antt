@@ -22,4 +22,6 @@ returns c =
     c.in_ok-subcommand.ensures.shape c.in_ok-eval.ensures.local ∙ ap₂ with_subcommand required_is (ap (λ (a : App). a.top) c.in_ok-eval.ensures.shape) in
     let second_is : app_of c.in_ok-subcommand-2.field-0 ≡ with_subcommand (with_subcommand bare eval.top) check.top =
     c.in_ok-subcommand-2.ensures.shape (search rules) ∙ ap₂ with_subcommand first_is (ap (λ (a : App). a.top) check_is) in
-    IfOk-weaker c.subcommand-3.result _ _ (λ command adds. adds.shape (search rules) ∙ ap₂ with_subcommand second_is (ap (λ (a : App). a.top) make_is)) c.subcommand-3.ensures
+    let third_is : app_of c.in_ok-subcommand-3.field-0 ≡ with_subcommand (with_subcommand (with_subcommand bare eval.top) check.top) make.top =
+    c.in_ok-subcommand-3.ensures.shape (search rules) ∙ ap₂ with_subcommand second_is (ap (λ (a : App). a.top) make_is) in
+    IfOk-weaker c.subcommand-4.result _ _ (λ command adds. adds.shape c.in_ok-simulate.ensures.local ∙ ap₂ with_subcommand third_is (ap (λ (a : App). a.top) c.in_ok-simulate.ensures.shape)) c.subcommand-4.ensures

@@ -1,4 +1,4 @@
-use Rattle.std.proofs.Common.{rules, ℕ, ◌≡◌, ◌∙◌, List, Option, Some, None, OnOk, IfErr, sym, ap, subst}
+use Rattle.std.proofs.Common.{rules, ℕ, ◌≡◌, ◌∙◌, List, Some, None, OnOk, IfErr, sym, ap, subst}
 use Rattle.std.specs.Io.KnownBytes.{Appends}
 use Rattle.filter_tree.specs.Expr.{Expr}
 use Rattle.pub_reader.specs.CatalogView.{catalog_view}
@@ -6,7 +6,6 @@ use Rattle.pub_reader.specs.Catalogs.{CatalogOf}
 use Rattle.replica_identity.specs.Plans.{plan_of}
 use Rattle.shard_checker.specs.CatalogTruth.{ShardingIsWrong}
 use Rattle.shard_checker.specs.Texts.{text_fault, texts_view, trees_in}
-use Rattle.shard_checker.specs.declared.error.CheckError.{CheckError}
 use Rattle.subcommands.proofs.Verdicts.{accepted, refused}
 use Rattle.subcommands.specs.Check.Checking.{IsFirstRefusal}
 use Rattle.subcommands.specs.Check.Refusals.{refused_line}
@@ -14,17 +13,18 @@ use Rattle.subcommands.specs.Output.{StopsText, ended}
 use Rattle.subcommands.specs.Parts.{Cut, lines_of, two_parts}
 use Rattle.subcommands.proofs.check.check_input.Goals as goal
 
-pub returns-in-None : goal.returns-in-None
-returns-in-None g c =
+pub returns-in-Ok : goal.returns-in-Ok
+returns-in-Ok g c =
     let cut : Cut = record { part = c.in_ok-text.text.now; rest = c.in_ok-text.lines.now } in
     let parts : two_parts c.args.input.now ≡ Some cut = search rules in
     let catalog = catalog_view c.in_ok-catalog.catalog in
     let same : texts_view c.as_slice.result.now ≡ lines_of cut.rest = ap texts_view c.as_slice.ensures.value ∙ c.in_ok-texts.ensures in
-    let first = subst (λ (found : Option CheckError). IsFirstRefusal catalog (trees_in (texts_view c.as_slice.result.now)) found) c.in-None.is c.in_ok-refusal_of.ensures.first in
+    let sound = rw c.in-Ok.is at c.in_ok-verdict_of.ensures.sound in
+    let first = rw c.in-Ok.is at c.in_ok-verdict_of.ensures.unrefused in
     accepted c.args.input.now cut catalog parts c.in_ok-catalog.ensures.catalog
-    (ap (text_fault 1) (sym same) ∙ c.in_ok-refusal_of.ensures.read)
+    (ap (text_fault 1) (sym same) ∙ c.in_ok-verdict_of.ensures.read)
     (g.W.Write.contents c.args.writer.now) (g.W.Write.contents c.write_accepted.new.writer) c.write_accepted.result
-    (c.in_ok-refusal_of.ensures.sound c.in-None.is)
+    sound
     (subst (λ (lines : List (List ℕ)). IsFirstRefusal catalog (trees_in lines) None) same first)
     c.write_accepted.ensures.status c.write_accepted.ensures.written c.write_accepted.ensures.stopped
 
@@ -33,16 +33,16 @@ returns g c =
     let old = g.W.Write.contents c.args.writer.now in
     let new = g.W.Write.contents c.write_refused.new.writer in
     let result = c.write_refused.result in
-    let refusal = c.in-Some.refusal in
+    let refusal = c.in-Err.refusal in
     let cut : Cut = record { part = c.in_ok-text.text.now; rest = c.in_ok-text.lines.now } in
     let parts : two_parts c.args.input.now ≡ Some cut = search rules in
     let catalog = catalog_view c.in_ok-catalog.catalog in
-    let again : catalog_view c.in_ok-catalog-in-Some.catalog ≡ catalog = cc (c.in_ok-catalog.ensures.catalog, c.in_ok-catalog-in-Some.ensures.catalog) in
+    let again : catalog_view c.in_ok-catalog-in-Err.catalog ≡ catalog = cc (c.in_ok-catalog.ensures.catalog, c.in_ok-catalog-in-Err.ensures.catalog) in
     let same : texts_view c.as_slice.result.now ≡ lines_of cut.rest = ap texts_view c.as_slice.ensures.value ∙ c.in_ok-texts.ensures in
-    let first = subst (λ (found : Option CheckError). IsFirstRefusal catalog (trees_in (texts_view c.as_slice.result.now)) found) c.in-Some.is c.in_ok-refusal_of.ensures.first in
-    let wrong = rw c.in-Some.is at c.in_ok-refusal_of.ensures.wrong in
+    let first = rw c.in-Err.is at c.in_ok-verdict_of.ensures.refused in
+    let wrong = rw c.in-Err.is at c.in_ok-verdict_of.ensures.wrong in
     refused c.args.input.now cut catalog parts c.in_ok-catalog.ensures.catalog
-    (ap (text_fault 1) (sym same) ∙ c.in_ok-refusal_of.ensures.read)
+    (ap (text_fault 1) (sym same) ∙ c.in_ok-verdict_of.ensures.read)
     refusal old new result
     (subst (λ (lines : List (List ℕ)). IsFirstRefusal catalog (trees_in lines) (Some refusal)) same first)
     (subst (λ (lines : List (List ℕ)). ShardingIsWrong catalog (plan_of catalog) (trees_in lines) refusal) same wrong)

@@ -1,0 +1,174 @@
+-- What a step of a script does to the program's world, from what the world's own calls do.
+use Rattle.std.proofs.Common.{◌≡◌, ℕ, zero, suc, ◌+◌, ◌<◌, ◌≤◌, inl, inr, List, [], ◌∷◌, ◌++◌, length, map, replicate, refl, sym, ap, subst, ◌∙◌, append_assoc, append-nil, arith}
+use Rattle.std.specs.Prelude.{fold, false}
+use Rattle.std.proofs.lemmas.List.{map-append}
+use Rattle.filter_tree.specs.Expr.{Expr}
+use Rattle.pub_reader.specs.Catalogs.{CatalogOf}
+use Rattle.pub_reader.specs.Steps.{StepOf}
+use Rattle.shard_checker.specs.CheckedView.{CheckedOf}
+use Rattle.shard_world.proofs.ReportLemmas.{statuses_append, statuses_first}
+use Rattle.shard_world.specs.Pumping.{all_bytes, on_clock, pump_events, IsPosition, PumpsAll, PumpsOn, PumpsSome, Pumped, Ended}
+use Rattle.shard_world.specs.Viewing.{ShowsWorld}
+use Rattle.shard_world.specs.World as w
+use Rattle.shard_world.specs.World.{statuses_in, statuses_after, said_after}
+use Rattle.shard_world.specs.WorldCalls.{IsWorld, StepsOn, world_checked}
+use Rattle.shard_world.specs.declared.answer.Answer.{Answer}
+use Rattle.shard_world.specs.declared.answer.Answer.TheVariants.{At}
+use Rattle.shard_world.specs.declared.event.PeerEvent.{PeerEvent}
+use Rattle.shard_world.specs.declared.event.PeerEvent.TheVariants as p
+use Rattle.shard_world.specs.declared.view.View.{View}
+use Rattle.shard_world.specs.declared.world.World.{World}
+use Rattle.subcommands.specs.Output.{text_of}
+use Rattle.subcommands.specs.Simulate.Answers.{answer_line}
+use Rattle.subcommands.specs.Simulate.Asking as a
+use Rattle.subcommands.specs.Simulate.Asking.{AskedOf, asked_of}
+use Rattle.subcommands.specs.Simulate.Steps.{IsDone}
+use Rattle.subcommands.specs.Simulate.Views.{view_lines}
+use Rattle.subcommands.specs.Simulate.WorldSteps.{MakesOn}
+
+-- ---- how many statuses are said
+
+-- after so many
+abbrev said_on : ℕ → List (ℕ × w.Event) → ℕ
+said_on count events = fold (λ count event. statuses_after event.1 count) count events
+
+said_by_peer : (event : PeerEvent) (count : ℕ) → said_after event count ≤ count + 1
+said_by_peer p.Open count = omega arith
+said_by_peer (p.Hear bytes) count = omega arith
+said_by_peer p.Take count = omega arith
+said_by_peer (p.Keep want) count = omega arith
+said_by_peer (p.Deliver bytes) count = omega arith
+said_by_peer (p.Report want) count = omega arith
+said_by_peer p.Lose count = omega arith
+
+said_by_one : (event : w.Event) (count : ℕ) → statuses_after event count ≤ count + 1
+said_by_one (w.Commit commands time) count = omega arith
+said_by_one (w.On subscriber event) count = said_by_peer event count
+
+event_few : (events : List (ℕ × w.Event)) (now : ℕ) (event : w.Event) → statuses_in (events ++ (now, event) ∷ []) ≤ statuses_in events + 1
+event_few events now event = omega (arith, statuses_append events ((now, event) ∷ []) 0, said_by_one event (statuses_in events))
+
+said_taking : (now subscriber takes : ℕ) (more : List (ℕ × w.Event)) (count : ℕ) → said_on count (map (on_clock now subscriber) (replicate takes p.Take) ++ more) ≡ said_on count more
+said_taking now subscriber zero more count = refl
+said_taking now subscriber (suc takes) more count = said_taking now subscriber takes more count
+
+-- a pump says one
+said_pumping : (now subscriber takes count : ℕ) → said_on count (map (on_clock now subscriber) (pump_events takes)) ≡ count + 1
+said_pumping now subscriber takes count =
+    let last : List PeerEvent = p.Keep false ∷ p.Deliver all_bytes ∷ p.Report false ∷ p.Hear all_bytes ∷ [] in
+    ap (said_on count) (map-append (on_clock now subscriber) (replicate takes p.Take) last)
+    ∙ said_taking now subscriber takes (map (on_clock now subscriber) last) count
+
+pump_few : (events : List (ℕ × w.Event)) (now subscriber takes : ℕ) → statuses_in (events ++ map (on_clock now subscriber) (pump_events takes)) ≤ statuses_in events + 1
+pump_few events now subscriber takes =
+    omega (arith, statuses_append events (map (on_clock now subscriber) (pump_events takes)) 0, said_pumping now subscriber takes (statuses_in events))
+
+-- so does no more the first of it
+part_few : (events : List (ℕ × w.Event)) (now subscriber takes : ℕ) (done others : List PeerEvent) → done ++ others ≡ pump_events takes
+    → statuses_in (events ++ map (on_clock now subscriber) done) ≤ statuses_in events + 1
+part_few events now subscriber takes done others split =
+    let asked : List (ℕ × w.Event) = map (on_clock now subscriber) done in
+    let rest : List (ℕ × w.Event) = map (on_clock now subscriber) others in
+    let all : map (on_clock now subscriber) (pump_events takes) ≡ asked ++ rest =
+    ap (map (on_clock now subscriber)) (sym split) ∙ map-append (on_clock now subscriber) done others in
+    let whole : statuses_in ((events ++ asked) ++ rest) ≤ statuses_in events + 1 =
+    subst (λ (happened : List (ℕ × w.Event)). statuses_in happened ≤ statuses_in events + 1)
+    (ap (λ more. events ++ more) all ∙ sym (append_assoc events asked rest)) (pump_few events now subscriber takes) in
+    omega (arith, statuses_first (events ++ asked) rest)
+
+-- ---- a step
+
+module _ (before after : World) (now : ℕ) (step : StepOf) (text : List ℕ) where
+  asked_step : (most : ℕ) (asked : AskedOf) (world : w.World) (lines : List (List ℕ)) (next : w.World) → asked ≡ asked_of now step → IsDone (world_checked before) most now asked world lines next
+      → IsDone (world_checked before) most now (asked_of now step) world lines next
+  asked_step most asked world lines next is done = subst (λ (a : AskedOf). IsDone (world_checked before) most now a world lines next) is done
+
+  pub event_made : (event : w.Event) (answer : Answer) → a.Event event ≡ asked_of now step → StepsOn before after now event answer → text ≡ text_of (answer_line answer ∷ []) → MakesOn before after now step text
+  event_made event answer is steps text_is = λ most events world stands few.
+      let into = steps most events world stands (omega (arith, few)) in
+      record {
+        lines = answer_line answer ∷ [];
+        happened = (now, event) ∷ [];
+        next = into.next;
+        is_step = asked_step most (a.Event event) world (answer_line answer ∷ []) into.next is (record { answer = answer; steps = into.steps; are = refl });
+        is_world = into.is;
+        few = event_few events now event;
+        checked = into.checked;
+        text_is = text_is;
+      }
+
+  all_pumped : (subscriber position : ℕ) → a.Pump subscriber ≡ asked_of now step → PumpsAll before after now subscriber → IsPosition after subscriber position
+      → text ≡ text_of (answer_line (At position) ∷ []) → MakesOn before after now step text
+  all_pumped subscriber position is pumps at text_is = λ most events world stands few.
+      let asked : List (ℕ × w.Event) = map (on_clock now subscriber) (pump_events pumps.takes) in
+      let said : statuses_in (events ++ asked) ≤ statuses_in events + 1 = pump_few events now subscriber pumps.takes in
+      let into = pumps.all.runs most events world stands (omega (arith, few, said)) in
+      record {
+        lines = answer_line (At position) ∷ [];
+        happened = asked;
+        next = into.next;
+        is_step = asked_step most (a.Pump subscriber) world (answer_line (At position) ∷ []) into.next is
+            (inl (record {
+              takes = pumps.takes;
+              answers = pumps.all.answers;
+              position = position;
+              runs = into.runs;
+              position_is = λ there.
+                  subst (λ (c : CheckedOf). position ≡ w.position_now c into.next.transactions subscriber (into.next.peers subscriber)) into.checked
+                  (at (subst (λ (c : CheckedOf). subscriber < length c.plan) (sym into.checked) there) most (events ++ asked) into.next into.is);
+              are = refl;
+            }));
+        is_world = into.is;
+        few = said;
+        checked = into.checked;
+        text_is = text_is;
+      }
+
+  part_pumped : (subscriber : ℕ) (answer : Answer) → a.Pump subscriber ≡ asked_of now step → PumpsSome before after now subscriber answer
+      → text ≡ text_of (answer_line answer ∷ []) → MakesOn before after now step text
+  part_pumped subscriber answer is pumps text_is = λ most events world stands few.
+      let part = pumps.some in
+      let asked : List (ℕ × w.Event) = map (on_clock now subscriber) part.done in
+      let said : statuses_in (events ++ asked) ≤ statuses_in events + 1 = part_few events now subscriber pumps.takes part.done part.others part.are in
+      let into = part.runs most events world stands (omega (arith, few, said)) in
+      record {
+        lines = answer_line answer ∷ [];
+        happened = asked;
+        next = into.next;
+        is_step = asked_step most (a.Pump subscriber) world (answer_line answer ∷ []) into.next is
+            (inr (record {
+              takes = pumps.takes;
+              done = part.done;
+              others = part.others;
+              split = part.are;
+              earlier = part.answers;
+              answer = answer;
+              runs = into.runs;
+              are = refl;
+            }));
+        is_world = into.is;
+        few = said;
+        checked = into.checked;
+        text_is = text_is;
+      }
+
+  pub pump_made : (subscriber : ℕ) (answer : Answer) → a.Pump subscriber ≡ asked_of now step → PumpsOn before after now subscriber answer → text ≡ text_of (answer_line answer ∷ [])
+      → MakesOn before after now step text
+  pump_made subscriber answer is (Pumped position all at) text_is = all_pumped subscriber position is all at text_is
+  pump_made subscriber answer is (Ended told some) text_is = part_pumped subscriber told is some text_is
+
+pub view_made : (code : World) (now : ℕ) (step : StepOf) (catalog : CatalogOf Expr) (view : View) (text : List ℕ) → a.View ≡ asked_of now step → catalog ≡ (world_checked code).catalog
+    → ((most : ℕ) (events : List (ℕ × w.Event)) (world : w.World) → IsWorld code most events world → ShowsWorld (world_checked code) world view)
+    → text ≡ text_of (view_lines catalog view) → MakesOn code code now step text
+view_made code now step catalog view text is named shows text_is = λ most events world stands few.
+    let lines : List (List ℕ) = view_lines (world_checked code).catalog view in
+    record {
+      lines = lines;
+      happened = [];
+      next = world;
+      is_step = asked_step code code now step text most a.View world lines world is (record { view = view; shows = shows most events world stands; are = refl; stays = refl });
+      is_world = subst (λ (happened : List (ℕ × w.Event)). IsWorld code most happened world) (sym (append-nil events)) stands;
+      few = omega (arith, ap statuses_in (append-nil events));
+      checked = refl;
+      text_is = text_is ∙ ap (λ (c : CatalogOf Expr). text_of (view_lines c view)) named;
+    }

@@ -1,0 +1,7 @@
+pub mod Answers
+pub mod Asking
+pub mod AskingView
+pub mod Simulation
+pub mod Steps
+pub mod Views
+pub mod WorldSteps

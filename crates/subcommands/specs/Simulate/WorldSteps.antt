@@ -1,0 +1,46 @@
+-- What a step of a script does to the program's own world, and what a script writes.
+use Rattle.std.specs.Prelude.{◌≡◌, ◌<◌, ◌≤◌, ℕ, ◌+◌, ◌^◌, ◌⊎◌, List, [], ◌++◌, Option, Result}
+use Rattle.pub_reader.specs.Scripts.{LineOf}
+use Rattle.pub_reader.specs.Steps.{StepOf}
+use Rattle.shard_checker.specs.CheckedView.{CheckedOf}
+use Rattle.shard_world.specs.World as w
+use Rattle.shard_world.specs.World.{statuses_in}
+use Rattle.shard_world.specs.WorldCalls.{IsWorld, world_checked}
+use Rattle.shard_world.specs.declared.world.World.{World}
+use Rattle.subcommands.specs.Output.{Writes, text_of}
+use Rattle.subcommands.specs.Simulate.Steps.{AreFirstSteps, AreSomeSteps, IsStep}
+use Rattle.subcommands.specs.declared.failure.Failure.{Failure}
+use Rattle.subcommands.specs.declared.failure.Status.{Status}
+use Rattle.subcommands.specs.declared.failure.Status.TheVariants.{Done}
+
+-- ---- one step
+
+-- The step is made in the world for which the program's stands, the text is its lines, and the program's world stands for what is left. One status is said, or none.
+pub record MakesInto (before after : World) (most : ℕ) (events : List (ℕ × w.Event)) (world : w.World) (now : ℕ) (step : StepOf) (text : List ℕ) : Type 0 where
+  pub lines : List (List ℕ)
+  pub happened : List (ℕ × w.Event)
+  pub next : w.World
+  pub is_step : IsStep (world_checked before) most now step world lines next
+  pub is_world : IsWorld after most (events ++ happened) next
+  pub few : statuses_in (events ++ happened) ≤ statuses_in events + 1
+  pub checked : world_checked after ≡ world_checked before
+  pub text_is : text ≡ text_of lines
+
+-- in each world for which it stands, to which events led among which fewer than 2^32 - 1 said a status
+abbrev pub MakesOn : World → World → ℕ → StepOf → List ℕ → Type 0
+MakesOn before after now step text =
+    (most : ℕ) (events : List (ℕ × w.Event)) (world : w.World) → IsWorld before most events world → statuses_in events + 1 < 2 ^ 32 → MakesInto before after most events world now step text
+
+-- ---- a script
+
+-- the lines are those of all steps
+abbrev pub AreAllLines : CheckedOf → ℕ → List LineOf → List (List ℕ) → Status → Type 0
+AreAllLines checked most steps lines status = (status ≡ Done) × AreFirstSteps checked most steps [] lines
+
+-- there is no line yet, or some step is left
+abbrev pub AreBegunLines : CheckedOf → ℕ → List LineOf → List (List ℕ) → Type 0
+AreBegunLines checked most steps lines = (lines ≡ []) ⊎ AreSomeSteps checked most steps lines
+
+-- the lines of each step are written, as far as memory and the writer go
+abbrev pub WritesSteps : CheckedOf → ℕ → List LineOf → Option (List ℕ) → Option (List ℕ) → Result Status Failure → Type 0
+WritesSteps checked most steps old new result = Writes (AreAllLines checked most steps) (AreBegunLines checked most steps) old new result

@@ -1,0 +1,222 @@
+"""What becomes of the rows of a sharding, step by step."""
+
+from collections.abc import Iterator
+
+from .case import Case
+from .catalogs import C, INDEXED, halves
+
+# Rows go to s0 where the number is below 100, and else to s1.
+B = halves(" WHERE (id < 100)", " WHERE (id >= 100)")
+
+# Two tables, both by their numbers.
+TWO = """\
+CREATE TABLE t (id integer PRIMARY KEY, note text);
+CREATE TABLE u (id bigint PRIMARY KEY, flag boolean);
+ALTER TABLE t REPLICA IDENTITY FULL;
+CREATE PUBLICATION pa FOR TABLE t WHERE (id < 100), TABLE u WHERE (id < 100);
+CREATE PUBLICATION pb FOR TABLE t WHERE (id >= 100), TABLE u WHERE (id >= 100);
+CREATE SUBSCRIPTION s0 CONNECTION '' PUBLICATION pa;
+CREATE SUBSCRIPTION s1 CONNECTION '' PUBLICATION pb;
+"""
+
+# How many rows come and go, and how many of them in a commit.
+MANY = 10_000
+EACH = 100
+
+# Scripts, and the lines of their answers.
+STEPS: list[tuple[str, list[str]]] = [
+    ("", []),
+    (
+        "COMMIT INSERT t (150, 'us'); OPEN 0; HEAR 0 91; TAKE 0; COMMIT INSERT t (8, 'eu');"
+        " KEEP 0 FALSE; DELIVER 0 31; REPORT 0; HEAR 0 39; VIEW;",
+        [
+            "commit 1", "opened", "heard 91", "skipped 1", "commit 2", "kept", "delivered 31", "reported", "heard 39",
+            "log 2", "public.t (8, 'eu')", "public.t (150, 'us')", "s0 0/80 1 confirmed 0/80",
+            "s1 0/0 0 confirmed 0/0",
+        ],
+    ),
+    (
+        "COMMIT INSERT t (7, 'eu'); OPEN 0; PUMP 0; COMMIT UPDATE t (7) (8, 'eu'); TAKE 0; DELIVER 0 80; LOSE 0;"
+        " OPEN 0; HEAR 0 92; TAKE 0; DELIVER 0 257; VIEW;",
+        [
+            "commit 1", "opened", "at 0/80", "commit 2", "sent 2", "delivered 80", "lost", "opened", "heard 92",
+            "sent 2", "delivered 257", "log 2", "public.t (8, 'eu')", "s0 0/C0 2 confirmed 0/80",
+            "s0 public.t (8, 'eu')", "s1 0/0 0 confirmed 0/0",
+        ],
+    ),
+    (
+        "COMMIT INSERT t (7, 'eu'); OPEN 0; HEAR 0 91; TAKE 0; DELIVER 0 241; REPORT 0; LOSE 0; OPEN 0; HEAR 0 92;"
+        " TAKE 0; VIEW;",
+        [
+            "commit 1", "opened", "heard 91", "sent 1", "delivered 241", "reported", "lost", "opened", "heard 92",
+            "idle", "log 1", "public.t (7, 'eu')", "s0 0/80 1 confirmed 0/0", "s0 public.t (7, 'eu')",
+            "s1 0/0 0 confirmed 0/0",
+        ],
+    ),
+    (
+        "OPEN 0; PUMP 0; VIEW;",
+        ["opened", "at 0/40", "log 0", "s0 0/40 0 confirmed 0/40", "s1 0/0 0 confirmed 0/0"],
+    ),
+    (
+        "COMMIT INSERT t (7, 'eu'), INSERT t (150, 'us'); OPEN 0; OPEN 1; PUMP 0; PUMP 1; VIEW;",
+        [
+            "commit 1", "opened", "opened", "at 0/80", "at 0/80", "log 1", "public.t (7, 'eu')",
+            "public.t (150, 'us')", "s0 0/80 1 confirmed 0/80", "s0 public.t (7, 'eu')",
+            "s1 0/80 1 confirmed 0/80", "s1 public.t (150, 'us')",
+        ],
+    ),
+    (
+        "COMMIT INSERT t (7, 'eu'); COMMIT UPDATE t (7) (150, 'eu'), UPDATE t (150) (7, 'eu');"
+        " OPEN 0; OPEN 1; PUMP 0; PUMP 1; VIEW;",
+        [
+            "commit 1", "commit 2", "opened", "opened", "at 0/C0", "at 0/C0", "log 2", "public.t (7, 'eu')",
+            "s0 0/C0 2 confirmed 0/C0", "s0 public.t (7, 'eu')", "s1 0/C0 2 confirmed 0/C0",
+        ],
+    ),
+    (
+        "COMMIT INSERT t (7, 'eu'), INSERT t (150, 'us'); COMMIT TRUNCATE (t), INSERT t (8, 'eu');"
+        " OPEN 0; OPEN 1; PUMP 0; PUMP 1; VIEW;",
+        [
+            "commit 1", "commit 2", "opened", "opened", "at 0/C0", "at 0/C0", "log 2", "public.t (8, 'eu')",
+            "s0 0/C0 2 confirmed 0/C0", "s0 public.t (8, 'eu')", "s1 0/C0 2 confirmed 0/C0",
+        ],
+    ),
+    (
+        "open 2; take 0; report 1 true; lose 1; OPEN 0; OPEN 0; TAKE 0; KEEP 0 TRUE; REPORT 0; REPORT 0 TRUE;",
+        [
+            "no subscriber", "not open", "not open", "not open", "opened", "already open", "not started",
+            "not started", "reported", "reported",
+        ],
+    ),
+]
+
+# Scripts of a log with two commits at most.
+FULL: list[tuple[str, list[str]]] = [
+    (
+        "COMMIT INSERT t (1, 'a'), INSERT t (1, 'b'); COMMIT; COMMIT DELETE t (1); VIEW;",
+        [
+            "refused At 2 DuplicateKey", "refused EmptyTransaction", "refused At 1 NoSuchRow", "log 0",
+            "s0 0/0 0 confirmed 0/0", "s1 0/0 0 confirmed 0/0",
+        ],
+    ),
+    (
+        "COMMIT INSERT t (1, 'a'); COMMIT INSERT t (2, 'b'); COMMIT INSERT t (3, 'c');",
+        ["commit 1", "commit 2", "refused LogFull"],
+    ),
+    (
+        "COMMIT INSERT t (2147483648, 'a'); COMMIT INSERT t (1, 'a', 2); COMMIT INSERT t (NULL, 'a');"
+        " COMMIT INSERT t (TRUE, 'a');",
+        [
+            "refused At 1 Row OutOfRange 0", "refused At 1 Row Width", "refused At 1 Row NullInNotNull 0",
+            "refused At 1 Row WrongType 0",
+        ],
+    ),
+]
+
+# A table is emptied, the other is not.
+EMPTIED = (
+    "COMMIT INSERT t (1, 'a'), INSERT t (100, NULL), INSERT u (-5, TRUE), INSERT u (100, FALSE); OPEN 0; OPEN 1;"
+    " PUMP 0; PUMP 1; COMMIT TRUNCATE (t), INSERT t (2, 'b'); PUMP 0; VIEW;",
+    [
+        "commit 1", "opened", "opened", "at 0/80", "at 0/80", "commit 2", "at 0/C0", "log 2", "public.t (2, 'b')",
+        "public.u (-5, TRUE)", "public.u (100, FALSE)", "s0 0/C0 2 confirmed 0/C0", "s0 public.t (2, 'b')",
+        "s0 public.u (-5, TRUE)", "s1 0/80 1 confirmed 0/80", "s1 public.t (100, NULL)", "s1 public.u (100, FALSE)",
+    ],
+)
+
+# Rows that are identified by an index are changed.
+CODES = (
+    "COMMIT INSERT u (1, 'a', NULL); COMMIT UPDATE u (1) (2, 'a', 'x'); COMMIT INSERT u (3, 'a', NULL);"
+    " COMMIT UPDATE u (2) (2, 'b', 'x'); OPEN 0; OPEN 1; PUMP 0; PUMP 1; VIEW;",
+    [
+        "commit 1", "commit 2", "refused At 1 DuplicateKey", "commit 3", "opened", "opened", "at 0/100", "at 0/100",
+        "log 3", "public.u (2, 'b', 'x')", "s0 0/100 3 confirmed 0/100", "s1 0/100 3 confirmed 0/100",
+        "s1 public.u (2, 'b', 'x')",
+    ],
+)
+
+# Words, an input, the status and the output.
+OTHERS: list[tuple[tuple[str, ...], str, int, str]] = [
+    ((), f"{B}%%\no 0\n%%\nVIEW;\n", 1, "refused NotOwner public.t 0\n"),
+    ((), f"{B}%%\n{C}%%\nOPEN 0; PUMP;\n", 3, "script 12 Expected\n"),
+    ((), f"{B}%%\no 0\n%%\nPUMP;\n", 3, "script 4 Expected\n"),
+    ((), f"{B}%%\nx\n%%\nPUMP;\n", 3, "certificate 1 BadToken\n"),
+    ((), f"{B}%%\n{C}", 3, "input\n"),
+    ((), f"{B}%%\n{C}%%\nVIEW;\n%%\n", 3, "input\n"),
+    ((), f"CREATE;\n%%\n{C}%%\nPUMP;\n", 3, "catalog 6 Expected\n"),
+]
+
+
+def three_parts(catalog: str, certificates: str, script: str) -> str:
+    """An input of three parts, of which the first two end with a newline."""
+    return f"{catalog}%%\n{certificates}%%\n{script}"
+
+
+def lost_downwards(delivered: int) -> tuple[str, list[str]]:
+    """A connection is lost after so many bytes of its second transaction, of 174, and the subscriber connects again."""
+    script = (
+        "COMMIT INSERT t (7, 'eu'); OPEN 0; PUMP 0; COMMIT UPDATE t (7) (8, 'eu'); TAKE 0;"
+        f" DELIVER 0 {delivered}; LOSE 0; OPEN 0; HEAR 0 92; TAKE 0; DELIVER 0 257; VIEW;")
+    again = ["sent 2", "delivered 257"] if delivered < 174 else ["idle", "delivered 8"]
+    return script, [
+        "commit 1", "opened", "at 0/80", "commit 2", "sent 2", f"delivered {delivered}", "lost", "opened", "heard 92",
+        *again, "log 2", "public.t (8, 'eu')", "s0 0/C0 2 confirmed 0/80", "s0 public.t (8, 'eu')",
+        "s1 0/0 0 confirmed 0/0",
+    ]
+
+
+def lost_upwards(heard: int) -> tuple[str, list[str]]:
+    """A connection is lost after so many bytes of a status, of 39."""
+    script = (
+        "COMMIT INSERT t (7, 'eu'); OPEN 0; HEAR 0 91; TAKE 0; DELIVER 0 241; REPORT 0;"
+        f" HEAR 0 {heard}; LOSE 0; VIEW;")
+    confirmed = "0/80" if heard == 39 else "0/0"
+    return script, [
+        "commit 1", "opened", "heard 91", "sent 1", "delivered 241", "reported", f"heard {heard}", "lost", "log 1",
+        "public.t (7, 'eu')", f"s0 0/80 1 confirmed {confirmed}", "s0 public.t (7, 'eu')", "s1 0/0 0 confirmed 0/0",
+    ]
+
+
+def many() -> tuple[str, list[str]]:
+    """Many rows are inserted in descending order, and then deleted in ascending order."""
+    inserts = [f"INSERT t ({key}, NULL)" for key in reversed(range(MANY))]
+    deletes = [f"DELETE t ({key})" for key in range(MANY)]
+    commands = inserts + deletes
+    commits = [", ".join(commands[at:at + EACH]) for at in range(0, len(commands), EACH)]
+    position = 64 * len(commits) + 64
+    script = "".join(f"COMMIT {commit};\n" for commit in commits) + "OPEN 0; PUMP 0; OPEN 1; PUMP 1; VIEW;\n"
+    at = f"0/{position:X}"
+    return script, [
+        *(f"commit {number}" for number in range(1, len(commits) + 1)), "opened", f"at {at}", "opened", f"at {at}",
+        f"log {len(commits)}", f"s0 {at} {len(commits)} confirmed {at}", f"s1 {at} {len(commits)} confirmed {at}",
+    ]
+
+
+def scripts() -> Iterator[tuple[str, str, tuple[str, list[str]]]]:
+    """Names, catalogs, and scripts with their lines."""
+    for number, steps in enumerate(STEPS, 1):
+        yield f"the steps of a script, case {number}", B, steps
+    for delivered in range(175):
+        yield f"a connection is lost after {delivered} bytes", B, lost_downwards(delivered)
+    for heard in range(40):
+        yield f"a connection is lost after {heard} bytes of a status", B, lost_upwards(heard)
+    yield "many rows come and go", B, many()
+    yield "rows are identified by an index", INDEXED, CODES
+
+
+def cases() -> Iterator[Case]:
+    """A run of simulate for each."""
+    for name, catalog, (script, lines) in scripts():
+        yield Case(name, ("simulate",), three_parts(catalog, C, script), 0, text_of(lines))
+    for number, (script, lines) in enumerate(FULL, 1):
+        words = ("simulate", "--limit", "2")
+        yield Case(f"a log of two commits, case {number}", words, three_parts(B, C, script), 0, text_of(lines))
+    script, lines = EMPTIED
+    yield Case("a table is emptied", ("simulate",), three_parts(TWO, C + C, script), 0, text_of(lines))
+    for number, (words, text, status, expected) in enumerate(OTHERS, 1):
+        yield Case(f"simulate of other inputs, case {number}", ("simulate", *words), text, status, expected)
+
+
+def text_of(lines: list[str]) -> str:
+    """The lines, each with its newline."""
+    return "".join(f"{line}\n" for line in lines)
