@@ -3,9 +3,9 @@
 
     bench/run.py [--program FILE] [--core N] [--first] [--runs N] [PART ..]
 
-The parts are start, large, eval, check, make, book, messages and instructions; without one, all are run. The program has
-to be built, which the script `pgshard` does; book and messages build programs of their own, and so need `rt`. PostgreSQL
-15, z3 and valgrind are left out where they are not installed.
+The parts are start, large, eval, check, make, simulate, book, messages and instructions; without one, all are run. The
+program has to be built, which the script `pgshard` does; book and messages build programs of their own, and so need `rt`.
+PostgreSQL 15, z3 and valgrind are left out where they are not installed.
 """
 
 import argparse
@@ -20,6 +20,7 @@ import evaluation
 import instructions
 import messages
 import sharding
+import simulating
 import starting
 from measuring import BUILT, Setup, machine
 
@@ -29,6 +30,7 @@ PARTS = {
     "eval": ("eval", lambda setup, _: evaluation.measure(setup)),
     "check": ("check", checking.measure),
     "make": ("make", sharding.measure),
+    "simulate": ("simulate", simulating.measure),
     "book": ("The book", book.measure),
     "messages": ("Messages", messages.measure),
     "instructions": ("Instructions", instructions.measure),
