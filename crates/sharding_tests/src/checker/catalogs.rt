@@ -3,7 +3,7 @@ use crate::calls::catalog_of;
 use crate::checks::{holds, same};
 use crate::takers::{both_take, takes_one_alone};
 use filter_tree::{Row, Value};
-use pub_reader::{Catalog, Entry};
+use pub_reader::Catalog;
 use replica_identity::{Share, plan};
 use shard_checker::{CheckError, Checked, Operation, check, shares_in};
 use split_cert::Cert;
@@ -167,44 +167,6 @@ fn filters_name_identity_columns(rt: HostRuntime) -> Result<(), Fail> {
         let found = refusal_by_region(rt.alloc(), identity, ALL)?;
         same(&rt, found, Some(wanted));
     }
-    Ok(())
-}
-
-/// A table that one subscriber takes whole.
-const WHOLE: &str = "CREATE TABLE t (id integer PRIMARY KEY);
-CREATE PUBLICATION pa FOR TABLE t;
-CREATE SUBSCRIPTION s0 CONNECTION '' PUBLICATION pa;";
-
-/// The same, where the publication is also of a table that is not there.
-fn with_unknown_table(alloc: Global) -> Result<Catalog, Fail> {
-    let mut catalog = catalog_of(alloc, WHOLE)?;
-    let mut publication = catalog.publications.pop().ok_or("a publication")?;
-    publication.entries.push(Entry {
-        table: 7,
-        filter: None,
-    })?;
-    if catalog.publications.len() >= 64 {
-        return Err(Fail::from("too many publications"));
-    }
-    catalog.publications.push(publication)?;
-    Ok(catalog)
-}
-
-#[test]
-fn a_table_that_is_not_there_is_refused(rt: HostRuntime) -> Result<(), Fail> {
-    let alloc = rt.alloc();
-    let certs = certificates(alloc, &["o 0"])?;
-    same(
-        &rt,
-        refusal(alloc, catalog_of(alloc, WHOLE)?, &certs)?,
-        None,
-    );
-    let unknown = CheckError::UnknownTable {
-        publication: 0,
-        table: 7,
-    };
-    let found = refusal(alloc, with_unknown_table(alloc)?, &certs)?;
-    same(&rt, found, Some(unknown));
     Ok(())
 }
 

@@ -1,7 +1,8 @@
 //! Shardings by the texts of their certificates.
 
 use super::BY_HALVES;
-use super::catalogs::{ALL, LOW, catalog, halves};
+use super::catalogs::{LOW, catalog, halves};
+use crate::calls::catalog_of;
 use crate::checks::same;
 use crate::spellings::{deep_beginning, followed, large_beginning};
 use pub_reader::Catalog;
@@ -58,16 +59,14 @@ fn texts_are_read_before_a_node_is_refused(rt: HostRuntime) -> Result<(), Fail> 
 }
 
 /// A catalog of one subscriber, which takes `t` whole.
-fn one(alloc: Global) -> Result<Catalog, Fail> {
-    let mut catalog = catalog(alloc, "DEFAULT", ALL, "id < 0 OR TRUE")?;
-    let _ = catalog.subscriptions.pop();
-    Ok(catalog)
-}
+const ONE: &str = "CREATE TABLE t (id integer, region text, PRIMARY KEY (id));
+CREATE PUBLICATION pa FOR TABLE t WHERE (id < 0 OR TRUE);
+CREATE SUBSCRIPTION s0 CONNECTION '' PUBLICATION pa;";
 
 /// Fails the test where the node that follows this text is not looked at.
 fn expect_looked_at(rt: &impl Abort, alloc: Global, text: &str, node: usize) -> Result<(), Fail> {
     let wrong = followed(alloc, text, "o 9")?;
-    let found = refusal(alloc, one(alloc)?, &[wrong.as_str()])?;
+    let found = refusal(alloc, catalog_of(alloc, ONE)?, &[wrong.as_str()])?;
     same(rt, found, Some(bad_index(node)));
     Ok(())
 }
