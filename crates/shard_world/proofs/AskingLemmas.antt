@@ -88,7 +88,7 @@ module _ (checked : CheckedOf) (transactions : List Transaction) (subscriber now
 
 -- ---- the world
 
-abbrev AllAsked : CheckedOf → World → Type 0
+abbrev pub AllAsked : CheckedOf → World → Type 0
 AllAsked checked world = (subscriber : ℕ) → IsAsked checked subscriber (world.peers subscriber)
 
 same_asked : (checked : CheckedOf) (one other : World) → one ≡ other → AllAsked checked other → AllAsked checked one
@@ -119,13 +119,13 @@ step_asked checked most world now (On subscriber event) answer next steps all = 
           (broken_asked checked world.transactions subscriber now event (world.peers subscriber) breaks.some (world.peers subscriber).connection (all subscriber)))
     ]
 
-leads_asked : (checked : CheckedOf) (most : ℕ) (events : List (ℕ × Event)) (world last : World) → Leads checked most events world last → AllAsked checked world → AllAsked checked last
+pub leads_asked : (checked : CheckedOf) (most : ℕ) (events : List (ℕ × Event)) (world last : World) → Leads checked most events world last → AllAsked checked world → AllAsked checked last
 leads_asked checked most [] world last leads all = same_asked checked last world leads all
 leads_asked checked most (event ∷ events) world last leads all =
     leads_asked checked most events leads.1 last leads.3 (step_asked checked most world event.0 event.1 leads.0 leads.1 leads.2 all)
 
 -- a position that counts so many commits, and isn't 0, is where the last of them ends
-end_of_count : (position count : ℕ) → IsEnd position → count_before position ≡ count → 1 ≤ position → position ≡ end_of count
+pub end_of_count : (position count : ℕ) → IsEnd position → count_before position ≡ count → 1 ≤ position → position ≡ end_of count
 end_of_count position count ends counts some = elim ends [
   | inl zero ↦ absurd (omega (arith, zero, some))
   | inr is ↦ is ∙ ap end_of counts

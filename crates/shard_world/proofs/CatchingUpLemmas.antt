@@ -80,7 +80,7 @@ pub moved_append : (checked : CheckedOf) (log : List CommitOf) (place : Place) (
 moved_append checked log place [] move = refl
 moved_append checked log place (first ∷ moves) move = moved_append checked log (moved (telling_of checked) log place first) moves move
 
-past_end : {C : Type 0} (log : List C) (n : ℕ) → slice_get log n ≡ None → length log ≤ n
+pub past_end : {C : Type 0} (log : List C) (n : ℕ) → slice_get log n ≡ None → length log ≤ n
 past_end [] n e = omega arith
 past_end (first ∷ log) zero e = absurd cc
 past_end (first ∷ log) (suc n) e = let later : length log ≤ n = past_end log n e in omega (arith, later)
@@ -154,29 +154,29 @@ after_one position (first ∷ items) item = after_one (raised_by position first)
 
 -- ---- a connection whose stream has started
 
-record IsRunning (checked : CheckedOf) (transactions : List Transaction) (subscriber start : ℕ) (peer : Peer) : Type 0 where
-  c : Connection
-  is : peer.connection ≡ Some c
-  start_is : c.start ≡ Some start
-  good : IsGood checked transactions subscriber peer
+pub record IsRunning (checked : CheckedOf) (transactions : List Transaction) (subscriber start : ℕ) (peer : Peer) : Type 0 where
+  pub c : Connection
+  pub is : peer.connection ≡ Some c
+  pub start_is : c.start ≡ Some start
+  pub good : IsGood checked transactions subscriber peer
 
 -- so many commits or fewer are left
 abbrev Left : CheckedOf → List Transaction → ℕ → ℕ → ℕ → Connection → Type 0
 Left checked transactions subscriber start count c = length (log_of checked transactions) ≤ (place_of checked transactions subscriber start c.moves).done + count
 
-record IsLeft (checked : CheckedOf) (transactions : List Transaction) (subscriber start count : ℕ) (peer : Peer) : Type 0 where
-  running : IsRunning checked transactions subscriber start peer
-  left : length (log_of checked transactions) ≤ (place_of checked transactions subscriber start running.c.moves).done + count
+pub record IsLeft (checked : CheckedOf) (transactions : List Transaction) (subscriber start count : ℕ) (peer : Peer) : Type 0 where
+  pub running : IsRunning checked transactions subscriber start peer
+  pub left : length (log_of checked transactions) ≤ (place_of checked transactions subscriber start running.c.moves).done + count
 
 module _ (checked : CheckedOf) (transactions : List Transaction) (published : IsPublished checked transactions) (sayable : IsSayable checked transactions) (subscriber now : ℕ) (timed : now < 2 ^ 64) where
-  as_step : (event : PeerEvent) (peer : Peer) (c : Connection) → peer.connection ≡ Some c
+  pub as_step : (event : PeerEvent) (peer : Peer) (c : Connection) → peer.connection ≡ Some c
       → next_peer checked transactions subscriber now event peer ≡ (open_step checked transactions subscriber now event peer c).1
   as_step event peer c is = ap (λ connection. (peer_step checked transactions subscriber now event peer connection).1) is
 
-  next_good : (event : PeerEvent) (peer : Peer) → IsGood checked transactions subscriber peer → IsGood checked transactions subscriber (next_peer checked transactions subscriber now event peer)
+  pub next_good : (event : PeerEvent) (peer : Peer) → IsGood checked transactions subscriber peer → IsGood checked transactions subscriber (next_peer checked transactions subscriber now event peer)
   next_good event peer good = peer_good checked transactions published sayable subscriber now timed event peer peer.connection refl good
 
-  take_next : (start count : ℕ) (peer : Peer) → IsLeft checked transactions subscriber start (suc count) peer → IsLeft checked transactions subscriber start count (next_peer checked transactions subscriber now Take peer)
+  pub take_next : (start count : ℕ) (peer : Peer) → IsLeft checked transactions subscriber start (suc count) peer → IsLeft checked transactions subscriber start count (next_peer checked transactions subscriber now Take peer)
   take_next start count peer h =
       subst (IsLeft checked transactions subscriber start count)
       (sym (as_step Take peer h.running.c h.running.is ∙ ap (λ from. (take_step checked transactions subscriber now peer h.running.c from).1) h.running.start_is))
@@ -219,7 +219,7 @@ module _ (checked : CheckedOf) (transactions : List Transaction) (published : Is
 
   -- ---- all is delivered
 
-  keeps_on : (start : ℕ) (peer : Peer) (c : Connection) → peer.connection ≡ Some c → c.start ≡ Some start
+  pub keeps_on : (start : ℕ) (peer : Peer) (c : Connection) → peer.connection ≡ Some c → c.start ≡ Some start
       → next_peer checked transactions subscriber now (Keep false) peer ≡ moves_on peer c (s.Keep now false)
   keeps_on start peer c is start_is = as_step (Keep false) peer c is ∙ ap (λ from. (keep_step now false peer c from).1) start_is
 
@@ -232,18 +232,18 @@ module _ (checked : CheckedOf) (transactions : List Transaction) (published : Is
 
   -- after the keepalive all of the stream tells of the end of the log
   -- it counts all commits, and isn't 0
-  record ReachesEnd (position : ℕ) : Type 0 where
-    all : length (log_of checked transactions) ≤ count_before position
-    some : 1 ≤ position
+  pub record CountsAll (position : ℕ) : Type 0 where
+    pub all : length (log_of checked transactions) ≤ count_before position
+    pub some : 1 ≤ position
 
-  reaches_end : (start : ℕ) (position : ℕ) (c : Connection) → c.start ≡ Some start → length (log_of checked transactions) ≤ (place_of checked transactions subscriber start c.moves).done + 0
+  pub reaches_end : (start : ℕ) (position : ℕ) (c : Connection) → c.start ≡ Some start → length (log_of checked transactions) ≤ (place_of checked transactions subscriber start c.moves).done + 0
       → (delivered : ℕ) → delivered ≤ length (flat_map spelled (down_items checked transactions subscriber c.start (c.moves ++ s.Keep now false ∷ [])))
-      → ReachesEnd (position_after position (whole_in
+      → CountsAll (position_after position (whole_in
       (delivered + as_many (length (down_bytes checked transactions subscriber c.start (c.moves ++ s.Keep now false ∷ [])))
       (length (down_bytes checked transactions subscriber c.start (c.moves ++ s.Keep now false ∷ []))) delivered)
       (down_items checked transactions subscriber c.start (c.moves ++ s.Keep now false ∷ []))))
   reaches_end start position c start_is left delivered within =
-      subst ReachesEnd (sym (ap (position_after position) (all_whole ∙ items_are)
+      subst CountsAll (sym (ap (position_after position) (all_whole ∙ items_are)
       ∙ after_one position (stream_items checked (log_of checked transactions) subscriber start c.moves)
       (Alive (record { position = (place_of checked transactions subscriber start c.moves).sent; clock = now; wants_reply = false }))))
       (record {
@@ -328,15 +328,15 @@ module _ (checked : CheckedOf) (transactions : List Transaction) (published : Is
       all_of total first heard h = omega (arith, h)
 
       lower : (at : Peer) (start : ℕ) → (taken : IsLeft checked transactions subscriber start 0 at)
-          → ReachesEnd (position_now checked transactions subscriber (delivered_all checked transactions subscriber now (next_peer checked transactions subscriber now (Keep false) at)))
+          → CountsAll (position_now checked transactions subscriber (delivered_all checked transactions subscriber now (next_peer checked transactions subscriber now (Keep false) at)))
       lower at start taken =
           let kept = keeps_on start at taken.running.c taken.running.is taken.running.start_is in
           let kept_good = subst (IsGood checked transactions subscriber) kept (next_good (Keep false) at taken.running.good) in
-          subst (λ q. ReachesEnd (position_now checked transactions subscriber q))
+          subst (λ q. CountsAll (position_now checked transactions subscriber q))
           (sym (ap (delivered_all checked transactions subscriber now) kept
           ∙ delivers_on (moves_on at taken.running.c (s.Keep now false)) (record taken.running.c { moves = taken.running.c.moves ++ s.Keep now false ∷ [] }) refl))
           (reaches_end start at.position taken.running.c taken.running.start_is taken.left taken.running.c.delivered kept_good.connected.1.delivered)
 
-      both : (final : Peer) → length (log_of checked transactions) ≡ length transactions → ReachesEnd (position_now checked transactions subscriber final)
+      both : (final : Peer) → length (log_of checked transactions) ≡ length transactions → CountsAll (position_now checked transactions subscriber final)
           → IsGood checked transactions subscriber final → count_before (position_now checked transactions subscriber final) ≤ length transactions → CatchesUp final
       both final e low good high = let all = low.all in record { counts = omega (arith, e, all, high); some = low.some; good = good }

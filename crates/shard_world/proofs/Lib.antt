@@ -26,7 +26,10 @@ pub mod NamedLemmas
 pub mod OpeningLemmas
 pub mod PrefixLemmas
 pub mod PublisherLemmas
+pub mod PumpEndLemmas
 pub mod PumpLemmas
+pub mod PumpSteps
+pub mod PumpWorlds
 pub mod RefusedAnswers
 pub mod RefusedFeeding
 pub mod RefusedHearing
@@ -35,6 +38,7 @@ pub mod RelationSteps
 pub mod ReportLemmas
 pub mod RunLemmas
 pub mod Safety
+pub mod SaidLemmas
 pub mod SayableLemmas
 pub mod SentLemmas
 pub mod SlotLemmas

@@ -1,11 +1,12 @@
 -- Events on one connection, one after another.
 use Rattle.std.proofs.Common.{◌≡◌, ℕ, zero, suc, ◌<◌, ◌^◌, inl, inr, List, [], ◌∷◌, ◌++◌, length, map, replicate, refl, sym, ap, subst, ◌∙◌, append_assoc}
+use Rattle.std.specs.Prelude.{All, false}
+use Rattle.std.proofs.lemmas.List.Elements.{All-nil, All-cons, All-append}
 use mathlib.Core.List.{map-append}
 use Rattle.shard_checker.specs.CheckedView.{CheckedOf}
 use Rattle.tables_log.specs.BookView.{book_log}
-use Rattle.shard_world.specs.Pumping.{WalksAll, WalksSome, TakesAll, TakesSome, PumpsAll, PumpsSome, all_bytes, on_clock}
+use Rattle.shard_world.specs.Pumping.{EndsWalk, GoesOn, WalksAll, WalksSome, TakesAll, TakesSome, PumpsAll, PumpsSome, all_bytes, on_clock}
 use Rattle.shard_world.specs.World as w
-use Rattle.std.specs.Prelude.{false}
 use Rattle.shard_world.specs.World.{Answer, Event, Idle, PeerEvent, Hear, Take, Keep, Deliver, Report, statuses_in}
 use Rattle.shard_world.specs.WorldCalls.{IsWorld, StepsOn, Runs, RunsInto, RunsOn, world_book, world_checked}
 use Rattle.shard_world.specs.declared.world.World.{World}
@@ -35,6 +36,10 @@ runs_then before between after asked more answers later runs then most events wo
       checked = second.checked ∙ first.checked;
     }
 
+-- the last events of a pump
+abbrev pub last_events : List PeerEvent
+last_events = Keep false ∷ Deliver all_bytes ∷ Report false ∷ Hear all_bytes ∷ []
+
 module _ (now subscriber : ℕ) where
   abbrev on : List PeerEvent → List (ℕ × Event)
   on events = map (on_clock now subscriber) events
@@ -45,23 +50,29 @@ module _ (now subscriber : ℕ) where
   -- ---- walks
 
   pub walks_none : (world : World) → WalksAll world world now subscriber []
-  walks_none world = record { answers = []; runs = runs_none world }
+  walks_none world = record { answers = []; go_on = All-nil GoesOn; runs = runs_none world }
+
+  one_more : (answers : List Answer) (answer : Answer) → All GoesOn answers → GoesOn answer → All GoesOn (answers ++ answer ∷ [])
+  one_more answers answer all one = All-append GoesOn answers (answer ∷ []) all (All-cons GoesOn answer [] one (All-nil GoesOn))
 
   pub walks_more : (before between after : World) (events : List PeerEvent) (event : PeerEvent) (answer : Answer) → WalksAll before between now subscriber events
-      → StepsOn between after now (w.On subscriber event) answer → WalksAll before after now subscriber (events ++ event ∷ [])
-  walks_more before between after events event answer walks steps = record {
+      → GoesOn answer → StepsOn between after now (w.On subscriber event) answer → WalksAll before after now subscriber (events ++ event ∷ [])
+  walks_more before between after events event answer walks goes steps = record {
     answers = walks.answers ++ answer ∷ [];
+    go_on = one_more walks.answers answer walks.go_on goes;
     runs = subst (λ asked. RunsOn before after asked (walks.answers ++ answer ∷ [])) (on_append events (event ∷ []))
         (runs_more before between after (on events) walks.answers now (w.On subscriber event) answer walks.runs steps);
   }
 
   pub walks_end : (before between after : World) (events others : List PeerEvent) (event : PeerEvent) (answer : Answer) → WalksAll before between now subscriber events
-      → StepsOn between after now (w.On subscriber event) answer → WalksSome before after now subscriber (events ++ event ∷ others) answer
-  walks_end before between after events others event answer walks steps = record {
+      → EndsWalk answer → StepsOn between after now (w.On subscriber event) answer → WalksSome before after now subscriber (events ++ event ∷ others) answer
+  walks_end before between after events others event answer walks ends steps = record {
     done = events ++ event ∷ [];
     others = others;
     are = append_assoc events (event ∷ []) others;
     answers = walks.answers;
+    go_on = walks.go_on;
+    ends = ends;
     runs = subst (λ asked. RunsOn before after asked (walks.answers ++ answer ∷ [])) (on_append events (event ∷ []))
         (runs_more before between after (on events) walks.answers now (w.On subscriber event) answer walks.runs steps);
   }
@@ -70,6 +81,7 @@ module _ (now subscriber : ℕ) where
       → WalksAll before after now subscriber (events ++ more)
   walks_then before between after events more walks then = record {
     answers = walks.answers ++ then.answers;
+    go_on = All-append GoesOn walks.answers then.answers walks.go_on then.go_on;
     runs = subst (λ asked. RunsOn before after asked (walks.answers ++ then.answers)) (on_append events more)
         (runs_then before between after (on events) (on more) walks.answers then.answers walks.runs then.runs);
   }
@@ -81,6 +93,8 @@ module _ (now subscriber : ℕ) where
     others = then.others;
     are = append_assoc events then.done then.others ∙ ap (λ rest. events ++ rest) then.are;
     answers = walks.answers ++ then.answers;
+    go_on = All-append GoesOn walks.answers then.answers walks.go_on then.go_on;
+    ends = then.ends;
     runs = subst (λ asked. RunsOn before after asked ((walks.answers ++ then.answers) ++ answer ∷ [])) (on_append events then.done)
         (subst (RunsOn before after (on events ++ on then.done)) (sym (append_assoc walks.answers then.answers (answer ∷ [])))
         (runs_then before between after (on events) (on then.done) walks.answers (then.answers ++ answer ∷ []) walks.runs then.runs));
@@ -93,6 +107,8 @@ module _ (now subscriber : ℕ) where
     others = walks.others ++ more;
     are = sym (append_assoc walks.done walks.others more) ∙ ap (λ all. all ++ more) walks.are;
     answers = walks.answers;
+    go_on = walks.go_on;
+    ends = walks.ends;
     runs = walks.runs;
   }
 
@@ -106,9 +122,9 @@ module _ (now subscriber : ℕ) where
   one_more_take (suc takes) = ap (λ rest. Take ∷ rest) (one_more_take takes)
 
   pub takes_more : (before between after : World) (takes : ℕ) (answer : Answer) → WalksAll before between now subscriber (replicate takes Take)
-      → StepsOn between after now (w.On subscriber Take) answer → WalksAll before after now subscriber (replicate (suc takes) Take)
-  takes_more before between after takes answer walks steps =
-      subst (WalksAll before after now subscriber) (one_more_take takes) (walks_more before between after (replicate takes Take) Take answer walks steps)
+      → GoesOn answer → StepsOn between after now (w.On subscriber Take) answer → WalksAll before after now subscriber (replicate (suc takes) Take)
+  takes_more before between after takes answer walks goes steps =
+      subst (WalksAll before after now subscriber) (one_more_take takes) (walks_more before between after (replicate takes Take) Take answer walks goes steps)
 
   pub takes_idle : (before between after : World) (takes : ℕ) → WalksAll before between now subscriber (replicate takes Take)
       → StepsOn between after now (w.On subscriber Take) Idle → TakesAll before after now subscriber
@@ -116,6 +132,7 @@ module _ (now subscriber : ℕ) where
     takes = suc takes;
     walks = record {
       answers = walks.answers ++ Idle ∷ [];
+      go_on = one_more walks.answers Idle walks.go_on tt;
       runs = subst (λ events. RunsOn before after (on events) (walks.answers ++ Idle ∷ [])) (one_more_take takes)
           (subst (λ asked. RunsOn before after asked (walks.answers ++ Idle ∷ [])) (on_append (replicate takes Take) (Take ∷ []))
           (runs_more before between after (on (replicate takes Take)) walks.answers now (w.On subscriber Take) Idle walks.runs steps));
@@ -128,16 +145,13 @@ module _ (now subscriber : ℕ) where
   takes_enough before after takes many walks = record { takes = takes; walks = walks; enough = inr many }
 
   pub takes_end : (before between after : World) (takes : ℕ) (answer : Answer) → WalksAll before between now subscriber (replicate takes Take)
-      → StepsOn between after now (w.On subscriber Take) answer → TakesSome before after now subscriber answer
-  takes_end before between after takes answer walks steps = record {
+      → EndsWalk answer → StepsOn between after now (w.On subscriber Take) answer → TakesSome before after now subscriber answer
+  takes_end before between after takes answer walks ends steps = record {
     takes = suc takes;
-    some = subst (λ events. WalksSome before after now subscriber events answer) (one_more_take takes) (walks_end before between after (replicate takes Take) [] Take answer walks steps);
+    some = subst (λ events. WalksSome before after now subscriber events answer) (one_more_take takes) (walks_end before between after (replicate takes Take) [] Take answer walks ends steps);
   }
 
   -- ---- a pump
-
-  abbrev pub last_events : List PeerEvent
-  last_events = Keep false ∷ Deliver all_bytes ∷ Report false ∷ Hear all_bytes ∷ []
 
   pub pump_ends_hearing : (before after : World) (answer : Answer) → WalksSome before after now subscriber (Hear all_bytes ∷ []) answer → PumpsSome before after now subscriber answer
   pump_ends_hearing before after answer walks = record { takes = 0; some = stops_before before after (Hear all_bytes ∷ []) last_events answer walks }

@@ -14,7 +14,7 @@ use Rattle.copy_frames.specs.declared.status.Status.{Status}
 use Rattle.shard_world.specs.Cutting.{if_whole, whole_in}
 use Rattle.shard_world.specs.Following.{position_after, log_of}
 use Rattle.shard_world.specs.Items.{Item, Response, spelled, all_items}
-use Rattle.shard_world.specs.World.{Up, Asks, Says, Connection, Peer, Session, down_items, spelled_up, whole_up, ups_of, start_at, replied, hear_up, newly, hears}
+use Rattle.shard_world.specs.World.{Up, Asks, Says, Connection, Peer, Session, down_items, position_in, position_now, spelled_up, whole_up, ups_of, start_at, replied, hear_up, newly, heard_of, hears}
 use Rattle.shard_world.proofs.FollowingBytesLemmas.{follows_longer}
 use Rattle.shard_world.proofs.WorldItems.{none_in_nothing, moved_longer, items_longer, log_goes_on}
 use Rattle.shard_world.proofs.WorldPeers.{StartsAt, IsReported, IsConnected, IsConnectedAt, IsGood, moves_connected}
@@ -111,13 +111,14 @@ module _ (checked : CheckedOf) (transactions : List Transaction) (subscriber pos
       ups_connected ups (hear_up now session up) (All-tail (IsFair position reached) up ups fair) (up_connected session up (All-head (IsFair position reached) up ups fair) connected)
 
 -- where a connection hears more bytes
-pub hears_good : (checked : CheckedOf) (transactions : List Transaction) (subscriber now : ℕ) → now < 2 ^ 64 → (peer : Peer) (c : Connection) (more : ℕ)
-    → IsGood checked transactions subscriber (record peer { connection = Some c }) → IsGood checked transactions subscriber (hears checked subscriber now peer c more)
-hears_good checked transactions subscriber now timed peer c more good =
-    let reached : ℕ = good.connected.0 in
+heard_connected : (checked : CheckedOf) (transactions : List Transaction) (subscriber now : ℕ) → now < 2 ^ 64 → (peer : Peer) (c : Connection) (more : ℕ)
+    → (good : IsGood checked transactions subscriber (record peer { connection = Some c }))
+    → IsConnected checked transactions subscriber peer.position (heard_of checked subscriber now peer c more).confirmed good.connected.0
+    (record c { start = (heard_of checked subscriber now peer c more).start; moves = (heard_of checked subscriber now peer c more).moves; heard = c.heard + more })
+heard_connected checked transactions subscriber now timed peer c more good =
     let fair = All-drop (IsFair peer.position good.connected.0) (length (whole_up checked subscriber c.heard (ups_of peer c))) (whole_up checked subscriber (c.heard + more) (ups_of peer c))
     (whole_fair checked subscriber (IsFair peer.position good.connected.0) (c.heard + more) (ups_of peer c) (ups_fair peer.position good.connected.0 c.reports good.connected.1.reports)) in
-    let connected = ups_connected checked transactions subscriber peer.position good.connected.0 now timed c.reports (c.heard + more) c.delivered (newly checked subscriber peer c more)
+    ups_connected checked transactions subscriber peer.position good.connected.0 now timed c.reports (c.heard + more) c.delivered (newly checked subscriber peer c more)
     (record { confirmed = peer.confirmed; start = c.start; moves = c.moves }) fair
     (record {
       started = good.connected.1.started;
@@ -127,8 +128,19 @@ hears_good checked transactions subscriber now timed peer c more good =
       reached_is = good.connected.1.reached_is;
       confirmed_is = good.connected.1.confirmed_is;
       reports = good.connected.1.reports;
-    }) in
-    record { follows = good.follows; connected = (good.connected.0, connected) }
+    })
+
+pub hears_good : (checked : CheckedOf) (transactions : List Transaction) (subscriber now : ℕ) → now < 2 ^ 64 → (peer : Peer) (c : Connection) (more : ℕ)
+    → IsGood checked transactions subscriber (record peer { connection = Some c }) → IsGood checked transactions subscriber (hears checked subscriber now peer c more)
+hears_good checked transactions subscriber now timed peer c more good =
+    record { follows = good.follows; connected = (good.connected.0, heard_connected checked transactions subscriber now timed peer c more good) }
+
+-- the subscriber stays where it is
+pub hears_stay : (checked : CheckedOf) (transactions : List Transaction) (subscriber now : ℕ) → now < 2 ^ 64 → (peer : Peer) (c : Connection) (more : ℕ)
+    → IsGood checked transactions subscriber (record peer { connection = Some c })
+    → position_now checked transactions subscriber (hears checked subscriber now peer c more) ≡ position_in checked transactions subscriber peer (Some c)
+hears_stay checked transactions subscriber now timed peer c more good =
+    (heard_connected checked transactions subscriber now timed peer c more good).reached_is ∙ sym good.connected.1.reached_is
 
 -- ---- the log grows
 

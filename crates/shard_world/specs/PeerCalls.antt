@@ -1,5 +1,5 @@
 -- What calls on a subscriber and its connection do, in each world that they stand for at a time: PostgreSQL 15, 31.2. Subscription, and 55.4. Streaming Replication Protocol.
-use Rattle.std.specs.Prelude.{◌≡◌, ◌⊎◌, ℕ, Option, Some, None}
+use Rattle.std.specs.Prelude.{◌≡◌, ◌<◌, ◌⊎◌, ◌^◌, ℕ, Option, Some, None}
 use Rattle.shard_checker.specs.CheckedView.{CheckedOf}
 use Rattle.tables_log.specs.BookView.{book_slots}
 use Rattle.tables_log.specs.Committing.{IsKept}
@@ -10,7 +10,7 @@ use Rattle.test_subscriber.specs.Subscribers.{Loses}
 use Rattle.shard_world.specs.Joined.{PeerOf}
 use Rattle.shard_world.specs.PeerSteps.{Case, ChangesOwn, HasLog, IsCase, StandsIn, StepsTo}
 use Rattle.shard_world.specs.Refusals.{BreaksOn, HaltsOn}
-use Rattle.shard_world.specs.World.{Answer, OutOfMemory, PeerEvent}
+use Rattle.shard_world.specs.World.{Answer, Heard, Delivered, OutOfMemory, PeerEvent}
 
 -- ---- memory is not refused
 
@@ -64,3 +64,11 @@ pub record Breaks (case : Case) (event : PeerEvent) (answer : Answer) (before af
 abbrev pub Moves : CheckedOf → ℕ → PeerEvent → Book → Book → PeerOf → PeerOf → Answer → Type 0
 Moves checked now event before after old new answer =
     (case : Case) → Stands checked now before old case → Made case event answer before after new ⊎ Breaks case event answer before after new
+
+-- ---- how many bytes can be heard or delivered at once
+
+-- no list of bytes is as long
+abbrev pub IsCounted : Answer → Type 0
+IsCounted (Heard bytes) = bytes < 2 ^ 63
+IsCounted (Delivered bytes) = bytes < 2 ^ 63
+IsCounted answer = Unit {0}

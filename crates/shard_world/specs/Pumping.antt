@@ -1,8 +1,10 @@
 -- What a pump makes happen on the connection of a subscriber, so that it gets all that was committed and says so: PostgreSQL 15, 55.4. Streaming Replication Protocol.
-use Rattle.std.specs.Prelude.{◌≡◌, ◌<◌, ◌⊎◌, ℕ, ◌-◌, ◌^◌, false, List, [], ◌∷◌, ◌++◌, length, map, replicate, Result, Ok, Err}
+use Rattle.std.specs.Prelude.{◌≡◌, ◌<◌, ◌⊎◌, ℕ, ◌+◌, ◌-◌, ◌^◌, false, List, [], ◌∷◌, ◌++◌, All, length, map, replicate, Some, Result, Ok, Err}
+use Rattle.copy_both.specs.Streams.{end_of}
 use Rattle.tables_log.specs.BookView.{book_log}
+use Rattle.shard_world.specs.PeerCalls.{IsCounted}
 use Rattle.shard_world.specs.World as w
-use Rattle.shard_world.specs.World.{Answer, At, Event, Idle, On, PeerEvent, Hear, Take, Keep, Deliver, Report, position_now}
+use Rattle.shard_world.specs.World.{Answer, At, Connection, Event, Idle, NoSubscriber, NotOpen, On, OutOfMemory, PeerEvent, Hear, Take, Keep, Deliver, Report, position_now, statuses_in}
 use Rattle.shard_world.specs.WorldCalls.{IsWorld, RunsOn, world_book, world_checked}
 use Rattle.shard_world.specs.declared.world.World.{World}
 
@@ -15,9 +17,24 @@ all_bytes = 2 ^ 64 - 1
 abbrev pub on_clock : ℕ → ℕ → PeerEvent → ℕ × Event
 on_clock now subscriber event = (now, On subscriber event)
 
+-- after this answer there is no connection
+abbrev pub EndsWalk : Answer → Type 0
+EndsWalk NoSubscriber = Unit {0}
+EndsWalk NotOpen = Unit {0}
+EndsWalk OutOfMemory = Unit {0}
+EndsWalk answer = ⊥
+
+-- after the others there is one
+abbrev pub GoesOn : Answer → Type 0
+GoesOn NoSubscriber = ⊥
+GoesOn NotOpen = ⊥
+GoesOn OutOfMemory = ⊥
+GoesOn answer = IsCounted answer
+
 -- they happen one after another
 pub record WalksAll (before after : World) (now subscriber : ℕ) (events : List PeerEvent) : Type 0 where
   pub answers : List Answer
+  pub go_on : All GoesOn answers
   pub runs : RunsOn before after (map (on_clock now subscriber) events) answers
 
 -- the first of them happen, of which the last is answered so, and no more
@@ -26,6 +43,8 @@ pub record WalksSome (before after : World) (now subscriber : ℕ) (events : Lis
   pub others : List PeerEvent
   pub are : done ++ others ≡ events
   pub answers : List Answer
+  pub go_on : All GoesOn answers
+  pub ends : EndsWalk answer
   pub runs : RunsOn before after (map (on_clock now subscriber) done) (answers ++ answer ∷ [])
 
 abbrev pub Walks : World → World → ℕ → ℕ → List PeerEvent → Result (Unit {0}) Answer → Type 0
@@ -71,11 +90,40 @@ pub record PumpsSome (before after : World) (now subscriber : ℕ) (answer : Ans
   pub takes : ℕ
   pub some : WalksSome before after now subscriber (pump_events takes) answer
 
+-- ---- where a pump ends
+
+-- in each world for which the program's stands, and which has this subscriber; with the status of the pump fewer than 2^32 were said
+abbrev pub InEach : World → ℕ → (ℕ → w.World → Type 0) → Type 0
+InEach before subscriber Holds =
+    subscriber < length (world_checked before).plan → (most : ℕ) (events : List (ℕ × Event)) (world : w.World) → IsWorld before most events world → statuses_in events + 1 < 2 ^ 32
+    → Holds most world
+
+-- the subscriber is where the last of so many commits ends, in a world for which the program's stands
+pub record IsAtEnd (before after : World) (subscriber count most : ℕ) : Type 0 where
+  pub events : List (ℕ × Event)
+  pub world : w.World
+  pub is : IsWorld after most events world
+  pub checked : world_checked after ≡ world_checked before
+  pub position_is : position_now (world_checked after) world.transactions subscriber (world.peers subscriber) ≡ end_of count
+
+-- where the log ends
+abbrev pub ReachesEnd : World → World → ℕ → Type 0
+ReachesEnd before after subscriber = InEach before subscriber (λ most world. IsAtEnd before after subscriber (length world.transactions) most)
+
+abbrev pub IsEndOfLog : World → ℕ → ℕ → Type 0
+IsEndOfLog before subscriber position = InEach before subscriber (λ most world. position ≡ end_of (length world.transactions))
+
+-- a subscriber that has a connection loses it by want of memory, and in no other way
+abbrev pub WantsMemory : World → ℕ → Answer → Type 0
+WantsMemory before subscriber answer =
+    InEach before subscriber (λ most world. (c : Connection) → (world.peers subscriber).connection ≡ Some c → answer ≡ OutOfMemory)
+
 abbrev pub PumpsThrough : World → World → ℕ → ℕ → Result (Unit {0}) Answer → Type 0
-PumpsThrough before after now subscriber (Ok done) = PumpsAll before after now subscriber
+PumpsThrough before after now subscriber (Ok done) = PumpsAll before after now subscriber × ReachesEnd before after subscriber
 PumpsThrough before after now subscriber (Err answer) = PumpsSome before after now subscriber answer
 
 -- it is answered by the subscriber's position, or else by the answer that ends it
 pub data PumpsOn (before after : World) (now subscriber : ℕ) : Answer → Type 0 where
-  Pumped : (position : ℕ) → PumpsAll before after now subscriber → IsPosition after subscriber position → PumpsOn before after now subscriber (At position)
-  Ended : (answer : Answer) → PumpsSome before after now subscriber answer → PumpsOn before after now subscriber answer
+  Pumped : (position : ℕ) → PumpsAll before after now subscriber → IsPosition after subscriber position → IsEndOfLog before subscriber position
+      → PumpsOn before after now subscriber (At position)
+  Ended : (answer : Answer) → PumpsSome before after now subscriber answer → WantsMemory before subscriber answer → PumpsOn before after now subscriber answer

@@ -48,7 +48,7 @@ impl Peer {
     ghost use Rattle.std.specs.Arc.{arc_value};
     ghost use Rattle.shard_checker.specs.CheckedView.{CheckedOf, checked_view};
     ghost use Rattle.tables_log.specs.declared.book.Book.{Book as BookType};
-    ghost use Rattle.shard_world.specs.PeerCalls.{Drops, Makes, Moves, Stops};
+    ghost use Rattle.shard_world.specs.PeerCalls.{Drops, IsCounted, Makes, Moves, Stops};
     ghost use Rattle.shard_world.specs.World.{Open, Hear, Take, Keep, Deliver, Report, Lose};
 
     /// The subscriber connects, and asks for the stream from its position on.
@@ -56,6 +56,7 @@ impl Peer {
     fn open(&mut self, alloc: Global, checked: &Arc<Checked, Global>) -> Result<Answer, Halted>
         ensures made { (now : ℕ) (book : BookType) → IfOk result (λ answer.
             Makes (checked_view (arc_value checked.now)) now Open book book self.old self.new answer) }
+        ensures counted { IfOk result IsCounted }
         ensures stops { OnErr result ((now : ℕ) (book : BookType)
             → Stops (checked_view (arc_value checked.now)) now Open book book self.old self.new) }
     {
@@ -73,6 +74,7 @@ impl Peer {
     fn hear(&mut self, book: &mut Book, now: u64, bytes: usize) -> Result<Answer, Halted>
         ensures made { (checked : CheckedOf) → IfOk result (λ answer.
             Makes checked now (Hear bytes) book.old book.new self.old self.new answer) }
+        ensures counted { IfOk result IsCounted }
         ensures stops { OnErr result ((checked : CheckedOf)
             → Stops checked now (Hear bytes) book.old book.new self.old self.new) }
     {
@@ -91,6 +93,7 @@ impl Peer {
     fn take(&mut self, book: &Book, now: u64) -> Result<Answer, Halted>
         ensures made { (checked : CheckedOf) → IfOk result (λ answer.
             Makes checked now Take book.now book.now self.old self.new answer) }
+        ensures counted { IfOk result IsCounted }
         ensures stops { OnErr result ((checked : CheckedOf)
             → Stops checked now Take book.now book.now self.old self.new) }
     {
@@ -110,6 +113,7 @@ impl Peer {
     fn keep(&mut self, now: u64, want: bool) -> Result<Answer, Halted>
         ensures made { (checked : CheckedOf) (book : BookType) → IfOk result (λ answer.
             Makes checked now (Keep want) book book self.old self.new answer) }
+        ensures counted { IfOk result IsCounted }
         ensures stops { OnErr result ((checked : CheckedOf) (book : BookType)
             → Stops checked now (Keep want) book book self.old self.new) }
     {
@@ -128,6 +132,7 @@ impl Peer {
     fn deliver(&mut self, bytes: usize) -> Result<Answer, Halted>
         ensures made { (checked : CheckedOf) (now : ℕ) (book : BookType) → IfOk result (λ answer.
             Makes checked now (Deliver bytes) book book self.old self.new answer) }
+        ensures counted { IfOk result IsCounted }
         ensures stops { OnErr result ((checked : CheckedOf) (now : ℕ) (book : BookType)
             → Stops checked now (Deliver bytes) book book self.old self.new) }
     {
@@ -146,6 +151,7 @@ impl Peer {
     fn report(&mut self, now: u64, want: bool) -> Result<Answer, Halted>
         ensures made { (checked : CheckedOf) (book : BookType) → IfOk result (λ answer.
             Makes checked now (Report want) book book self.old self.new answer) }
+        ensures counted { IfOk result IsCounted }
         ensures stops { OnErr result ((checked : CheckedOf) (book : BookType)
             → Stops checked now (Report want) book book self.old self.new) }
     {
@@ -167,7 +173,9 @@ impl Peer {
     /// The connection is lost.
     #[tactic(auto, using(crate::proofs::CallLemmas::is_not_open, crate::proofs::CallLemmas::drops_lose))]
     fn lose(&mut self, book: &mut Book) -> Answer
-        ensures { (checked : CheckedOf) (now : ℕ) → Makes checked now Lose book.old book.new self.old self.new result }
+        ensures made { (checked : CheckedOf) (now : ℕ)
+            → Makes checked now Lose book.old book.new self.old self.new result }
+        ensures counted { IsCounted result }
     {
         if self.link.is_none() {
             return Answer::NotOpen;
@@ -187,6 +195,7 @@ impl Peer {
     ) -> Result<Answer, Halted>
         ensures made { IfOk result (λ answer.
             Makes (checked_view (arc_value checked.now)) now event book.old book.new self.old self.new answer) }
+        ensures counted { IfOk result IsCounted }
         ensures stops { OnErr result
             (Stops (checked_view (arc_value checked.now)) now event book.old book.new self.old self.new) }
     {
@@ -211,7 +220,8 @@ impl Peer {
         now: u64,
         event: PeerEvent,
     ) -> Answer
-        ensures { Moves (checked_view (arc_value checked.now)) now event book.old book.new self.old self.new result }
+        ensures moves { Moves (checked_view (arc_value checked.now)) now event book.old book.new self.old self.new result }
+        ensures counted { IsCounted result }
     {
         match self.try_step(alloc, checked, book, now, event) {
             Ok(answer) => answer,

@@ -42,7 +42,8 @@ impl World {
     ghost use Rattle.table_changes.specs.CommandView.{command_view};
     ghost use Rattle.shard_world.specs.EventView.{event_view, timed_view};
     ghost use Rattle.shard_world.specs.World as w;
-    ghost use Rattle.shard_world.specs.Pumping.{IsPosition, PumpsOn, PumpsThrough, Takes, Walks};
+    ghost use Rattle.shard_world.specs.PeerCalls.{IsCounted};
+    ghost use Rattle.shard_world.specs.Pumping.{EndsWalk, GoesOn, IsPosition, PumpsOn, PumpsThrough, Takes, Walks};
     ghost use Rattle.shard_world.specs.Viewing.{ShowsWorld};
     ghost use Rattle.shard_world.specs.WorldCalls.{IsWorld, RunsOn, StepsOn, world_checked};
 
@@ -85,7 +86,8 @@ impl World {
     /// Something happens on the connection of a subscriber.
     #[tactic(auto, using(crate::proofs::WorldMoves::moves_one, crate::proofs::WorldMoves::none_there))]
     fn on(&mut self, now: u64, subscriber: usize, event: PeerEvent) -> Answer
-        ensures { StepsOn self.old self.new now (w.On subscriber event) result }
+        ensures steps { StepsOn self.old self.new now (w.On subscriber event) result }
+        ensures counted { IsCounted result }
     {
         match self.peers.get_mut(subscriber) {
             Some(peer) => peer.step(self.alloc, &self.checked, &mut self.book, now, event),
@@ -121,6 +123,8 @@ impl World {
     fn go_on(&mut self, now: u64, subscriber: usize, event: PeerEvent) -> Result<Answer, Answer>
         ensures ok { IfOk result (StepsOn self.old self.new now (w.On subscriber event)) }
         ensures err { IfErr result (StepsOn self.old self.new now (w.On subscriber event)) }
+        ensures goes { IfOk result GoesOn }
+        ensures ends { IfErr result EndsWalk }
     {
         match self.on(now, subscriber, event) {
             Answer::NoSubscriber => Err(Answer::NoSubscriber),
@@ -164,7 +168,7 @@ impl World {
     }
 
     /// The events of a pump, up to one that ends it early.
-    #[tactic(auto, using(crate::proofs::PumpLemmas::pump_ends_hearing, crate::proofs::PumpLemmas::pump_ends_taking, crate::proofs::PumpLemmas::pump_ends_late, crate::proofs::PumpLemmas::pump_goes_through))]
+    #[tactic(auto, using(crate::proofs::PumpLemmas::pump_ends_hearing, crate::proofs::PumpLemmas::pump_ends_taking))]
     fn pump_through(&mut self, now: u64, subscriber: usize) -> Result<(), Answer>
         ensures { PumpsThrough self.old self.new now subscriber result }
     {
@@ -189,7 +193,9 @@ impl World {
     }
 
     /// The subscriber gets all that was committed, and says so, all at one clock: all that it sent is heard, each commit
-    /// that is left is taken up, a keepalive is said, all is delivered, and it says how far it is, which is heard.
+    /// that is left is taken up, a keepalive is said, all is delivered, and it says how far it is, which is heard. It is
+    /// answered by `At` with 64 times the log's length and 64 more. Where memory is refused, that ends it, and the
+    /// connection is lost; without a connection, or without the subscriber, nothing happens.
     pub fn pump(&mut self, now: u64, subscriber: usize) -> Answer
         ensures { PumpsOn self.old self.new now subscriber result }
     {

@@ -1,13 +1,12 @@
 -- What a step of a script does to the program's world, from what the world's own calls do.
-use Rattle.std.proofs.Common.{◌≡◌, ℕ, zero, suc, ◌+◌, ◌<◌, ◌≤◌, inl, inr, List, [], ◌∷◌, ◌++◌, length, map, replicate, refl, sym, ap, subst, ◌∙◌, append_assoc, append-nil, arith}
-use Rattle.std.specs.Prelude.{fold, false}
-use Rattle.std.proofs.lemmas.List.{map-append}
+use Rattle.std.proofs.Common.{◌≡◌, ℕ, ◌+◌, ◌<◌, ◌≤◌, inl, inr, List, [], ◌∷◌, ◌++◌, length, map, refl, sym, ap, subst, ◌∙◌, append-nil, arith}
 use Rattle.filter_tree.specs.Expr.{Expr}
 use Rattle.pub_reader.specs.Catalogs.{CatalogOf}
 use Rattle.pub_reader.specs.Steps.{StepOf}
 use Rattle.shard_checker.specs.CheckedView.{CheckedOf}
-use Rattle.shard_world.proofs.ReportLemmas.{statuses_append, statuses_first}
-use Rattle.shard_world.specs.Pumping.{all_bytes, on_clock, pump_events, IsPosition, PumpsAll, PumpsOn, PumpsSome, Pumped, Ended}
+use Rattle.shard_world.proofs.ReportLemmas.{statuses_append}
+use Rattle.shard_world.proofs.SaidLemmas.{part_few, pump_few}
+use Rattle.shard_world.specs.Pumping.{on_clock, pump_events, IsEndOfLog, IsPosition, PumpsAll, PumpsOn, PumpsSome, WantsMemory, Pumped, Ended}
 use Rattle.shard_world.specs.Viewing.{ShowsWorld}
 use Rattle.shard_world.specs.World as w
 use Rattle.shard_world.specs.World.{statuses_in, statuses_after, said_after}
@@ -28,10 +27,6 @@ use Rattle.subcommands.specs.Simulate.WorldSteps.{MakesOn}
 
 -- ---- how many statuses are said
 
--- after so many
-abbrev said_on : ℕ → List (ℕ × w.Event) → ℕ
-said_on count events = fold (λ count event. statuses_after event.1 count) count events
-
 said_by_peer : (event : PeerEvent) (count : ℕ) → said_after event count ≤ count + 1
 said_by_peer p.Open count = omega arith
 said_by_peer (p.Hear bytes) count = omega arith
@@ -47,34 +42,6 @@ said_by_one (w.On subscriber event) count = said_by_peer event count
 
 event_few : (events : List (ℕ × w.Event)) (now : ℕ) (event : w.Event) → statuses_in (events ++ (now, event) ∷ []) ≤ statuses_in events + 1
 event_few events now event = omega (arith, statuses_append events ((now, event) ∷ []) 0, said_by_one event (statuses_in events))
-
-said_taking : (now subscriber takes : ℕ) (more : List (ℕ × w.Event)) (count : ℕ) → said_on count (map (on_clock now subscriber) (replicate takes p.Take) ++ more) ≡ said_on count more
-said_taking now subscriber zero more count = refl
-said_taking now subscriber (suc takes) more count = said_taking now subscriber takes more count
-
--- a pump says one
-said_pumping : (now subscriber takes count : ℕ) → said_on count (map (on_clock now subscriber) (pump_events takes)) ≡ count + 1
-said_pumping now subscriber takes count =
-    let last : List PeerEvent = p.Keep false ∷ p.Deliver all_bytes ∷ p.Report false ∷ p.Hear all_bytes ∷ [] in
-    ap (said_on count) (map-append (on_clock now subscriber) (replicate takes p.Take) last)
-    ∙ said_taking now subscriber takes (map (on_clock now subscriber) last) count
-
-pump_few : (events : List (ℕ × w.Event)) (now subscriber takes : ℕ) → statuses_in (events ++ map (on_clock now subscriber) (pump_events takes)) ≤ statuses_in events + 1
-pump_few events now subscriber takes =
-    omega (arith, statuses_append events (map (on_clock now subscriber) (pump_events takes)) 0, said_pumping now subscriber takes (statuses_in events))
-
--- so does no more the first of it
-part_few : (events : List (ℕ × w.Event)) (now subscriber takes : ℕ) (done others : List PeerEvent) → done ++ others ≡ pump_events takes
-    → statuses_in (events ++ map (on_clock now subscriber) done) ≤ statuses_in events + 1
-part_few events now subscriber takes done others split =
-    let asked : List (ℕ × w.Event) = map (on_clock now subscriber) done in
-    let rest : List (ℕ × w.Event) = map (on_clock now subscriber) others in
-    let all : map (on_clock now subscriber) (pump_events takes) ≡ asked ++ rest =
-    ap (map (on_clock now subscriber)) (sym split) ∙ map-append (on_clock now subscriber) done others in
-    let whole : statuses_in ((events ++ asked) ++ rest) ≤ statuses_in events + 1 =
-    subst (λ (happened : List (ℕ × w.Event)). statuses_in happened ≤ statuses_in events + 1)
-    (ap (λ more. events ++ more) all ∙ sym (append_assoc events asked rest)) (pump_few events now subscriber takes) in
-    omega (arith, statuses_first (events ++ asked) rest)
 
 -- ---- a step
 
@@ -98,8 +65,8 @@ module _ (before after : World) (now : ℕ) (step : StepOf) (text : List ℕ) wh
       }
 
   all_pumped : (subscriber position : ℕ) → a.Pump subscriber ≡ asked_of now step → PumpsAll before after now subscriber → IsPosition after subscriber position
-      → text ≡ text_of (answer_line (At position) ∷ []) → MakesOn before after now step text
-  all_pumped subscriber position is pumps at text_is = λ most events world stands few.
+      → IsEndOfLog before subscriber position → text ≡ text_of (answer_line (At position) ∷ []) → MakesOn before after now step text
+  all_pumped subscriber position is pumps at end text_is = λ most events world stands few.
       let asked : List (ℕ × w.Event) = map (on_clock now subscriber) (pump_events pumps.takes) in
       let said : statuses_in (events ++ asked) ≤ statuses_in events + 1 = pump_few events now subscriber pumps.takes in
       let into = pumps.all.runs most events world stands (omega (arith, few, said)) in
@@ -116,6 +83,7 @@ module _ (before after : World) (now : ℕ) (step : StepOf) (text : List ℕ) wh
               position_is = λ there.
                   subst (λ (c : CheckedOf). position ≡ w.position_now c into.next.transactions subscriber (into.next.peers subscriber)) into.checked
                   (at (subst (λ (c : CheckedOf). subscriber < length c.plan) (sym into.checked) there) most (events ++ asked) into.next into.is);
+              at_end = λ there. end there most events world stands (omega (arith, few));
               are = refl;
             }));
         is_world = into.is;
@@ -125,8 +93,8 @@ module _ (before after : World) (now : ℕ) (step : StepOf) (text : List ℕ) wh
       }
 
   part_pumped : (subscriber : ℕ) (answer : Answer) → a.Pump subscriber ≡ asked_of now step → PumpsSome before after now subscriber answer
-      → text ≡ text_of (answer_line answer ∷ []) → MakesOn before after now step text
-  part_pumped subscriber answer is pumps text_is = λ most events world stands few.
+      → WantsMemory before subscriber answer → text ≡ text_of (answer_line answer ∷ []) → MakesOn before after now step text
+  part_pumped subscriber answer is pumps refused text_is = λ most events world stands few.
       let part = pumps.some in
       let asked : List (ℕ × w.Event) = map (on_clock now subscriber) part.done in
       let said : statuses_in (events ++ asked) ≤ statuses_in events + 1 = part_few events now subscriber pumps.takes part.done part.others part.are in
@@ -144,6 +112,7 @@ module _ (before after : World) (now : ℕ) (step : StepOf) (text : List ℕ) wh
               earlier = part.answers;
               answer = answer;
               runs = into.runs;
+              refused = λ there c connected. refused there most events world stands (omega (arith, few)) c connected;
               are = refl;
             }));
         is_world = into.is;
@@ -154,8 +123,8 @@ module _ (before after : World) (now : ℕ) (step : StepOf) (text : List ℕ) wh
 
   pub pump_made : (subscriber : ℕ) (answer : Answer) → a.Pump subscriber ≡ asked_of now step → PumpsOn before after now subscriber answer → text ≡ text_of (answer_line answer ∷ [])
       → MakesOn before after now step text
-  pump_made subscriber answer is (Pumped position all at) text_is = all_pumped subscriber position is all at text_is
-  pump_made subscriber answer is (Ended told some) text_is = part_pumped subscriber told is some text_is
+  pump_made subscriber answer is (Pumped position all at end) text_is = all_pumped subscriber position is all at end text_is
+  pump_made subscriber answer is (Ended told some refused) text_is = part_pumped subscriber told is some refused text_is
 
 pub view_made : (code : World) (now : ℕ) (step : StepOf) (catalog : CatalogOf Expr) (view : View) (text : List ℕ) → a.View ≡ asked_of now step → catalog ≡ (world_checked code).catalog
     → ((most : ℕ) (events : List (ℕ × w.Event)) (world : w.World) → IsWorld code most events world → ShowsWorld (world_checked code) world view)

@@ -1,14 +1,15 @@
 -- What the steps of a script do in the world of a publisher and its subscribers, and the lines that tell of each. The clock of a step, in microseconds since 2000-01-01, is its number from 1. The steps are this project's own.
-use Rattle.std.specs.Prelude.{◌≡◌, ◌<◌, ℕ, ◌+◌, ◌⊎◌, List, [], ◌∷◌, ◌++◌, length, map}
+use Rattle.std.specs.Prelude.{◌≡◌, ◌<◌, ℕ, ◌+◌, ◌⊎◌, List, [], ◌∷◌, ◌++◌, length, map, Some}
 use Rattle.pub_reader.specs.Scripts.{LineOf}
 use Rattle.pub_reader.specs.Steps.{StepOf}
 use Rattle.shard_checker.specs.CheckedView.{CheckedOf}
+use Rattle.copy_both.specs.Streams.{end_of}
 use Rattle.shard_world.specs.Pumping.{on_clock, pump_events}
 use Rattle.shard_world.specs.Viewing.{ShowsWorld}
 use Rattle.shard_world.specs.World as w
 use Rattle.shard_world.specs.WorldCalls.{Runs}
 use Rattle.shard_world.specs.declared.answer.Answer.{Answer}
-use Rattle.shard_world.specs.declared.answer.Answer.TheVariants.{At}
+use Rattle.shard_world.specs.declared.answer.Answer.TheVariants.{At, OutOfMemory}
 use Rattle.shard_world.specs.declared.event.PeerEvent.{PeerEvent}
 use Rattle.shard_world.specs.declared.view.View.{View}
 use Rattle.subcommands.specs.Simulate.Answers.{answer_line}
@@ -25,16 +26,17 @@ module _ (checked : CheckedOf) (most : ℕ) where
     pub steps : w.Steps checked most world now event answer next
     pub are : lines ≡ answer_line answer ∷ []
 
-  -- all that a pump makes happen happens, and the line tells where the subscriber is then
+  -- All that a pump makes happen happens, and the line tells where the subscriber is then: at the end of the log.
   pub record IsPumped (now subscriber : ℕ) (world : w.World) (lines : List (List ℕ)) (next : w.World) : Type 0 where
     pub takes : ℕ
     pub answers : List Answer
     pub position : ℕ
     pub runs : Runs checked most (map (on_clock now subscriber) (pump_events takes)) answers world next
     pub position_is : subscriber < length checked.plan → position ≡ w.position_now checked next.transactions subscriber (next.peers subscriber)
+    pub at_end : subscriber < length checked.plan → position ≡ end_of (length world.transactions)
     pub are : lines ≡ answer_line (At position) ∷ []
 
-  -- the first of it happens, and the line is the answer of the last that does
+  -- The first of it happens, and the line is the answer of the last that does. Where there is a connection, memory was refused.
   pub record IsPumpEnded (now subscriber : ℕ) (world : w.World) (lines : List (List ℕ)) (next : w.World) : Type 0 where
     pub takes : ℕ
     pub done : List PeerEvent
@@ -43,6 +45,7 @@ module _ (checked : CheckedOf) (most : ℕ) where
     pub earlier : List Answer
     pub answer : Answer
     pub runs : Runs checked most (map (on_clock now subscriber) done) (earlier ++ answer ∷ []) world next
+    pub refused : subscriber < length checked.plan → (c : w.Connection) → (world.peers subscriber).connection ≡ Some c → answer ≡ OutOfMemory
     pub are : lines ≡ answer_line answer ∷ []
 
   -- the lines show the world, in which nothing changes

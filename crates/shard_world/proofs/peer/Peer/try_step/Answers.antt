@@ -46,4 +46,4 @@ returns-in-Report-clause-stops c =
 pub returns-in-Lose-clause-made : goal.returns-in-Lose-clause-made
 returns-in-Lose-clause-made c =
     subst (λ event. Makes (checked_view (arc_value c.args.checked.now)) c.args.now event c.args.book.now c.lose.new.book c.args.self.now c.lose.new.self c.lose.result) (sym c.in-Lose.is)
-    (c.lose.ensures (checked_view (arc_value c.args.checked.now)) c.args.now)
+    (c.lose.ensures.made (checked_view (arc_value c.args.checked.now)) c.args.now)

@@ -1,0 +1,178 @@
+-- A pump of a program's world ends where the log does, or for want of memory.
+use Rattle.std.proofs.Common.{◌≡◌, ℕ, zero, suc, ◌+◌, ◌<◌, ◌≤◌, ◌^◌, List, [], ◌∷◌, ◌++◌, length, map, replicate, sym, ap, subst, ◌∙◌, append_assoc, arith, inl, inr}
+use Rattle.std.specs.Prelude.{All, ◌⊎◌, false, Result, Ok, Err}
+use Rattle.std.proofs.lemmas.List.{map-append}
+use Rattle.std.proofs.lemmas.List.Elements.{All-nil, All-cons, All-head, All-tail}
+use Rattle.table_changes.specs.Tables.{no_rows}
+use Rattle.shard_checker.specs.CheckedView.{CheckedOf, setting_in}
+use Rattle.tables_log.specs.BookView.{book_log}
+use Rattle.tables_log.specs.StandsFor.{Transaction}
+use Rattle.copy_both.specs.Streams.{count_before, end_of}
+use Rattle.shard_world.specs.Following.{log_of}
+use Rattle.shard_world.specs.Pumping.{EndsIdle, IsPosition, IsEndOfLog, ReachesEnd, WantsMemory, WalksAll, TakesAll, PumpsAll, PumpsSome, PumpsThrough, Walks, all_bytes, on_clock, pump_events}
+use Rattle.shard_world.specs.World as w
+use Rattle.shard_world.specs.World.{Answer, Connection, Event, OutOfMemory, Peer, PeerEvent, Hear, Take, Keep, Deliver, Report, position_now, first_world, statuses_in}
+use Rattle.shard_world.specs.WorldCalls.{IsWorld, Runs, RunsInto, world_book, world_checked, world_peers}
+use Rattle.shard_world.specs.declared.world.World.{World}
+use Rattle.shard_world.proofs.AskingLemmas.{end_of_count, leads_asked}
+use Rattle.shard_world.proofs.EndSteps.{ends_at, now_end}
+use Rattle.shard_world.proofs.EntryLemmas.{entries_length}
+use Rattle.shard_world.proofs.PumpEndLemmas.{hears_all, takes_all, tells_all}
+use Rattle.shard_world.proofs.PumpLemmas.{last_events, pump_ends_late, pump_goes_through}
+use Rattle.shard_world.proofs.PumpSteps.{KeepsOpen, PeerRuns, RunsAs, last_answer, runs_as}
+use Rattle.shard_world.proofs.RunLemmas.{first_few}
+use Rattle.shard_world.proofs.SaidLemmas.{part_few, pump_few}
+use Rattle.shard_world.proofs.WorldLemmas.{all_timed, can_be_said, good_at, published}
+use Rattle.shard_world.proofs.WorldPeers.{good_follows}
+use Rattle.shard_world.proofs.WorldStepLemmas.{log_there}
+
+-- ---- want of memory
+
+takes_open : (takes : ℕ) (more : List PeerEvent) → All KeepsOpen more → All KeepsOpen (replicate takes Take ++ more)
+takes_open zero more all = all
+takes_open (suc takes) more all = All-cons KeepsOpen Take (replicate takes Take ++ more) tt (takes_open takes more all)
+
+pump_open : (takes : ℕ) → All KeepsOpen (pump_events takes)
+pump_open takes =
+    All-cons KeepsOpen (Hear all_bytes) (replicate takes Take ++ last_events) tt (takes_open takes last_events
+    (All-cons KeepsOpen (Keep false) (Deliver all_bytes ∷ Report false ∷ Hear all_bytes ∷ []) tt
+    (All-cons KeepsOpen (Deliver all_bytes) (Report false ∷ Hear all_bytes ∷ []) tt
+    (All-cons KeepsOpen (Report false) (Hear all_bytes ∷ []) tt (All-cons KeepsOpen (Hear all_bytes) [] tt (All-nil KeepsOpen))))))
+
+first_open : (done others : List PeerEvent) → All KeepsOpen (done ++ others) → All KeepsOpen done
+first_open [] others all = All-nil KeepsOpen
+first_open (event ∷ done) others all = All-cons KeepsOpen event done (All-head KeepsOpen event (done ++ others) all) (first_open done others (All-tail KeepsOpen event (done ++ others) all))
+
+pub wants_memory : (before after : World) (now subscriber : ℕ) (answer : Answer) → PumpsSome before after now subscriber answer → WantsMemory before subscriber answer
+wants_memory before after now subscriber answer pumps there most events world is few c connected =
+    let part = pumps.some in
+    let said = part_few events now subscriber pumps.takes part.done part.others part.are in
+    let into = part.runs most events world is (omega (arith, few, said)) in
+    last_answer (world_checked before) most subscriber now there part.done part.answers answer world into.next
+    (first_open part.done part.others (subst (All KeepsOpen) (sym part.are) (pump_open pumps.takes))) part.go_on part.ends into.runs c connected
+
+-- ---- the end of the log
+
+pub end_of_log : (before after : World) (subscriber position : ℕ) → ReachesEnd before after subscriber → IsPosition after subscriber position
+    → IsEndOfLog before subscriber position
+end_of_log before after subscriber position reaches at there most events world is few =
+    let end = reaches there most events world is few in
+    at (subst (λ (c : CheckedOf). subscriber < length c.plan) (sym end.checked) there) most end.events end.world end.is ∙ end.position_is
+
+-- a position that counts all commits, and isn't 0
+record IsPast (checked : CheckedOf) (transactions : List Transaction) (subscriber : ℕ) (peer : Peer) : Type 0 where
+  all : length (log_of checked transactions) ≤ count_before (position_now checked transactions subscriber peer)
+  some : 1 ≤ position_now checked transactions subscriber peer
+
+past_is_end : (code : World) (subscriber most : ℕ) (events : List (ℕ × Event)) (world : w.World) → IsWorld code most events world
+    → IsPast (world_checked code) world.transactions subscriber (world.peers subscriber)
+    → position_now (world_checked code) world.transactions subscriber (world.peers subscriber) ≡ end_of (length world.transactions)
+past_is_end code subscriber most events world is past =
+    let checked : CheckedOf = world_checked code in
+    let sayable = can_be_said checked most is.publisher events is.texts world is.leads in
+    let good = good_at checked is.publisher.covered is.publisher.apart most events (all_timed events is.texts) world is.leads sayable in
+    let public = published checked is.publisher.covered is.publisher.apart world good in
+    let end = now_end checked world.transactions subscriber (world.peers subscriber) (good.peers subscriber)
+    (ends_at checked is.publisher.covered is.publisher.apart most events (all_timed events is.texts) world is.leads sayable subscriber) in
+    let follows = good_follows checked world.transactions public sayable subscriber (world.peers subscriber) (good.peers subscriber) in
+    let count : length (log_of checked world.transactions) ≡ length world.transactions = entries_length (setting_in checked) no_rows 1 world.transactions in
+    end_of_count (position_now checked world.transactions subscriber (world.peers subscriber)) (length world.transactions) end
+    (all_counted (position_now checked world.transactions subscriber (world.peers subscriber)) (length world.transactions) (length (log_of checked world.transactions)) count past.all follows.within) past.some
+  where
+    all_counted : (position count logged : ℕ) → logged ≡ count → logged ≤ count_before position → count_before position ≤ count → count_before position ≡ count
+    all_counted position count logged e low high = omega (arith, e, low, high)
+
+module _ (before between later after : World) (now subscriber : ℕ) (timed : now < 2 ^ 64) (hears : WalksAll before between now subscriber (Hear all_bytes ∷ [])) (takes : TakesAll between later now subscriber)
+    (tells : WalksAll later after now subscriber last_events) where
+  abbrev on : List PeerEvent → List (ℕ × Event)
+  on events = map (on_clock now subscriber) events
+
+  abbrev hearing : List (ℕ × Event)
+  hearing = on (Hear all_bytes ∷ [])
+
+  abbrev taking : List (ℕ × Event)
+  taking = on (replicate takes.takes Take)
+
+  abbrev telling : List (ℕ × Event)
+  telling = on last_events
+
+  all_few : (events : List (ℕ × Event)) → statuses_in events + 1 < 2 ^ 32 → statuses_in (((events ++ hearing) ++ taking) ++ telling) < 2 ^ 32
+  all_few events few =
+      let said : statuses_in (events ++ on (pump_events takes.takes)) ≤ statuses_in events + 1 = pump_few events now subscriber takes.takes in
+      let parts : on (pump_events takes.takes) ≡ hearing ++ (taking ++ telling) =
+      ap (λ rest. on_clock now subscriber (Hear all_bytes) ∷ rest) (map-append (on_clock now subscriber) (replicate takes.takes Take) last_events) in
+      let same : events ++ on (pump_events takes.takes) ≡ ((events ++ hearing) ++ taking) ++ telling =
+      ap (λ rest. events ++ rest) parts ∙ sym (append_assoc events hearing (taking ++ telling)) ∙ sym (append_assoc (events ++ hearing) taking telling) in
+      let count : statuses_in (((events ++ hearing) ++ taking) ++ telling) ≤ statuses_in events + 1 = subst (λ its. statuses_in its ≤ statuses_in events + 1) same said in
+      omega (arith, count, few)
+
+  -- in the world after it
+  told_past : (most : ℕ) (events : List (ℕ × Event)) (world : w.World) → subscriber < length (world_checked before).plan → IsWorld before most events world
+      → (heard : RunsInto before between most events world hearing hears.answers)
+      → (taken : RunsInto between later most (events ++ hearing) heard.next taking takes.walks.answers)
+      → (told : RunsInto later after most ((events ++ hearing) ++ taking) taken.next telling tells.answers)
+      → IsPast (world_checked before) world.transactions subscriber (told.next.peers subscriber) × (told.next.transactions ≡ world.transactions)
+  told_past most events world there is heard taken told =
+      let checked : CheckedOf = world_checked before in
+      let transactions : List Transaction = world.transactions in
+      let sayable = can_be_said checked most is.publisher events is.texts world is.leads in
+      let good = good_at checked is.publisher.covered is.publisher.apart most events (all_timed events is.texts) world is.leads sayable in
+      let public = published checked is.publisher.covered is.publisher.apart world good in
+      let heard_as : RunsAs checked transactions subscriber now (Hear all_bytes ∷ []) hears.answers (world.peers subscriber) heard.next =
+      runs_as checked most subscriber now there (Hear all_bytes ∷ []) hears.answers world heard.next hears.go_on heard.runs in
+      let taken_as : RunsAs checked heard.next.transactions subscriber now (replicate takes.takes Take) takes.walks.answers (heard.next.peers subscriber) taken.next =
+      runs_as checked most subscriber now there (replicate takes.takes Take) takes.walks.answers heard.next taken.next takes.walks.go_on
+      (subst (λ its. Runs its most taking takes.walks.answers heard.next taken.next) heard.checked taken.runs) in
+      let told_as : RunsAs checked taken.next.transactions subscriber now last_events tells.answers (taken.next.peers subscriber) told.next =
+      runs_as checked most subscriber now there last_events tells.answers taken.next told.next tells.go_on
+      (subst (λ its. Runs its most telling tells.answers taken.next told.next) (taken.checked ∙ heard.checked) told.runs) in
+      let same_taken : taken.next.transactions ≡ transactions = taken_as.transactions_are ∙ heard_as.transactions_are in
+      let started = hears_all checked transactions public sayable subscriber now timed hears.answers (world.peers subscriber) (heard.next.peers subscriber) heard_as.runs hears.go_on
+      (leads_asked checked most events first_world world is.leads (λ other. tt) subscriber) (good.peers subscriber) in
+      let left = takes_all checked transactions public sayable subscriber now timed started.start takes.takes takes.walks.answers (heard.next.peers subscriber) (taken.next.peers subscriber)
+      (subst (λ its. PeerRuns checked its subscriber now (replicate takes.takes Take) takes.walks.answers (heard.next.peers subscriber) (taken.next.peers subscriber)) heard_as.transactions_are taken_as.runs)
+      (enough most (events ++ hearing) heard.next heard.is transactions heard_as.transactions_are) started.left in
+      let past = tells_all checked transactions public sayable subscriber now timed started.start (taken.next.peers subscriber) (told.next.peers subscriber) tells.answers
+      (subst (λ its. PeerRuns checked its subscriber now last_events tells.answers (taken.next.peers subscriber) (told.next.peers subscriber)) same_taken told_as.runs) tells.go_on left in
+      (record { all = past.all; some = past.some }, told_as.transactions_are ∙ same_taken)
+    where
+      enough : (most : ℕ) (events : List (ℕ × Event)) (world : w.World) → IsWorld between most events world → (transactions : List Transaction) → world.transactions ≡ transactions
+          → EndsIdle takes.walks.answers ⊎ (length transactions < takes.takes)
+      enough most events world is transactions same = elim takes.enough [
+        | inl idle ↦ inl idle
+        | inr many ↦ inr (
+            let log = log_there (world_checked between) most (world_book between) (world_peers between) events world is subscriber now in
+            let count : length (book_log (world_book between)) ≡ length world.transactions = ap length log.log_is ∙ entries_length (setting_in (world_checked between)) no_rows 1 world.transactions in
+            let all : length world.transactions ≡ length transactions = ap length same in
+            omega (arith, many, count, all))
+      ]
+
+  pub reaches_end_of_log : ReachesEnd before after subscriber
+  reaches_end_of_log there most events world is few =
+      let all = all_few events few in
+      let most_few : statuses_in ((events ++ hearing) ++ taking) < 2 ^ 32 =
+      first_few (events ++ hearing) taking telling (subst (λ its. statuses_in its < 2 ^ 32) (append_assoc (events ++ hearing) taking telling) all) in
+      let heard = hears.runs most events world is (first_few events hearing taking (subst (λ its. statuses_in its < 2 ^ 32) (append_assoc events hearing taking) most_few)) in
+      let taken = takes.walks.runs most (events ++ hearing) heard.next heard.is most_few in
+      let told = tells.runs most ((events ++ hearing) ++ taking) taken.next taken.is all in
+      let past = told_past most events world there is heard taken told in
+      let same : world_checked after ≡ world_checked before = told.checked ∙ taken.checked ∙ heard.checked in
+      record {
+        events = ((events ++ hearing) ++ taking) ++ telling;
+        world = told.next;
+        is = told.is;
+        checked = same;
+        position_is = past_is_end after subscriber most (((events ++ hearing) ++ taking) ++ telling) told.next told.is
+            (subst (λ its. IsPast its told.next.transactions subscriber (told.next.peers subscriber)) (sym same)
+            (subst (λ its. IsPast (world_checked before) its subscriber (told.next.peers subscriber)) (sym past.1) past.0))
+            ∙ ap end_of (ap length past.1);
+      }
+
+  pub pumps_through : PumpsAll before after now subscriber × ReachesEnd before after subscriber
+  pumps_through = (pump_goes_through now subscriber before between later after hears takes tells, reaches_end_of_log)
+
+-- as the last events are answered
+pub pumped_by : (before between later after : World) (now subscriber : ℕ) → now < 2 ^ 64 → WalksAll before between now subscriber (Hear all_bytes ∷ []) → TakesAll between later now subscriber
+    → (result : Result (Unit {0}) Answer) → Walks later after now subscriber last_events result → PumpsThrough before after now subscriber result
+pumped_by before between later after now subscriber timed hears takes (Ok done) tells = pumps_through before between later after now subscriber timed hears takes tells
+pumped_by before between later after now subscriber timed hears takes (Err answer) tells = pump_ends_late now subscriber before between later after answer hears takes tells
