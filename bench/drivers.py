@@ -13,7 +13,11 @@ SOURCES = pathlib.Path(__file__).resolve().parent / "drivers"
 NEEDS = {
     "book": "tables_log shard_checker replica_identity table_changes pub_reader filter_tree",
     "messages": "pgoutput_msgs filter_tree",
+    "world": "shard_world shard_checker replica_identity table_changes pub_reader filter_tree",
 }
+# the words of the run in which a driver is proved and built
+WHOLE = "CREATE TABLE t (id integer PRIMARY KEY, region text); CREATE PUBLICATION p FOR TABLE t; CREATE SUBSCRIPTION s CONNECTION '' PUBLICATION p;"
+WORDS = {"book": ["0"], "messages": ["0", "0"], "world": [WHOLE, "o 0", "1", "0"]}
 
 
 def stood_on(names):
@@ -52,7 +56,7 @@ def built(name):
         shutil.copy(SOURCES / f"{name}.rt.in", source / "main.rt")
         with open(folder / "crates.txt", "a") as lines:
             lines.write(f"{crate}: {NEEDS[name]}\n")
-        subprocess.run(["rt", "run", "--", "0", "0"], check=True, cwd=source.parent, stdout=subprocess.DEVNULL)
+        subprocess.run(["rt", "run", "--", *WORDS[name]], check=True, cwd=source.parent, stdout=subprocess.DEVNULL)
         yield source.parent / "out" / crate
 
 

@@ -77,8 +77,8 @@ class Connection:
 
 
 @contextlib.contextmanager
-def server():
-    """A new server, which listens to a socket in its folder alone: the folder, and a connection."""
+def server(more=""):
+    """A new server with these options, which listens to a socket in its folder alone: the folder, and a connection."""
     programs = folder_of_programs()
     with tempfile.TemporaryDirectory(prefix="pgshard_bench_", dir="/tmp") as name:
         folder = pathlib.Path(name)
@@ -87,7 +87,7 @@ def server():
             os.chown(folder, user.pw_uid, user.pw_gid)
         data = folder / "data"
         run(as_user([programs / "initdb", "-D", data, "-U", USER, "-A", "trust", "--no-sync"]))
-        options = f"-k {folder} -c listen_addresses='' -c shared_buffers=512MB -c max_wal_size=4GB"
+        options = f"-k {folder} -c listen_addresses='' -c shared_buffers=512MB -c max_wal_size=4GB {more}"
         run(as_user([programs / "pg_ctl", "-D", data, "-o", options, "-l", folder / "log", "-w", "start"]))
         try:
             connection = Connection(folder)

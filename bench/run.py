@@ -3,8 +3,9 @@
 
     bench/run.py [--program FILE] [--core N] [--first] [--runs N] [PART ..]
 
-The parts are start, large, eval, check, make, simulate, book, messages and instructions; without one, all are run. The
-program has to be built, which the script `pgshard` does; book and messages build programs of their own, and so need `rt`.
+The parts are start, large, eval, check, make, simulate, send, book, messages and instructions; without one, all are run.
+The program has to be built, which the script `pgshard` does; send, book and messages build programs of their own, and so
+need `rt`.
 PostgreSQL 15, z3 and valgrind are left out where they are not installed.
 """
 
@@ -19,6 +20,7 @@ import checking
 import evaluation
 import instructions
 import messages
+import sending
 import sharding
 import simulating
 import starting
@@ -31,6 +33,7 @@ PARTS = {
     "check": ("check", checking.measure),
     "make": ("make", sharding.measure),
     "simulate": ("simulate", simulating.measure),
+    "send": ("Sending", sending.measure),
     "book": ("The book", book.measure),
     "messages": ("Messages", messages.measure),
     "instructions": ("Instructions", instructions.measure),
