@@ -1,4 +1,4 @@
-//! Laws of the streams by which subscribers follow the publisher's tables.
+//! The world of a publisher and its subscribers, and laws of the streams by which these follow the publisher's tables.
 #![tactic(auto)]
 
 mod answer;
