@@ -161,9 +161,6 @@ pub record IsRunning (checked : CheckedOf) (transactions : List Transaction) (su
   pub good : IsGood checked transactions subscriber peer
 
 -- so many commits or fewer are left
-abbrev Left : CheckedOf → List Transaction → ℕ → ℕ → ℕ → Connection → Type 0
-Left checked transactions subscriber start count c = length (log_of checked transactions) ≤ (place_of checked transactions subscriber start c.moves).done + count
-
 pub record IsLeft (checked : CheckedOf) (transactions : List Transaction) (subscriber start count : ℕ) (peer : Peer) : Type 0 where
   pub running : IsRunning checked transactions subscriber start peer
   pub left : length (log_of checked transactions) ≤ (place_of checked transactions subscriber start running.c.moves).done + count
