@@ -6,8 +6,8 @@ use Rattle.std.specs.Cmp.{unsigned_Decides}
 use Rattle.std.proofs.lemmas.List.{map-append, take_all}
 use Rattle.std.proofs.lemmas.List.Sums.{fold-append}
 use Rattle.std.proofs.lemmas.List.Folds.{list_any-append}
-use Rattle.filter_tree.specs.Expr.{Expr}
-use Rattle.filter_tree.specs.Lists.{with_item, distinct, atoms_in, term_of, column_of, columns_in, distinct_atoms, distinct_terms, distinct_columns}
+use Rattle.filter_tree.specs.Expr.{Expr, term_of}
+use Rattle.filter_tree.specs.Lists.{with_item, distinct, atoms_in, column_of, columns_in, distinct_atoms, distinct_terms, distinct_columns}
 use Rattle.filter_tree.specs.Same.{same_atom, same_term}
 use Rattle.filter_tree.specs.Shape.{atom_view, atoms_view}
 use Rattle.filter_tree.specs.declared.filter.Atom.{Atom}

@@ -5,9 +5,9 @@ use Rattle.std.specs.List.{list_any}
 use Rattle.std.specs.Cmp.{unsigned_Decides}
 use Rattle.filter_tree.specs.Datum.{Datum, value_at}
 use Rattle.filter_tree.specs.Logic.{not_of, is_of}
-use Rattle.filter_tree.specs.Compare.{compare_of}
-use Rattle.filter_tree.specs.Expr.{AtomOf, Cmp, IsNull, Expr, Const, Atom, Not, And, Or, Is, remainder_of, is_missing, atom_meaning, meaning}
-use Rattle.filter_tree.specs.Lists.{with_item, atoms_in, term_of, column_of, columns_in, distinct_columns, AgreesOn, IsDeterminedBy}
+use Rattle.filter_tree.specs.Expr.{AtomOf, term_of, said_of, Expr, Const, Atom, Not, And, Or, Is, remainder_of, term_value, atom_meaning, meaning}
+use Rattle.filter_tree.specs.Lists.{with_item, atoms_in, column_of, columns_in, distinct_columns, AgreesOn, IsDeterminedBy}
+use Rattle.filter_tree.specs.declared.filter.Term.{Term}
 use Rattle.filter_tree.specs.declared.filter.Term.TheVariants.{Col, Mod}
 
 by_test : {P : Type 0} (b : Bool) → (b ≡ true → P) → (b ≡ false → P) → P
@@ -55,11 +55,14 @@ agrees_parts one other (c ∷ found) more h =
     let both = agrees_parts one other found more h.1 in
     ((h.0, both.0), both.1)
 
+term_agrees : (one other : List Datum) (term : Term) → value_at one (column_of term) ≡ value_at other (column_of term)
+    → term_value term one ≡ term_value term other
+term_agrees one other (Col c) h = h
+term_agrees one other (Mod c m) h = ap (λ v. remainder_of v m) h
+
 atom_agrees : (one other : List Datum) (atom : AtomOf) → value_at one (column_of (term_of atom)) ≡ value_at other (column_of (term_of atom))
     → atom_meaning atom one ≡ atom_meaning atom other
-atom_agrees one other (Cmp (Col c) op k) h = ap (λ v. compare_of op v k) h
-atom_agrees one other (Cmp (Mod c m) op k) h = ap (λ v. compare_of op (remainder_of v m) k) h
-atom_agrees one other (IsNull c) h = ap is_missing h
+atom_agrees one other atom h = ap (said_of atom) (term_agrees one other (term_of atom) h)
 
 filter_agrees : (one other : List Datum) (filter : Expr) → AgreesOn (columns_in (atoms_in filter)) one other
     → meaning filter one ≡ meaning filter other

@@ -2,12 +2,14 @@
 use Rattle.std.proofs.Common.{◌≡◌, Bool, true, false, ◌&&◌, ◌||◌, List, [], ◌∷◌, refl, ◌∙◌, ap}
 use Rattle.std.specs.Prelude.{Option, Some, None}
 use Rattle.std.specs.List.{list_any}
-use Rattle.filter_tree.specs.Datum.{Datum, Missing, Known, value_at}
+use Rattle.filter_tree.specs.Compare.{compare_known, distinct_of}
+use Rattle.filter_tree.specs.Datum.{Constant, Datum, Missing, Known, value_at}
 use Rattle.filter_tree.specs.Logic.{and_of, or_of, not_of, is_of, tri_of}
-use Rattle.filter_tree.specs.Expr.{AtomOf, Cmp, IsNull, Expr, Const, Atom, Not, And, Or, Is, is_missing, atom_meaning, meaning}
+use Rattle.filter_tree.specs.Expr.{AtomOf, Cmp, IsNull, In, Between, Distinct, Expr, Const, Atom, Not, And, Or, Is, is_missing, term_value, atom_meaning, meaning}
 use Rattle.filter_tree.specs.Mask.{same_tri, all_three, member, mask_where, single_of, lift_one, lift_two}
 use Rattle.filter_tree.specs.Same.{same_atom}
 use Rattle.filter_tree.specs.Paths.{Path, Agrees, first_value, open_mask, known_or_open, possible_of}
+use Rattle.filter_tree.specs.declared.filter.Op.TheVariants.{Ne}
 use Rattle.filter_tree.specs.declared.mask.Mask.{Mask}
 use Rattle.filter_tree.specs.declared.tri.Tri.{Tri}
 use Rattle.filter_tree.specs.declared.tri.Tri.TheVariants.{True, False, Null}
@@ -56,6 +58,10 @@ two_has f left right a b h k =
     member_where (λ t. list_any (λ x. list_any (λ y. member left x && (member right y && same_tri (f x y) t)) all_three) all_three) (f a b)
     ∙ any_of_three (λ x. list_any (λ y. member left x && (member right y && same_tri (f x y) (f a b))) all_three) a outer
 
+-- any truth value but null
+abbrev not_null : Mask
+not_null = record { truth = true; falsity = true; null = false }
+
 -- a value that the path has is the atom's
 first_value_is : (row : List Datum) (atom : AtomOf) (path : Path) (value : Tri) → Agrees row path
     → first_value atom path ≡ Some value → atom_meaning atom row ≡ value
@@ -68,13 +74,24 @@ first_value_is row atom (entry ∷ path) value agrees h = by_test (same_atom ato
     (λ differs. let later : first_value atom path ≡ Some value = rw differs at h in
     first_value_is row atom path value agrees.1 later)
 
-missing_open : (column : _) (value : Datum) → member (open_mask (IsNull column)) (is_missing value) ≡ true
-missing_open column Missing = refl
-missing_open column (Known constant) = refl
+missing_open : (value : Datum) → member not_null (is_missing value) ≡ true
+missing_open Missing = refl
+missing_open (Known constant) = refl
+
+known_open : (b : Bool) → member not_null (tri_of b) ≡ true
+known_open true = refl
+known_open false = refl
+
+distinct_open : (value : Datum) (constant : Constant) → member not_null (distinct_of value constant) ≡ true
+distinct_open Missing constant = refl
+distinct_open (Known value) constant = known_open (compare_known Ne value constant)
 
 open_has : (row : List Datum) (atom : AtomOf) → member (open_mask atom) (atom_meaning atom row) ≡ true
 open_has row (Cmp term op constant) = member_where (λ _. true) _
-open_has row (IsNull column) = missing_open column (value_at row column)
+open_has row (IsNull column) = missing_open (value_at row column)
+open_has row (In term constants) = member_where (λ _. true) _
+open_has row (Between term low high) = member_where (λ _. true) _
+open_has row (Distinct term constant) = distinct_open (term_value term row) constant
 
 known_has : (row : List Datum) (atom : AtomOf) (known : Option Tri)
     → ((value : Tri) → known ≡ Some value → atom_meaning atom row ≡ value)
@@ -97,6 +114,9 @@ possible_holds (Is test part) path row h = one_has (is_of test) (possible_of par
 open_has_true : (atom : AtomOf) → member (open_mask atom) True ≡ true
 open_has_true (Cmp term op constant) = refl
 open_has_true (IsNull column) = refl
+open_has_true (In term constants) = refl
+open_has_true (Between term low high) = refl
+open_has_true (Distinct term constant) = refl
 
 some_known : (known : Option Tri) (atom : AtomOf) → (t : Tri) × (member (known_or_open known atom) t ≡ true)
 some_known (Some value) atom = (value, single_has value)

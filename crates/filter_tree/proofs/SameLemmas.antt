@@ -8,8 +8,8 @@ use Rattle.std.specs.Ordering.{int_eq}
 use Rattle.std.specs.Cmp.{unsigned_Decides, signed_Decides, booleans_Decides}
 use Rattle.std.proofs.lemmas.Slice.Eq.{bytes_eq-Decides}
 use Rattle.filter_tree.specs.Datum.{Constant, Number, Truth, Bytes, Datum, Missing, Known, value_at}
-use Rattle.filter_tree.specs.Expr.{AtomOf, Cmp, IsNull}
-use Rattle.filter_tree.specs.Same.{same_constant, same_datum, same_from, same_row, same_term, same_op, same_atom}
+use Rattle.filter_tree.specs.Expr.{AtomOf, Cmp, IsNull, In, Between, Distinct}
+use Rattle.filter_tree.specs.Same.{same_constant, same_constants, same_datum, same_from, same_row, same_term, same_op, same_atom}
 use Rattle.filter_tree.specs.declared.filter.Term.{Term}
 use Rattle.filter_tree.specs.declared.filter.Term.TheVariants.{Col, Mod}
 use Rattle.filter_tree.specs.declared.filter.Op.{Op}
@@ -26,6 +26,15 @@ same_constant_is (Number m) (Number n) h = ap Number ((signed_Decides m n).0 h)
 same_constant_is (Truth p) (Truth q) h = ap Truth ((booleans_Decides p q).0 h)
 same_constant_is (Bytes s) (Bytes t) h = ap Bytes ((bytes_eq-Decides s t).0 h)
 same_constant_is k l h = absurd cc
+
+same_constants_are : (ks ls : List Constant) → same_constants ks ls ≡ true → ks ≡ ls
+same_constants_are [] [] h = refl
+same_constants_are (k ∷ ks) (l ∷ ls) h =
+    let both : (same_constant k l ≡ true) × (same_constants ks ls ≡ true) = both_true _ _ h in
+    let here : k ≡ l = same_constant_is k l both.0 in
+    let later : ks ≡ ls = same_constants_are ks ls both.1 in
+    cc
+same_constants_are ks ls h = absurd cc
 
 same_datum_is : (v w : Datum) → same_datum v w ≡ true → v ≡ w
 same_datum_is Missing Missing h = refl
@@ -59,6 +68,23 @@ same_atom_is (Cmp s op k) (Cmp t other l) h =
     let constants : k ≡ l = same_constant_is k l rest.1 in
     cc
 same_atom_is (IsNull c) (IsNull d) h = ap IsNull ((unsigned_Decides c d).0 h)
+same_atom_is (In s ks) (In t ls) h =
+    let both : (same_term s t ≡ true) × (same_constants ks ls ≡ true) = both_true _ _ h in
+    let terms : s ≡ t = same_term_is s t both.0 in
+    let constants : ks ≡ ls = same_constants_are ks ls both.1 in
+    cc
+same_atom_is (Between s low high) (Between t low' high') h =
+    let both : (same_term s t ≡ true) × ((int_eq low low' && int_eq high high') ≡ true) = both_true _ _ h in
+    let rest : (int_eq low low' ≡ true) × (int_eq high high' ≡ true) = both_true _ _ both.1 in
+    let terms : s ≡ t = same_term_is s t both.0 in
+    let lows : low ≡ low' = (signed_Decides low low').0 rest.0 in
+    let highs : high ≡ high' = (signed_Decides high high').0 rest.1 in
+    cc
+same_atom_is (Distinct s k) (Distinct t l) h =
+    let both : (same_term s t ≡ true) × (same_constant k l ≡ true) = both_true _ _ h in
+    let terms : s ≡ t = same_term_is s t both.0 in
+    let constants : k ≡ l = same_constant_is k l both.1 in
+    cc
 same_atom_is c d h = absurd cc
 
 -- ---- the same as itself
@@ -67,6 +93,13 @@ same_constant_self : (k : Constant) → same_constant k k ≡ true
 same_constant_self (Number m) = (signed_Decides m m).1 refl
 same_constant_self (Truth p) = (booleans_Decides p p).1 refl
 same_constant_self (Bytes s) = (bytes_eq-Decides s s).1 refl
+
+same_constants_self : (ks : List Constant) → same_constants ks ks ≡ true
+same_constants_self [] = refl
+same_constants_self (k ∷ ks) =
+    let here : same_constant k k ≡ true = same_constant_self k in
+    let later : same_constants ks ks ≡ true = same_constants_self ks in
+    rw (here, later) refl
 
 same_datum_self : (v : Datum) → same_datum v v ≡ true
 same_datum_self Missing = refl
@@ -97,6 +130,19 @@ same_atom_self (Cmp t op k) =
     let constants : same_constant k k ≡ true = same_constant_self k in
     rw (terms, ops, constants) refl
 same_atom_self (IsNull c) = (unsigned_Decides c c).1 refl
+same_atom_self (In t ks) =
+    let terms : same_term t t ≡ true = same_term_self t in
+    let constants : same_constants ks ks ≡ true = same_constants_self ks in
+    rw (terms, constants) refl
+same_atom_self (Between t low high) =
+    let terms : same_term t t ≡ true = same_term_self t in
+    let lows : int_eq low low ≡ true = (signed_Decides low low).1 refl in
+    let highs : int_eq high high ≡ true = (signed_Decides high high).1 refl in
+    rw (terms, lows, highs) refl
+same_atom_self (Distinct t k) =
+    let terms : same_term t t ≡ true = same_term_self t in
+    let constants : same_constant k k ≡ true = same_constant_self k in
+    rw (terms, constants) refl
 
 pub same_atom_of_equal : (c d : AtomOf) → c ≡ d → same_atom c d ≡ true
 same_atom_of_equal c d e = subst (λ x. same_atom c x ≡ true) e (same_atom_self c)

@@ -1,12 +1,13 @@
--- Comparisons of a value with a constant: the comparison operators of "9.2 Comparison Functions and Operators", null where the value is null.
+-- Comparisons of a value with constants: the operators and predicates of "9.2 Comparison Functions and Operators", and IN of "9.24 Row and Array Comparisons". All but IS DISTINCT FROM are null where the value is null.
 use Rattle.std.specs.Prelude.{ℕ, ℤ, Bool, false, not, List, int_lt, int_le}
+use Rattle.std.specs.List.{list_any}
 use Rattle.std.specs.Ordering.{int_eq}
 use Rattle.std.specs.Bool.{beq}
 use Rattle.std.specs.Str.{bytes_eq}
 use Rattle.filter_tree.specs.Datum.{Constant, Number, Truth, Bytes, Datum, Missing, Known}
-use Rattle.filter_tree.specs.Logic.{tri_of}
+use Rattle.filter_tree.specs.Logic.{and_of, tri_of}
 use Rattle.filter_tree.specs.declared.tri.Tri.{Tri}
-use Rattle.filter_tree.specs.declared.tri.Tri.TheVariants.{Null}
+use Rattle.filter_tree.specs.declared.tri.Tri.TheVariants.{True, Null}
 use Rattle.filter_tree.specs.declared.filter.Op.{Op}
 use Rattle.filter_tree.specs.declared.filter.Op.TheVariants.{Eq, Ne, Lt, Le, Gt, Ge}
 
@@ -41,3 +42,22 @@ compare_known op _ _ = false
 abbrev pub compare_of : Op → Datum → Constant → Tri
 compare_of op Missing constant = Null
 compare_of op (Known value) constant = tri_of (compare_known op value constant)
+
+-- the value is the constant; null is none
+abbrev pub equals : Datum → Constant → Bool
+equals Missing constant = false
+equals (Known value) constant = compare_known Eq value constant
+
+-- `value IN (constants)`: whether it is one of them
+abbrev pub among_of : Datum → List Constant → Tri
+among_of Missing constants = Null
+among_of (Known value) constants = tri_of (list_any (equals (Known value)) constants)
+
+-- `value BETWEEN low AND high`, both ends among what is taken
+abbrev pub between_of : Datum → ℤ → ℤ → Tri
+between_of value low high = and_of (compare_of Ge value (Number low)) (compare_of Le value (Number high))
+
+-- `value IS DISTINCT FROM constant`, which is true of null and never null itself
+abbrev pub distinct_of : Datum → Constant → Tri
+distinct_of Missing constant = True
+distinct_of (Known value) constant = tri_of (compare_known Ne value constant)

@@ -2,7 +2,7 @@
 use Rattle.std.specs.Prelude.{ℕ, Bool, nat_eq, List, [], ◌∷◌, ◌++◌, ◌≡◌, if◌then◌else◌, map, fold}
 use Rattle.std.specs.List.{list_any}
 use Rattle.filter_tree.specs.Datum.{Datum, value_at}
-use Rattle.filter_tree.specs.Expr.{AtomOf, Cmp, IsNull, Expr, Const, Atom, Not, And, Or, Is, meaning}
+use Rattle.filter_tree.specs.Expr.{AtomOf, term_of, Expr, Const, Atom, Not, And, Or, Is, meaning}
 use Rattle.filter_tree.specs.Same.{same_term, same_atom}
 use Rattle.filter_tree.specs.declared.filter.Term.{Term}
 use Rattle.filter_tree.specs.declared.filter.Term.TheVariants.{Col, Mod}
@@ -23,11 +23,6 @@ atoms_in (Not part) = atoms_in part
 atoms_in (And left right) = atoms_in left ++ atoms_in right
 atoms_in (Or left right) = atoms_in left ++ atoms_in right
 atoms_in (Is test part) = atoms_in part
-
--- what an atom looks at; `IS NULL` looks at its column
-abbrev pub term_of : AtomOf → Term
-term_of (Cmp term op constant) = term
-term_of (IsNull column) = Col column
 
 abbrev pub column_of : Term → ℕ
 column_of (Col column) = column

@@ -3,7 +3,7 @@ use Rattle.std.specs.Prelude.{◌≡◌, true, false, List, [], ◌∷◌, map, 
 use Rattle.std.specs.Borrow.{Bor}
 use Rattle.filter_tree.specs.Datum.{Datum}
 use Rattle.filter_tree.specs.Logic.{and_of, or_of, not_of, is_of, tri_of}
-use Rattle.filter_tree.specs.Expr.{AtomOf, Cmp, IsNull, Expr, Const, Not, And, Or, Is, atom_meaning}
+use Rattle.filter_tree.specs.Expr.{AtomOf, Cmp, IsNull, In, Between, Distinct, Expr, Const, Not, And, Or, Is, atom_meaning}
 use Rattle.filter_tree.specs.Expr as e
 use Rattle.filter_tree.specs.Shape.{atom_view}
 use Rattle.filter_tree.specs.Same.{same_atom}
@@ -29,10 +29,13 @@ abbrev pub first_value : AtomOf → Path → Option Tri
 first_value atom [] = None
 first_value atom (entry ∷ path) = if same_atom atom entry.0 then Some entry.1 else first_value atom path
 
--- what an atom may be of which nothing is known: `IS NULL` is never null
+-- what an atom may be of which nothing is known: `IS NULL` and `IS DISTINCT FROM` are never null
 abbrev pub open_mask : AtomOf → Mask
 open_mask (Cmp term op constant) = mask_where (λ value. true)
 open_mask (IsNull column) = record { truth = true; falsity = true; null = false }
+open_mask (In term constants) = mask_where (λ value. true)
+open_mask (Between term low high) = mask_where (λ value. true)
+open_mask (Distinct term constant) = record { truth = true; falsity = true; null = false }
 
 abbrev pub known_or_open : Option Tri → AtomOf → Mask
 known_or_open (Some value) atom = single_of value

@@ -4,7 +4,7 @@ use Rattle.std.specs.Ordering.{int_eq}
 use Rattle.std.specs.Bool.{beq}
 use Rattle.std.specs.Str.{bytes_eq}
 use Rattle.filter_tree.specs.Datum.{Constant, Number, Truth, Bytes, Datum, Missing, Known, value_at}
-use Rattle.filter_tree.specs.Expr.{AtomOf, Cmp, IsNull}
+use Rattle.filter_tree.specs.Expr.{AtomOf, Cmp, IsNull, In, Between, Distinct}
 use Rattle.filter_tree.specs.declared.filter.Term.{Term}
 use Rattle.filter_tree.specs.declared.filter.Term.TheVariants.{Col, Mod}
 use Rattle.filter_tree.specs.declared.filter.Op.{Op}
@@ -15,6 +15,12 @@ same_constant (Number m) (Number n) = int_eq m n
 same_constant (Truth p) (Truth q) = beq p q
 same_constant (Bytes s) (Bytes t) = bytes_eq s t
 same_constant _ _ = false
+
+-- whether the lists have the same constants in the same order
+abbrev pub same_constants : List Constant → List Constant → Bool
+same_constants [] [] = true
+same_constants (k ∷ ks) (l ∷ ls) = same_constant k l && same_constants ks ls
+same_constants _ _ = false
 
 abbrev pub same_datum : Datum → Datum → Bool
 same_datum Missing Missing = true
@@ -46,4 +52,7 @@ same_op _ _ = false
 abbrev pub same_atom : AtomOf → AtomOf → Bool
 same_atom (Cmp s op k) (Cmp t op' l) = same_term s t && (same_op op op' && same_constant k l)
 same_atom (IsNull c) (IsNull d) = nat_eq c d
+same_atom (In s ks) (In t ls) = same_term s t && same_constants ks ls
+same_atom (Between s low high) (Between t low' high') = same_term s t && (int_eq low low' && int_eq high high')
+same_atom (Distinct s k) (Distinct t l) = same_term s t && same_constant k l
 same_atom _ _ = false

@@ -5,13 +5,16 @@ use Rattle.filter_tree.specs.Values.{constant_view}
 use Rattle.filter_tree.specs.Expr.{AtomOf, Expr}
 use Rattle.filter_tree.specs.Expr as e
 use Rattle.filter_tree.specs.declared.filter.Atom.{Atom}
-use Rattle.filter_tree.specs.declared.filter.Atom.TheVariants.{Cmp, IsNull}
+use Rattle.filter_tree.specs.declared.filter.Atom.TheVariants.{Cmp, IsNull, In, Between, Distinct}
 use Rattle.filter_tree.specs.declared.filter.Filter.{Filter}
 use Rattle.filter_tree.specs.declared.filter.Filter.TheVariants.{Const, Atom as Leaf, Not', And', Or', Is'}
 
 abbrev pub atom_view : {A : _} → Atom A → AtomOf
 atom_view (Cmp term op literal) = e.Cmp term op (constant_view literal)
 atom_view (IsNull column) = e.IsNull column
+atom_view (In term literals) = e.In term (map constant_view literals.items)
+atom_view (Between term low high) = e.Between term low high
+atom_view (Distinct term literal) = e.Distinct term (constant_view literal)
 
 -- the atoms of a list of references to atoms
 abbrev pub atoms_view : {A : _} → List (Bor (Atom A)) → List AtomOf

@@ -1,6 +1,7 @@
-ghost use Rattle.std.specs.Prelude.{◌≡◌};
+ghost use Rattle.std.specs.Prelude.{◌≡◌, map};
+ghost use Rattle.std.specs.List.{list_any};
 ghost use Rattle.filter_tree.specs.Values.{datum_view, constant_view};
-ghost use Rattle.filter_tree.specs.Compare.{compare_of, compare_known};
+ghost use Rattle.filter_tree.specs.Compare.{compare_of, compare_known, equals, among_of, between_of, distinct_of};
 ghost use Rattle.filter_tree.specs.Compare.{compare_numbers_of, compare_truths_of, compare_texts_of};
 
 use crate::filter::Op;
@@ -19,6 +20,60 @@ pub fn compare<A: Allocator, B: Allocator>(op: Op, value: &Value<A>, literal: &L
         (Value::Bool(left), Literal::Bool(right)) => Tri::from(compare_truths(op, *left, *right)),
         (Value::Text(left), Literal::Text(right)) => Tri::from(compare_texts(op, left, right)),
         (Value::Int(_) | Value::Bool(_) | Value::Text(_), _) => Tri::False,
+    }
+}
+
+/// SQL's `value IN (literals)`: null where the value is null.
+pub fn compare_list<A: Allocator, B: Allocator>(value: &Value<A>, literals: &[Literal<B>]) -> Tri
+    ensures { result ≡ among_of (datum_view value.now) (map constant_view literals.now) }
+{
+    match value {
+        Value::Null => Tri::Null,
+        Value::Int(_) | Value::Bool(_) | Value::Text(_) => Tri::from(is_among(value, literals)),
+    }
+}
+
+fn is_among<A: Allocator, B: Allocator>(value: &Value<A>, literals: &[Literal<B>]) -> bool
+    ensures { result ≡ list_any (equals (datum_view value.now)) (map constant_view literals.now) }
+{
+    for literal in literals {
+        if is_equal(value, literal) {
+            return true;
+        }
+    }
+    false
+}
+
+/// Whether the value is the literal; null is none.
+fn is_equal<A: Allocator, B: Allocator>(value: &Value<A>, literal: &Literal<B>) -> bool
+    ensures { result ≡ equals (datum_view value.now) (constant_view literal.now) }
+{
+    match (value, literal) {
+        (Value::Int(left), Literal::Int(right)) => left == right,
+        (Value::Bool(left), Literal::Bool(right)) => left == right,
+        (Value::Text(left), Literal::Text(right)) => left.as_str() == right.as_str(),
+        (Value::Null | Value::Int(_) | Value::Bool(_) | Value::Text(_), _) => false,
+    }
+}
+
+/// SQL's `value BETWEEN low AND high`: null where the value is null.
+pub fn compare_between<A: Allocator>(value: &Value<A>, low: i64, high: i64) -> Tri
+    ensures { result ≡ between_of (datum_view value.now) low high }
+{
+    match value {
+        Value::Null => Tri::Null,
+        Value::Int(number) => Tri::from(low <= *number && *number <= high),
+        Value::Bool(_) | Value::Text(_) => Tri::False,
+    }
+}
+
+/// SQL's `value IS DISTINCT FROM literal`, which is true where the value is null.
+pub fn compare_distinct<A: Allocator, B: Allocator>(value: &Value<A>, literal: &Literal<B>) -> Tri
+    ensures { result ≡ distinct_of (datum_view value.now) (constant_view literal.now) }
+{
+    match value {
+        Value::Null => Tri::True,
+        Value::Int(_) | Value::Bool(_) | Value::Text(_) => compare(Op::Ne, value, literal),
     }
 }
 

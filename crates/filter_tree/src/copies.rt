@@ -1,4 +1,4 @@
-ghost use Rattle.std.specs.Prelude.{◌≡◌, IfOk};
+ghost use Rattle.std.specs.Prelude.{◌≡◌, IfOk, map};
 ghost use Rattle.filter_tree.specs.Values.{datum_view, constant_view};
 ghost use Rattle.filter_tree.specs.Shape.{atom_view, expr_view};
 
@@ -60,7 +60,23 @@ fn copy_atom<A: Allocator, B: Allocator + Clone>(
     match atom {
         Atom::Cmp(term, op, literal) => Ok(Atom::Cmp(*term, *op, copy_literal(alloc, literal)?)),
         Atom::IsNull(column) => Ok(Atom::IsNull(*column)),
+        Atom::In(term, literals) => Ok(Atom::In(*term, copy_literals(alloc, literals)?)),
+        Atom::Between(term, low, high) => Ok(Atom::Between(*term, *low, *high)),
+        Atom::Distinct(term, literal) => Ok(Atom::Distinct(*term, copy_literal(alloc, literal)?)),
     }
+}
+
+fn copy_literals<A: Allocator, B: Allocator + Clone>(
+    alloc: &B,
+    literals: &[Literal<A>],
+) -> Result<Vec<Literal<B>, B>, AllocError>
+    ensures { IfOk result (λ copies. map constant_view copies.items ≡ map constant_view literals.now) }
+{
+    let mut copies = Vec::with_capacity(alloc.clone()?, literals.len())?;
+    for literal in literals {
+        copies.push(copy_literal(alloc, literal)?)?;
+    }
+    Ok(copies)
 }
 
 fn copy_literal<A: Allocator, B: Allocator + Clone>(

@@ -1,14 +1,12 @@
 ghost use Rattle.std.specs.Prelude.{◌≡◌};
-ghost use Rattle.filter_tree.specs.Expr.{meaning, atom_meaning, remainder_of};
-ghost use Rattle.filter_tree.specs.Values.{datum_view, constant_view};
+ghost use Rattle.filter_tree.specs.Expr.{meaning, atom_meaning, remainder_of, said_of};
+ghost use Rattle.filter_tree.specs.Values.{datum_view};
 ghost use Rattle.filter_tree.specs.Shape.{atom_view, expr_view};
-ghost use Rattle.filter_tree.specs.Compare.{compare_of};
-ghost use Rattle.filter_tree.specs.Expr.{term_value};
 
-use crate::comparison::compare;
-use crate::filter::{Atom, Filter, Op, Term};
+use crate::comparison::{compare, compare_between, compare_distinct, compare_list};
+use crate::filter::{Atom, Filter, Term};
 use crate::tri::Tri;
-use crate::value::{Literal, Row, Value};
+use crate::value::{Row, Value};
 use std::alloc::Allocator;
 
 /// What the filter says of the row. A column past the row's end reads as null, and a comparison of unlike types is
@@ -35,52 +33,43 @@ pub fn eval<A: Allocator, R: Allocator>(filter: &Filter<A>, row: &Row<R>) -> Tri
 fn eval_atom<A: Allocator, R: Allocator>(atom: &Atom<A>, row: &Row<R>) -> Tri
     ensures { result ≡ atom_meaning (atom_view atom.now) row.now }
 {
-    match atom {
-        Atom::Cmp(term, op, literal) => compare_term(*term, *op, literal, row),
-        Atom::IsNull(column) => match row.get(*column) {
-            None | Some(Value::Null) => Tri::True,
-            Some(Value::Int(_) | Value::Bool(_) | Value::Text(_)) => Tri::False,
-        },
-    }
-}
-
-fn compare_term<A: Allocator, R: Allocator>(
-    term: Term,
-    op: Op,
-    literal: &Literal<A>,
-    row: &Row<R>,
-) -> Tri
-    ensures { result ≡ compare_of op (term_value term row.now) (constant_view literal.now) }
-{
-    match term {
+    match atom.term() {
         Term::Col(column) => match row.get(column) {
-            None => Tri::Null,
-            Some(value) => compare(op, value, literal),
+            None => say::<A, R>(atom, &Value::Null),
+            Some(value) => say(atom, value),
         },
         Term::Mod(column, divisor) => match row.get(column) {
-            None => Tri::Null,
-            Some(value) => compare_remainder(value, divisor, op, literal),
+            None => say::<A, R>(atom, &Value::Null),
+            Some(value) => say_of_remainder(atom, value, divisor),
         },
     }
 }
 
-/// SQL's `value % divisor op literal`. The remainder has the sign of the value.
-fn compare_remainder<A: Allocator, R: Allocator>(
+/// What the atom says of the remainder of the value, which has the sign of the value.
+fn say_of_remainder<A: Allocator, R: Allocator>(
+    atom: &Atom<A>,
     value: &Value<R>,
     divisor: i64,
-    op: Op,
-    literal: &Literal<A>,
 ) -> Tri
-    ensures { result ≡ compare_of op (remainder_of (datum_view value.now) divisor) (constant_view literal.now) }
+    ensures { result ≡ said_of (atom_view atom.now) (remainder_of (datum_view value.now) divisor) }
 {
     match value {
-        Value::Int(number) if divisor != 0 => compare(
-            op,
-            &Value::<R>::Int(number.wrapping_rem(divisor)),
-            literal,
-        ),
-        Value::Null | Value::Int(_) | Value::Bool(_) | Value::Text(_) => compare(
-            op, value, literal,
-        ),
+        Value::Int(number) if divisor != 0 => {
+            say(atom, &Value::<R>::Int(number.wrapping_rem(divisor)))
+        }
+        Value::Null | Value::Int(_) | Value::Bool(_) | Value::Text(_) => say(atom, value),
+    }
+}
+
+/// What the atom says of the value of its term.
+fn say<A: Allocator, R: Allocator>(atom: &Atom<A>, value: &Value<R>) -> Tri
+    ensures { result ≡ said_of (atom_view atom.now) (datum_view value.now) }
+{
+    match atom {
+        Atom::Cmp(_, op, literal) => compare(*op, value, literal),
+        Atom::IsNull(_) => Tri::from(matches!(value, Value::Null)),
+        Atom::In(_, literals) => compare_list(value, literals),
+        Atom::Between(_, low, high) => compare_between(value, *low, *high),
+        Atom::Distinct(_, literal) => compare_distinct(value, literal),
     }
 }

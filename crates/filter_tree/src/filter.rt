@@ -34,15 +34,23 @@ pub enum Op {
     Ge,
 }
 
-/// A test of one column: a comparison of a term with a constant, or `IS NULL` of a column.
+/// A test of one column, or of the remainder of one.
 #[derive(Debug, Drop)]
 pub enum Atom<A: Allocator = Global> {
+    /// A comparison with a constant.
     Cmp(Term, Op, Literal<A>),
+    /// `IS NULL` of a column.
     IsNull(usize),
+    /// `IN` a list of constants. A filter that is read has each of them once, in ascending order.
+    In(Term, Vec<Literal<A>, A>),
+    /// `BETWEEN` two numbers, the lower one first, which are both taken.
+    Between(Term, i64, i64),
+    /// `IS DISTINCT FROM` a constant.
+    Distinct(Term, Literal<A>),
 }
 
 impl<A: Allocator> Atom<A> {
-    ghost use Rattle.filter_tree.specs.Lists.{term_of};
+    ghost use Rattle.filter_tree.specs.Expr.{term_of};
     ghost use Rattle.filter_tree.specs.Shape.{atom_view};
 
     /// The term that the atom looks at; `IS NULL` looks at its column.
@@ -50,7 +58,10 @@ impl<A: Allocator> Atom<A> {
         ensures { result ≡ term_of (atom_view self.now) }
     {
         match self {
-            Atom::Cmp(term, _, _) => *term,
+            Atom::Cmp(term, _, _)
+            | Atom::In(term, _)
+            | Atom::Between(term, _, _)
+            | Atom::Distinct(term, _) => *term,
             Atom::IsNull(column) => Term::Col(*column),
         }
     }

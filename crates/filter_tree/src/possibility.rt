@@ -55,12 +55,12 @@ fn mask_of_atom<A: Allocator>(atom: &Atom<A>, path: &[(&Atom<A>, Tri)]) -> Mask
 {
     match (value_on_path(atom, path), atom) {
         (Some(value), _) => Mask::single(value),
-        (None, Atom::Cmp(..)) => Mask {
+        (None, Atom::Cmp(..) | Atom::In(..) | Atom::Between(..)) => Mask {
             truth: true,
             falsity: true,
             null: true,
         },
-        (None, Atom::IsNull(_)) => Mask {
+        (None, Atom::IsNull(_) | Atom::Distinct(..)) => Mask {
             truth: true,
             falsity: true,
             null: false,

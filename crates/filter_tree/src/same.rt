@@ -1,18 +1,23 @@
-ghost use Rattle.std.specs.Prelude.{◌≡◌, ◌↔◌, IsTrue};
+ghost use Rattle.std.specs.Prelude.{◌≡◌, ◌↔◌, IsTrue, map};
 ghost use Rattle.filter_tree.specs.Datum.{value_at};
 ghost use Rattle.filter_tree.specs.Values.{datum_view, constant_view};
 ghost use Rattle.filter_tree.specs.Shape.{atom_view};
-ghost use Rattle.filter_tree.specs.Same.{same_constant, same_datum, same_term, same_op, same_atom, same_row};
+ghost use Rattle.filter_tree.specs.Same.{same_constant, same_constants, same_datum, same_term, same_op, same_atom, same_row};
 
 use crate::filter::{Atom, Op, Term};
 use crate::value::{Literal, Row, Value};
 use std::alloc::Allocator;
 
-/// Whether two atoms have equal terms, operators and constants.
-#[tactic(auto, using(crate::proofs::SameLemmas::same_atom_is, crate::proofs::SameLemmas::same_atom_of_equal))]
+/// Whether two atoms have the same form, and equal terms, operators and constants.
 pub fn same_atom<A: Allocator, B: Allocator>(one: &Atom<A>, other: &Atom<B>) -> bool
     ensures test { result ≡ same_atom (atom_view one.now) (atom_view other.now) }
     ensures equal { IsTrue result ↔ (atom_view one.now ≡ atom_view other.now) }
+{
+    has_same_parts(one, other)
+}
+
+fn has_same_parts<A: Allocator, B: Allocator>(one: &Atom<A>, other: &Atom<B>) -> bool
+    ensures { result ≡ same_atom (atom_view one.now) (atom_view other.now) }
 {
     match (one, other) {
         (Atom::Cmp(term, op, literal), Atom::Cmp(other_term, other_op, other_literal)) => {
@@ -22,7 +27,19 @@ pub fn same_atom<A: Allocator, B: Allocator>(one: &Atom<A>, other: &Atom<B>) -> 
                 && same_term(*term, *other_term)
         }
         (Atom::IsNull(column), Atom::IsNull(other_column)) => column == other_column,
-        (Atom::Cmp(..) | Atom::IsNull(_), _) => false,
+        (Atom::In(term, literals), Atom::In(other_term, other_literals)) => {
+            same_term(*term, *other_term) && same_literals(literals, other_literals)
+        }
+        (Atom::Between(term, low, high), Atom::Between(other_term, other_low, other_high)) => {
+            same_term(*term, *other_term) && low == other_low && high == other_high
+        }
+        (Atom::Distinct(term, literal), Atom::Distinct(other_term, other_literal)) => {
+            same_term(*term, *other_term) && same_literal(literal, other_literal)
+        }
+        (
+            Atom::Cmp(..) | Atom::IsNull(_) | Atom::In(..) | Atom::Between(..) | Atom::Distinct(..),
+            _,
+        ) => false,
     }
 }
 
@@ -79,6 +96,24 @@ fn same_literal<A: Allocator, B: Allocator>(one: &Literal<A>, other: &Literal<B>
         (Literal::Bool(truth), Literal::Bool(other_truth)) => truth == other_truth,
         (Literal::Text(text), Literal::Text(other_text)) => text.as_str() == other_text.as_str(),
         (Literal::Int(_) | Literal::Bool(_) | Literal::Text(_), _) => false,
+    }
+}
+
+/// Whether the lists have the same literals in the same order.
+fn same_literals<A: Allocator, B: Allocator>(one: &[Literal<A>], other: &[Literal<B>]) -> bool
+    ensures { result ≡ same_constants (map constant_view one.now) (map constant_view other.now) }
+{
+    match one {
+        [] => match other {
+            [] => true,
+            [_, ..] => false,
+        },
+        [literal, rest @ ..] => match other {
+            [] => false,
+            [other_literal, other_rest @ ..] => {
+                same_literal(literal, other_literal) && same_literals(rest, other_rest)
+            }
+        },
     }
 }
 

@@ -1,5 +1,6 @@
 use Rattle.std.proofs.Common.{map, ◌∙◌, ap}
-use Rattle.filter_tree.specs.Lists.{distinct, term_of}
+use Rattle.filter_tree.specs.Expr.{term_of}
+use Rattle.filter_tree.specs.Lists.{distinct}
 use Rattle.filter_tree.specs.Same.{same_term}
 use Rattle.filter_tree.specs.Shape.{atoms_view, expr_view}
 use Rattle.filter_tree.proofs.DistinctLemmas.{terms_of_atoms, all_taken}
