@@ -4,8 +4,8 @@ use Rattle.filter_tree.specs.Datum.{Datum}
 use Rattle.filter_tree.specs.Expr.{Expr}
 use Rattle.filter_tree.specs.Valid.{IsValid}
 use Rattle.filter_tree.specs.declared.table.Table.{Table}
-use Rattle.pub_reader.specs.Catalogs.{CatalogOf}
-use Rattle.pub_reader.specs.declared.catalog.Subscription.{Subscription}
+use Rattle.pub_catalog.specs.Catalogs.{CatalogOf}
+use Rattle.pub_catalog.specs.declared.catalog.Subscription.{Subscription}
 use Rattle.replica_identity.specs.Passes.{passes}
 use Rattle.replica_identity.specs.Plans.{PlanOf, plan_of}
 use Rattle.shard_checker.specs.CatalogRefusal.{table_shares}

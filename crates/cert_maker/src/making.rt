@@ -1,7 +1,7 @@
 //! `make`: what the search finds is tested, and only that is answered.
 
 ghost use Rattle.std.specs.Prelude.{◌≡◌, ◌≤◌, IfOk, length};
-ghost use Rattle.pub_reader.specs.CatalogView.{catalog_view};
+ghost use Rattle.pub_catalog.specs.CatalogView.{catalog_view};
 ghost use Rattle.replica_identity.specs.PlanView.{plan_view};
 ghost use Rattle.shard_checker.specs.CatalogRefusal.{table_shares};
 ghost use Rattle.shard_checker.specs.Owners.{shares_view};
@@ -9,12 +9,12 @@ ghost use Rattle.cert_maker.specs.Answers.{IfCert, IfCounter, IsAccepted, IsCoun
 ghost use Rattle.cert_maker.specs.Owners.{IsRight};
 ghost use Rattle.cert_maker.specs.declared.made.Made.TheVariants.{Unknown};
 
+use bumpalo::Bump;
 use crate::made::Made;
 use crate::owners::owners_of;
 use crate::search::{Found, look};
-use bumpalo::Bump;
 use filter_tree::{Row, Table, valid};
-use pub_reader::Catalog;
+use pub_catalog::Catalog;
 use replica_identity::{Plan, Share};
 use shard_checker::{CheckError, check_one, shares_in};
 use split_cert::{Cert, is_within_limits};

@@ -2,11 +2,11 @@
 use Rattle.std.proofs.Common.{◌≡◌, ℕ, Bool, List, [], ◌∷◌, refl, sym, ap, subst, ◌∙◌}
 use Rattle.std.specs.Prelude.{max, map, Option, Some, None, Result}
 use Rattle.filter_tree.specs.Expr.{Expr}
-use Rattle.pub_reader.specs.Catalogs.{CatalogOf, PublicationOf}
-use Rattle.pub_reader.specs.CatalogView.{catalog_view, publication_view}
-use Rattle.pub_reader.specs.declared.catalog.Catalog.{Catalog}
-use Rattle.pub_reader.specs.declared.catalog.Publication.{Publication}
-use Rattle.pub_reader.specs.declared.catalog.Subscription.{Subscription}
+use Rattle.pub_catalog.specs.Catalogs.{CatalogOf, PublicationOf}
+use Rattle.pub_catalog.specs.CatalogView.{catalog_view, publication_view}
+use Rattle.pub_catalog.specs.declared.catalog.Catalog.{Catalog}
+use Rattle.pub_catalog.specs.declared.catalog.Publication.{Publication}
+use Rattle.pub_catalog.specs.declared.catalog.Subscription.{Subscription}
 use Rattle.tables_log.specs.Slots.{end_after, confirmed_at, start_fault, started}
 use Rattle.tables_log.specs.declared.error.StartError.{StartError}
 use Rattle.tables_log.specs.declared.slots.Slot.{Slot}

@@ -10,7 +10,7 @@ ghost use Rattle.copy_both.specs.StartOrder as spec;
 use crate::refusal::Refusal;
 use crate::start_command::{OptionValue, StartCommand, StartOption};
 use filter_tree::Text;
-use pub_reader::{Publication, Subscription};
+use pub_catalog::{Publication, Subscription};
 
 fn is_wrong(value: &OptionValue) -> bool
     ensures { result ≡ spec.is_wrong value.now }

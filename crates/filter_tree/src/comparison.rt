@@ -27,10 +27,10 @@ pub fn compare<A: Allocator, B: Allocator>(op: Op, value: &Value<A>, literal: &L
 pub fn compare_list<A: Allocator, B: Allocator>(value: &Value<A>, literals: &[Literal<B>]) -> Tri
     ensures { result ≡ among_of (datum_view value.now) (map constant_view literals.now) }
 {
-    match value {
-        Value::Null => Tri::Null,
-        Value::Int(_) | Value::Bool(_) | Value::Text(_) => Tri::from(is_among(value, literals)),
+    if matches!(value, Value::Null) {
+        return Tri::Null;
     }
+    Tri::from(is_among(value, literals))
 }
 
 fn is_among<A: Allocator, B: Allocator>(value: &Value<A>, literals: &[Literal<B>]) -> bool

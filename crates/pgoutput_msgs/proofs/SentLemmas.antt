@@ -13,7 +13,7 @@ use Rattle.filter_tree.specs.declared.table.ColType.{ColType}
 use Rattle.filter_tree.specs.declared.table.ColType.TheVariants as k
 use Rattle.filter_tree.specs.declared.table.Column.{Column}
 use Rattle.filter_tree.specs.declared.table.Table.{Table}
-use Rattle.pub_reader.specs.CatalogLimits.{IsPlainName, HasPlainName, IsNamed, IsLimitedTable, IsLimited}
+use Rattle.pub_catalog.specs.CatalogLimits.{IsPlainName, HasPlainName, IsNamed, IsLimitedTable, IsLimited}
 use Rattle.shard_checker.specs.CheckedView.{CheckedOf}
 use Rattle.table_changes.specs.Records as r
 use Rattle.tables_log.specs.Commits.{CommitOf}

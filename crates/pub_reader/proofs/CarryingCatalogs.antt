@@ -16,7 +16,7 @@ use Rattle.sql_reader.specs.Written.{Written, as_written, as_filter, filter_of, 
 use Rattle.sql_reader.proofs.Carrying.{mapped, Carries, then-same, then-carried, repeat-carried, each-carried}
 use Rattle.sql_reader.proofs.Meanings.{filters_carry, meaning-filter_of}
 use Rattle.pub_reader.specs.CatalogMeaning.{MeansAsWritten}
-use Rattle.pub_reader.specs.Catalogs.{EntryOf, PublicationOf, CatalogOf, entry_map, publication_map, catalog_map}
+use Rattle.pub_catalog.specs.Catalogs.{EntryOf, PublicationOf, CatalogOf, entry_map, publication_map, catalog_map}
 use Rattle.pub_reader.specs.Drafts.{CoverageOf, DraftPublicationOf, DraftOf, no_draft, is_covered, whole_from, resolved_entries, resolved_publication, resolved, coverage_map, draft_publication_map, draft_map}
 use Rattle.pub_reader.specs.Statements.{created_by, created, create, statement_by, statement, ended_statement, statements, finished, catalog_by}
 use Rattle.pub_reader.proofs.CarryingDrafts.{verdict_map, create_schema-carried, create_table-carried, alter_table-carried, create_index-carried, create_subscription-carried}

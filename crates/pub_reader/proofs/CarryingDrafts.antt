@@ -15,7 +15,7 @@ use Rattle.sql_reader.specs.Names.{name}
 use Rattle.sql_reader.specs.Reading.{Verdict, with_rest, eat, expect, item_ahead}
 use Rattle.sql_reader.specs.Turns.{link}
 use Rattle.sql_reader.proofs.Carrying.{mapped, then-same, then-carried, repeat-carried, link-carried}
-use Rattle.pub_reader.specs.Catalogs.{EntryOf, columns_at, indexes_at, entry_map}
+use Rattle.pub_catalog.specs.Catalogs.{EntryOf, columns_at, indexes_at, entry_map}
 use Rattle.pub_reader.specs.Drafts.{CoverageOf, DraftPublicationOf, DraftOf, find_schema, find_publication, filter_on, filters_in, filters_on, coverage_map, draft_publication_map, draft_map}
 use Rattle.pub_reader.specs.Identities.{replica_identity, alter_table}
 use Rattle.pub_reader.specs.Indexes.{new_index, index_body, indexed_table, create_index}
@@ -25,7 +25,7 @@ use Rattle.pub_reader.specs.Schemas.{create_schema, new_schema}
 use Rattle.pub_reader.specs.Subscriptions.{new_subscription, subscription_name, once, subscribed, one_publication, publication_list, subscription_body, subscription_tail, create_subscription}
 use Rattle.pub_reader.specs.TableNames.{table_in_schema, table_named, table_number, new_name}
 use Rattle.pub_reader.specs.Tables.{table_body, create_table}
-use Rattle.pub_reader.proofs.Positions.{position-map}
+use Rattle.pub_catalog.proofs.Positions.{position-map}
 
 by_test : {P : Type 0} (b : Bool) → (b ≡ true → P) → (b ≡ false → P) → P
 by_test true holds fails = holds refl

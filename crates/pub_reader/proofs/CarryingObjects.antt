@@ -16,7 +16,7 @@ use Rattle.sql_reader.specs.Turns.{link}
 use Rattle.sql_reader.proofs.Carrying.{mapped, Carries, then-same, then-carried, repeat-carried, link-carried, expression-carried}
 use Rattle.pub_reader.specs.declared.coverage.ObjectKind.{ObjectKind}
 use Rattle.pub_reader.specs.declared.coverage.ObjectKind.TheVariants as o
-use Rattle.pub_reader.specs.Catalogs.{columns_at}
+use Rattle.pub_catalog.specs.Catalogs.{columns_at}
 use Rattle.pub_reader.specs.Drafts.{CoverageOf, DraftPublicationOf, DraftOf, nothing_covered, filters_in, filters_on, coverage_map, draft_publication_map, draft_map}
 use Rattle.pub_reader.specs.Objects.{ObjectsOf, limited, table_mentioned, ended, where_clause, filter_by, filter_clause, taken_table, table_object, taken_by, tables_by, after_tables, tables_object, object_of, object_by, object, first_by, first_object, objects}
 use Rattle.pub_reader.specs.Publications.{publication_name, all_tables, published, scope_by, scope, for_by, for_clause, listed_objects, create_publication}

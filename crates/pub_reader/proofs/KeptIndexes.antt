@@ -22,10 +22,11 @@ use Rattle.sql_reader.specs.Reading.{Fault, ◌>>◌, with_rest, eat, expect, it
 use Rattle.sql_reader.specs.Turns.{link}
 use Rattle.sql_reader.proofs.Keeping.{Gives, then-gives, any-gives, repeat-gives, link-gives}
 use Rattle.sql_reader.proofs.Widths.{room-gives, below}
-use Rattle.pub_reader.specs.CatalogLimits.{IsIndexOf, IsIdentity}
-use Rattle.pub_reader.specs.Catalogs.{schema_at, columns_at, indexes_at, identified, indexed}
+use Rattle.pub_catalog.specs.CatalogLimits.{IsIndexOf, IsIdentity}
+use Rattle.pub_catalog.specs.Catalogs.{schema_at, columns_at, indexes_at, identified, indexed}
 use Rattle.pub_reader.specs.Drafts.{DraftOf, find_index, find_relation}
-use Rattle.pub_reader.specs.Identities.{action, identifies, by_index, index_named, using_index, identity_by, identity, replica_identity}
+use Rattle.pub_reader.specs.Identities.{action, by_index, index_named, using_index, identity_by, identity, replica_identity}
+use Rattle.pub_catalog.specs.IndexIdentities.{identifies}
 use Rattle.pub_reader.specs.Indexes.{new_index, method, once_in_index, index_column, index_columns, index_tail, index_body, indexed_table}
 use Rattle.pub_reader.specs.TableNames.{table_number}
 

@@ -20,8 +20,8 @@ use Rattle.sql_reader.specs.Turns.{each}
 use Rattle.sql_reader.proofs.Keeping.{Gives, then-gives, any-gives, repeat-gives, each-gives}
 use Rattle.sql_reader.proofs.Widths.{IsNarrow, room-gives, below, elements-gives}
 use Rattle.pub_reader.specs.declared.table_name.NewName.{NewName}
-use Rattle.pub_reader.specs.CatalogLimits.{IsIndexOf, IsIdentity, IsNamed, IsLimitedTable, IsLimited}
-use Rattle.pub_reader.specs.Catalogs.{columns_at, indexes_at, identified, indexed}
+use Rattle.pub_catalog.specs.CatalogLimits.{IsIndexOf, IsIdentity, IsNamed, IsLimitedTable, IsLimited}
+use Rattle.pub_catalog.specs.Catalogs.{columns_at, indexes_at, identified, indexed}
 use Rattle.pub_reader.specs.Drafts.{DraftOf, no_draft, resolved, resolved_publication, find_relation, find_publication, find_subscription}
 use Rattle.pub_reader.specs.Identities.{replica_identity, alter_table}
 use Rattle.pub_reader.specs.Indexes.{index_body, indexed_table, create_index}

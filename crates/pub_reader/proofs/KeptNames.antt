@@ -22,9 +22,9 @@ use Rattle.sql_reader.proofs.Keeping.{Gives, any-gives, then-gives}
 use Rattle.sql_reader.proofs.Leaving.{Leaves, then-leaves}
 use Rattle.sql_reader.proofs.PlainNames.{ArePlain, Any, NamesPlain, ColumnsPlain, any-plain, check-plain, expect-plain, look-plain, name-plain, elements-plain, rest_plain, reader_plain}
 use Rattle.pub_reader.specs.declared.table_name.NewName.{NewName}
-use Rattle.pub_reader.specs.CatalogLimits.{IsNamed}
-use Rattle.pub_reader.specs.CatalogNames.{IsNamedDraft}
-use Rattle.pub_reader.specs.Catalogs.{columns_at, indexes_at, identified, indexed}
+use Rattle.pub_catalog.specs.CatalogLimits.{IsNamed}
+use Rattle.pub_reader.specs.DraftNames.{IsNamedDraft}
+use Rattle.pub_catalog.specs.Catalogs.{columns_at, indexes_at, identified, indexed}
 use Rattle.pub_reader.specs.Drafts.{DraftOf, public_schema}
 use Rattle.pub_reader.specs.Identities.{replica_identity, alter_table}
 use Rattle.pub_reader.specs.Indexes.{index_body, indexed_table, create_index}

@@ -1,7 +1,6 @@
 pub mod CarryingCatalogs
 pub mod CarryingDrafts
 pub mod CarryingObjects
-pub mod CatalogFacts
 pub mod KeptIndexes
 pub mod KeptLimits
 pub mod KeptNames

@@ -25,11 +25,12 @@ use Rattle.sql_reader.specs.Turns.{link}
 use Rattle.sql_reader.proofs.Keeping.{Gives, any-gives, then-gives, repeat-gives, link-gives}
 use Rattle.sql_reader.proofs.Leaving.{Leaves, then-leaves}
 use Rattle.sql_reader.proofs.PlainNames.{ArePlain, NamesPlain, name-plain}
-use Rattle.pub_reader.specs.declared.catalog.Subscription.{Subscription}
+use Rattle.pub_catalog.specs.declared.catalog.Subscription.{Subscription}
 use Rattle.pub_reader.specs.declared.parameter.Given.{Given}
-use Rattle.pub_reader.specs.CatalogLimits.{IsNamed}
-use Rattle.pub_reader.specs.CatalogNames.{AreOwnNames, AreTaken, TakesKnown, IsNamedCatalog, IsNamedDraft}
-use Rattle.pub_reader.specs.Catalogs.{PublicationOf}
+use Rattle.pub_catalog.specs.CatalogLimits.{IsNamed}
+use Rattle.pub_catalog.specs.CatalogNames.{AreOwnNames, AreTaken, TakesKnown, IsNamedCatalog}
+use Rattle.pub_reader.specs.DraftNames.{IsNamedDraft}
+use Rattle.pub_catalog.specs.Catalogs.{PublicationOf}
 use Rattle.pub_reader.specs.Drafts.{CoverageOf, DraftPublicationOf, DraftOf, no_draft, find_publication, find_subscription, resolved, resolved_publication}
 use Rattle.pub_reader.specs.Publications.{new_publication, publication_name, for_clause, published, with_publication, create_publication}
 use Rattle.pub_reader.specs.Publishing.{parameters_clause}

@@ -3,7 +3,7 @@ use Rattle.std.proofs.Common.{◌≡◌, ℕ, zero, suc, ◌<◌, List, [], ◌�
 use Rattle.filter_tree.specs.declared.table.Identity.{Identity}
 use Rattle.filter_tree.specs.declared.table.Table.{Table}
 use Rattle.filter_tree.specs.declared.table.UniqueIndex.{UniqueIndex}
-use Rattle.pub_reader.specs.Catalogs.{schema_at, columns_at, indexes_at, identified, indexed}
+use Rattle.pub_catalog.specs.Catalogs.{schema_at, columns_at, indexes_at, identified, indexed}
 
 pub schema_at-is : (tables : List Table) (number : ℕ) (table : Table) → number < length tables → table ≡ slice_index_or tables number table → table.schema ≡ schema_at tables number
 schema_at-is [] number table within is = absurd (omega arith)

@@ -4,7 +4,7 @@ use Rattle.filter_tree.specs.Datum.{Datum}
 use Rattle.filter_tree.specs.Expr.{Expr, meaning}
 use Rattle.sql_reader.specs.Reading.{Verdict}
 use Rattle.sql_reader.specs.Written.{Written, written_meaning, filter_of}
-use Rattle.pub_reader.specs.Catalogs.{CatalogOf, catalog_map}
+use Rattle.pub_catalog.specs.Catalogs.{CatalogOf, catalog_map}
 
 -- Every filter of a catalog means on every row what its expression means as it is written.
 pub record MeansAsWritten (read : Verdict (CatalogOf Written)) (catalog : CatalogOf Expr) : Type 0 where

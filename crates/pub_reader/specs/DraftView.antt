@@ -5,7 +5,7 @@ use Rattle.pub_reader.specs.declared.coverage.Coverage.{Coverage}
 use Rattle.pub_reader.specs.declared.coverage.ObjectKind.{ObjectKind}
 use Rattle.pub_reader.specs.declared.draft.Draft.{Draft}
 use Rattle.pub_reader.specs.declared.draft.DraftPublication.{DraftPublication}
-use Rattle.pub_reader.specs.CatalogView.{entry_view}
+use Rattle.pub_catalog.specs.CatalogView.{entry_view}
 use Rattle.pub_reader.specs.Drafts.{CoverageOf, DraftPublicationOf, DraftOf}
 use Rattle.pub_reader.specs.Objects.{ObjectsOf}
 

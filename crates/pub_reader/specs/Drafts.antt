@@ -6,9 +6,9 @@ use Rattle.std.specs.Str.{bytes_eq}
 use Rattle.filter_tree.specs.declared.table.Table.{Table}
 use Rattle.filter_tree.specs.declared.table.UniqueIndex.{UniqueIndex}
 use Rattle.filter_tree.specs.Expr.{Expr}
-use Rattle.pub_reader.specs.declared.catalog.Operations.{Operations}
-use Rattle.pub_reader.specs.declared.catalog.Subscription.{Subscription}
-use Rattle.pub_reader.specs.Catalogs.{EntryOf, PublicationOf, CatalogOf, entry_map}
+use Rattle.pub_catalog.specs.declared.catalog.Operations.{Operations}
+use Rattle.pub_catalog.specs.declared.catalog.Subscription.{Subscription}
+use Rattle.pub_catalog.specs.Catalogs.{EntryOf, PublicationOf, CatalogOf, entry_map}
 
 -- what a publication covers: the tables that it names, and what it carries whole, the tables of some schemas or every table
 pub record CoverageOf (S : Type 0) : Type 0 where

@@ -13,7 +13,8 @@ use Rattle.sql_reader.specs.declared.error.Omitted.TheVariants.{Clause}
 use Rattle.sql_reader.specs.Wrong as w
 use Rattle.sql_reader.specs.Names.{name}
 use Rattle.sql_reader.specs.Reading.{Rule, Verdict, fault, ◌>>=◌, ◌>>◌, pure, check, refuse, refuse_as, advance, eat, expect, item_ahead}
-use Rattle.pub_reader.specs.Catalogs.{columns_at, indexes_at, identified}
+use Rattle.pub_catalog.specs.Catalogs.{columns_at, indexes_at, identified}
+use Rattle.pub_catalog.specs.IndexIdentities.{identifies}
 use Rattle.pub_reader.specs.Drafts.{DraftOf, find_index}
 use Rattle.pub_reader.specs.TableNames.{table_number}
 
@@ -28,19 +29,6 @@ unfoldable pub action : Rule (Unit {0})
 action ts = action_by (item_ahead ts) ts
 
 -- ---- by an index
-
--- a column that is there and takes no null
-abbrev pub takes_no_null : Option Column → Bool
-takes_no_null None = false
-takes_no_null (Some column) = column.not_null
-
-abbrev pub take_no_null : List Column → List ℕ → Bool
-take_no_null columns numbers = list_all (λ number. takes_no_null (slice_get columns number)) numbers
-
--- an index that is there, and none of whose columns takes a null
-abbrev pub identifies : List Column → Option UniqueIndex → Bool
-identifies columns None = false
-identifies columns (Some index) = take_no_null columns index.columns
 
 -- the identity by the index of this number, which has to be there, and to identify rows
 abbrev pub by_index : List Column → List UniqueIndex → PlacedName → Option ℕ → Verdict Identity

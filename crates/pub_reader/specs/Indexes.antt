@@ -16,7 +16,7 @@ use Rattle.sql_reader.specs.Expressions.{known_column}
 use Rattle.sql_reader.specs.Names.{name}
 use Rattle.sql_reader.specs.Reading.{Rule, Verdict, fault, ◌>>=◌, ◌>>◌, pure, check, refuse_as, eat, expect, item_ahead}
 use Rattle.sql_reader.specs.Turns.{link, repeat}
-use Rattle.pub_reader.specs.Catalogs.{schema_at, columns_at, indexes_at, indexed}
+use Rattle.pub_catalog.specs.Catalogs.{schema_at, columns_at, indexes_at, indexed}
 use Rattle.pub_reader.specs.Drafts.{DraftOf, find_relation}
 use Rattle.pub_reader.specs.Schemas.{fresh}
 use Rattle.pub_reader.specs.TableNames.{table_number}

@@ -1,8 +1,5 @@
-pub mod CatalogLimits
 pub mod CatalogMeaning
-pub mod CatalogNames
-pub mod CatalogView
-pub mod Catalogs
+pub mod DraftNames
 pub mod DraftView
 pub mod Drafts
 pub mod Identities

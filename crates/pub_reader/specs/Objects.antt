@@ -17,7 +17,7 @@ use Rattle.sql_reader.specs.Reading.{Rule, Verdict, fault, ◌>>=◌, ◌>>◌, 
 use Rattle.sql_reader.specs.Turns.{link, repeat}
 use Rattle.pub_reader.specs.declared.coverage.ObjectKind.{ObjectKind}
 use Rattle.pub_reader.specs.declared.coverage.ObjectKind.TheVariants as o
-use Rattle.pub_reader.specs.Catalogs.{EntryOf, columns_at}
+use Rattle.pub_catalog.specs.Catalogs.{EntryOf, columns_at}
 use Rattle.pub_reader.specs.Drafts.{CoverageOf, DraftOf, nothing_covered, public_schema, find_schema, with_name, filters_in, filters_on}
 use Rattle.pub_reader.specs.TableNames.{table_named}
 

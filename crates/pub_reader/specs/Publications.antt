@@ -8,9 +8,9 @@ use Rattle.sql_reader.specs.declared.error.Limit.TheVariants.{Publications}
 use Rattle.sql_reader.specs.Expressions.{Forms}
 use Rattle.sql_reader.specs.Names.{name}
 use Rattle.sql_reader.specs.Reading.{Rule, Verdict, ◌>>=◌, ◌>>◌, pure, check, advance, expect, item_ahead}
-use Rattle.pub_reader.specs.declared.catalog.Operations.{Operations}
+use Rattle.pub_catalog.specs.declared.catalog.Operations.{Operations}
 use Rattle.pub_reader.specs.declared.parameter.Given.{Given}
-use Rattle.pub_reader.specs.Catalogs.{every_operation}
+use Rattle.pub_catalog.specs.Catalogs.{every_operation}
 use Rattle.pub_reader.specs.Drafts.{CoverageOf, DraftOf, nothing_covered, find_publication}
 use Rattle.pub_reader.specs.Objects.{objects}
 use Rattle.pub_reader.specs.Publishing.{parameters_clause}

@@ -10,7 +10,7 @@ use Rattle.sql_reader.specs.Wrong as w
 use Rattle.sql_reader.specs.Names.{name_ahead}
 use Rattle.sql_reader.specs.Reading.{Rule, ◌>>=◌, ◌>>◌, pure, refuse, refuse_as, advance, look, expect, is_ahead, item_ahead, written_ahead, rest_of}
 use Rattle.sql_reader.specs.Turns.{link, repeat}
-use Rattle.pub_reader.specs.declared.catalog.Operations.{Operations}
+use Rattle.pub_catalog.specs.declared.catalog.Operations.{Operations}
 use Rattle.pub_reader.specs.declared.parameter.Parameter.{Parameter}
 use Rattle.pub_reader.specs.declared.parameter.Parameter.TheVariants as p
 use Rattle.pub_reader.specs.declared.parameter.Given.{Given}

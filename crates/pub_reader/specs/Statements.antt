@@ -7,7 +7,7 @@ use Rattle.sql_reader.specs.Expressions.{Forms}
 use Rattle.sql_reader.specs.Items.{items_of}
 use Rattle.sql_reader.specs.Reading.{Outcome, Rule, Verdict, ◌>>=◌, ◌>>◌, pure, refuse, advance, expect, item_ahead, more_ahead}
 use Rattle.sql_reader.specs.Turns.{each, repeat}
-use Rattle.pub_reader.specs.Catalogs.{CatalogOf}
+use Rattle.pub_catalog.specs.Catalogs.{CatalogOf}
 use Rattle.pub_reader.specs.Drafts.{DraftOf, no_draft, resolved}
 use Rattle.pub_reader.specs.Identities.{alter_table}
 use Rattle.pub_reader.specs.Indexes.{create_index}

@@ -1,8 +1,8 @@
 //! What a publication covers, while the catalog is read.
 
-use crate::catalog::Entry;
 use crate::names::Names;
 use filter_tree::{Table, Text};
+use pub_catalog::Entry;
 use sql_reader::{ErrorKind, ReadError};
 use std::alloc::{AllocError, Global};
 
@@ -26,7 +26,7 @@ impl Coverage {
     ghost use Rattle.std.specs.Prelude.{◌≡◌, OnOk};
     ghost use Rattle.std.specs.List.{list_any};
     ghost use Rattle.sql_reader.specs.Reading.{Answers};
-    ghost use Rattle.pub_reader.specs.CatalogView.{entry_view};
+    ghost use Rattle.pub_catalog.specs.CatalogView.{entry_view};
     ghost use Rattle.pub_reader.specs.Drafts.{nothing_covered, is_covered};
     ghost use Rattle.pub_reader.specs.DraftView.{coverage_view};
     ghost use Rattle.pub_reader.specs.Objects as spec;

@@ -3,13 +3,13 @@
 ghost use Rattle.std.specs.Prelude.{◌≡◌, ◌<◌, length, map, IfSome};
 ghost use Rattle.pub_reader.specs.Drafts as spec;
 
-use crate::catalog::{Catalog, Operations, Publication, Subscription};
 use crate::coverage::Coverage;
 use crate::filters::add_filters;
 use crate::names::{Names, check_new, known_number};
 use crate::resolution::resolved;
 use crate::table_name::NewName;
 use filter_tree::{Column, Filter, Identity, Table, Text, UniqueIndex};
+use pub_catalog::{Catalog, Operations, Publication, Subscription};
 use sql_reader::{ErrorKind, Limit, PlacedName, ReadError};
 use std::alloc::{AllocError, Global};
 
@@ -66,10 +66,10 @@ impl Draft {
     ghost use Rattle.std.specs.Prelude.{◌≡◌, ◌<◌, ◌∷◌, ◌++◌, [], length, map, IfOk, IfSome, None, OnOk};
     ghost use Rattle.filter_tree.specs.Shape.{expr_view};
     ghost use Rattle.sql_reader.specs.Reading.{Answers};
-    ghost use Rattle.pub_reader.specs.CatalogLimits.{IsLimited};
-    ghost use Rattle.pub_reader.specs.CatalogNames.{IsNamedCatalog};
-    ghost use Rattle.pub_reader.specs.Catalogs.{schema_at, columns_at, indexes_at, identified, indexed};
-    ghost use Rattle.pub_reader.specs.CatalogView.{catalog_view};
+    ghost use Rattle.pub_catalog.specs.CatalogLimits.{IsLimited};
+    ghost use Rattle.pub_catalog.specs.CatalogNames.{IsNamedCatalog};
+    ghost use Rattle.pub_catalog.specs.Catalogs.{schema_at, columns_at, indexes_at, identified, indexed};
+    ghost use Rattle.pub_catalog.specs.CatalogView.{catalog_view};
     ghost use Rattle.pub_reader.specs.Drafts as spec;
     ghost use Rattle.pub_reader.specs.DraftView.{draft_view, draft_publication_view};
     ghost use Rattle.pub_reader.specs.Indexes.{new_index};

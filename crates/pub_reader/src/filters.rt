@@ -2,11 +2,11 @@
 
 ghost use Rattle.std.specs.Prelude.{◌≡◌, ◌++◌, OnOk, map};
 ghost use Rattle.filter_tree.specs.Shape.{expr_view};
-ghost use Rattle.pub_reader.specs.CatalogView.{entry_view};
+ghost use Rattle.pub_catalog.specs.CatalogView.{entry_view};
 ghost use Rattle.pub_reader.specs.Drafts as spec;
 
-use crate::catalog::Entry;
 use filter_tree::Filter;
+use pub_catalog::Entry;
 use std::alloc::AllocError;
 
 /// Adds the filter of an entry, if the entry is of this table and has one.

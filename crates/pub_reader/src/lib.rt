@@ -3,7 +3,6 @@
 //! scripts of commands and of what happens to subscribers by `read_script`.
 #![tactic(auto)]
 
-mod catalog;
 mod coverage;
 mod draft;
 mod filter_clause;
@@ -27,7 +26,7 @@ mod subscription;
 mod table;
 mod table_name;
 
-pub use catalog::{Catalog, Entry, Operations, Publication, Subscription};
+pub use pub_catalog::{Catalog, Entry, Operations, Publication, Subscription};
 pub use script::{Line, read_script};
 pub use sql_reader::{ErrorKind, Later, Limit, Omitted, ReadError, read_row};
 pub use statement::read_catalog;

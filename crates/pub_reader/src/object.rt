@@ -9,12 +9,12 @@ ghost use Rattle.pub_reader.specs.Drafts.{nothing_covered};
 ghost use Rattle.pub_reader.specs.DraftView.{coverage_view, draft_view, objects_view};
 ghost use Rattle.pub_reader.specs.Objects as spec;
 
-use crate::catalog::Entry;
 use crate::coverage::{Coverage, ObjectKind};
 use crate::draft::{Draft, PUBLIC};
 use crate::filter_clause::filter_clause;
 use crate::table_name::table_named;
 use filter_tree::Text;
+use pub_catalog::Entry;
 use sql_reader::{ErrorKind, Item, Keyword, PlacedName, ReadError, Reader, read_name};
 use sql_tokens::Operator;
 use std::alloc::Global;

@@ -7,8 +7,8 @@ ghost use Rattle.pub_reader.specs.Operations.{operations as operations_of};
 ghost use Rattle.pub_reader.specs.Publishing as spec;
 ghost use Rattle.sql_reader.specs.Taking.{Takes, TakesSome};
 
-use crate::catalog::Operations;
 use crate::publish::operations;
+use pub_catalog::Operations;
 use sql_reader::{ErrorKind, Item, Keyword, ReadError, Reader, is_name_ahead, same_word};
 use sql_tokens::Operator;
 

@@ -7,11 +7,11 @@ ghost use Rattle.pub_reader.specs.Drafts.{find_publication};
 ghost use Rattle.pub_reader.specs.DraftView.{coverage_view, draft_view};
 ghost use Rattle.pub_reader.specs.Publications as spec;
 
-use crate::catalog::Operations;
 use crate::coverage::Coverage;
 use crate::draft::{Draft, DraftPublication};
 use crate::object::objects;
 use crate::parameter::{Given, parameters_clause};
+use pub_catalog::Operations;
 use sql_reader::{Item, Keyword, PlacedName, ReadError, Reader, read_name};
 use std::alloc::{AllocError, Global};
 

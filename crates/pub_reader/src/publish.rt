@@ -4,7 +4,7 @@ ghost use Rattle.std.specs.Prelude.{◌≡◌, ◌≤◌, ◌∷◌, length};
 ghost use Rattle.std.specs.List.{prefix_len};
 ghost use Rattle.pub_reader.specs.Operations as spec;
 
-use crate::catalog::Operations;
+use pub_catalog::Operations;
 
 const NO_OPERATION: Operations = Operations {
     insert: false,

@@ -1,14 +1,14 @@
 //! What publications cover, once all tables are made.
 
 ghost use Rattle.std.specs.Prelude.{◌≡◌, IfOk, map};
-ghost use Rattle.pub_reader.specs.CatalogView.{entry_view, publication_view};
+ghost use Rattle.pub_catalog.specs.CatalogView.{entry_view, publication_view};
 ghost use Rattle.pub_reader.specs.Drafts as spec;
 ghost use Rattle.pub_reader.specs.DraftView.{coverage_view, draft_publication_view};
 
-use crate::catalog::{Entry, Publication};
 use crate::coverage::Coverage;
 use crate::draft::DraftPublication;
 use filter_tree::Table;
+use pub_catalog::{Entry, Publication};
 use std::alloc::{AllocError, Global};
 
 /// The entries of a publication: the tables that it names, and then each table that it carries whole.

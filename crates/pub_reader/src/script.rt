@@ -8,10 +8,10 @@ ghost use Rattle.sql_reader.specs.Taking.{TakesSome};
 ghost use Rattle.pub_reader.specs.Scripts as spec;
 ghost use Rattle.pub_reader.specs.ScriptView.{line_view};
 
-use crate::catalog::Catalog;
 use crate::step::{Step, step_body};
 use crate::step_word::counted_word;
 use filter_tree::Table;
+use pub_catalog::Catalog;
 use sql_reader::{Item, ReadError, Reader};
 use std::alloc::Global;
 

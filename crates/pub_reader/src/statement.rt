@@ -5,14 +5,14 @@ ghost use Rattle.sql_reader.specs.Ahead.{to_read};
 ghost use Rattle.sql_reader.specs.Reading.{Reads, Answers};
 ghost use Rattle.sql_reader.specs.Taking.{Takes, TakesSome};
 ghost use Rattle.sql_reader.specs.Written.{as_filter, as_written};
-ghost use Rattle.pub_reader.specs.CatalogLimits.{IsLimited};
+ghost use Rattle.pub_catalog.specs.CatalogLimits.{IsLimited};
 ghost use Rattle.pub_reader.specs.CatalogMeaning.{MeansAsWritten};
-ghost use Rattle.pub_reader.specs.CatalogNames.{IsNamedCatalog, IsNamedDraft};
-ghost use Rattle.pub_reader.specs.CatalogView.{catalog_view};
+ghost use Rattle.pub_catalog.specs.CatalogNames.{IsNamedCatalog};
+ghost use Rattle.pub_reader.specs.DraftNames.{IsNamedDraft};
+ghost use Rattle.pub_catalog.specs.CatalogView.{catalog_view};
 ghost use Rattle.pub_reader.specs.DraftView.{draft_view};
 ghost use Rattle.pub_reader.specs.Statements as spec;
 
-use crate::catalog::Catalog;
 use crate::draft::Draft;
 use crate::identity::alter_table;
 use crate::index::create_index;
@@ -20,6 +20,7 @@ use crate::publication::create_publication;
 use crate::schema::create_schema;
 use crate::subscription::create_subscription;
 use crate::table::create_table;
+use pub_catalog::Catalog;
 use sql_reader::{Item, Keyword, ReadError, Reader};
 use std::alloc::Global;
 
@@ -109,7 +110,7 @@ fn statements(r: &mut Reader<'_>, alloc: Global, draft: &mut Draft) -> Result<()
 /// # Errors
 ///
 /// The first fault of the text, or `OutOfMemory` where an allocation was refused.
-#[tactic(auto, using(crate::proofs::CarryingCatalogs::means_as_written, crate::proofs::CatalogFacts::catalog_limited, crate::proofs::CatalogFacts::catalog_named))]
+#[tactic(auto, using(crate::proofs::CarryingCatalogs::means_as_written, pub_catalog::proofs::CatalogFacts::catalog_limited, pub_catalog::proofs::CatalogFacts::catalog_named))]
 pub fn read_catalog(alloc: Global, text: &str) -> Result<Catalog, ReadError>
     ensures catalog { Answers catalog_view (spec.catalog_by as_filter text.now) result }
     ensures written { IfOk result

@@ -8,9 +8,9 @@ ghost use Rattle.pub_reader.specs.DraftView.{draft_view};
 ghost use Rattle.pub_reader.specs.Subscriptions as spec;
 ghost use Rattle.sql_reader.specs.Taking.{Takes, TakesSome};
 
-use crate::catalog::Subscription;
 use crate::draft::Draft;
 use filter_tree::Items;
+use pub_catalog::Subscription;
 use sql_reader::{ErrorKind, Item, Keyword, Omitted, PlacedName, ReadError, Reader, read_name};
 use std::alloc::Global;
 

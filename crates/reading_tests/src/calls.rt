@@ -1,7 +1,8 @@
 //! Calls that many tests make, under names of their own: a function without a contract costs the prover less.
 
 use filter_tree::{Filter, Row, Text, Tri, copy_in, copy_row, eval, same_row};
-use pub_reader::{Catalog, ReadError, read_catalog};
+use pub_catalog::Catalog;
+use pub_reader::{ReadError, read_catalog};
 use sql_reader::{Limit, exceeded_limit, read_row, write_row};
 use std::alloc::{AllocError, Global};
 

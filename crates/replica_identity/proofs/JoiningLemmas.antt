@@ -9,7 +9,7 @@ use Rattle.std.specs.List.{list_any}
 use Rattle.std.specs.Cmp.{unsigned_Decides}
 use Rattle.filter_tree.specs.Expr.{Expr, Or}
 use Rattle.filter_tree.specs.declared.table.Table.{Table}
-use Rattle.pub_reader.specs.Catalogs.{EntryOf}
+use Rattle.pub_catalog.specs.Catalogs.{EntryOf}
 use Rattle.replica_identity.specs.Joining.{joined, joined_at}
 use Rattle.replica_identity.specs.Plans.{filters_for, share_in, shares_from}
 use Rattle.replica_identity.specs.Shares.{ShareOf, Nothing, Everything, Where, any_of, share_by}

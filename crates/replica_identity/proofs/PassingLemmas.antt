@@ -9,8 +9,8 @@ use Rattle.filter_tree.specs.Logic.{or_of}
 use Rattle.filter_tree.specs.declared.table.Table.{Table}
 use Rattle.filter_tree.specs.declared.tri.Tri.{Tri}
 use Rattle.filter_tree.specs.declared.tri.Tri.TheVariants.{True, False, Null}
-use Rattle.pub_reader.specs.Catalogs.{CatalogOf, PublicationOf, EntryOf}
-use Rattle.pub_reader.specs.declared.catalog.Subscription.{Subscription}
+use Rattle.pub_catalog.specs.Catalogs.{CatalogOf, PublicationOf, EntryOf}
+use Rattle.pub_catalog.specs.declared.catalog.Subscription.{Subscription}
 use Rattle.replica_identity.specs.Passes.{listed_by, lets, entry_carries, carries}
 use Rattle.replica_identity.specs.Plans.{PlanOf, TakesWhatPasses, filters_for, share_in, shares_from, entries_in, entries_at, entries_listed, shares_for, plan_of}
 use Rattle.replica_identity.specs.Shares.{Nothing, any_of, share_by, takes, is_true}

@@ -3,7 +3,7 @@ use Rattle.std.proofs.Common.{◌≡◌, ℕ, zero, suc, ◌<◌, ◌≤◌, tru
 use Rattle.std.proofs.Common.{Global}
 use Rattle.std.specs.Prelude.{Option}
 use Rattle.filter_tree.specs.Expr.{Expr}
-use Rattle.pub_reader.specs.Catalogs.{EntryOf}
+use Rattle.pub_catalog.specs.Catalogs.{EntryOf}
 use Rattle.replica_identity.specs.declared.share.Share.{Share}
 use Rattle.replica_identity.specs.Joining.{joined, joined_at}
 use Rattle.replica_identity.specs.Shares.{ShareOf, Nothing, Everything, Where, share_view, is_nothing}

@@ -6,7 +6,7 @@ use Rattle.filter_tree.specs.Datum.{Datum, value_at}
 use Rattle.filter_tree.specs.Expr.{Expr}
 use Rattle.filter_tree.specs.Order.{datum_cmp}
 use Rattle.filter_tree.specs.declared.table.Table.{Table}
-use Rattle.pub_reader.specs.Catalogs.{CatalogOf}
+use Rattle.pub_catalog.specs.Catalogs.{CatalogOf}
 use Rattle.replica_identity.specs.Plans.{PlanOf}
 use Rattle.replica_identity.specs.Setting.{recorded_as, identity_in, blanked_in, setting_of}
 use Rattle.table_changes.specs.Columns.{values_at, blanked_from}

@@ -11,7 +11,7 @@ use Rattle.filter_tree.specs.declared.validity.RowFault.{RowFault}
 use Rattle.table_changes.specs.Columns.{values_at, unless_null, blanked_from}
 use Rattle.table_changes.specs.Keys.{UniqueKey}
 use Rattle.table_changes.specs.Setting.{Setting, Recorded, Columns, Whole, Nowhere}
-use Rattle.pub_reader.specs.Catalogs.{CatalogOf}
+use Rattle.pub_catalog.specs.Catalogs.{CatalogOf}
 use Rattle.replica_identity.specs.Identities.{identity_columns}
 use Rattle.replica_identity.specs.Plans.{PlanOf, share_at}
 use Rattle.replica_identity.specs.Shares.{takes, is_nothing}

@@ -5,7 +5,7 @@ use Rattle.filter_tree.specs.Expr.{Expr}
 use Rattle.filter_tree.specs.Valid.{row_fault}
 use Rattle.filter_tree.specs.declared.table.Table.{Table}
 use Rattle.filter_tree.specs.declared.table.UniqueIndex.{UniqueIndex}
-use Rattle.pub_reader.specs.Catalogs.{CatalogOf}
+use Rattle.pub_catalog.specs.Catalogs.{CatalogOf}
 use Rattle.replica_identity.specs.Identities.{identity_columns}
 use Rattle.replica_identity.specs.Plans.{PlanOf}
 use Rattle.replica_identity.specs.Setting.{identity_in, setting_of}

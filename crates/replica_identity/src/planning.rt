@@ -1,7 +1,7 @@
 //! How the shares of subscribers are made from a catalog.
 
 ghost use Rattle.std.specs.Prelude.{◌≡◌, IfOk, OnOk, fold, map, replicate};
-ghost use Rattle.pub_reader.specs.CatalogView.{catalog_view, entry_view, publication_view};
+ghost use Rattle.pub_catalog.specs.CatalogView.{catalog_view, entry_view, publication_view};
 ghost use Rattle.replica_identity.specs.Joining.{joined as joined_of, joined_at};
 ghost use Rattle.replica_identity.specs.Plans as spec;
 ghost use Rattle.replica_identity.specs.PlanView.{plan_view};
@@ -9,7 +9,7 @@ ghost use Rattle.replica_identity.specs.Shares.{share_view, Nothing};
 
 use crate::share::{Share, joined};
 use crate::shares::Plan;
-use pub_reader::{Catalog, Entry, Publication, Subscription};
+use pub_catalog::{Catalog, Entry, Publication, Subscription};
 use std::alloc::{AllocError, Global};
 use std::mem;
 

@@ -1,7 +1,7 @@
 -- The catalog of a sharding that was accepted is within its limits, and is named, as each catalog is.
-use Rattle.pub_reader.specs.CatalogLimits.{IsLimited}
-use Rattle.pub_reader.specs.CatalogNames.{IsNamedCatalog}
-use Rattle.pub_reader.proofs.CatalogFacts.{catalog_limited, catalog_named}
+use Rattle.pub_catalog.specs.CatalogLimits.{IsLimited}
+use Rattle.pub_catalog.specs.CatalogNames.{IsNamedCatalog}
+use Rattle.pub_catalog.proofs.CatalogFacts.{catalog_limited, catalog_named}
 use Rattle.shard_checker.specs.CheckedView.{checked_view}
 use Rattle.shard_checker.specs.declared.checked.Checked.{Checked}
 

@@ -11,7 +11,7 @@ use Rattle.filter_tree.specs.declared.filter.Test.{Test}
 use Rattle.filter_tree.specs.declared.filter.Test.TheVariants.{True, False, Unknown}
 use Rattle.filter_tree.proofs.SameLemmas.{both_true, same_atom_is, same_atom_of_equal}
 use Rattle.std.proofs.Math.Logic.{∥∥₁_elim}
-use Rattle.pub_reader.specs.Catalogs.{CatalogOf}
+use Rattle.pub_catalog.specs.Catalogs.{CatalogOf}
 use Rattle.replica_identity.specs.Plans.{PlanOf, plan_of}
 use Rattle.replica_identity.specs.Shares.{ShareOf}
 

@@ -16,8 +16,8 @@ use Rattle.filter_tree.specs.declared.table.UniqueIndex.{UniqueIndex}
 use Rattle.filter_tree.proofs.ListsLemmas.{determined_by_columns}
 use Rattle.filter_tree.proofs.SameLemmas.{both_true}
 use Rattle.filter_tree.proofs.ValidLemmas.{valid_from_no_fault}
-use Rattle.pub_reader.specs.Catalogs.{CatalogOf, PublicationOf, EntryOf}
-use Rattle.pub_reader.specs.declared.catalog.Subscription.{Subscription}
+use Rattle.pub_catalog.specs.Catalogs.{CatalogOf, PublicationOf, EntryOf}
+use Rattle.pub_catalog.specs.declared.catalog.Subscription.{Subscription}
 use Rattle.replica_identity.specs.Identities.{index_columns, columns_by, identity_columns, takes_no_null, take_no_null, index_tells, identity_tells, tells_rows_apart}
 use Rattle.replica_identity.specs.Passes.{listed_by, lets, entry_carries, carries}
 use Rattle.replica_identity.specs.Plans.{PlanOf, TakesWhatPasses, share_at, plan_of}

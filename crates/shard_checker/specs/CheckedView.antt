@@ -1,8 +1,8 @@
 -- What a checked catalog of the code stands for: a catalog and its plan, of which it is known that the sharding is sound.
 use Rattle.filter_tree.specs.Expr.{Expr}
-use Rattle.pub_reader.specs.CatalogView.{catalog_view}
-use Rattle.pub_reader.specs.Catalogs.{CatalogOf}
-use Rattle.pub_reader.specs.declared.catalog.Catalog.{Catalog}
+use Rattle.pub_catalog.specs.CatalogView.{catalog_view}
+use Rattle.pub_catalog.specs.Catalogs.{CatalogOf}
+use Rattle.pub_catalog.specs.declared.catalog.Catalog.{Catalog}
 use Rattle.replica_identity.specs.Plans.{PlanOf}
 use Rattle.replica_identity.specs.PlanView.{plan_view}
 use Rattle.replica_identity.specs.Setting.{setting_of}

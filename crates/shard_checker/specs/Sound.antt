@@ -5,9 +5,9 @@ use Rattle.filter_tree.specs.Datum.{Datum}
 use Rattle.filter_tree.specs.Expr.{Expr}
 use Rattle.filter_tree.specs.Lists.{distinct_columns}
 use Rattle.filter_tree.specs.declared.table.Table.{Table}
-use Rattle.pub_reader.specs.Catalogs.{CatalogOf, EntryOf}
-use Rattle.pub_reader.specs.declared.catalog.Operations.{Operations}
-use Rattle.pub_reader.specs.declared.catalog.Subscription.{Subscription}
+use Rattle.pub_catalog.specs.Catalogs.{CatalogOf, EntryOf}
+use Rattle.pub_catalog.specs.declared.catalog.Operations.{Operations}
+use Rattle.pub_catalog.specs.declared.catalog.Subscription.{Subscription}
 use Rattle.replica_identity.specs.Identities.{is_covered, tells_rows_apart}
 use Rattle.replica_identity.specs.Passes.{passes}
 use Rattle.shard_checker.specs.Rows.{IsTyped}

@@ -1,12 +1,12 @@
 //! Catalogs whose sharding is known to be sound.
 
 ghost use Rattle.std.specs.Prelude.{◌≡◌};
-ghost use Rattle.pub_reader.specs.CatalogView.{catalog_view};
+ghost use Rattle.pub_catalog.specs.CatalogView.{catalog_view};
 ghost use Rattle.replica_identity.specs.Plans.{plan_of};
 ghost use Rattle.replica_identity.specs.PlanView.{plan_view};
 ghost use Rattle.shard_checker.specs.Sound.{IsSound};
 
-use pub_reader::Catalog;
+use pub_catalog::Catalog;
 use replica_identity::Plan;
 
 /// A catalog and its own plan that the check accepted. Whoever holds one knows that the catalog's sharding is sound, and
@@ -24,9 +24,9 @@ pub struct Checked {
 
 impl Checked {
     ghost use Rattle.std.specs.Prelude.{◌≡◌};
-    ghost use Rattle.pub_reader.specs.CatalogLimits.{IsLimited};
-    ghost use Rattle.pub_reader.specs.CatalogNames.{IsNamedCatalog};
-    ghost use Rattle.pub_reader.specs.CatalogView.{catalog_view};
+    ghost use Rattle.pub_catalog.specs.CatalogLimits.{IsLimited};
+    ghost use Rattle.pub_catalog.specs.CatalogNames.{IsNamedCatalog};
+    ghost use Rattle.pub_catalog.specs.CatalogView.{catalog_view};
     ghost use Rattle.replica_identity.specs.Plans.{TakesWhatPasses, plan_of};
     ghost use Rattle.replica_identity.specs.PlanView.{plan_view};
     ghost use Rattle.table_changes.specs.Standing.{Covered, KeepsApart, Sound};

@@ -3,14 +3,14 @@
 ghost use Rattle.std.specs.Prelude.{◌≢◌, IfErr, Some, map};
 ghost use Rattle.std.specs.Option.{option_map};
 ghost use Rattle.filter_tree.specs.Shape.{expr_view};
-ghost use Rattle.pub_reader.specs.CatalogView.{entry_view, publication_view};
+ghost use Rattle.pub_catalog.specs.CatalogView.{entry_view, publication_view};
 ghost use Rattle.shard_checker.specs.CatalogRefusal as spec;
 ghost use Rattle.shard_checker.specs.Checks.{Checks, Finds};
 
 use crate::error::CheckError;
 use crate::publishing::is_taken;
 use filter_tree::{Filter, Table, columns_of};
-use pub_reader::{Entry, Publication, Subscription};
+use pub_catalog::{Entry, Publication, Subscription};
 use replica_identity::{covered, tells_rows_apart};
 use std::alloc::Global;
 

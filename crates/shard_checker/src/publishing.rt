@@ -1,13 +1,13 @@
 //! What the publications that are taken publish.
 
 ghost use Rattle.std.specs.Prelude.{◌≡◌, ◌≢◌, IfErr, map};
-ghost use Rattle.pub_reader.specs.CatalogView.{publication_view};
+ghost use Rattle.pub_catalog.specs.CatalogView.{publication_view};
 ghost use Rattle.shard_checker.specs.CatalogRefusal as spec;
 ghost use Rattle.shard_checker.specs.Checks.{Finds};
 ghost use Rattle.shard_checker.specs.Sound as sound;
 
 use crate::error::{CheckError, Operation};
-use pub_reader::{Operations, Publication, Subscription};
+use pub_catalog::{Operations, Publication, Subscription};
 
 /// Whether the subscription takes the publication of this number.
 fn is_listed(publication: usize, subscription: &Subscription) -> bool

@@ -1,7 +1,7 @@
 //! The check of a whole catalog.
 
 ghost use Rattle.std.specs.Prelude.{◌≡◌, OnOk, IfOk, None, map, length};
-ghost use Rattle.pub_reader.specs.CatalogView.{catalog_view};
+ghost use Rattle.pub_catalog.specs.CatalogView.{catalog_view};
 ghost use Rattle.replica_identity.specs.Plans.{plan_of};
 ghost use Rattle.replica_identity.specs.PlanView.{plan_view};
 ghost use Rattle.replica_identity.specs.Setting.{setting_of};
@@ -24,7 +24,7 @@ use crate::one_table::check_table;
 use crate::publishing::check_publishing;
 use crate::source::Source;
 use filter_tree::Table;
-use pub_reader::{Catalog, Subscription};
+use pub_catalog::{Catalog, Subscription};
 use replica_identity::{Plan, Share};
 use split_cert::Cert;
 use std::alloc::{AllocError, Allocator, Global};

@@ -1,7 +1,7 @@
 //! The check of a whole catalog by the texts of its certificates.
 
 ghost use Rattle.std.specs.Prelude.{◌≡◌, OnOk, IfOk, None};
-ghost use Rattle.pub_reader.specs.CatalogView.{catalog_view};
+ghost use Rattle.pub_catalog.specs.CatalogView.{catalog_view};
 ghost use Rattle.replica_identity.specs.Plans.{plan_of};
 ghost use Rattle.replica_identity.specs.PlanView.{plan_view};
 ghost use Rattle.replica_identity.specs.Setting.{setting_of};
@@ -20,7 +20,7 @@ use crate::checked::Checked;
 use crate::error::CheckError;
 use crate::sharding::check_given;
 use crate::text_error::TextError;
-use pub_reader::Catalog;
+use pub_catalog::Catalog;
 use replica_identity::Plan;
 use split_cert::NodeReader;
 use std::alloc::Global;

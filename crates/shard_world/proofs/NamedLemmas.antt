@@ -13,11 +13,11 @@ use Rattle.std.proofs.lemmas.Map.Steps.{length-le_from_distinct_below}
 use Rattle.std.proofs.lemmas.Option.{slice_get_within, get_or_from_slice_get}
 use Rattle.std.proofs.lemmas.Slice.Eq.{bytes_eq-Decides}
 use Rattle.filter_tree.specs.Expr.{Expr}
-use Rattle.pub_reader.proofs.Positions.{position-map}
-use Rattle.pub_reader.specs.CatalogLimits.{IsPlainName}
-use Rattle.pub_reader.specs.CatalogNames.{AreTaken, TakesKnown, IsNamedCatalog}
-use Rattle.pub_reader.specs.Catalogs.{CatalogOf}
-use Rattle.pub_reader.specs.declared.catalog.Subscription.{Subscription}
+use Rattle.pub_catalog.proofs.Positions.{position-map}
+use Rattle.pub_catalog.specs.CatalogLimits.{IsPlainName}
+use Rattle.pub_catalog.specs.CatalogNames.{AreTaken, TakesKnown, IsNamedCatalog}
+use Rattle.pub_catalog.specs.Catalogs.{CatalogOf}
+use Rattle.pub_catalog.specs.declared.catalog.Subscription.{Subscription}
 use Rattle.shard_world.specs.Asking.{CanAsk}
 
 -- ---- found by its name

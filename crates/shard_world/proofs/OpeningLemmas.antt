@@ -4,9 +4,9 @@ use Rattle.std.specs.Prelude.{Some, None, slice_get}
 use Rattle.std.proofs.lemmas.List.{length-map}
 use Rattle.std.proofs.lemmas.List.Elements.{All-nil}
 use Rattle.filter_tree.specs.Expr.{Expr}
-use Rattle.pub_reader.specs.Catalogs.{PublicationOf}
-use Rattle.pub_reader.specs.declared.catalog.Subscription.{Subscription}
-use Rattle.pub_reader.specs.CatalogView.{catalog_view}
+use Rattle.pub_catalog.specs.Catalogs.{PublicationOf}
+use Rattle.pub_catalog.specs.declared.catalog.Subscription.{Subscription}
+use Rattle.pub_catalog.specs.CatalogView.{catalog_view}
 use Rattle.replica_identity.specs.Plans.{shares_for}
 use Rattle.shard_checker.specs.CheckedView.{CheckedOf, checked_view}
 use Rattle.shard_checker.specs.declared.checked.Checked.{Checked}

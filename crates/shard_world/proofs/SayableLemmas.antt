@@ -12,7 +12,7 @@ use Rattle.filter_tree.specs.Lists.{with_item, distinct}
 use Rattle.filter_tree.specs.declared.table.Column.{Column}
 use Rattle.filter_tree.specs.declared.table.Table.{Table}
 use Rattle.filter_tree.proofs.ValidLemmas.{no_fault_from_valid}
-use Rattle.pub_reader.specs.CatalogLimits.{HasPlainName, IsNamed, IsLimited, IsLimitedTable}
+use Rattle.pub_catalog.specs.CatalogLimits.{HasPlainName, IsNamed, IsLimited, IsLimitedTable}
 use Rattle.table_changes.specs.Commands.{Command, Insert, Update, Delete, Truncate, named, fault_of, applied, all_applied, first_fault}
 use Rattle.table_changes.specs.Outs.{got, as_recorded}
 use Rattle.table_changes.specs.Records as r

@@ -6,10 +6,10 @@ use Rattle.std.specs.List.{flat_map}
 use Rattle.std.proofs.lemmas.List.{length-map}
 use Rattle.std.proofs.lemmas.List.Elements.{All-head, All-tail}
 use Rattle.filter_tree.specs.Expr.{Expr}
-use Rattle.pub_reader.specs.CatalogLimits.{IsLimited, IsPlainName}
-use Rattle.pub_reader.specs.CatalogNames.{IsNamedCatalog}
-use Rattle.pub_reader.specs.Catalogs.{CatalogOf}
-use Rattle.pub_reader.specs.declared.catalog.Subscription.{Subscription}
+use Rattle.pub_catalog.specs.CatalogLimits.{IsLimited, IsPlainName}
+use Rattle.pub_catalog.specs.CatalogNames.{IsNamedCatalog}
+use Rattle.pub_catalog.specs.Catalogs.{CatalogOf}
+use Rattle.pub_catalog.specs.declared.catalog.Subscription.{Subscription}
 use Rattle.sql_tokens.specs.Doubled.{doubled, in_quotes}
 use Rattle.table_changes.proofs.TableLemmas.{by_test}
 use Rattle.test_subscriber.specs.StartQuery.{lsn_text, names_text, start_text}

@@ -10,7 +10,7 @@ use Rattle.std.proofs.lemmas.List.{take_at}
 use Rattle.std.proofs.lemmas.List.Elements.{All-head, All-tail}
 use Rattle.std.proofs.lemmas.Str.{IsUtf8-append, IsUtf8-nil, IsUtf8-from_ascii, IsUtf8-take, IsUtf8-drop, IsCharBoundary-before_ascii, IsCharBoundary-after_ascii}
 use Rattle.std.proofs.lemmas.Str.Ascii.{IsAscii-cons}
-use Rattle.pub_reader.specs.CatalogLimits.{IsPlainName}
+use Rattle.pub_catalog.specs.CatalogLimits.{IsPlainName}
 use Rattle.sql_tokens.specs.Doubled.{doubled, in_quotes}
 use Rattle.copy_both.proofs.Utf8Texts.{is_text}
 use Rattle.copy_both.specs.StartAnswers.{text_in}

@@ -1,10 +1,10 @@
 -- That the command by which a subscriber asks for its stream is read as it was meant, and which stream then starts: PostgreSQL 15, 55.4. Streaming Replication Protocol (START_REPLICATION SLOT slot_name LOGICAL), 55.5.1. Logical Streaming Replication Parameters, and 4.1.1. Identifiers and Key Words.
 use Rattle.std.specs.Prelude.{◌≡◌, ◌<◌, ◌≤◌, ◌^◌, ℕ, max, List, [], ◌∷◌, All, length, map, slice_get, Some, None, codes}
 use Rattle.filter_tree.specs.Expr.{Expr}
-use Rattle.pub_reader.specs.CatalogLimits.{IsLimited, IsPlainName}
-use Rattle.pub_reader.specs.CatalogNames.{IsNamedCatalog}
-use Rattle.pub_reader.specs.Catalogs.{CatalogOf}
-use Rattle.pub_reader.specs.declared.catalog.Subscription.{Subscription}
+use Rattle.pub_catalog.specs.CatalogLimits.{IsLimited, IsPlainName}
+use Rattle.pub_catalog.specs.CatalogNames.{IsNamedCatalog}
+use Rattle.pub_catalog.specs.Catalogs.{CatalogOf}
+use Rattle.pub_catalog.specs.declared.catalog.Subscription.{Subscription}
 use Rattle.tables_log.specs.Slots.{end_after, confirmed_at, start_fault}
 use Rattle.tables_log.specs.declared.slots.Slot.{Slot}
 use Rattle.copy_both.specs.CommandText.{command_of}

@@ -1,8 +1,8 @@
 -- The subscribers of a catalog before their first connection: PostgreSQL 15, 31.2. Subscription.
 use Rattle.std.specs.Prelude.{◌≡◌, ℕ, List, [], ◌∷◌, map, slice_get, None}
 use Rattle.filter_tree.specs.Expr.{Expr}
-use Rattle.pub_reader.specs.Catalogs.{PublicationOf}
-use Rattle.pub_reader.specs.declared.catalog.Subscription.{Subscription}
+use Rattle.pub_catalog.specs.Catalogs.{PublicationOf}
+use Rattle.pub_catalog.specs.declared.catalog.Subscription.{Subscription}
 use Rattle.test_subscriber.specs.Machine.{Alike}
 use Rattle.test_subscriber.specs.Subscribers.{first_machine, sub_machine, sub_publications, sub_slot}
 use Rattle.shard_world.specs.Joined.{PeerOf}

@@ -2,7 +2,7 @@
 use Rattle.std.specs.Prelude.{◌≡◌, ◌<◌, ◌≤◌, ◌^◌, ℕ, Bool, List, All, length, slice_get, Some}
 use Rattle.std.specs.Str.{IsUtf8}
 use Rattle.filter_tree.specs.Datum.{Datum, Missing, Known, Number, Truth, Bytes}
-use Rattle.pub_reader.specs.CatalogLimits.{IsLimited}
+use Rattle.pub_catalog.specs.CatalogLimits.{IsLimited}
 use Rattle.shard_checker.specs.CheckedView.{CheckedOf, setting_in}
 use Rattle.table_changes.specs.Commands.{Command, Insert, Update, Delete, Truncate}
 use Rattle.table_changes.specs.Standing.{Covered}

@@ -10,9 +10,9 @@ use Rattle.copy_frames.specs.declared.frame.Frame.{Frame}
 use Rattle.copy_frames.specs.declared.status.Status.{Status}
 use Rattle.pgoutput_msgs.specs.Telling.{messages_for}
 use Rattle.pgoutput_msgs.specs.declared.message.Msg.{Msg}
-use Rattle.pub_reader.specs.Catalogs.{CatalogOf, PublicationOf}
+use Rattle.pub_catalog.specs.Catalogs.{CatalogOf, PublicationOf}
 use Rattle.filter_tree.specs.Expr.{Expr}
-use Rattle.pub_reader.specs.declared.catalog.Subscription.{Subscription}
+use Rattle.pub_catalog.specs.declared.catalog.Subscription.{Subscription}
 use Rattle.shard_checker.specs.CheckedView.{CheckedOf, setting_in}
 use Rattle.table_changes.specs.Commands.{Command, first_fault}
 use Rattle.tables_log.specs.Commits.{CommitOf}

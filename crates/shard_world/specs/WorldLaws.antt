@@ -3,8 +3,8 @@ use Rattle.std.specs.Prelude.{◌≡◌, ◌<◌, ◌≤◌, ◌^◌, ℕ, Bool,
 use Rattle.filter_tree.specs.Datum.{Datum}
 use Rattle.table_changes.specs.Standing.{Covered, KeepsApart, Sound}
 use Rattle.table_changes.specs.Tables.{is_row, holds}
-use Rattle.pub_reader.specs.CatalogLimits.{IsLimited}
-use Rattle.pub_reader.specs.CatalogNames.{IsNamedCatalog}
+use Rattle.pub_catalog.specs.CatalogLimits.{IsLimited}
+use Rattle.pub_catalog.specs.CatalogNames.{IsNamedCatalog}
 use Rattle.replica_identity.specs.Plans.{plan_of}
 use Rattle.shard_checker.specs.CheckedView.{CheckedOf, checked_view, setting_in}
 use Rattle.shard_checker.specs.declared.checked.Checked.{Checked}

@@ -2,12 +2,12 @@
 
 ghost use Rattle.std.specs.Prelude.{◌≡◌, IfOk, map, slice_get};
 ghost use Rattle.std.specs.String.{string_bytes};
-ghost use Rattle.pub_reader.specs.CatalogView.{catalog_view, publication_view};
+ghost use Rattle.pub_catalog.specs.CatalogView.{catalog_view, publication_view};
 ghost use Rattle.shard_world.specs.Openings as spec;
 ghost use Rattle.shard_world.specs.World as world;
 
 use crate::peer::Peer;
-use pub_reader::{Catalog, Publication, Subscription};
+use pub_catalog::{Catalog, Publication, Subscription};
 use std::alloc::{AllocError, Global};
 use test_subscriber::Subscriber;
 

@@ -1,7 +1,8 @@
 //! Calls that many tests make, under names of their own: a function without a contract costs the prover less.
 
 use filter_tree::{Items, Row, Text};
-use pub_reader::{Catalog, read_catalog, read_row};
+use pub_catalog::Catalog;
+use pub_reader::{read_catalog, read_row};
 use replica_identity::{Plan, plan};
 use std::alloc::{AllocError, Global};
 use std::test::Fail;

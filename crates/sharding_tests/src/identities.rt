@@ -4,7 +4,7 @@ mod identities;
 use crate::calls::{catalog_of, plan_of, row_of, takes};
 use crate::checks::{holds, same};
 use filter_tree::{Filter, Identity, Row, Table};
-use pub_reader::Catalog;
+use pub_catalog::Catalog;
 use replica_identity::{Plan, Share, covered, identity_columns};
 use std::alloc::{AllocError, Global};
 use std::process::Abort;

@@ -1,12 +1,12 @@
 mod families;
 mod limits;
 
-use crate::calls::{catalog_of, plan_of, row_of};
-use crate::checks::{holds, same};
 use bumpalo::Bump;
 use cert_maker::{Made, make};
+use crate::calls::{catalog_of, plan_of, row_of};
+use crate::checks::{holds, same};
 use filter_tree::{Filter, Row, Tri, Value, copy_in, eval};
-use pub_reader::Catalog;
+use pub_catalog::Catalog;
 use replica_identity::{Plan, Share};
 use split_cert::Cert;
 use std::alloc::{AllocError, Global};

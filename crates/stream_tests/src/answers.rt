@@ -3,10 +3,11 @@
 use crate::answer_cases::{
     FRAMES, OPTION_LISTS, OTHER_COMMANDS, PUBLICATION_NAMES, REFUSED, STARTS, UNREAD,
 };
-use crate::checks::{holds, same};
 use bytes::BytesMut;
 use copy_both::{Asked, Offer, SqlState, answer_start};
-use pub_reader::{Catalog, read_catalog};
+use crate::checks::{holds, same};
+use pub_catalog::Catalog;
+use pub_reader::read_catalog;
 use std::alloc::{AllocError, Global};
 use std::process::Abort;
 use std::test::Fail;

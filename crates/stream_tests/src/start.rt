@@ -1,14 +1,15 @@
 //! Starts that are refused, and those that are not.
 
-use crate::checks::{holds, same};
 use Given::{BinaryOff, BinaryOn, Names, Unknown, Version1, Version2};
 use bytes::BytesMut;
+use crate::checks::{holds, same};
 use copy_both::{
     Offer, OptionValue, Refusal, StartCommand, StartOption, append_error_response, find_slot,
     start_refusal, streams_grow,
 };
 use filter_tree::{Items, Text};
-use pub_reader::{Catalog, read_catalog};
+use pub_catalog::Catalog;
+use pub_reader::read_catalog;
 use std::alloc::{AllocError, Global};
 use std::process::Abort;
 use std::test::Fail;

@@ -1,10 +1,10 @@
 -- What `eval` answers, from what its steps gave.
 use Rattle.std.proofs.Common.{◌≡◌, ℕ, inr, ◌⊎◌, List, [], ◌∷◌, Option, Some, Result, Ok, slice_get, subst}
 use Rattle.filter_tree.specs.declared.table.Table.{Table}
-use Rattle.pub_reader.specs.CatalogView.{catalog_view}
+use Rattle.pub_catalog.specs.CatalogView.{catalog_view}
 use Rattle.pub_reader.specs.Statements.{catalog_by}
 use Rattle.sql_reader.specs.Written.{as_filter}
-use Rattle.pub_reader.specs.declared.catalog.Catalog.{Catalog}
+use Rattle.pub_catalog.specs.declared.catalog.Catalog.{Catalog}
 use Rattle.subcommands.proofs.Writing.{ends_as}
 use Rattle.subcommands.specs.Eval.Carriers.{CarrierOf, carriers_of}
 use Rattle.subcommands.specs.Eval.Evaluation.{AreFirstLines, AreSomeLines, IsBegunEvaluation, IsEvaluation, IsFault, WritesRows}

@@ -13,7 +13,7 @@ use Rattle.cert_maker.specs.Answers.{IfCert, IfCounter, IsAccepted, IsCounter}
 use Rattle.cert_maker.specs.declared.made.Made.{Made}
 use Rattle.cert_maker.specs.declared.made.Made.TheVariants.{Cert, Counter, Unknown, TooLarge, OutOfMemory}
 use Rattle.filter_tree.specs.Expr.{Expr}
-use Rattle.pub_reader.specs.Catalogs.{CatalogOf}
+use Rattle.pub_catalog.specs.Catalogs.{CatalogOf}
 use Rattle.replica_identity.specs.Plans.{PlanOf, plan_of}
 use Rattle.split_cert.specs.Where.{tree_view}
 use Rattle.std.proofs.KnownBytes.{Appends-nil, Appends-trans}

@@ -3,7 +3,7 @@ use Rattle.std.proofs.Common.{◌≡◌, ℕ, inr, List, [], ◌∷◌, Option, 
 use Rattle.std.specs.Prelude.{Result, Ok, Err, IfOk, IfErr, OnOk}
 use Rattle.std.specs.Io.KnownBytes.{Appends}
 use Rattle.filter_tree.specs.Expr.{Expr}
-use Rattle.pub_reader.specs.Catalogs.{CatalogOf}
+use Rattle.pub_catalog.specs.Catalogs.{CatalogOf}
 use Rattle.pub_reader.specs.Statements.{catalog_by}
 use Rattle.replica_identity.specs.Plans.{plan_of}
 use Rattle.shard_checker.specs.CatalogTruth.{ShardingIsWrong}

@@ -4,8 +4,8 @@ use Rattle.std.specs.List.{flat_map}
 use Rattle.filter_tree.specs.Expr.{Expr}
 use Rattle.filter_tree.specs.declared.table.Column.{Column}
 use Rattle.filter_tree.specs.declared.table.Table.{Table}
-use Rattle.pub_reader.specs.Catalogs.{PublicationOf}
-use Rattle.pub_reader.specs.declared.catalog.Subscription.{Subscription}
+use Rattle.pub_catalog.specs.Catalogs.{PublicationOf}
+use Rattle.pub_catalog.specs.declared.catalog.Subscription.{Subscription}
 
 -- ---- names by numbers; what the catalog lacks has the empty name
 

@@ -2,7 +2,7 @@
 
 ghost use Rattle.std.specs.Prelude.{◌≡◌, IfErr, IfOk, OnOk, None, Some, codes};
 ghost use Rattle.std.specs.Io.KnownBytes.{Appends};
-ghost use Rattle.pub_reader.specs.CatalogView.{catalog_view};
+ghost use Rattle.pub_catalog.specs.CatalogView.{catalog_view};
 ghost use Rattle.replica_identity.specs.Plans.{plan_of};
 ghost use Rattle.shard_checker.specs.CatalogTruth.{ShardingIsWrong};
 ghost use Rattle.shard_checker.specs.CheckedView.{checked_view};
@@ -24,7 +24,8 @@ use crate::check::refusals::push_refusal;
 use crate::failure::{Failure, InputFault, Status};
 use crate::output::write_line;
 use crate::parts::{Lines, two_parts};
-use pub_reader::{Catalog, read_catalog};
+use pub_catalog::Catalog;
+use pub_reader::read_catalog;
 use replica_identity::plan;
 use shard_checker::{CheckError, Checked, TextError, check_text};
 use std::alloc::{AllocError, Global};

@@ -1,7 +1,7 @@
 //! `make`: a certificate for each table of a catalog, or a row that shows that there is none.
 
 ghost use Rattle.std.specs.Prelude.{◌≡◌, IfErr, IfOk};
-ghost use Rattle.pub_reader.specs.CatalogView.{catalog_view};
+ghost use Rattle.pub_catalog.specs.CatalogView.{catalog_view};
 ghost use Rattle.subcommands.specs.Make.Making as spec;
 ghost use Rattle.subcommands.specs.Requests.{EndsRequest};
 ghost use Rattle.subcommands.specs.declared.arguments.Request.TheVariants.{Make};
@@ -10,13 +10,14 @@ ghost use Rattle.replica_identity.specs.PlanView.{plan_view};
 
 pub mod findings;
 
+use bumpalo::Bump;
+use cert_maker::{Made, make};
 use crate::failure::{Failure, InputFault, Status};
 use crate::make::findings::finding_line;
 use crate::output::write_line;
 use crate::parts::cut;
-use bumpalo::Bump;
-use cert_maker::{Made, make};
-use pub_reader::{Catalog, read_catalog};
+use pub_catalog::Catalog;
+use pub_reader::read_catalog;
 use replica_identity::{Plan, plan};
 use std::alloc::Global;
 use std::io::Write;

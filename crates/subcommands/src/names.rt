@@ -3,11 +3,11 @@
 
 ghost use Rattle.std.specs.Prelude.{◌≡◌, ◌++◌, ◌∷◌, [], OnOk, Some, map, slice_get};
 ghost use Rattle.std.specs.String.{string_bytes};
-ghost use Rattle.pub_reader.specs.CatalogView.{publication_view};
+ghost use Rattle.pub_catalog.specs.CatalogView.{publication_view};
 ghost use Rattle.subcommands.specs.Names as spec;
 
 use filter_tree::{Column, Table};
-use pub_reader::{Publication, Subscription};
+use pub_catalog::{Publication, Subscription};
 use std::alloc::AllocError;
 
 /// The name of the publication of this number.

@@ -2,7 +2,7 @@
 
 ghost use Rattle.std.specs.Prelude.{◌≡◌, ◌≤◌, IfErr, IfOk, Ok, length, map};
 ghost use Rattle.std.specs.String.{string_bytes};
-ghost use Rattle.pub_reader.specs.CatalogView.{catalog_view};
+ghost use Rattle.pub_catalog.specs.CatalogView.{catalog_view};
 ghost use Rattle.pub_reader.specs.Scripts.{script_by};
 ghost use Rattle.pub_reader.specs.ScriptView.{line_view, step_view};
 ghost use Rattle.shard_checker.specs.CheckedView.{checked_view};
@@ -24,7 +24,8 @@ use crate::output::write_text;
 use crate::parts::three_parts;
 use crate::simulate::answers::answer_text;
 use crate::simulate::views::view_text;
-use pub_reader::{Catalog, ErrorKind, Line, Step, read_catalog, read_script};
+use pub_catalog::Catalog;
+use pub_reader::{ErrorKind, Line, Step, read_catalog, read_script};
 use shard_checker::Checked;
 use shard_world::{Event, PeerEvent, World};
 use std::alloc::{AllocError, Global};

@@ -4,7 +4,7 @@ use Rattle.std.specs.Prelude.{Option, Some, None, if◌then◌else◌, ◌==◌,
 use Rattle.std.proofs.lemmas.Option.{get_or_from_slice_get}
 use Rattle.filter_tree.specs.Datum.{Datum}
 use Rattle.filter_tree.specs.declared.table.Table.{Table}
-use Rattle.pub_reader.specs.CatalogLimits.{IsLimitedTable}
+use Rattle.pub_catalog.specs.CatalogLimits.{IsLimitedTable}
 use Rattle.replica_identity.specs.Setting.{keys_in}
 use Rattle.std.proofs.lemmas.List.{length-map}
 use Rattle.shard_checker.specs.CheckedView.{CheckedOf, setting_in}

@@ -8,7 +8,7 @@ use Rattle.filter_tree.specs.Datum.{Datum}
 use Rattle.filter_tree.specs.Expr.{Expr}
 use Rattle.filter_tree.specs.Valid.{row_fault}
 use Rattle.filter_tree.specs.declared.table.Table.{Table}
-use Rattle.pub_reader.specs.Catalogs.{CatalogOf}
+use Rattle.pub_catalog.specs.Catalogs.{CatalogOf}
 use Rattle.replica_identity.specs.ChangeView.{change_view}
 use Rattle.replica_identity.specs.declared.change.Change.{Change}
 use Rattle.shard_checker.specs.CheckedView.{CheckedOf, setting_in}

@@ -3,7 +3,7 @@
 use crate::calls::{catalog_of, repeated};
 use crate::checks::{holds, same};
 use filter_tree::{Identity, Table};
-use pub_reader::{Catalog, Publication};
+use pub_catalog::{Catalog, Publication};
 use std::alloc::{AllocError, Global};
 use std::process::Abort;
 use std::test::Fail;

@@ -3,7 +3,8 @@
 use crate::calls::catalog_of;
 use crate::checks::same;
 use filter_tree::Table;
-use pub_reader::{Operations, Publication, ReadError, Subscription};
+use pub_catalog::{Operations, Publication, Subscription};
+use pub_reader::ReadError;
 use std::alloc::{AllocError, Global};
 use std::test::Fail;
 

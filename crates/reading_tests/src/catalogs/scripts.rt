@@ -1,12 +1,13 @@
 //! Scripts.
 
-use super::script_cases::{SCRIPTED, SCRIPTS, STEPS};
 use crate::calls::{catalog_of, repeated, written};
 use crate::checks::{expect, same};
-use pub_reader::{Catalog, Command, Line, ReadError, Step, read_script};
+use pub_catalog::Catalog;
+use pub_reader::{Command, Line, ReadError, Step, read_script};
 use std::alloc::{AllocError, Global};
 use std::process::Abort;
 use std::test::Fail;
+use super::script_cases::{SCRIPTED, SCRIPTS, STEPS};
 
 /// A command as it is written, but for the numbers of its tables.
 fn shown_command(alloc: Global, command: &Command) -> Result<String, AllocError> {

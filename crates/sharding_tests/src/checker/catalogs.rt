@@ -1,15 +1,15 @@
-use super::{BY_HALVES, certificate};
 use crate::calls::catalog_of;
 use crate::checks::{holds, same};
 use crate::takers::{both_take, takes_one_alone};
 use filter_tree::{Row, Value};
-use pub_reader::Catalog;
+use pub_catalog::Catalog;
 use replica_identity::{Share, plan};
 use shard_checker::{CheckError, Checked, Operation, check, shares_in};
 use split_cert::Cert;
 use std::alloc::{AllocError, Global};
 use std::process::Abort;
 use std::test::Fail;
+use super::{BY_HALVES, certificate};
 
 /// The operations that a publication has where nothing is said of them.
 pub const ALL: &str = "insert, update, delete, truncate";

@@ -1,7 +1,7 @@
 -- What `check` answers: the first part of its input is a catalog, and the second has the texts of the certificates of its tables, one a line in the order of the tables. The format is this project's own.
 use Rattle.std.specs.Prelude.{◌≡◌, ℕ, List, [], ◌∷◌, Option, Some, None, Ok, codes}
 use Rattle.filter_tree.specs.Expr.{Expr}
-use Rattle.pub_reader.specs.Catalogs.{CatalogOf}
+use Rattle.pub_catalog.specs.Catalogs.{CatalogOf}
 use Rattle.pub_reader.specs.Statements.{catalog_by}
 use Rattle.sql_reader.specs.Written.{as_filter}
 use Rattle.replica_identity.specs.Plans.{plan_of}

@@ -4,8 +4,8 @@ use Rattle.std.specs.List.{list_any}
 use Rattle.std.specs.Option.{option_map}
 use Rattle.filter_tree.specs.Expr.{Expr}
 use Rattle.filter_tree.specs.Shape.{expr_view}
-use Rattle.pub_reader.specs.declared.catalog.Entry.{Entry}
-use Rattle.pub_reader.specs.declared.catalog.Publication.{Publication}
+use Rattle.pub_catalog.specs.declared.catalog.Entry.{Entry}
+use Rattle.pub_catalog.specs.declared.catalog.Publication.{Publication}
 use Rattle.subcommands.specs.declared.eval.carriers.Carrier.{Carrier}
 
 -- a publication that carries a table: its name, and its filter; with no filter it carries all rows

@@ -6,12 +6,12 @@ use Rattle.filter_tree.specs.Valid.{row_fault}
 use Rattle.filter_tree.specs.declared.table.Column.{Column}
 use Rattle.filter_tree.specs.declared.table.Table.{Table}
 use Rattle.filter_tree.specs.declared.validity.RowFault.{RowFault}
-use Rattle.pub_reader.specs.CatalogView.{catalog_view}
+use Rattle.pub_catalog.specs.CatalogView.{catalog_view}
 use Rattle.sql_reader.specs.Reading.{Fault, Tells, told as told_by}
 use Rattle.sql_reader.specs.Rows.{row_of}
 use Rattle.pub_reader.specs.Statements.{catalog_by}
 use Rattle.sql_reader.specs.Written.{as_filter}
-use Rattle.pub_reader.specs.declared.catalog.Catalog.{Catalog}
+use Rattle.pub_catalog.specs.declared.catalog.Catalog.{Catalog}
 use Rattle.sql_reader.specs.declared.error.ReadError.{ReadError}
 use Rattle.subcommands.specs.Eval.Answers.{line_of}
 use Rattle.subcommands.specs.Eval.BadRows.{IsUnreadable, bad_line, is_answered}

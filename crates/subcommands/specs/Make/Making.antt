@@ -5,9 +5,9 @@ use Rattle.std.specs.List.{join_by}
 use Rattle.cert_maker.specs.Answers.{IsAccepted, IsCounter}
 use Rattle.filter_tree.specs.Datum.{Datum}
 use Rattle.filter_tree.specs.Expr.{Expr}
-use Rattle.pub_reader.specs.Catalogs.{CatalogOf}
+use Rattle.pub_catalog.specs.Catalogs.{CatalogOf}
 use Rattle.pub_reader.specs.Statements.{catalog_by}
-use Rattle.pub_reader.specs.declared.catalog.Subscription.{Subscription}
+use Rattle.pub_catalog.specs.declared.catalog.Subscription.{Subscription}
 use Rattle.replica_identity.specs.Plans.{plan_of}
 use Rattle.split_cert.specs.Text.{spelling_of}
 use Rattle.split_cert.specs.Tree.{Tree}

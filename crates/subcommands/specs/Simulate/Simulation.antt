@@ -1,7 +1,7 @@
 -- What `simulate` answers: the first part of its input is a catalog, the second has the texts of the certificates of its tables, one a line, and the third is a script, whose steps are made where the sharding is sound. The format is this project's own.
 use Rattle.std.specs.Prelude.{◌≡◌, ℕ, false, List, ◌∷◌, Some, None, is_none, Ok}
 use Rattle.filter_tree.specs.Expr.{Expr}
-use Rattle.pub_reader.specs.Catalogs.{CatalogOf}
+use Rattle.pub_catalog.specs.Catalogs.{CatalogOf}
 use Rattle.pub_reader.specs.Scripts.{LineOf, script_by}
 use Rattle.pub_reader.specs.Statements.{catalog_by}
 use Rattle.sql_reader.specs.Reading.{Verdict, Tells, told}

@@ -2,13 +2,13 @@
 
 ghost use Rattle.std.specs.Prelude.{◌≡◌, ◌++◌, [], OnOk};
 ghost use Rattle.std.specs.String.{string_bytes};
-ghost use Rattle.pub_reader.specs.CatalogView.{catalog_view};
+ghost use Rattle.pub_catalog.specs.CatalogView.{catalog_view};
 ghost use Rattle.subcommands.specs.Check.Refusals as spec;
 ghost use Rattle.subcommands.specs.Names.{spaced};
 
 use crate::names::{column_name, publication_name, push_table, push_word, subscriber_name};
 use filter_tree::Table;
-use pub_reader::Catalog;
+use pub_catalog::Catalog;
 use shard_checker::{CheckError, Operation};
 use std::alloc::AllocError;
 

@@ -6,7 +6,7 @@ ghost use Rattle.std.specs.Option.{option_copied, option_map};
 ghost use Rattle.subcommands.specs.Eval.Carriers as spec;
 
 use filter_tree::Filter;
-use pub_reader::{Entry, Publication};
+use pub_catalog::{Entry, Publication};
 use std::alloc::{AllocError, Global};
 
 /// A publication that carries a table: its name, and its filter of the table's rows. With no filter it carries all.

@@ -2,15 +2,15 @@
 
 ghost use Rattle.std.specs.Prelude.{◌≡◌, ◌++◌, ◌∷◌, [], IfOk, OnOk, codes};
 ghost use Rattle.std.specs.String.{string_bytes};
-ghost use Rattle.pub_reader.specs.CatalogView.{catalog_view};
+ghost use Rattle.pub_catalog.specs.CatalogView.{catalog_view};
 ghost use Rattle.subcommands.specs.Make.FindingView.{finding_view};
 ghost use Rattle.subcommands.specs.Make.Making as spec;
 ghost use Rattle.subcommands.specs.Names.{spaced, table_name};
 
-use crate::names::{push_table, push_word, subscriber_name};
 use cert_maker::Made;
+use crate::names::{push_table, push_word, subscriber_name};
 use filter_tree::Row;
-use pub_reader::{Catalog, Subscription};
+use pub_catalog::{Catalog, Subscription};
 use split_cert::write;
 use sql_reader::write_row;
 use std::alloc::{AllocError, Global};

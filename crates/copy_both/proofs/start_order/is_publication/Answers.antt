@@ -1,6 +1,6 @@
 use Rattle.std.proofs.Common.{sym, ◌∙◌}
 use Rattle.std.specs.Str.{bytes_eq}
-use Rattle.pub_reader.specs.declared.catalog.Publication.{Publication}
+use Rattle.pub_catalog.specs.declared.catalog.Publication.{Publication}
 use Rattle.copy_both.proofs.OrderLemmas.{any_of_map}
 use Rattle.copy_both.proofs.start_order.is_publication.Goals as goal
 

@@ -1,6 +1,6 @@
 use Rattle.std.proofs.Common.{◌≡◌, ◌++◌, map, drop}
 use Rattle.filter_tree.specs.Shape.{expr_view}
-use Rattle.pub_reader.specs.CatalogView.{entry_view}
+use Rattle.pub_catalog.specs.CatalogView.{entry_view}
 use Rattle.pub_reader.specs.Drafts.{filters_in}
 use Rattle.pub_reader.proofs.filters.add_filters.Given as goal
 

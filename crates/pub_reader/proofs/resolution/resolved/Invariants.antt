@@ -1,5 +1,5 @@
 use Rattle.std.proofs.Common.{◌≡◌, ◌++◌, map}
-use Rattle.pub_reader.specs.CatalogView.{publication_view}
+use Rattle.pub_catalog.specs.CatalogView.{publication_view}
 use Rattle.pub_reader.specs.Drafts.{resolved_publication}
 use Rattle.pub_reader.specs.DraftView.{draft_publication_view}
 use Rattle.pub_reader.proofs.resolution.resolved.Given as goal

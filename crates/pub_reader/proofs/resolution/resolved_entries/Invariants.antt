@@ -1,5 +1,5 @@
 use Rattle.std.proofs.Common.{◌≡◌, ◌++◌, drop, map}
-use Rattle.pub_reader.specs.CatalogView.{entry_view}
+use Rattle.pub_catalog.specs.CatalogView.{entry_view}
 use Rattle.pub_reader.specs.Drafts.{is_covered, whole_from, resolved_entries}
 use Rattle.pub_reader.specs.DraftView.{coverage_view}
 use Rattle.pub_reader.proofs.resolution.resolved_entries.Given as goal

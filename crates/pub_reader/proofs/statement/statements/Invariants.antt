@@ -4,7 +4,7 @@ use Rattle.sql_reader.specs.Items.{size}
 use Rattle.sql_reader.specs.Reading.{more_ahead}
 use Rattle.sql_reader.specs.Turns.{each, repeat}
 use Rattle.sql_reader.specs.Written.{as_filter}
-use Rattle.pub_reader.specs.CatalogNames.{IsNamedDraft}
+use Rattle.pub_reader.specs.DraftNames.{IsNamedDraft}
 use Rattle.pub_reader.specs.DraftView.{draft_view}
 use Rattle.pub_reader.specs.Statements.{statements, ended_statement}
 use Rattle.pub_reader.proofs.statement.statements.Given as goal

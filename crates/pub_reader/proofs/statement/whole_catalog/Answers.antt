@@ -2,7 +2,7 @@ use Rattle.std.proofs.Common.{rules, sym, subst}
 use Rattle.sql_reader.specs.Ahead.{to_read}
 use Rattle.sql_reader.specs.Items.{items_of}
 use Rattle.sql_reader.specs.Written.{as_filter}
-use Rattle.pub_reader.specs.CatalogNames.{IsNamedDraft}
+use Rattle.pub_reader.specs.DraftNames.{IsNamedDraft}
 use Rattle.pub_reader.specs.DraftView.{draft_view}
 use Rattle.pub_reader.proofs.KeptLimits.{resolved_limited}
 use Rattle.pub_reader.proofs.OwnNames.{none_named, resolved_named}

@@ -1,5 +1,5 @@
 use Rattle.std.proofs.Common.{◌≡◌, ◌++◌, map, drop}
-use Rattle.pub_reader.specs.CatalogView.{catalog_view}
+use Rattle.pub_catalog.specs.CatalogView.{catalog_view}
 use Rattle.replica_identity.specs.Plans.{shares_for}
 use Rattle.replica_identity.specs.Shares.{share_view}
 use Rattle.replica_identity.proofs.planning.all_shares.Given as goal

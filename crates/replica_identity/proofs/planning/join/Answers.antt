@@ -1,5 +1,5 @@
 use Rattle.std.proofs.Common.{rules, ◌<◌, length}
-use Rattle.pub_reader.specs.CatalogView.{entry_view}
+use Rattle.pub_catalog.specs.CatalogView.{entry_view}
 use Rattle.replica_identity.proofs.PlanLemmas.{joined_in}
 use Rattle.replica_identity.proofs.planning.join.Goals as goal
 

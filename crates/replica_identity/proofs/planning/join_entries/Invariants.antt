@@ -1,6 +1,6 @@
 use Rattle.std.proofs.Common.{◌≡◌, map, drop}
 use Rattle.std.specs.Prelude.{fold}
-use Rattle.pub_reader.specs.CatalogView.{entry_view}
+use Rattle.pub_catalog.specs.CatalogView.{entry_view}
 use Rattle.replica_identity.specs.Joining.{joined_at}
 use Rattle.replica_identity.specs.Shares.{share_view}
 use Rattle.replica_identity.proofs.planning.join_entries.Given as goal

@@ -1,6 +1,6 @@
 use Rattle.std.proofs.Common.{◌≡◌, map, drop}
 use Rattle.std.specs.Prelude.{fold}
-use Rattle.pub_reader.specs.CatalogView.{publication_view}
+use Rattle.pub_catalog.specs.CatalogView.{publication_view}
 use Rattle.replica_identity.specs.Joining.{joined_at}
 use Rattle.replica_identity.specs.Plans.{entries_listed}
 use Rattle.replica_identity.specs.Shares.{share_view}

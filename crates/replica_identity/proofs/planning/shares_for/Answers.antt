@@ -1,6 +1,6 @@
 use Rattle.std.proofs.Common.{◌∙◌, ap, length, map}
 use Rattle.std.specs.Prelude.{fold, replicate}
-use Rattle.pub_reader.specs.CatalogView.{catalog_view, publication_view}
+use Rattle.pub_catalog.specs.CatalogView.{catalog_view, publication_view}
 use Rattle.replica_identity.specs.Joining.{joined_at}
 use Rattle.replica_identity.specs.Plans.{entries_listed}
 use Rattle.replica_identity.specs.Shares.{Nothing, share_view}

@@ -1,5 +1,5 @@
 use Rattle.std.proofs.Common.{◌≡◌, drop, map}
-use Rattle.pub_reader.specs.CatalogView.{entry_view}
+use Rattle.pub_catalog.specs.CatalogView.{entry_view}
 use Rattle.shard_checker.specs.CatalogRefusal.{entries_refusal}
 use Rattle.shard_checker.proofs.covering.check_entries.Given as goal
 

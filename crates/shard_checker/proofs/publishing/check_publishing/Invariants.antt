@@ -1,5 +1,5 @@
 use Rattle.std.proofs.Common.{◌≡◌, drop, map}
-use Rattle.pub_reader.specs.CatalogView.{publication_view}
+use Rattle.pub_catalog.specs.CatalogView.{publication_view}
 use Rattle.shard_checker.specs.CatalogRefusal.{publishing_refusal}
 use Rattle.shard_checker.proofs.publishing.check_publishing.Given as goal
 

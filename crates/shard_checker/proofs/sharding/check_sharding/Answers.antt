@@ -1,5 +1,5 @@
 use Rattle.std.proofs.Common.{rules, sym, ◌∙◌, subst}
-use Rattle.pub_reader.specs.CatalogView.{catalog_view}
+use Rattle.pub_catalog.specs.CatalogView.{catalog_view}
 use Rattle.replica_identity.specs.PlanView.{plan_view}
 use Rattle.shard_checker.specs.Checks.{Checks}
 use Rattle.shard_checker.specs.Trying.{is_empty}

@@ -1,6 +1,6 @@
 use Rattle.std.proofs.Common.{◌≡◌, ◌+◌, ◌∷◌, [], ◌++◌, ap, arith, map, subst, sym, take, ◌∙◌}
 use Rattle.std.proofs.lemmas.List.{take_more}
-use Rattle.pub_reader.specs.CatalogView.{publication_view}
+use Rattle.pub_catalog.specs.CatalogView.{publication_view}
 use Rattle.shard_world.specs.Openings.{AreFirstPeers}
 use Rattle.shard_world.proofs.OpeningLemmas.{one_more}
 use Rattle.shard_world.proofs.opening.first_peers.Goals as goal

@@ -1,5 +1,5 @@
 use Rattle.std.proofs.Common.{map, take}
-use Rattle.pub_reader.specs.CatalogView.{publication_view}
+use Rattle.pub_catalog.specs.CatalogView.{publication_view}
 use Rattle.shard_world.specs.Openings.{AreFirstPeers}
 use Rattle.shard_world.proofs.opening.first_peers.Given as goal
 

@@ -1,6 +1,6 @@
 use Rattle.std.proofs.Common.{rules, ◌≡◌, Some, None, Ok, refl, ap, ◌∙◌, slice_get, length, map}
 use Rattle.std.proofs.lemmas.Option.{slice_get_read}
-use Rattle.pub_reader.specs.CatalogView.{catalog_view}
+use Rattle.pub_catalog.specs.CatalogView.{catalog_view}
 use Rattle.pub_reader.specs.Statements.{catalog_by}
 use Rattle.sql_reader.specs.Written.{as_filter}
 use Rattle.subcommands.specs.Eval.Carriers.{carrier_view, carriers_of}

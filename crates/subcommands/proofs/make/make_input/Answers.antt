@@ -1,5 +1,5 @@
 use Rattle.std.proofs.Common.{rules}
-use Rattle.pub_reader.specs.CatalogView.{catalog_view}
+use Rattle.pub_catalog.specs.CatalogView.{catalog_view}
 use Rattle.subcommands.proofs.FindingLines.{made}
 use Rattle.subcommands.proofs.make.make_input.Goals as goal
 

@@ -1,5 +1,5 @@
 use Rattle.std.proofs.Common.{rules}
-use Rattle.pub_reader.specs.CatalogView.{catalog_view}
+use Rattle.pub_catalog.specs.CatalogView.{catalog_view}
 use Rattle.subcommands.proofs.FindingLines.{stop_returned}
 use Rattle.subcommands.proofs.make.write_tables.Goals as goal
 

@@ -1,4 +1,4 @@
-use Rattle.pub_reader.specs.CatalogView.{catalog_view}
+use Rattle.pub_catalog.specs.CatalogView.{catalog_view}
 use Rattle.subcommands.proofs.FindingLines.{IsSoFar}
 use Rattle.subcommands.proofs.make.write_tables.Given as goal
 

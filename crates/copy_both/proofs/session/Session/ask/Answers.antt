@@ -1,5 +1,5 @@
 use Rattle.std.proofs.Common.{◌≡◌, ℕ, List, ap, ◌∙◌}
-use Rattle.pub_reader.specs.CatalogView.{catalog_view}
+use Rattle.pub_catalog.specs.CatalogView.{catalog_view}
 use Rattle.shard_checker.specs.CheckedView.{checked_view}
 use Rattle.shard_checker.specs.declared.checked.Checked.{Checked}
 use Rattle.copy_both.specs.Hearing.{offer_in}

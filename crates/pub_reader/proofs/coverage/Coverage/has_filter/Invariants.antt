@@ -1,6 +1,6 @@
 use Rattle.std.proofs.Common.{◌≡◌, drop, map}
 use Rattle.std.specs.List.{list_any}
-use Rattle.pub_reader.specs.CatalogView.{entry_view}
+use Rattle.pub_catalog.specs.CatalogView.{entry_view}
 use Rattle.pub_reader.specs.Objects.{is_filtered}
 use Rattle.pub_reader.proofs.coverage.Coverage.has_filter.Given as goal
 

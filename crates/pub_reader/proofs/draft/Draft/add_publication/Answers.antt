@@ -5,7 +5,8 @@ use Rattle.filter_tree.specs.Expr.{Expr}
 use Rattle.pub_reader.specs.declared.draft.DraftPublication.{DraftPublication}
 use Rattle.pub_reader.specs.Drafts.{DraftPublicationOf}
 use Rattle.pub_reader.specs.DraftView.{draft_publication_view}
-use Rattle.pub_reader.proofs.Positions.{names-push, position-map}
+use Rattle.pub_reader.proofs.Positions.{names-push}
+use Rattle.pub_catalog.proofs.Positions.{position-map}
 use Rattle.pub_reader.proofs.draft.Draft.add_publication.Goals as goal
 
 pub invariant_of-self-2 : goal.invariant_of-self-2

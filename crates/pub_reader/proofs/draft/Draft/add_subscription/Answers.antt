@@ -1,6 +1,6 @@
 use Rattle.std.proofs.Common.{◌∙◌, ◌++◌, ◌∷◌, [], ap}
 use Rattle.std.specs.String.{string_bytes}
-use Rattle.pub_reader.specs.declared.catalog.Subscription.{Subscription}
+use Rattle.pub_catalog.specs.declared.catalog.Subscription.{Subscription}
 use Rattle.pub_reader.proofs.Positions.{names-push}
 use Rattle.pub_reader.proofs.draft.Draft.add_subscription.Goals as goal
 

@@ -4,7 +4,8 @@ use Rattle.filter_tree.specs.Expr.{Expr}
 use Rattle.pub_reader.specs.declared.draft.DraftPublication.{DraftPublication}
 use Rattle.pub_reader.specs.Drafts.{DraftPublicationOf}
 use Rattle.pub_reader.specs.DraftView.{draft_publication_view}
-use Rattle.pub_reader.proofs.Positions.{position-by_names, position-map}
+use Rattle.pub_reader.proofs.Positions.{position-by_names}
+use Rattle.pub_catalog.proofs.Positions.{position-map}
 use Rattle.pub_reader.proofs.draft.Draft.find_publication.Goals as goal
 
 pub returns : goal.returns

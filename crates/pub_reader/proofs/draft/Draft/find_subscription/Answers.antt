@@ -1,5 +1,5 @@
 use Rattle.std.proofs.Common.{◌∙◌}
-use Rattle.pub_reader.specs.declared.catalog.Subscription.{Subscription}
+use Rattle.pub_catalog.specs.declared.catalog.Subscription.{Subscription}
 use Rattle.pub_reader.proofs.Positions.{position-by_names}
 use Rattle.pub_reader.proofs.draft.Draft.find_subscription.Goals as goal
 

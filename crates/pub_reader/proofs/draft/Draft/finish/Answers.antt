@@ -1,13 +1,13 @@
 use Rattle.std.proofs.Common.{◌≡◌, ◌∙◌, All, map, length, ap, sym, subst, arith}
 use Rattle.std.proofs.lemmas.List.{length-map}
 use Rattle.filter_tree.specs.Expr.{Expr}
-use Rattle.pub_reader.specs.declared.catalog.Publication.{Publication}
-use Rattle.pub_reader.specs.CatalogNames.{AreOwnNames, TakesKnown}
-use Rattle.pub_reader.specs.CatalogView.{publication_view}
-use Rattle.pub_reader.specs.Catalogs.{PublicationOf}
+use Rattle.pub_catalog.specs.declared.catalog.Publication.{Publication}
+use Rattle.pub_catalog.specs.CatalogNames.{AreOwnNames, TakesKnown}
+use Rattle.pub_catalog.specs.CatalogView.{publication_view}
+use Rattle.pub_catalog.specs.Catalogs.{PublicationOf}
 use Rattle.pub_reader.specs.DraftView.{draft_publication_view}
 use Rattle.pub_reader.specs.Drafts.{resolved_publication}
-use Rattle.pub_reader.proofs.CatalogFacts.{names_viewed}
+use Rattle.pub_catalog.proofs.CatalogFacts.{names_viewed}
 use Rattle.pub_reader.proofs.OwnNames.{resolved_names}
 use Rattle.pub_reader.proofs.draft.Draft.finish.Goals as goal
 

@@ -1,7 +1,7 @@
 use Rattle.std.proofs.Common.{sym, ◌∙◌}
 use Rattle.std.specs.Str.{bytes_eq}
 use Rattle.std.specs.String.{string_bytes}
-use Rattle.pub_reader.proofs.Positions.{position-map}
+use Rattle.pub_catalog.proofs.Positions.{position-map}
 use Rattle.pub_reader.proofs.names.Names.find.Goals as goal
 
 pub returns-clause-value : goal.returns-clause-value

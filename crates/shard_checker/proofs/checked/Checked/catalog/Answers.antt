@@ -1,4 +1,4 @@
-use Rattle.pub_reader.specs.CatalogView.{catalog_view}
+use Rattle.pub_catalog.specs.CatalogView.{catalog_view}
 use Rattle.replica_identity.specs.PlanView.{plan_view}
 use Rattle.shard_checker.proofs.LimitFacts.{checked_named}
 use Rattle.shard_checker.proofs.PlanFacts.{kept_own}

@@ -1,5 +1,5 @@
 use Rattle.std.proofs.Common.{◌≡◌, ap, length, subst, ◌∙◌}
-use Rattle.pub_reader.specs.CatalogView.{catalog_view}
+use Rattle.pub_catalog.specs.CatalogView.{catalog_view}
 use Rattle.shard_checker.specs.CheckedView.{checked_view, setting_in}
 use Rattle.table_changes.specs.Standing.{Sound}
 use Rattle.shard_world.specs.Seeing.{AreSeen}

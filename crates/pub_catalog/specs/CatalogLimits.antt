@@ -6,8 +6,8 @@ use Rattle.filter_tree.specs.declared.table.Identity.TheVariants.{Index}
 use Rattle.filter_tree.specs.declared.table.Table.{Table}
 use Rattle.filter_tree.specs.declared.table.UniqueIndex.{UniqueIndex}
 pub use Rattle.sql_tokens.specs.PlainNames.{IsPlainName}
-use Rattle.pub_reader.specs.Catalogs.{CatalogOf}
-use Rattle.pub_reader.specs.Identities.{identifies}
+use Rattle.pub_catalog.specs.Catalogs.{CatalogOf}
+use Rattle.pub_catalog.specs.IndexIdentities.{identifies}
 
 -- its columns are among these
 abbrev pub IsIndexOf : List Column → UniqueIndex → Type 0

@@ -3,10 +3,10 @@ use Rattle.std.specs.Prelude.{map}
 use Rattle.std.specs.Option.{option_map}
 use Rattle.filter_tree.specs.Expr.{Expr}
 use Rattle.filter_tree.specs.Shape.{expr_view}
-use Rattle.pub_reader.specs.declared.catalog.Catalog.{Catalog}
-use Rattle.pub_reader.specs.declared.catalog.Entry.{Entry}
-use Rattle.pub_reader.specs.declared.catalog.Publication.{Publication}
-use Rattle.pub_reader.specs.Catalogs.{EntryOf, PublicationOf, CatalogOf}
+use Rattle.pub_catalog.specs.declared.catalog.Catalog.{Catalog}
+use Rattle.pub_catalog.specs.declared.catalog.Entry.{Entry}
+use Rattle.pub_catalog.specs.declared.catalog.Publication.{Publication}
+use Rattle.pub_catalog.specs.Catalogs.{EntryOf, PublicationOf, CatalogOf}
 
 abbrev pub entry_view : Entry → EntryOf Expr
 entry_view entry = record { table = entry.table; filter = option_map expr_view entry.filter }

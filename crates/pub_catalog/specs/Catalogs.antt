@@ -5,8 +5,8 @@ use Rattle.filter_tree.specs.declared.table.Column.{Column}
 use Rattle.filter_tree.specs.declared.table.Identity.{Identity}
 use Rattle.filter_tree.specs.declared.table.Table.{Table}
 use Rattle.filter_tree.specs.declared.table.UniqueIndex.{UniqueIndex}
-use Rattle.pub_reader.specs.declared.catalog.Operations.{Operations}
-use Rattle.pub_reader.specs.declared.catalog.Subscription.{Subscription}
+use Rattle.pub_catalog.specs.declared.catalog.Operations.{Operations}
+use Rattle.pub_catalog.specs.declared.catalog.Subscription.{Subscription}
 
 -- a publication's entry: the number of a table, and the filter of its rows; with no filter it carries the whole table
 pub record EntryOf (S : Type 0) : Type 0 where

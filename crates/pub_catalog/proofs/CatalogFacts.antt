@@ -9,14 +9,14 @@ use Rattle.filter_tree.specs.declared.table.Identity.{Identity}
 use Rattle.filter_tree.specs.declared.table.Identity.TheVariants.{Default, Index, Full, Nothing}
 use Rattle.filter_tree.specs.declared.table.Table.{Table}
 use Rattle.filter_tree.specs.declared.table.UniqueIndex.{UniqueIndex}
-use Rattle.pub_reader.specs.declared.catalog.Catalog.{Catalog}
-use Rattle.pub_reader.specs.declared.catalog.Publication.{Publication}
-use Rattle.pub_reader.specs.declared.catalog.Subscription.{Subscription}
-use Rattle.pub_reader.specs.CatalogLimits.{IsIdentity, IsLimitedTable, IsLimited}
-use Rattle.pub_reader.specs.CatalogNames.{AreOwnNames, AreTaken, TakesKnown, IsNamedCatalog}
-use Rattle.pub_reader.specs.Catalogs.{PublicationOf}
+use Rattle.pub_catalog.specs.declared.catalog.Catalog.{Catalog}
+use Rattle.pub_catalog.specs.declared.catalog.Publication.{Publication}
+use Rattle.pub_catalog.specs.declared.catalog.Subscription.{Subscription}
+use Rattle.pub_catalog.specs.CatalogLimits.{IsIdentity, IsLimitedTable, IsLimited}
+use Rattle.pub_catalog.specs.CatalogNames.{AreOwnNames, AreTaken, TakesKnown, IsNamedCatalog}
+use Rattle.pub_catalog.specs.Catalogs.{PublicationOf}
 use Rattle.filter_tree.specs.Expr.{Expr}
-use Rattle.pub_reader.specs.CatalogView.{publication_view, catalog_view}
+use Rattle.pub_catalog.specs.CatalogView.{publication_view, catalog_view}
 
 IsIdentity-prop : (columns : List Column) (indexes : List UniqueIndex) (identity : Identity) → IsProp (IsIdentity columns indexes identity)
 IsIdentity-prop columns indexes (Index number) = Prim.hlevel props

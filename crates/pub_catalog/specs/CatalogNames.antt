@@ -2,10 +2,9 @@
 use Rattle.std.specs.Prelude.{ℕ, ◌<◌, List, All, length, map, nat_eq}
 use Rattle.std.specs.List.{IsDistinct}
 use Rattle.std.specs.Str.{bytes_eq}
-use Rattle.pub_reader.specs.declared.catalog.Subscription.{Subscription}
-use Rattle.pub_reader.specs.CatalogLimits.{IsPlainName, IsNamed}
-use Rattle.pub_reader.specs.Catalogs.{CatalogOf}
-use Rattle.pub_reader.specs.Drafts.{DraftOf}
+use Rattle.pub_catalog.specs.declared.catalog.Subscription.{Subscription}
+use Rattle.pub_catalog.specs.CatalogLimits.{IsPlainName, IsNamed}
+use Rattle.pub_catalog.specs.Catalogs.{CatalogOf}
 
 -- names of 1 to 63 bytes of UTF-8, none of which is zero, and no two of them are the same
 pub record AreOwnNames (names : List (List ℕ)) : Type 0 where
@@ -26,10 +25,3 @@ pub record IsNamedCatalog {S : Type 0} (catalog : CatalogOf S) : Type 0 where
   pub publications : AreOwnNames (map (λ p. p.name) catalog.publications)
   pub subscriptions : AreOwnNames (map (λ s. s.name) catalog.subscriptions)
   pub taken : All (TakesKnown (length catalog.publications)) catalog.subscriptions
-
--- the same of a catalog while it is read, with the names of its tables
-pub record IsNamedDraft {S : Type 0} (draft : DraftOf S) : Type 0 where
-  pub tables : All IsNamed draft.tables
-  pub publications : AreOwnNames (map (λ p. p.name) draft.publications)
-  pub subscriptions : AreOwnNames (map (λ s. s.name) draft.subscriptions)
-  pub taken : All (TakesKnown (length draft.publications)) draft.subscriptions

@@ -1,8 +1,8 @@
 //! What a catalog has.
 
 ghost use Rattle.std.specs.Prelude.{◌≤◌, length, map, All};
-ghost use Rattle.pub_reader.specs.CatalogLimits.{IsLimitedTable};
-ghost use Rattle.pub_reader.specs.CatalogNames.{AreOwnNames, TakesKnown};
+ghost use Rattle.pub_catalog.specs.CatalogLimits.{IsLimitedTable};
+ghost use Rattle.pub_catalog.specs.CatalogNames.{AreOwnNames, TakesKnown};
 
 use filter_tree::{Filter, Items, Table, Text};
 

@@ -1,0 +1,2 @@
+pub mod CatalogFacts
+pub mod Positions
