@@ -65,7 +65,7 @@ impl AtomKind {
 }
 
 /// The number that stands for a constant.
-fn number_of<A: Allocator>(texts: &Texts<'_>, literal: &Literal<A>) -> i64 {
+fn number_of<'a, A: Allocator>(texts: &Texts<'a>, literal: &'a Literal<A>) -> i64 {
     match literal {
         Literal::Int(number) => *number,
         Literal::Bool(truth) => if *truth { 1 } else { 0 },
@@ -74,10 +74,10 @@ fn number_of<A: Allocator>(texts: &Texts<'_>, literal: &Literal<A>) -> i64 {
 }
 
 /// The numbers that stand for constants, in ascending order.
-fn numbers_of<A: Allocator>(
+fn numbers_of<'a, A: Allocator>(
     alloc: Global,
-    texts: &Texts<'_>,
-    literals: &[Literal<A>],
+    texts: &Texts<'a>,
+    literals: &'a [Literal<A>],
 ) -> Result<Vec<i64>, AllocError> {
     let mut numbers = Vec::new(alloc);
     for literal in literals {
@@ -87,10 +87,10 @@ fn numbers_of<A: Allocator>(
     Ok(numbers)
 }
 
-fn kind_of<A: Allocator>(
+fn kind_of<'a, A: Allocator>(
     alloc: Global,
-    texts: &Texts<'_>,
-    atom: &Atom<A>,
+    texts: &Texts<'a>,
+    atom: &'a Atom<A>,
 ) -> Result<AtomKind, AllocError> {
     match atom {
         Atom::IsNull(_) => Ok(AtomKind::IsNull),
@@ -122,11 +122,11 @@ fn bit_of(kind: &AtomKind, number: usize) -> u64 {
 }
 
 /// The atoms, whose terms are among these.
-pub fn plain_atoms<A: Allocator>(
+pub fn plain_atoms<'a, A: Allocator>(
     alloc: Global,
-    texts: &Texts<'_>,
+    texts: &Texts<'a>,
     terms: &[Term],
-    atoms: &[&Atom<A>],
+    atoms: &[&'a Atom<A>],
 ) -> Result<Vec<PlainAtom>, AllocError> {
     let mut plain = Vec::new(alloc);
     for (number, atom) in atoms.iter().enumerate() {

@@ -76,7 +76,7 @@ impl<'a> Texts<'a> {
     }
 
     /// The number of the text.
-    pub fn number_of(&self, text: &str) -> i64 {
+    pub fn number_of(&self, text: &'a str) -> i64 {
         match self.places.get(&text) {
             Some(place) => number(*place),
             None => self.unnamed(),
@@ -90,7 +90,12 @@ impl<'a> Texts<'a> {
 
     /// Whether an atom names the text.
     pub fn is_named(&self, text: &str) -> bool {
-        self.places.get(&text).is_some()
+        for named in &self.list {
+            if *named == text {
+                return true;
+            }
+        }
+        false
     }
 
     /// The text of this number, if an atom names it.
