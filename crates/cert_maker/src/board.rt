@@ -1,8 +1,8 @@
 //! What is known at a node of the tree that is looked for.
 
-use crate::facts::Facts;
-use crate::masks::{ANY, NOT_NULL, is_sure, mask_at, put, settled};
-use crate::problem::{AtomKind, Claim, Problem};
+use crate::facts::{Facts, open};
+use crate::masks::{is_sure, mask_at, put, settled};
+use crate::problem::{Claim, Problem};
 use filter_tree::{Mask, Tri};
 use std::alloc::{AllocError, Global};
 
@@ -26,16 +26,8 @@ pub struct Board {
     pub facts: Facts,
     pub standings: Vec<Standing>,
     pub votes: Vec<u64>,
-    /// How many nodes of formulas, atoms, terms and columns were looked at.
+    /// How many nodes of formulas, atoms, classes of numbers, terms and columns were looked at.
     pub steps: u64,
-}
-
-/// Which values an atom may have of which nothing is known.
-fn open(asks: AtomKind) -> Mask {
-    match asks {
-        AtomKind::IsNull => NOT_NULL,
-        AtomKind::Cmp(..) => ANY,
-    }
 }
 
 /// An item for each of the atoms.
@@ -54,7 +46,7 @@ fn for_atoms<T: Copy + Drop>(
 fn open_masks(alloc: Global, problem: &Problem<'_>) -> Result<Vec<Mask>, AllocError> {
     let mut masks = Vec::new(alloc);
     for plain in &problem.atoms {
-        masks.push(open(plain.kind))?;
+        masks.push(open(&plain.kind))?;
     }
     Ok(masks)
 }
@@ -88,7 +80,7 @@ impl Board {
     /// Forgets the atom's value.
     pub fn forget(&mut self, problem: &Problem<'_>, atom: usize) {
         if let Some(plain) = problem.atom(atom) {
-            put(&mut self.known, atom, open(plain.kind));
+            put(&mut self.known, atom, open(&plain.kind));
         }
     }
 
@@ -102,9 +94,9 @@ impl Board {
         self.add_steps(claim.size);
     }
 
-    /// Counts the nodes of all claims' formulas, and each column, term and atom.
+    /// Counts the nodes of all claims' formulas, and each column, term, class of numbers and atom.
     pub fn count_all(&mut self, problem: &Problem<'_>) {
-        self.add_steps(problem.breadth());
+        self.add_steps(problem.breadth);
         for claim in &problem.claims {
             self.count(claim);
         }
@@ -112,15 +104,11 @@ impl Board {
 
     /// Finds the facts, and what they leave to each atom.
     pub fn look(&mut self, problem: &Problem<'_>) {
-        // Each atom is looked at four times, and each column and term once.
-        self.add_steps(
-            problem
-                .breadth()
-                .saturating_add(problem.atom_count().saturating_mul(3)),
-        );
+        // Each atom is looked at twice, and each column, term and class of numbers once.
+        self.add_steps(problem.breadth.saturating_add(problem.atom_count()));
         self.facts.find(problem, &self.known);
         for (atom, plain) in problem.atoms.iter().enumerate() {
-            let mask = self.facts.expected(&self.known, atom, *plain);
+            let mask = self.facts.expected(&self.known, atom, plain);
             put(&mut self.likely, atom, mask);
         }
     }

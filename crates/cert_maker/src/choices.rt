@@ -2,8 +2,9 @@
 
 use crate::board::Board;
 use crate::facts::Nullness;
-use crate::numbers::{meets, number_for, range_left};
-use crate::problem::{Problem, number};
+use crate::numbers::{meets, number_for};
+use crate::problem::Problem;
+use crate::texts::number;
 use filter_tree::{ColType, Column};
 use shard_checker::Range;
 use std::alloc::{AllocError, Global};
@@ -13,12 +14,7 @@ pub type Choice = Option<i64>;
 
 /// The number of the empty text.
 pub fn empty_text(problem: &Problem<'_>) -> i64 {
-    for (place, text) in problem.texts.iter().enumerate() {
-        if text.is_empty() {
-            return number(place);
-        }
-    }
-    number(problem.texts.len())
+    problem.texts.number_of("")
 }
 
 /// A text that meets what is known: the empty one, one that no atom names, or one that an atom names.
@@ -27,7 +23,7 @@ fn text_for(problem: &Problem<'_>, board: &mut Board, column: usize) -> Option<i
     if meets(problem, board, column, empty) {
         return Some(empty);
     }
-    let unnamed = number(problem.texts.len());
+    let unnamed = problem.texts.unnamed();
     if meets(problem, board, column, unnamed) {
         return Some(unnamed);
     }
@@ -35,7 +31,7 @@ fn text_for(problem: &Problem<'_>, board: &mut Board, column: usize) -> Option<i
 }
 
 fn named_for(problem: &Problem<'_>, board: &mut Board, column: usize) -> Option<i64> {
-    for (place, _) in problem.texts.iter().enumerate() {
+    for (place, _) in problem.texts.list.iter().enumerate() {
         if meets(problem, board, column, number(place)) {
             return Some(number(place));
         }
@@ -70,8 +66,12 @@ fn choice(
     match column.kind {
         ColType::Text => Some(Some(text_for(problem, board, place)?)),
         ColType::SmallInt | ColType::Integer | ColType::BigInt | ColType::Boolean => {
-            let range = range_left(problem, board, place, whole_range(column.kind));
-            Some(Some(number_for(problem, board, place, range)?))
+            Some(Some(number_for(
+                problem,
+                board,
+                place,
+                whole_range(column.kind),
+            )?))
         }
     }
 }

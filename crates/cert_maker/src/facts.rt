@@ -1,9 +1,9 @@
 //! What the atoms that are settled tell of columns and terms.
 
-use crate::masks::{NOT_NULL, put, value_at};
-use crate::problem::{AtomKind, PlainAtom, Problem};
-use filter_tree::{Mask, Op, Tri};
-use shard_checker::Range;
+use crate::atoms::{AtomKind, PlainAtom};
+use crate::masks::{ANY, NOT_NULL, put, value_at};
+use crate::problem::{Domain, Problem};
+use filter_tree::{Mask, Tri};
 use std::alloc::{AllocError, Global};
 
 /// Whether a column is null.
@@ -14,243 +14,230 @@ pub enum Nullness {
     Open,
 }
 
-/// No number.
-const EMPTY: Range = Range {
-    least: 1,
-    greatest: 0,
+/// What is known of a column: whether it is null, and a term to which no number is left, if there is one.
+#[derive(Clone, Copy)]
+pub struct ColumnFacts {
+    pub nullness: Nullness,
+    pub emptied: Option<usize>,
+}
+
+/// What is known of a term, where its column isn't null: whether a number is left to it, and the bits of the atoms that
+/// are true of some number that is left, and of all.
+#[derive(Clone, Copy)]
+pub struct Left {
+    pub has_number: bool,
+    pub some: u64,
+    pub all: u64,
+}
+
+/// Nothing is left.
+const NONE: Left = Left {
+    has_number: false,
+    some: 0,
+    all: u64::MAX,
 };
 
-/// What is known of each column and of each term. The ends of a term's range are numbers that are left to it.
+/// What is known of each column and of each term.
 #[derive(Drop)]
 pub struct Facts {
-    pub nullness: Vec<Nullness>,
-    pub ranges: Vec<Range>,
+    pub columns: Vec<ColumnFacts>,
+    pub left: Vec<Left>,
+    /// The bits of the atoms that are true.
+    held: u64,
+    /// The bits of those that are false.
+    refused: u64,
 }
 
-/// The operator that holds where this one doesn't.
-fn negated(op: Op) -> Op {
-    match op {
-        Op::Eq => Op::Ne,
-        Op::Ne => Op::Eq,
-        Op::Lt => Op::Ge,
-        Op::Le => Op::Gt,
-        Op::Gt => Op::Le,
-        Op::Ge => Op::Lt,
+/// Whether all of the atoms that are true of numbers, and none that is false, have their bits in this set.
+fn agrees(holding: u64, held: u64, refused: u64) -> bool {
+    holding & held == held && holding & refused == 0
+}
+
+/// What the values of its atoms leave to the term.
+fn left_to(domain: &Domain, held: u64, refused: u64) -> Left {
+    let held = held & domain.bits;
+    let mut left = NONE;
+    for class in &domain.classes {
+        if agrees(class.holding, held, refused) {
+            left = Left {
+                has_number: true,
+                some: left.some | class.holding,
+                all: left.all & class.holding,
+            };
+        }
     }
+    left
 }
 
-fn up_to(range: Range, greatest: i64) -> Range {
-    Range {
-        least: range.least,
-        greatest: range.greatest.min(greatest),
+/// Which of true and false an atom may be of the numbers that are left.
+fn by_left(left: Left, bit: u64) -> Mask {
+    if bit == 0 {
+        return NOT_NULL;
     }
-}
-
-fn from(range: Range, least: i64) -> Range {
-    Range {
-        least: range.least.max(least),
-        greatest: range.greatest,
-    }
-}
-
-/// The range where a comparison holds; a number that `<>` takes out is left in.
-fn narrowed(range: Range, op: Op, number: i64) -> Range {
-    match op {
-        Op::Eq => up_to(from(range, number), number),
-        Op::Ne => range,
-        Op::Lt => number
-            .checked_sub(1)
-            .map_or(EMPTY, |last| up_to(range, last)),
-        Op::Le => up_to(range, number),
-        Op::Gt => number
-            .checked_add(1)
-            .map_or(EMPTY, |first| from(range, first)),
-        Op::Ge => from(range, number),
-    }
-}
-
-/// Whether the atom with this value takes its number out.
-fn takes_out(plain: PlainAtom, value: Option<Tri>) -> bool {
-    matches!(
-        (plain.kind, value),
-        (AtomKind::Cmp(Op::Eq, _), Some(Tri::False)) | (AtomKind::Cmp(Op::Ne, _), Some(Tri::True))
-    )
-}
-
-/// The range without this number, if that is its least.
-fn without_least(range: Range, number: i64) -> Range {
-    if range.least != number {
-        return range;
-    }
-    number
-        .checked_add(1)
-        .map_or(EMPTY, |first| from(range, first))
-}
-
-/// The range without this number, if that is its greatest.
-fn without_greatest(range: Range, number: i64) -> Range {
-    if range.greatest != number {
-        return range;
-    }
-    number
-        .checked_sub(1)
-        .map_or(EMPTY, |last| up_to(range, last))
-}
-
-/// Which values a comparison may have, where its column isn't null and its term is in the range.
-fn compared(range: Range, op: Op, number: i64) -> Mask {
-    let (all, none) = match op {
-        Op::Eq => (
-            range.least == number && range.greatest == number,
-            number < range.least || range.greatest < number,
-        ),
-        Op::Ne => (
-            number < range.least || range.greatest < number,
-            range.least == number && range.greatest == number,
-        ),
-        Op::Lt => (range.greatest < number, range.least >= number),
-        Op::Le => (range.greatest <= number, range.least > number),
-        Op::Gt => (range.least > number, range.greatest <= number),
-        Op::Ge => (range.least >= number, range.greatest < number),
-    };
-    match (all, none) {
-        (true, _) => Mask::single(Tri::True),
-        (_, true) => Mask::single(Tri::False),
-        (false, false) => NOT_NULL,
-    }
-}
-
-/// The values of a set, or null.
-fn or_null(mask: Mask) -> Mask {
     Mask {
-        truth: mask.truth,
-        falsity: mask.falsity,
-        null: true,
+        truth: left.some & bit != 0,
+        falsity: left.all & bit == 0,
+        null: false,
     }
 }
 
-/// What the value of its twin says of an atom.
-fn by_twin(known: &[Mask], plain: PlainAtom) -> Option<Mask> {
-    let twin = value_at(known, plain.twin?)?;
-    Some(Mask::single(twin.not()))
+/// The values of a set, or the one of null.
+fn or_of_null(mask: Mask, kind: &AtomKind) -> Mask {
+    let of_null = Mask::single(kind.value_of_null());
+    Mask {
+        truth: mask.truth || of_null.truth,
+        falsity: mask.falsity || of_null.falsity,
+        null: mask.null || of_null.null,
+    }
+}
+
+/// What an atom with this value says of its column.
+fn said_by(kind: &AtomKind, value: Tri) -> Nullness {
+    match (kind, value) {
+        (AtomKind::IsNull, Tri::True) => Nullness::Null,
+        (AtomKind::IsNull, Tri::False) | (AtomKind::Distinct(_), Tri::False) => Nullness::Present,
+        (AtomKind::IsNull, Tri::Null) | (AtomKind::Distinct(_), Tri::True | Tri::Null) => {
+            Nullness::Open
+        }
+        (AtomKind::Cmp(..) | AtomKind::In(_) | AtomKind::Between(..), Tri::Null) => Nullness::Null,
+        (AtomKind::Cmp(..) | AtomKind::In(_) | AtomKind::Between(..), Tri::True | Tri::False) => {
+            Nullness::Present
+        }
+    }
 }
 
 impl Facts {
     /// Facts of a problem, with room for what will be found.
     pub fn new(alloc: Global, problem: &Problem<'_>) -> Result<Facts, AllocError> {
-        let mut nullness = Vec::new(alloc);
+        let mut columns = Vec::new(alloc);
         for _ in problem.columns {
-            nullness.push(Nullness::Open)?;
+            columns.push(ColumnFacts {
+                nullness: Nullness::Open,
+                emptied: None,
+            })?;
         }
-        let mut ranges = Vec::new(alloc);
+        let mut left = Vec::new(alloc);
         for _ in &problem.terms {
-            ranges.push(EMPTY)?;
+            left.push(NONE)?;
         }
-        Ok(Facts { nullness, ranges })
+        Ok(Facts {
+            columns,
+            left,
+            held: 0,
+            refused: 0,
+        })
     }
 
     /// Finds what the atoms with these values tell.
     pub fn find(&mut self, problem: &Problem<'_>, known: &[Mask]) {
         self.forget(problem);
         self.take_all(problem, known);
-        self.raise_least(problem, known);
-        self.lower_greatest(problem, known);
+        self.leave_all(problem);
     }
 
     fn forget(&mut self, problem: &Problem<'_>) {
+        self.held = 0;
+        self.refused = 0;
         for (number, column) in problem.columns.iter().enumerate() {
             let nullness = if column.not_null {
                 Nullness::Present
             } else {
                 Nullness::Open
             };
-            put(&mut self.nullness, number, nullness);
-        }
-        for (number, term) in problem.terms.iter().enumerate() {
-            let range = Range {
-                least: term.least,
-                greatest: term.greatest,
-            };
-            put(&mut self.ranges, number, range);
+            let emptied = None;
+            put(
+                &mut self.columns,
+                number,
+                ColumnFacts { nullness, emptied },
+            );
         }
     }
 
     fn take_all(&mut self, problem: &Problem<'_>, known: &[Mask]) {
         for (number, plain) in problem.atoms.iter().enumerate() {
             if let Some(value) = value_at(known, number) {
-                self.take(*plain, value);
+                self.take(plain, value);
             }
         }
     }
 
-    fn take(&mut self, plain: PlainAtom, value: Tri) {
-        let column = plain.column;
-        match (plain.kind, value) {
-            (AtomKind::IsNull, Tri::True) | (AtomKind::Cmp(..), Tri::Null) => {
-                put(&mut self.nullness, column, Nullness::Null);
-            }
-            (AtomKind::IsNull, Tri::False | Tri::Null) => {
-                put(&mut self.nullness, column, Nullness::Present);
-            }
-            (AtomKind::Cmp(op, number), Tri::True) => self.narrow(plain, op, number),
-            (AtomKind::Cmp(op, number), Tri::False) => self.narrow(plain, negated(op), number),
+    fn take(&mut self, plain: &PlainAtom, value: Tri) {
+        match value {
+            Tri::True => self.held |= plain.bit,
+            Tri::False => self.refused |= plain.bit,
+            Tri::Null => {}
         }
-    }
-
-    fn narrow(&mut self, plain: PlainAtom, op: Op, number: i64) {
-        put(&mut self.nullness, plain.column, Nullness::Present);
-        let range = narrowed(self.range(plain.term), op, number);
-        put(&mut self.ranges, plain.term, range);
-    }
-
-    fn raise_least(&mut self, problem: &Problem<'_>, known: &[Mask]) {
-        for (number, atom) in problem.rising.iter() {
-            if let Some(plain) = problem.atom(*atom) {
-                if takes_out(plain, value_at(known, *atom)) {
-                    let range = without_least(self.range(plain.term), *number);
-                    put(&mut self.ranges, plain.term, range);
-                }
+        let nullness = said_by(&plain.kind, value);
+        if nullness != Nullness::Open {
+            if let Some(column) = self.columns.get_mut(plain.column) {
+                column.nullness = nullness;
             }
         }
     }
 
-    fn lower_greatest(&mut self, problem: &Problem<'_>, known: &[Mask]) {
-        for (number, atom) in problem.rising.iter().rev() {
-            if let Some(plain) = problem.atom(*atom) {
-                if takes_out(plain, value_at(known, *atom)) {
-                    let range = without_greatest(self.range(plain.term), *number);
-                    put(&mut self.ranges, plain.term, range);
-                }
+    fn leave_all(&mut self, problem: &Problem<'_>) {
+        for (number, domain) in problem.terms.iter().enumerate() {
+            let left = left_to(domain, self.held, self.refused);
+            put(&mut self.left, number, left);
+            if !left.has_number {
+                self.empty(domain.column, number);
             }
         }
     }
 
-    /// The numbers that are left to the term of this number, and perhaps some between them that aren't.
-    pub fn range(&self, term: usize) -> Range {
-        self.ranges.get(term).copied().unwrap_or(EMPTY)
+    /// Takes the column for null, unless it surely isn't, since no number is left to this term of it.
+    fn empty(&mut self, number: usize, term: usize) {
+        if let Some(column) = self.columns.get_mut(number) {
+            column.emptied = Some(term);
+            if column.nullness == Nullness::Open {
+                column.nullness = Nullness::Null;
+            }
+        }
+    }
+
+    /// Whether the values of the atoms leave a number to the term of which these atoms are true.
+    pub fn leaves(&self, domain: &Domain, holding: u64) -> bool {
+        agrees(holding, self.held & domain.bits, self.refused)
+    }
+
+    fn left(&self, term: usize) -> Left {
+        self.left.get(term).copied().unwrap_or(NONE)
     }
 
     /// Whether the column of this number is null.
     pub fn nullness(&self, column: usize) -> Nullness {
-        self.nullness.get(column).copied().unwrap_or(Nullness::Open)
+        match self.columns.get(column) {
+            None => Nullness::Open,
+            Some(column) => column.nullness,
+        }
+    }
+
+    /// The term that has no value left where the atom has one that the facts don't leave to it: a term to which no number
+    /// is left unless the column is null, or else the atom's own.
+    pub fn empty_term(&self, plain: &PlainAtom) -> usize {
+        match self.columns.get(plain.column) {
+            None => plain.term,
+            Some(column) => column.emptied.unwrap_or(plain.term),
+        }
     }
 
     /// Which values the atom may have, of which these are known.
-    pub fn expected(&self, known: &[Mask], atom: usize, plain: PlainAtom) -> Mask {
+    pub fn expected(&self, known: &[Mask], atom: usize, plain: &PlainAtom) -> Mask {
         if let Some(value) = value_at(known, atom) {
             return Mask::single(value);
         }
-        match (plain.kind, self.nullness(plain.column)) {
-            (AtomKind::IsNull, Nullness::Null) => Mask::single(Tri::True),
+        let kind = &plain.kind;
+        match (kind, self.nullness(plain.column)) {
             (AtomKind::IsNull, Nullness::Present) => Mask::single(Tri::False),
             (AtomKind::IsNull, Nullness::Open) => NOT_NULL,
-            (AtomKind::Cmp(..), Nullness::Null) => Mask::single(Tri::Null),
-            (AtomKind::Cmp(op, number), Nullness::Open) => {
-                or_null(compared(self.range(plain.term), op, number))
-            }
-            (AtomKind::Cmp(op, number), Nullness::Present) => by_twin(known, plain).unwrap_or(
-                compared(self.range(plain.term), op, number),
-            ),
+            (_, Nullness::Null) => Mask::single(kind.value_of_null()),
+            (_, Nullness::Present) => by_left(self.left(plain.term), plain.bit),
+            (_, Nullness::Open) => or_of_null(by_left(self.left(plain.term), plain.bit), kind),
         }
     }
+}
+
+/// Which values an atom may have of which nothing is known.
+pub fn open(kind: &AtomKind) -> Mask {
+    if kind.is_never_null() { NOT_NULL } else { ANY }
 }

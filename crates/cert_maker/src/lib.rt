@@ -2,7 +2,9 @@
 //! it isn't. What is found is tested before it is answered, so nobody has to trust the search.
 #![tactic(auto)]
 
+mod atoms;
 mod board;
+mod cells;
 mod choices;
 mod facts;
 mod formula;
@@ -15,6 +17,7 @@ mod problem;
 mod rows;
 mod scores;
 mod search;
+mod texts;
 
 pub use made::Made;
 pub use making::make;

@@ -1,13 +1,13 @@
 //! Numbers of a column that agree with what is known of its atoms.
 
+use crate::atoms::PlainAtom;
 use crate::board::Board;
-use crate::masks::value_at;
-use crate::problem::{AtomKind, Domain, PlainAtom, Problem};
-use filter_tree::{Literal, Mask, Op, Tri, compare_literals};
+use crate::cells::{Cell, cell_with, nearest};
+use crate::problem::{Domain, Problem};
+use filter_tree::Tri;
 use shard_checker::Range;
-use std::alloc::Global;
 
-/// How far from the number that is nearest to zero others are tried.
+/// How far from the number of a range that is nearest to zero others are tried.
 const MAX_FAR: i64 = 10_000;
 
 /// How many numbers are tried at most for the remainder by one divisor.
@@ -16,17 +16,11 @@ const MAX_REMAINDERS: i64 = 20_000;
 /// How many numbers with the remainders that were found are tried.
 const MAX_ROUNDS: u64 = 100;
 
-/// What the comparison says of a number.
-fn holds(op: Op, number: i64, constant: i64) -> bool {
-    compare_literals(
-        op,
-        &Literal::<Global>::Int(number),
-        &Literal::<Global>::Int(constant),
-    )
-}
+/// After so many steps no number is looked for in a further cell.
+const MAX_STEPS_IN_CELLS: u64 = 100_000;
 
 /// The number of a term where its column has this one.
-fn term_number(domain: Domain, number: i64) -> i64 {
+fn term_number(domain: &Domain, number: i64) -> i64 {
     match domain.divisor {
         Some(divisor) if divisor != 0 => number.wrapping_rem(divisor),
         Some(_) | None => number,
@@ -34,73 +28,55 @@ fn term_number(domain: Domain, number: i64) -> i64 {
 }
 
 /// The value of an atom where its column has this number.
-pub fn value_of(problem: &Problem<'_>, plain: PlainAtom, number: i64) -> Tri {
-    match plain.kind {
-        AtomKind::IsNull => Tri::False,
-        AtomKind::Cmp(op, constant) => match problem.terms.get(plain.term) {
-            None => Tri::Null,
-            Some(domain) => Tri::from(holds(op, term_number(*domain, number), constant)),
-        },
+pub fn value_of(problem: &Problem<'_>, plain: &PlainAtom, number: i64) -> Tri {
+    match problem.terms.get(plain.term) {
+        None => Tri::Null,
+        Some(domain) => Tri::from(plain.kind.holds(term_number(domain, number))),
     }
 }
 
-/// Whether each atom of the column that is known has its value where the column has this number.
+/// Whether what is known leaves the term the number that it has where its column has this one.
+fn term_meets(board: &mut Board, domain: &Domain, number: i64) -> bool {
+    board.add_steps(1);
+    match cell_with(&domain.cells, term_number(domain, number)) {
+        None => false,
+        Some(cell) => board.facts.leaves(domain, cell.holding),
+    }
+}
+
+/// Whether what is known leaves the column this number.
 pub fn meets(problem: &Problem<'_>, board: &mut Board, column: usize, number: i64) -> bool {
-    board.add_steps(problem.atom_count());
-    for (atom, plain) in problem.atoms.iter().enumerate() {
-        if plain.column == column && differs(problem, &board.known, atom, *plain, number) {
+    board.add_steps(problem.term_count());
+    for domain in &problem.terms {
+        if domain.column == column && !term_meets(board, domain, number) {
             return false;
         }
     }
     true
 }
 
-fn differs(
-    problem: &Problem<'_>,
-    known: &[Mask],
-    atom: usize,
-    plain: PlainAtom,
-    number: i64,
-) -> bool {
-    match value_at(known, atom) {
-        None => false,
-        Some(value) => value_of(problem, plain, number) != value,
-    }
-}
-
-/// The numbers that are left to the column itself.
-pub fn range_left(problem: &Problem<'_>, board: &Board, column: usize, whole: Range) -> Range {
-    for (term, domain) in problem.terms.iter().enumerate() {
-        if domain.column == column && domain.divisor.is_none() {
-            return board.facts.range(term);
-        }
-    }
-    whole
-}
-
-/// The number of the range that is nearest to zero.
-fn nearest(range: Range) -> i64 {
-    0i64.max(range.least).min(range.greatest)
-}
-
 fn is_in(range: Range, number: i64) -> bool {
     range.least <= number && number <= range.greatest
 }
 
-/// A number of the range that meets what is known, near to the one of the range that is nearest to zero.
+/// A number of the range that meets what is known, at most so far from the one of the range that is nearest to zero.
 fn near_number(
     problem: &Problem<'_>,
     board: &mut Board,
     column: usize,
     range: Range,
+    most: i64,
 ) -> Option<i64> {
     let start = nearest(range);
-    for far in 0..MAX_FAR {
+    for far in 0..most {
         let above = start.saturating_add(far);
+        let below = start.saturating_sub(far);
+        if !is_in(range, above) && !is_in(range, below) {
+            return None;
+        }
         if is_in(range, above) && meets(problem, board, column, above) {
             return Some(above);
         }
-        let below = start.saturating_sub(far);
         if is_in(range, below) && meets(problem, board, column, below) {
             return Some(below);
         }
@@ -108,29 +84,17 @@ fn near_number(
     None
 }
 
-/// Whether each atom of the term of this number that is known has its value where the column has this number.
-fn term_meets(problem: &Problem<'_>, board: &mut Board, term: usize, number: i64) -> bool {
-    board.add_steps(problem.atom_count());
-    for (atom, plain) in problem.atoms.iter().enumerate() {
-        if plain.term == term && differs(problem, &board.known, atom, *plain, number) {
-            return false;
-        }
-    }
-    true
-}
-
 /// The first of the numbers from this one, a step apart, whose remainder by a divisor of this size the term may have.
 fn with_remainder(
-    problem: &Problem<'_>,
     board: &mut Board,
-    term: usize,
+    domain: &Domain,
     start: i64,
     step: i64,
     size: i64,
 ) -> Option<i64> {
     let mut number = start;
     for _ in 0..size.min(MAX_REMAINDERS) {
-        if term_meets(problem, board, term, number) {
+        if term_meets(board, domain, number) {
             return Some(number);
         }
         number = number.checked_add(step)?;
@@ -159,6 +123,17 @@ fn common_step(step: i64, divisor: i64) -> Option<i64> {
     step.checked_mul(divisor.wrapping_div(common))
 }
 
+/// The least step by which all remainders of the column stay, if it is a number.
+fn period(problem: &Problem<'_>, column: usize) -> Option<i64> {
+    let mut step = 1i64;
+    for domain in &problem.terms {
+        if let (true, Some(divisor)) = (domain.column == column, domain.divisor) {
+            step = common_step(step, divisor.checked_abs()?)?.checked_abs()?;
+        }
+    }
+    Some(step)
+}
+
 /// A number from this one on, a step away or more, all of whose remainders the column may have, and the step by which they
 /// stay.
 fn with_remainders(
@@ -169,10 +144,10 @@ fn with_remainders(
     step: i64,
 ) -> Option<(i64, i64)> {
     let (mut number, mut step) = (start, step);
-    for (term, domain) in problem.terms.iter().enumerate() {
+    for domain in &problem.terms {
         if let (true, Some(divisor)) = (domain.column == column, domain.divisor) {
             let size = divisor.checked_abs()?;
-            number = with_remainder(problem, board, term, number, step, size)?;
+            number = with_remainder(board, domain, number, step, size)?;
             step = common_step(step, size)?;
         }
     }
@@ -198,15 +173,16 @@ fn stepwise(
     None
 }
 
-/// A number of the range that meets what is known.
-pub fn number_for(
+/// A number of the range that meets what is known, where the column's remainders stay by this step.
+fn number_in(
     problem: &Problem<'_>,
     board: &mut Board,
     column: usize,
     range: Range,
+    period: i64,
 ) -> Option<i64> {
-    let near = near_number(problem, board, column, range);
-    if near.is_some() {
+    let near = near_number(problem, board, column, range, period.min(MAX_FAR));
+    if near.is_some() || period <= MAX_FAR {
         return near;
     }
     let above = stepwise(problem, board, column, range, range.least.max(0), 1);
@@ -214,4 +190,73 @@ pub fn number_for(
         return above;
     }
     stepwise(problem, board, column, range, range.greatest.min(0), -1)
+}
+
+/// The number that is nearer to zero, if there is one.
+fn nearer(one: Option<i64>, other: Option<i64>) -> Option<i64> {
+    match (one, other) {
+        (None, found) | (found, None) => found,
+        (Some(one), Some(other)) => {
+            if other.unsigned_abs() < one.unsigned_abs() {
+                Some(other)
+            } else {
+                Some(one)
+            }
+        }
+    }
+}
+
+/// Whether the cell may have a number that is nearer to zero than the one that was found.
+fn may_be_nearer(found: Option<i64>, cell: Cell) -> bool {
+    match found {
+        None => true,
+        Some(found) => nearest(cell.range).unsigned_abs() <= found.unsigned_abs(),
+    }
+}
+
+/// A number of the cells of the column itself that meets what is known.
+fn number_in_cells(
+    problem: &Problem<'_>,
+    board: &mut Board,
+    column: usize,
+    domain: &Domain,
+    period: i64,
+) -> Option<i64> {
+    let last = board.steps.saturating_add(MAX_STEPS_IN_CELLS);
+    let mut found = None;
+    for cell in domain.cells.iter().rev() {
+        board.add_steps(1);
+        if board.steps < last
+            && board.facts.leaves(domain, cell.holding)
+            && may_be_nearer(found, *cell)
+        {
+            let number = number_in(problem, board, column, cell.range, period);
+            found = nearer(found, number);
+        }
+    }
+    found
+}
+
+/// The column itself as a term, if an atom names it.
+fn itself<'q>(problem: &'q Problem<'_>, column: usize) -> Option<&'q Domain> {
+    for domain in &problem.terms {
+        if domain.column == column && domain.divisor.is_none() {
+            return Some(domain);
+        }
+    }
+    None
+}
+
+/// A number of the column that meets what is known, of these numbers of its type.
+pub fn number_for(
+    problem: &Problem<'_>,
+    board: &mut Board,
+    column: usize,
+    whole: Range,
+) -> Option<i64> {
+    let period = period(problem, column).unwrap_or(i64::MAX);
+    match itself(problem, column) {
+        None => number_in(problem, board, column, whole, period),
+        Some(domain) => number_in_cells(problem, board, column, domain, period),
+    }
 }

@@ -1,9 +1,12 @@
 //! Rows, and the simple ones that are tried first.
 
+use crate::atoms::{AtomKind, PlainAtom};
+use crate::cells::Class;
 use crate::choices::{Choice, empty_text};
 use crate::numbers::value_of;
 use crate::owners::is_counter;
-use crate::problem::{AtomKind, PlainAtom, Problem, number};
+use crate::problem::Problem;
+use crate::texts::number;
 use filter_tree::{ColType, Column, Mask, Row, Table, Text, Tri, Value};
 use replica_identity::Share;
 use std::alloc::{AllocError, Global};
@@ -11,11 +14,14 @@ use std::alloc::{AllocError, Global};
 /// How many simple rows are tried.
 const MAX_SIMPLE_ROWS: u64 = 4_096;
 
+/// How many simple values a column has at most.
+const MAX_SIMPLE_VALUES: usize = 4_096;
+
 /// A text that no atom names: the empty one, or one of letters a.
 fn unnamed_text(alloc: Global, problem: &Problem<'_>) -> Result<Text, AllocError> {
     let mut text = String::new(alloc);
-    for _ in &problem.texts {
-        if !is_named(problem, text.as_str()) {
+    for _ in &problem.texts.list {
+        if !problem.texts.is_named(text.as_str()) {
             break;
         }
         text.push('a')?;
@@ -23,20 +29,10 @@ fn unnamed_text(alloc: Global, problem: &Problem<'_>) -> Result<Text, AllocError
     Ok(Text::new(text))
 }
 
-fn is_named(problem: &Problem<'_>, text: &str) -> bool {
-    for named in &problem.texts {
-        if *named == text {
-            return true;
-        }
-    }
-    false
-}
-
 fn text_of(alloc: Global, problem: &Problem<'_>, chosen: i64) -> Result<Text, AllocError> {
-    let place = usize::try_from(chosen).unwrap_or(usize::MAX);
-    match problem.texts.get(place) {
+    match problem.texts.text(chosen) {
         None => unnamed_text(alloc, problem),
-        Some(text) => Text::from_str(alloc, *text),
+        Some(text) => Text::from_str(alloc, text),
     }
 }
 
@@ -69,7 +65,7 @@ fn row_of(alloc: Global, problem: &Problem<'_>, choices: &[Choice]) -> Result<Ro
 /// Adds a number to those of a list, if it isn't there.
 fn add(numbers: &mut Vec<Choice>, chosen: i64) -> Result<(), AllocError> {
     let choice = Some(chosen);
-    if !numbers.contains(&choice) {
+    if numbers.len() < MAX_SIMPLE_VALUES && !numbers.contains(&choice) {
         numbers.push(choice)?;
     }
     Ok(())
@@ -83,6 +79,18 @@ fn add_around(numbers: &mut Vec<Choice>, boundary: i64) -> Result<(), AllocError
     add(numbers, boundary.saturating_neg())
 }
 
+/// Adds the numbers that an atom names, but for those of a list.
+fn add_boundaries(numbers: &mut Vec<Choice>, kind: &AtomKind) -> Result<(), AllocError> {
+    match kind {
+        AtomKind::IsNull | AtomKind::In(_) => Ok(()),
+        AtomKind::Cmp(_, boundary) | AtomKind::Distinct(boundary) => add_around(numbers, *boundary),
+        AtomKind::Between(low, high) => {
+            add_around(numbers, *low)?;
+            add_around(numbers, *high)
+        }
+    }
+}
+
 /// Adds the numbers that atoms of the column name.
 fn add_named(
     numbers: &mut Vec<Choice>,
@@ -90,19 +98,50 @@ fn add_named(
     column: usize,
 ) -> Result<(), AllocError> {
     for plain in &problem.atoms {
-        if let AtomKind::Cmp(_, boundary) = plain.kind {
-            if plain.column == column {
-                add_around(numbers, boundary)?;
-            }
+        if plain.column == column {
+            add_boundaries(numbers, &plain.kind)?;
         }
     }
     Ok(())
 }
 
+/// Adds a number of each class of a term.
+fn add_classes(numbers: &mut Vec<Choice>, classes: &[Class]) -> Result<(), AllocError> {
+    for class in classes {
+        add(numbers, class.nearest)?;
+    }
+    Ok(())
+}
+
+/// Whether a list of constants is asked of the term.
+fn has_list(problem: &Problem<'_>, term: usize) -> bool {
+    for plain in &problem.atoms {
+        if plain.term == term && matches!(plain.kind, AtomKind::In(_)) {
+            return true;
+        }
+    }
+    false
+}
+
+/// Adds a number of each class of the column's terms that have lists.
+fn add_listed(
+    numbers: &mut Vec<Choice>,
+    problem: &Problem<'_>,
+    column: usize,
+) -> Result<(), AllocError> {
+    for (term, domain) in problem.terms.iter().enumerate() {
+        if domain.column == column && has_list(problem, term) {
+            add_classes(numbers, &domain.classes)?;
+        }
+    }
+    Ok(())
+}
+
+/// Adds the empty text, one that no atom names, and those that an atom names alone.
 fn add_texts(numbers: &mut Vec<Choice>, problem: &Problem<'_>) -> Result<(), AllocError> {
     add(numbers, empty_text(problem))?;
-    add(numbers, number(problem.texts.len()))?;
-    for (place, _) in problem.texts.iter().enumerate() {
+    add(numbers, problem.texts.unnamed())?;
+    for (place, _) in problem.texts.list.iter().take(problem.texts.alone).enumerate() {
         add(numbers, number(place))?;
     }
     Ok(())
@@ -133,7 +172,10 @@ fn simple_values(
         return Ok(numbers);
     }
     match column.kind {
-        ColType::Text => add_texts(&mut numbers, problem)?,
+        ColType::Text => {
+            add_texts(&mut numbers, problem)?;
+            add_listed(&mut numbers, problem, place)?;
+        }
         ColType::Boolean => {
             add(&mut numbers, 0)?;
             add(&mut numbers, 1)?;
@@ -141,6 +183,7 @@ fn simple_values(
         ColType::SmallInt | ColType::Integer | ColType::BigInt => {
             add(&mut numbers, 0)?;
             add_named(&mut numbers, problem, place)?;
+            add_listed(&mut numbers, problem, place)?;
         }
     }
     Ok(numbers)
@@ -183,19 +226,11 @@ fn simple_choices(
     Ok(Some(choices))
 }
 
-/// The value of an atom of a column that is null.
-fn value_of_null(plain: PlainAtom) -> Tri {
-    match plain.kind {
-        AtomKind::IsNull => Tri::True,
-        AtomKind::Cmp(..) => Tri::Null,
-    }
-}
-
 /// The value of an atom in the row of these values.
-fn value_with(problem: &Problem<'_>, plain: PlainAtom, choices: &[Choice]) -> Tri {
+fn value_with(problem: &Problem<'_>, plain: &PlainAtom, choices: &[Choice]) -> Tri {
     let choice = choices.get(plain.column).copied().unwrap_or(None);
     match choice {
-        None => value_of_null(plain),
+        None => plain.kind.value_of_null(),
         Some(chosen) => value_of(problem, plain, chosen),
     }
 }
@@ -208,7 +243,7 @@ fn masks_with(
 ) -> Result<Vec<Mask>, AllocError> {
     let mut masks = Vec::new(alloc);
     for plain in &problem.atoms {
-        masks.push(Mask::single(value_with(problem, *plain, choices)))?;
+        masks.push(Mask::single(value_with(problem, plain, choices)))?;
     }
     Ok(masks)
 }

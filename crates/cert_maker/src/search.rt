@@ -3,7 +3,7 @@
 use crate::board::{Board, Standing};
 use crate::choices::choices;
 use crate::masks::{is_sure, mask_at};
-use crate::problem::{AtomKind, PlainAtom, Problem};
+use crate::problem::Problem;
 use crate::rows::{counter_of, simple_counter};
 use crate::scores::Aim;
 use bumpalo::Bump;
@@ -14,7 +14,7 @@ use split_cert::{Cert, MAX_NODES, MAX_SPLITS};
 use std::alloc::{AllocError, AllocFailed, Global};
 
 /// After so many steps a search goes on to no further node. A step is a look at a node of a share's filter, or at an
-/// atom, a term or a column.
+/// atom, a term, a column or a class of numbers that the atoms of a term don't tell apart.
 pub const MAX_STEPS: u64 = 400_000_000;
 
 /// After so many nodes splits are no longer chosen with care.
@@ -52,12 +52,20 @@ impl<T: Drop> From<AllocFailed<T>> for Stop {
     }
 }
 
+/// A split by an atom, to which the facts leave these values. Where it has another one, no number is left to the term.
+#[derive(Clone, Copy)]
+struct Fork {
+    atom: usize,
+    left: Mask,
+    is_never_null: bool,
+    term: usize,
+}
+
 /// What to do at a node.
 #[derive(Clone, Copy)]
 enum Step {
     Owner(usize),
-    /// A split by this atom, to which the facts leave these values.
-    Split(usize, Mask),
+    Split(Fork),
     /// The facts leave rows that no share takes, or several.
     Fault,
 }
@@ -127,11 +135,11 @@ impl<'a, 'q> Search<'a, 'q> {
         self.count_node()?;
         match self.step()? {
             Step::Owner(share) => Ok(Cert::Owner(number(share)?)),
-            Step::Split(atom, left) => {
+            Step::Split(fork) => {
                 if may_split == 0 {
                     return Err(Stop::TooLarge);
                 }
-                self.split(arena, may_split - 1, atom, left)
+                self.split(arena, may_split - 1, fork)
             }
             Step::Fault => self.fault(),
         }
@@ -142,14 +150,18 @@ impl<'a, 'q> Search<'a, 'q> {
         &mut self,
         arena: &'b Bump,
         may_split: usize,
-        atom: usize,
-        left: Mask,
+        fork: Fork,
     ) -> Result<Cert<&'b Bump>, Stop> {
         // Rows with a null are forgotten most often, and this branch is the smallest.
-        let if_null = self.branch(arena, may_split, atom, left, Tri::Null)?;
-        let if_true = self.branch(arena, may_split, atom, left, Tri::True)?;
-        let if_false = self.branch(arena, may_split, atom, left, Tri::False)?;
-        Ok(Cert::Split(number(atom)?, if_true, if_false, if_null))
+        let if_null = self.branch(arena, may_split, fork, Tri::Null)?;
+        let if_true = self.branch(arena, may_split, fork, Tri::True)?;
+        let if_false = self.branch(arena, may_split, fork, Tri::False)?;
+        Ok(Cert::Split(
+            number(fork.atom)?,
+            if_true,
+            if_false,
+            if_null,
+        ))
     }
 
     /// The branch where the atom has this value.
@@ -158,38 +170,28 @@ impl<'a, 'q> Search<'a, 'q> {
         &mut self,
         arena: &'b Bump,
         may_split: usize,
-        atom: usize,
-        left: Mask,
+        fork: Fork,
         value: Tri,
     ) -> Result<Box<Cert<&'b Bump>, &'b Bump>, Stop> {
-        let cert = if left.has(value) {
-            self.board.decide(atom, value);
+        let cert = if fork.left.has(value) {
+            self.board.decide(fork.atom, value);
             let grown = self.grow(arena, may_split)?;
-            self.board.forget(self.problem, atom);
+            self.board.forget(self.problem, fork.atom);
             grown
         } else {
-            self.impossible(atom, value)?
+            self.impossible(fork, value)?
         };
         Ok(Box::new(arena, cert)?)
     }
 
     /// A leaf without rows, since the facts don't leave the atom this value.
-    fn impossible<'b>(&mut self, atom: usize, value: Tri) -> Result<Cert<&'b Bump>, Stop> {
+    fn impossible<'b>(&mut self, fork: Fork, value: Tri) -> Result<Cert<&'b Bump>, Stop> {
         self.count_node()?;
-        let plain = self.problem.atom(atom).ok_or(Stop::TooLarge)?;
-        if value == Tri::Null && self.is_never_null(plain) {
-            Ok(Cert::NeverNull(number(atom)?))
+        if value == Tri::Null && fork.is_never_null {
+            Ok(Cert::NeverNull(number(fork.atom)?))
         } else {
-            Ok(Cert::Empty(number(plain.term)?))
+            Ok(Cert::Empty(number(fork.term)?))
         }
-    }
-
-    fn is_never_null(&self, plain: PlainAtom) -> bool {
-        let declared = match self.problem.columns.get(plain.column) {
-            None => false,
-            Some(column) => column.not_null,
-        };
-        declared || matches!(plain.kind, AtomKind::IsNull)
     }
 
     /// What to do at the end of the path.
@@ -211,10 +213,23 @@ impl<'a, 'q> Search<'a, 'q> {
         self.settle()
     }
 
+    /// A split by the atom, by what was found of it last.
     fn split_by(&self, atom: Option<usize>) -> Result<Step, Stop> {
-        match atom {
-            None => Err(Stop::TooLong),
-            Some(atom) => Ok(Step::Split(atom, mask_at(&self.board.likely, atom))),
+        let atom = atom.ok_or(Stop::TooLong)?;
+        let plain = self.problem.atom(atom).ok_or(Stop::TooLong)?;
+        Ok(Step::Split(Fork {
+            atom,
+            left: mask_at(&self.board.likely, atom),
+            is_never_null: plain.kind.is_never_null() || self.is_declared(plain.column),
+            term: self.board.facts.empty_term(plain),
+        }))
+    }
+
+    /// Whether the column is declared NOT NULL.
+    fn is_declared(&self, column: usize) -> bool {
+        match self.problem.columns.get(column) {
+            None => false,
+            Some(column) => column.not_null,
         }
     }
 

@@ -1,0 +1,143 @@
+//! What atoms ask, in numbers: of truth values and texts too.
+
+use crate::texts::Texts;
+use filter_tree::{Atom, Literal, Op, Term, Tri, compare_literals};
+use std::alloc::{AllocError, Allocator, Global};
+
+/// What an atom asks.
+#[derive(Drop)]
+pub enum AtomKind {
+    IsNull,
+    Cmp(Op, i64),
+    /// The numbers are in ascending order.
+    In(Vec<i64>),
+    Between(i64, i64),
+    Distinct(i64),
+}
+
+/// An atom: what it asks of which term, and its bit in the numbers that stand for sets of atoms. `IS NULL` has no bit, and
+/// none has an atom past the 64th.
+#[derive(Drop)]
+pub struct PlainAtom {
+    pub column: usize,
+    pub term: usize,
+    pub kind: AtomKind,
+    pub bit: u64,
+}
+
+/// What the comparison says of a number.
+fn compares(op: Op, number: i64, constant: i64) -> bool {
+    compare_literals(
+        op,
+        &Literal::<Global>::Int(number),
+        &Literal::<Global>::Int(constant),
+    )
+}
+
+impl AtomKind {
+    /// Whether the atom is true where its term has this number.
+    pub fn holds(&self, number: i64) -> bool {
+        match self {
+            AtomKind::IsNull => false,
+            AtomKind::Cmp(op, constant) => compares(*op, number, *constant),
+            AtomKind::In(constants) => constants.binary_search(&number).is_ok(),
+            AtomKind::Between(low, high) => *low <= number && number <= *high,
+            AtomKind::Distinct(constant) => number != *constant,
+        }
+    }
+
+    /// The value of the atom where its column is null.
+    pub fn value_of_null(&self) -> Tri {
+        if self.is_never_null() {
+            Tri::True
+        } else {
+            Tri::Null
+        }
+    }
+
+    /// Whether the atom is true or false of null too.
+    pub fn is_never_null(&self) -> bool {
+        match self {
+            AtomKind::IsNull | AtomKind::Distinct(_) => true,
+            AtomKind::Cmp(..) | AtomKind::In(_) | AtomKind::Between(..) => false,
+        }
+    }
+}
+
+/// The number that stands for a constant.
+fn number_of<A: Allocator>(texts: &Texts<'_>, literal: &Literal<A>) -> i64 {
+    match literal {
+        Literal::Int(number) => *number,
+        Literal::Bool(truth) => if *truth { 1 } else { 0 },
+        Literal::Text(text) => texts.number_of(text.as_str()),
+    }
+}
+
+/// The numbers that stand for constants, in ascending order.
+fn numbers_of<A: Allocator>(
+    alloc: Global,
+    texts: &Texts<'_>,
+    literals: &[Literal<A>],
+) -> Result<Vec<i64>, AllocError> {
+    let mut numbers = Vec::new(alloc);
+    for literal in literals {
+        numbers.push(number_of(texts, literal))?;
+    }
+    numbers.sort_unstable();
+    Ok(numbers)
+}
+
+fn kind_of<A: Allocator>(
+    alloc: Global,
+    texts: &Texts<'_>,
+    atom: &Atom<A>,
+) -> Result<AtomKind, AllocError> {
+    match atom {
+        Atom::IsNull(_) => Ok(AtomKind::IsNull),
+        Atom::Cmp(_, op, literal) => Ok(AtomKind::Cmp(*op, number_of(texts, literal))),
+        Atom::In(_, literals) => Ok(AtomKind::In(numbers_of(alloc, texts, literals)?)),
+        Atom::Between(_, low, high) => Ok(AtomKind::Between(*low, *high)),
+        Atom::Distinct(_, literal) => Ok(AtomKind::Distinct(number_of(texts, literal))),
+    }
+}
+
+fn place_of(terms: &[Term], term: Term) -> usize {
+    for (place, held) in terms.iter().enumerate() {
+        if *held == term {
+            return place;
+        }
+    }
+    terms.len()
+}
+
+/// The bit of the atom of this number.
+fn bit_of(kind: &AtomKind, number: usize) -> u64 {
+    match kind {
+        AtomKind::IsNull => 0,
+        AtomKind::Cmp(..)
+        | AtomKind::In(_)
+        | AtomKind::Between(..)
+        | AtomKind::Distinct(_) => if number < 64 { 1u64 << number } else { 0 },
+    }
+}
+
+/// The atoms, whose terms are among these.
+pub fn plain_atoms<A: Allocator>(
+    alloc: Global,
+    texts: &Texts<'_>,
+    terms: &[Term],
+    atoms: &[&Atom<A>],
+) -> Result<Vec<PlainAtom>, AllocError> {
+    let mut plain = Vec::new(alloc);
+    for (number, atom) in atoms.iter().enumerate() {
+        let kind = kind_of(alloc, texts, *atom)?;
+        let term = atom.term();
+        plain.push(PlainAtom {
+            column: term.column(),
+            term: place_of(terms, term),
+            bit: bit_of(&kind, number),
+            kind,
+        })?;
+    }
+    Ok(plain)
+}
