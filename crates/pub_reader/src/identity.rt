@@ -3,7 +3,7 @@
 ghost use Rattle.std.specs.Prelude.{◌≡◌, ◌<◌, slice_get};
 ghost use Rattle.sql_reader.specs.Reading.{Answers};
 ghost use Rattle.pub_reader.specs.DraftView.{draft_view};
-ghost use Rattle.pub_catalog.specs.IndexIdentities as indexes;
+ghost use Rattle.pub_catalog.specs.IndexIdentities as identities;
 ghost use Rattle.pub_reader.specs.Identities as spec;
 ghost use Rattle.sql_reader.specs.Taking.{Takes, TakesSome};
 
@@ -32,7 +32,7 @@ fn action(r: &mut Reader<'_>) -> Result<(), ReadError>
 
 /// Whether a column is there and takes no null.
 fn takes_no_null(columns: &[Column], number: usize) -> bool
-    ensures { result ≡ indexes.takes_no_null (slice_get columns.now number) }
+    ensures { result ≡ identities.takes_no_null (slice_get columns.now number) }
 {
     match columns.get(number) {
         Some(column) => column.not_null,
@@ -42,14 +42,14 @@ fn takes_no_null(columns: &[Column], number: usize) -> bool
 
 /// Whether each of these columns is there and takes no null.
 fn take_no_null(columns: &[Column], numbers: &[usize]) -> bool
-    ensures { result ≡ indexes.take_no_null columns.now numbers.now }
+    ensures { result ≡ identities.take_no_null columns.now numbers.now }
 {
     numbers.iter().all(|number| takes_no_null(columns, *number))
 }
 
 /// Whether the index of this number is there, and none of its columns takes a null.
 fn identifies(columns: &[Column], indexes: &[UniqueIndex], number: usize) -> bool
-    ensures { result ≡ indexes.identifies columns.now (slice_get indexes.now number) }
+    ensures { result ≡ identities.identifies columns.now (slice_get indexes.now number) }
 {
     match indexes.get(number) {
         None => false,

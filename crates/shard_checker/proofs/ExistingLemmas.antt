@@ -1,27 +1,26 @@
 -- A value that is found is left to the term.
-use Rattle.std.proofs.Common.{◌≡◌, ℕ, suc, ◌+◌, ◌<◌, ℤ, pos, ◌+ℤ◌, true, false, not, ◌&&◌, ◌||◌, List, [], ◌∷◌, length, replicate, refl, ◌∙◌, ap, subst, arith}
+use Rattle.std.proofs.Common.{◌≡◌, ℕ, suc, ◌+◌, ◌<◌, ℤ, pos, ◌+ℤ◌, true, false, ◌&&◌, ◌||◌, List, [], ◌∷◌, length, replicate, refl, ◌∙◌, ap, arith}
 use Rattle.std.specs.Prelude.{Some, None, int_le}
+use Rattle.std.specs.List.{list_any}
 use Rattle.std.specs.Str.{bytes_eq}
 use Rattle.std.proofs.lemmas.List.{length-replicate}
 use Rattle.std.proofs.lemmas.Slice.Eq.{bytes_eq-Decides}
 use Rattle.filter_tree.specs.Datum.{Constant, Number, Truth, Bytes}
-use Rattle.filter_tree.specs.Expr.{AtomOf, Cmp, IsNull}
+use Rattle.filter_tree.specs.Expr.{AtomOf}
 use Rattle.filter_tree.specs.Paths.{Path}
-use Rattle.filter_tree.specs.Same.{same_term}
+use Rattle.filter_tree.specs.declared.filter.Op.TheVariants.{Eq}
 use Rattle.filter_tree.specs.declared.filter.Term.{Term}
 use Rattle.filter_tree.specs.declared.table.ColType.{ColType}
 use Rattle.filter_tree.specs.declared.table.ColType.TheVariants.{SmallInt, Integer, BigInt, Boolean, Text}
-use Rattle.filter_tree.specs.declared.tri.Tri.{Tri}
-use Rattle.filter_tree.specs.declared.tri.Tri.TheVariants.{True, False, Null}
 use Rattle.filter_tree.proofs.SameLemmas.{both_true}
 use Rattle.shard_checker.specs.Domain.{range_of, IsIn, IsInDomain}
-use Rattle.shard_checker.specs.Facts.{leaves, may_be}
-use Rattle.shard_checker.specs.Trying.{serves, names_number, has_named_number, has_number, names_text, has_named_text, has_text, has_value}
+use Rattle.shard_checker.specs.Facts.{compares, is_about, may_be}
+use Rattle.shard_checker.specs.Trying.{serves, constants_of, gives_number, names_number, has_named_number, has_number, gives_text, names_text, has_named_text, has_text, has_value}
 use Rattle.shard_checker.specs.declared.domain.Range.{Range}
-use Rattle.shard_checker.proofs.Testing.{by_test, two_true, by_either, not_true_false}
-use Rattle.shard_checker.proofs.ValueLemmas.{test_le, unnamed_text}
+use Rattle.shard_checker.proofs.Testing.{two_false, by_either, not_true_false}
+use Rattle.shard_checker.proofs.ValueLemmas.{test_le, has_constant, all_unnamed}
 
--- a constant of the term's domain that is left by all comparisons that were found
+-- a constant of the term's domain that is left by all that was found
 pub record HasConstant (kind : ColType) (term : Term) (path : Path) : Type 0 where
   pub value : Constant
   pub in_domain : IsInDomain kind term value
@@ -33,15 +32,21 @@ record HasServing (range : Range) (term : Term) (path : Path) : Type 0 where
   number : ℤ
   serving : serves range term path number ≡ true
 
-serving_named : (range : Range) (term : Term) (path : Path) (atom : AtomOf) → names_number range term path atom ≡ true → HasServing range term path
-serving_named range term path (Cmp other op (Number k)) h =
-    let both = both_true (same_term other term) (serves range term path k || serves range term path (k +ℤ pos 1)) h in
-    by_either (serves range term path k) (serves range term path (k +ℤ pos 1)) both.1
+serving_given : (range : Range) (term : Term) (path : Path) (constants : List Constant) → list_any (gives_number range term path) constants ≡ true → HasServing range term path
+serving_given range term path [] h = absurd cc
+serving_given range term path (Number k ∷ constants) h =
+    by_either (serves range term path k || serves range term path (k +ℤ pos 1)) (list_any (gives_number range term path) constants) h
+    (λ nearby. by_either (serves range term path k) (serves range term path (k +ℤ pos 1)) nearby
     (λ here. record { number = k; serving = here })
-    (λ next. record { number = k +ℤ pos 1; serving = next })
-serving_named range term path (Cmp other op (Truth b)) h = absurd cc
-serving_named range term path (Cmp other op (Bytes s)) h = absurd cc
-serving_named range term path (IsNull column) h = absurd cc
+    (λ next. record { number = k +ℤ pos 1; serving = next }))
+    (λ there. serving_given range term path constants there)
+serving_given range term path (Truth b ∷ constants) h = serving_given range term path constants h
+serving_given range term path (Bytes s ∷ constants) h = serving_given range term path constants h
+
+serving_named : (range : Range) (term : Term) (path : Path) (atom : AtomOf) → names_number range term path atom ≡ true → HasServing range term path
+serving_named range term path atom h =
+    let both = both_true (is_about term atom) (list_any (gives_number range term path) (constants_of atom)) h in
+    serving_given range term path (constants_of atom) both.1
 
 serving_in : (range : Range) (term : Term) (path part : Path) → has_named_number range term path part ≡ true → HasServing range term path
 serving_in range term path [] h = absurd cc
@@ -68,44 +73,42 @@ number_exists kind term path domain h =
 
 -- ---- texts
 
-abbrev text_length : AtomOf → ℕ
-text_length (Cmp term op (Bytes text)) = length text
-text_length atom = 0
+abbrev text_length : Constant → ℕ
+text_length (Bytes text) = length text
+text_length constant = 0
 
-abbrev all_lengths : Path → ℕ
-all_lengths [] = 0
-all_lengths (entry ∷ path) = text_length entry.0 + all_lengths path
+abbrev constants_length : List Constant → ℕ
+constants_length [] = 0
+constants_length (constant ∷ constants) = text_length constant + constants_length constants
+
+abbrev path_length : Path → ℕ
+path_length [] = 0
+path_length (entry ∷ path) = constants_length (constants_of entry.0) + path_length path
 
 -- a longer text is another
 longer_apart : (text named : List ℕ) → length named < length text → bytes_eq text named ≡ false
 longer_apart text named h = not_true_false (bytes_eq text named)
     (λ same. let e : length text ≡ length named = ap length ((bytes_eq-Decides text named).0 same) in absurd (omega arith))
 
-constant_apart : (text : List ℕ) (term : Term) (op : _) (constant : Constant) → text_length (Cmp term op constant) < length text
-    → (named : List ℕ) → constant ≡ Bytes named → bytes_eq text named ≡ false
-constant_apart text term op constant h named is =
-    longer_apart text named (subst (λ c. text_length (Cmp term op c) < length text) is h)
+longer_constants : (text : List ℕ) (constants : List Constant) → constants_length constants < length text → list_any (compares Eq (Some (Bytes text))) constants ≡ false
+longer_constants text [] long = refl
+longer_constants text (Bytes named ∷ constants) long =
+    let here : length named < length text = omega arith in
+    let there : constants_length constants < length text = omega arith in
+    two_false (bytes_eq text named) _ (longer_apart text named here) (longer_constants text constants there)
+longer_constants text (Number k ∷ constants) long = longer_constants text constants (omega arith)
+longer_constants text (Truth b ∷ constants) long = longer_constants text constants (omega arith)
 
--- a text that is longer than the one that the atom names is left by it as any that it doesn't name
-leaves_longer : (term : Term) (text : List ℕ) (atom : AtomOf) (found : Tri) → text_length atom < length text
-    → leaves term None atom found ≡ true → leaves term (Some (Bytes text)) atom found ≡ true
-leaves_longer term text (Cmp other op constant) True long h = by_test (same_term other term)
-    (λ same. rw same (unnamed_text op text constant (constant_apart text other op constant long) ∙ (rw same at h)))
-    (λ differs. rw differs refl)
-leaves_longer term text (Cmp other op constant) False long h = by_test (same_term other term)
-    (λ same. rw same (ap not (unnamed_text op text constant (constant_apart text other op constant long)) ∙ (rw same at h)))
-    (λ differs. rw differs refl)
-leaves_longer term text (Cmp other op constant) Null long h = refl
-leaves_longer term text (IsNull column) found long h = refl
+-- no atom of a path names a text that is longer than all that they name
+longer_path : (text : List ℕ) (path : Path) → path_length path < length text → list_any (λ entry. has_constant text entry.0) path ≡ false
+longer_path text [] long = refl
+longer_path text (entry ∷ path) long =
+    let here : constants_length (constants_of entry.0) < length text = omega arith in
+    let there : path_length path < length text = omega arith in
+    two_false (has_constant text entry.0) _ (longer_constants text (constants_of entry.0) here) (longer_path text path there)
 
-all_leave_longer : (term : Term) (text : List ℕ) (path : Path) → all_lengths path < length text → may_be term path None ≡ true → may_be term path (Some (Bytes text)) ≡ true
-all_leave_longer term text [] long h = refl
-all_leave_longer term text (entry ∷ path) long h =
-    let both = both_true (leaves term None entry.0 entry.1) (may_be term path None) h in
-    let here : text_length entry.0 < length text = omega arith in
-    let there : all_lengths path < length text = omega arith in
-    two_true (leaves term (Some (Bytes text)) entry.0 entry.1) (may_be term path (Some (Bytes text)))
-    (leaves_longer term text entry.0 entry.1 here both.0) (all_leave_longer term text path there both.1)
+all_leave_longer : (term : Term) (text : List ℕ) (path : Path) → path_length path < length text → may_be term path None ≡ true → may_be term path (Some (Bytes text)) ≡ true
+all_leave_longer term text path long h = all_unnamed term text (has_constant text) (λ atom unnamed about. unnamed) path (longer_path text path long) ∙ h
 
 long_text : ℕ → List ℕ
 long_text n = replicate (suc n) 97
@@ -118,12 +121,17 @@ record HasText (term : Term) (path : Path) : Type 0 where
   text : List ℕ
   left : may_be term path (Some (Bytes text)) ≡ true
 
+text_given : (term : Term) (path : Path) (constants : List Constant) → list_any (gives_text term path) constants ≡ true → HasText term path
+text_given term path [] h = absurd cc
+text_given term path (Bytes text ∷ constants) h = by_either (may_be term path (Some (Bytes text))) (list_any (gives_text term path) constants) h
+    (λ here. record { text = text; left = here })
+    (λ there. text_given term path constants there)
+text_given term path (Number k ∷ constants) h = text_given term path constants h
+text_given term path (Truth b ∷ constants) h = text_given term path constants h
+
 text_named : (term : Term) (path : Path) (atom : AtomOf) → names_text term path atom ≡ true → HasText term path
-text_named term path (Cmp other op (Bytes text)) h =
-    let both = both_true (same_term other term) (may_be term path (Some (Bytes text))) h in record { text = text; left = both.1 }
-text_named term path (Cmp other op (Number k)) h = let both = both_true (same_term other term) false h in absurd (let clash = both.1 in cc)
-text_named term path (Cmp other op (Truth b)) h = let both = both_true (same_term other term) false h in absurd (let clash = both.1 in cc)
-text_named term path (IsNull column) h = absurd cc
+text_named term path atom h =
+    let both = both_true (is_about term atom) (list_any (gives_text term path) (constants_of atom)) h in text_given term path (constants_of atom) both.1
 
 text_in : (term : Term) (path part : Path) → has_named_text term path part ≡ true → HasText term path
 text_in term path [] h = absurd cc
@@ -133,7 +141,7 @@ text_in term path (entry ∷ part) h = by_either (names_text term path entry.0) 
 
 some_text : (term : Term) (path : Path) → has_text term path ≡ true → HasText term path
 some_text term path h = by_either (may_be term path None) (has_named_text term path path) h
-    (λ unnamed. record { text = long_text (all_lengths path); left = all_leave_longer term (long_text (all_lengths path)) path (long_text_is (all_lengths path)) unnamed })
+    (λ unnamed. record { text = long_text (path_length path); left = all_leave_longer term (long_text (path_length path)) path (long_text_is (path_length path)) unnamed })
     (λ named. text_in term path path named)
 
 -- ---- values

@@ -1,35 +1,77 @@
 -- What a path tells of a row is so of each row that agrees with it.
 use Rattle.std.proofs.Common.{◌≡◌, ℕ, ℤ, Bool, true, false, not, ◌&&◌, ◌||◌, List, [], ◌∷◌, refl, sym, ◌∙◌, ap, subst}
-use Rattle.std.specs.Prelude.{Option, Some, None, IfSome, if◌then◌else◌, slice_get}
+use Rattle.std.specs.Prelude.{◌==◌, Option, Some, None, IfSome, if◌then◌else◌, slice_get}
 use Rattle.std.specs.List.{list_any}
 use Rattle.filter_tree.specs.Datum.{Constant, Number, Truth, Bytes, Datum, Missing, Known, value_at}
-use Rattle.filter_tree.specs.Logic.{tri_of}
-use Rattle.filter_tree.specs.Compare.{compare_of, compare_known}
-use Rattle.filter_tree.specs.Expr.{AtomOf, Cmp, IsNull, remainder_of, term_value, is_missing, atom_meaning}
-use Rattle.filter_tree.specs.Lists.{column_of, term_of}
+use Rattle.filter_tree.specs.Logic.{and_of, tri_of}
+use Rattle.filter_tree.specs.Compare.{compare_known}
+use Rattle.filter_tree.specs.Expr.{AtomOf, Cmp, IsNull, In, Between, Distinct, remainder_of, term_value, term_of, said_of, atom_meaning}
+use Rattle.filter_tree.specs.Lists.{column_of}
 use Rattle.filter_tree.specs.Mask.{same_tri}
 use Rattle.filter_tree.specs.Paths.{Path, Agrees}
-use Rattle.filter_tree.specs.Same.{same_term, same_atom}
-use Rattle.filter_tree.specs.declared.filter.Op.{Op}
+use Rattle.filter_tree.specs.Same.{same_atom}
+use Rattle.filter_tree.specs.declared.filter.Op.TheVariants.{Le, Ge}
 use Rattle.filter_tree.specs.declared.filter.Term.{Term}
 use Rattle.filter_tree.specs.declared.filter.Term.TheVariants.{Col, Mod}
 use Rattle.filter_tree.specs.declared.table.Column.{Column}
 use Rattle.filter_tree.specs.declared.tri.Tri.{Tri}
 use Rattle.filter_tree.specs.declared.tri.Tri.TheVariants.{True, False, Null}
 use Rattle.filter_tree.proofs.SameLemmas.{both_true, same_atom_is, same_term_is}
-use Rattle.shard_checker.specs.Facts.{says_null, says_present, not_null_in, is_declared, is_null, is_present, has_null, is_null_test, is_never_null, holds_of, leaves, may_be}
+use Rattle.shard_checker.specs.Facts.{tells_null, tells_present, says_null, says_present, not_null_in, is_declared, is_null, is_present, has_null, is_always_known, is_never_null, holds_of, is_about, leaves, may_be}
 use Rattle.shard_checker.specs.Rows.{MayHold, IsTyped}
 use Rattle.shard_checker.proofs.Testing.{two_true, by_either, clash, same_number}
 
--- ---- null
+-- ---- what an atom says of a value
 
 known_tri : (b : Bool) → tri_of b ≡ Null → ⊥
 known_tri true h = cc
 known_tri false h = cc
 
-compared_null : (op : Op) (value : Datum) (constant : Constant) → compare_of op value constant ≡ Null → value ≡ Missing
-compared_null op Missing constant h = refl
-compared_null op (Known value) constant h = absurd (known_tri (compare_known op value constant) h)
+both_known : (p q : Bool) → and_of (tri_of p) (tri_of q) ≡ tri_of (p && q)
+both_known true true = refl
+both_known true false = refl
+both_known false true = refl
+both_known false false = refl
+
+said_known : (atom : AtomOf) (value : Constant) → said_of atom (Known value) ≡ tri_of (holds_of atom (Some value))
+said_known (Cmp term op constant) value = refl
+said_known (IsNull column) value = refl
+said_known (In term constants) value = refl
+said_known (Between term low high) value = both_known (compare_known Ge value (Number low)) (compare_known Le value (Number high))
+said_known (Distinct term constant) value = refl
+
+said_null : (atom : AtomOf) (value : Datum) → said_of atom value ≡ Null → value ≡ Missing
+said_null atom Missing h = refl
+said_null atom (Known value) h = absurd (known_tri (holds_of atom (Some value)) (sym (said_known atom value) ∙ h))
+
+told_null : (atom : AtomOf) (value : Datum) (found : Tri) → said_of atom value ≡ found → tells_null atom found ≡ true → value ≡ Missing
+told_null (Cmp term op constant) value Null said tells = said_null (Cmp term op constant) value said
+told_null (Cmp term op constant) value found said tells = absurd cc
+told_null (In term constants) value Null said tells = said_null (In term constants) value said
+told_null (In term constants) value found said tells = absurd cc
+told_null (Between term low high) value Null said tells = said_null (Between term low high) value said
+told_null (Between term low high) value found said tells = absurd cc
+told_null (IsNull column) Missing found said tells = refl
+told_null (IsNull column) (Known value) True said tells = absurd cc
+told_null (IsNull column) (Known value) found said tells = absurd cc
+told_null (Distinct term constant) value found said tells = absurd cc
+
+never_present : (atom : AtomOf) → tells_present atom (said_of atom Missing) ≡ true → ⊥
+never_present (Cmp term op constant) h = cc
+never_present (IsNull column) h = cc
+never_present (In term constants) h = cc
+never_present (Between term low high) h = cc
+never_present (Distinct term constant) h = cc
+
+always_said : (atom : AtomOf) (value : Datum) → is_always_known atom ≡ true → said_of atom value ≡ Null → ⊥
+always_said (IsNull column) Missing always h = cc
+always_said (Distinct term constant) Missing always h = cc
+always_said (Cmp term op constant) Missing always h = cc
+always_said (In term constants) Missing always h = cc
+always_said (Between term low high) Missing always h = cc
+always_said atom (Known value) always h = let gone : Known value ≡ Missing = said_null atom (Known value) h in cc
+
+-- ---- null
 
 remainder_missing : (value : Datum) (divisor : ℤ) → remainder_of value divisor ≡ Missing → value ≡ Missing
 remainder_missing Missing divisor h = refl
@@ -41,23 +83,16 @@ term_missing : (term : Term) (row : List Datum) → term_value term row ≡ Miss
 term_missing (Col column) row h = h
 term_missing (Mod column divisor) row h = remainder_missing (value_at row column) divisor h
 
-pub missing_term : (term : Term) (row : List Datum) → value_at row (column_of term) ≡ Missing → term_value term row ≡ Missing
+missing_term : (term : Term) (row : List Datum) → value_at row (column_of term) ≡ Missing → term_value term row ≡ Missing
 missing_term (Col column) row h = h
 missing_term (Mod column divisor) row h = ap (λ value. remainder_of value divisor) h
 
-missing_is : (value : Datum) → is_missing value ≡ True → value ≡ Missing
-missing_is Missing h = refl
-missing_is (Known value) h = absurd cc
-
 says_null_is : (row : List Datum) (column : ℕ) (atom : AtomOf) (value : Tri) → atom_meaning atom row ≡ value
     → says_null column atom value ≡ true → value_at row column ≡ Missing
-says_null_is row column (Cmp term op constant) Null meant says =
-    let same : column_of term ≡ column = same_number _ _ says in
-    subst (λ k. value_at row k ≡ Missing) same (term_missing term row (compared_null op (term_value term row) constant meant))
-says_null_is row column (IsNull other) True meant says =
-    let same : other ≡ column = same_number _ _ says in
-    subst (λ k. value_at row k ≡ Missing) same (missing_is (value_at row other) meant)
-says_null_is row column atom value meant says = absurd cc
+says_null_is row column atom value meant says =
+    let both = both_true (tells_null atom value) (column_of (term_of atom) == column) says in
+    subst (λ k. value_at row k ≡ Missing) (same_number (column_of (term_of atom)) column both.1)
+    (term_missing (term_of atom) row (told_null atom (term_value (term_of atom) row) value meant both.0))
 
 pub null_is : (row : List Datum) (column : ℕ) (path : Path) → Agrees row path → is_null column path ≡ true → value_at row column ≡ Missing
 null_is row column [] agrees h = absurd cc
@@ -66,25 +101,13 @@ null_is row column (entry ∷ path) agrees h =
     (λ here. says_null_is row column entry.0 entry.1 agrees.0 here)
     (λ there. null_is row column path agrees.1 there)
 
-known_missing : (op : Op) (constant : Constant) (value : Datum) → value ≡ Missing → compare_of op value constant ≡ Null
-known_missing op constant value h = ap (λ v. compare_of op v constant) h
-
 says_present_is : (row : List Datum) (column : ℕ) (atom : AtomOf) (value : Tri) → atom_meaning atom row ≡ value
     → says_present column atom value ≡ true → value_at row column ≡ Missing → ⊥
-says_present_is row column (Cmp term op constant) True meant says missing =
-    let same : column_of term ≡ column = same_number _ _ says in
-    let gone = known_missing op constant (term_value term row) (missing_term term row (subst (λ k. value_at row k ≡ Missing) (sym same) missing)) in
-    cc
-says_present_is row column (Cmp term op constant) False meant says missing =
-    let same : column_of term ≡ column = same_number _ _ says in
-    let gone = known_missing op constant (term_value term row) (missing_term term row (subst (λ k. value_at row k ≡ Missing) (sym same) missing)) in
-    cc
-says_present_is row column (IsNull other) False meant says missing =
-    let same : other ≡ column = same_number _ _ says in
-    let gone : value_at row other ≡ Missing = subst (λ k. value_at row k ≡ Missing) (sym same) missing in
-    let test : is_missing (value_at row other) ≡ True = ap is_missing gone in
-    cc
-says_present_is row column atom value meant says missing = absurd cc
+says_present_is row column atom value meant says missing =
+    let both = both_true (tells_present atom value) (column_of (term_of atom) == column) says in
+    let there : value_at row (column_of (term_of atom)) ≡ Missing = subst (λ k. value_at row k ≡ Missing) (sym (same_number (column_of (term_of atom)) column both.1)) missing in
+    let gone : term_value (term_of atom) row ≡ Missing = missing_term (term_of atom) row there in
+    never_present atom (subst (λ found. tells_present atom found ≡ true) (sym meant ∙ ap (said_of atom) gone) both.0)
 
 declared_in : (found : Option Column) (value : Datum) → IfSome found (λ column. MayHold column value) → not_null_in found ≡ true → value ≡ Missing → ⊥
 declared_in None value fits declared missing = cc
@@ -122,21 +145,17 @@ has_null_is row atom (entry ∷ path) agrees h =
     ap (λ c. atom_meaning c row) (same_atom_is atom entry.0 both.0) ∙ (agrees.0 ∙ same_null entry.1 both.1))
     (λ there. has_null_is row atom path agrees.1 there)
 
-test_known : (value : Datum) → is_missing value ≡ Null → ⊥
-test_known Missing h = cc
-test_known (Known value) h = cc
-
 null_atom : (columns : List Column) (row : List Datum) (atom : AtomOf) → IsTyped columns row → atom_meaning atom row ≡ Null
-    → (is_null_test atom || is_declared columns (column_of (term_of atom))) ≡ true → ⊥
-null_atom columns row (Cmp term op constant) valid null h =
-    declared_is columns row (column_of term) valid h (term_missing term row (compared_null op (term_value term row) constant null))
-null_atom columns row (IsNull column) valid null h = test_known (value_at row column) null
+    → (is_always_known atom || is_declared columns (column_of (term_of atom))) ≡ true → ⊥
+null_atom columns row atom valid null h = by_either (is_always_known atom) (is_declared columns (column_of (term_of atom))) h
+    (λ always. always_said atom (term_value (term_of atom) row) always null)
+    (λ declared. declared_is columns row (column_of (term_of atom)) valid declared (term_missing (term_of atom) row (said_null atom (term_value (term_of atom) row) null)))
 
 -- no row that fits the columns agrees with a path on which an atom is null that never is
 pub never_null_is : (columns : List Column) (row : List Datum) (atom : AtomOf) (path : Path) → IsTyped columns row → Agrees row path
     → is_never_null columns atom path ≡ true → ⊥
 never_null_is columns row atom path valid agrees h =
-    let both = both_true (has_null atom path) (is_null_test atom || is_declared columns (column_of (term_of atom))) h in
+    let both = both_true (has_null atom path) (is_always_known atom || is_declared columns (column_of (term_of atom))) h in
     null_atom columns row atom valid (has_null_is row atom path agrees both.0) both.1
 
 -- ---- values
@@ -154,18 +173,24 @@ counts_where : (b p : Bool) → (b ≡ true → p ≡ true) → (if b then p els
 counts_where true p h = h refl
 counts_where false p h = refl
 
+about_is : (term : Term) (atom : AtomOf) → is_about term atom ≡ true → term_of atom ≡ term
+about_is term (Cmp other op constant) about = same_term_is other term about
+about_is term (IsNull column) about = absurd cc
+about_is term (In other constants) about = same_term_is other term about
+about_is term (Between other low high) about = same_term_is other term about
+about_is term (Distinct other constant) about = same_term_is other term about
+
+meant_of : (row : List Datum) (term : Term) (value : Constant) (atom : AtomOf) → term_value term row ≡ Known value → is_about term atom ≡ true
+    → atom_meaning atom row ≡ tri_of (holds_of atom (Some value))
+meant_of row term value atom is about = ap (λ t. said_of atom (term_value t row)) (about_is term atom about) ∙ ap (said_of atom) is ∙ said_known atom value
+
 leaves_found : (row : List Datum) (term : Term) (value : Constant) (atom : AtomOf) (found : Tri) → atom_meaning atom row ≡ found
     → term_value term row ≡ Known value → leaves term (Some value) atom found ≡ true
-leaves_found row term value (Cmp other op constant) True meant is =
-    counts_where (same_term other term) (compare_known op value constant)
-    (λ same. let held : term_value other row ≡ Known value = ap (λ t. term_value t row) (same_term_is other term same) ∙ is in
-    tri_true (compare_known op value constant) (sym (ap (λ v. compare_of op v constant) held) ∙ meant))
-leaves_found row term value (Cmp other op constant) False meant is =
-    counts_where (same_term other term) (not (compare_known op value constant))
-    (λ same. let held : term_value other row ≡ Known value = ap (λ t. term_value t row) (same_term_is other term same) ∙ is in
-    tri_false (compare_known op value constant) (sym (ap (λ v. compare_of op v constant) held) ∙ meant))
-leaves_found row term value (Cmp other op constant) Null meant is = refl
-leaves_found row term value (IsNull column) found meant is = refl
+leaves_found row term value atom True meant is = counts_where (is_about term atom) (holds_of atom (Some value))
+    (λ about. tri_true (holds_of atom (Some value)) (sym (meant_of row term value atom is about) ∙ meant))
+leaves_found row term value atom False meant is = counts_where (is_about term atom) (not (holds_of atom (Some value)))
+    (λ about. tri_false (holds_of atom (Some value)) (sym (meant_of row term value atom is about) ∙ meant))
+leaves_found row term value atom Null meant is = refl
 
 -- the value that a term has on a row is left by what was found
 pub value_left : (row : List Datum) (term : Term) (value : Constant) (path : Path) → Agrees row path → term_value term row ≡ Known value
@@ -173,22 +198,3 @@ pub value_left : (row : List Datum) (term : Term) (value : Constant) (path : Pat
 value_left row term value [] agrees is = refl
 value_left row term value (entry ∷ path) agrees is =
     two_true (leaves term (Some value) entry.0 entry.1) (may_be term path (Some value)) (leaves_found row term value entry.0 entry.1 agrees.0 is) (value_left row term value path agrees.1 is)
-
-leaves_missing : (row : List Datum) (term : Term) (value : Option Constant) (atom : AtomOf) (found : Tri) → atom_meaning atom row ≡ found
-    → term_value term row ≡ Missing → leaves term value atom found ≡ true
-leaves_missing row term value (Cmp other op constant) True meant is =
-    counts_where (same_term other term) (holds_of op value constant)
-    (λ same. let gone : compare_of op (term_value other row) constant ≡ Null = known_missing op constant (term_value other row) (ap (λ t. term_value t row) (same_term_is other term same) ∙ is) in
-    absurd cc)
-leaves_missing row term value (Cmp other op constant) False meant is =
-    counts_where (same_term other term) (not (holds_of op value constant))
-    (λ same. let gone : compare_of op (term_value other row) constant ≡ Null = known_missing op constant (term_value other row) (ap (λ t. term_value t row) (same_term_is other term same) ∙ is) in
-    absurd cc)
-leaves_missing row term value (Cmp other op constant) Null meant is = refl
-leaves_missing row term value (IsNull column) found meant is = refl
-
--- where a term is null, what was found says nothing of its values
-pub all_left : (row : List Datum) (term : Term) (value : Option Constant) (path : Path) → Agrees row path → term_value term row ≡ Missing → may_be term path value ≡ true
-all_left row term value [] agrees is = refl
-all_left row term value (entry ∷ path) agrees is =
-    two_true (leaves term value entry.0 entry.1) (may_be term path value) (leaves_missing row term value entry.0 entry.1 agrees.0 is) (all_left row term value path agrees.1 is)

@@ -4,7 +4,7 @@ use Rattle.std.specs.Prelude.{Option, Some, None, slice_get, slice_set, if◌the
 use Rattle.std.specs.List.{list_any}
 use Rattle.std.proofs.lemmas.List.{append-nil}
 use Rattle.std.proofs.lemmas.Option.{same_Some}
-use Rattle.filter_tree.specs.Expr.{AtomOf, Cmp, IsNull}
+use Rattle.filter_tree.specs.Expr.{AtomOf, Cmp, IsNull, In, Between, Distinct}
 use Rattle.filter_tree.specs.Paths.{Path, first_value, known_or_open}
 use Rattle.filter_tree.specs.Same.{same_atom}
 use Rattle.filter_tree.specs.declared.tri.Tri.{Tri}
@@ -38,6 +38,9 @@ found_or_met : (found : Option Tri) (atom : AtomOf) (value : Tri) → known_or_o
 unfolding first_or
 found_or_met None (Cmp term op constant) value = refl
 found_or_met None (IsNull column) value = refl
+found_or_met None (In term constants) value = refl
+found_or_met None (Between term low high) value = refl
+found_or_met None (Distinct term constant) value = refl
 found_or_met (Some True) atom value = refl
 found_or_met (Some False) atom value = refl
 found_or_met (Some Null) atom value = refl

@@ -1,5 +1,5 @@
 -- The value of a term on a row that fits the columns is of the term's domain.
-use Rattle.std.proofs.Common.{◌≡◌, ℕ, zero, suc, ◌-◌, ◌<◌, ◌≤◌, ℤ, pos, negsuc, neg_ℤ, ◌≤ℤ◌, true, List, [], ◌∷◌, length, refl, ap, subst, arith}
+use Rattle.std.proofs.Common.{◌≡◌, ℕ, zero, suc, ◌-◌, ◌<◌, ◌≤◌, ℤ, pos, negsuc, neg_ℤ, ◌≤ℤ◌, List, [], ◌∷◌, length, refl, ap, subst, arith}
 use Rattle.std.specs.Prelude.{Option, Some, None, IfSome, slice_get, int_rem, nat_abs}
 use Rattle.std.specs.Int.{int_max, int_min}
 use Rattle.std.specs.Ordering.{int_eq}
@@ -155,35 +155,3 @@ known_in_domain columns term row value valid is =
     (subst (λ v. IfSome (slice_get columns (column_of term)) (λ column. MayHold column v)) is (valid.fits (column_of term)))
     (λ none. missing_past columns row (column_of term) valid (past_from_none columns (column_of term) none))
     is
-
--- ---- each domain has a value
-
-zero_in_cut : (kind : ColType) (far : ℕ) → IsIn (range_within kind (pos far)) (pos 0)
-zero_in_cut kind far = record {
-  above_least = cut_above (least_of kind) (neg_ℤ (pos far)) (pos 0) (zero_above kind) (omega (arith, ints));
-  below_greatest = cut_below (greatest_of kind) (pos far) (pos 0) (zero_below kind) (omega (arith, ints));
-}
-
-zero_in_rest : (kind : ColType) (divisor : ℤ) → IsIn (range_within kind (greatest_remainder divisor)) (pos 0)
-zero_in_rest kind (pos n) = zero_in_cut kind (n - 1)
-zero_in_rest kind (negsuc n) = zero_in_cut kind n
-
-zero_in_whole : (kind : ColType) → IsIn (whole_range kind) (pos 0)
-zero_in_whole kind = record { above_least = zero_above kind; below_greatest = zero_below kind }
-
-zero_in : (kind : ColType) (term : Term) → IsIn (range_of kind term) (pos 0)
-zero_in kind (Col column) = zero_in_whole kind
-zero_in kind (Mod column divisor) = by_test (int_eq divisor (pos 0))
-    (λ same. rw same (zero_in_whole kind))
-    (λ differs. rw differs (zero_in_rest kind divisor))
-
-pub record HasMember (kind : ColType) (term : Term) : Type 0 where
-  pub value : Constant
-  pub in_domain : IsInDomain kind term value
-
-pub some_member : (kind : ColType) (term : Term) → HasMember kind term
-some_member SmallInt term = record { value = Number (pos 0); in_domain = zero_in SmallInt term }
-some_member Integer term = record { value = Number (pos 0); in_domain = zero_in Integer term }
-some_member BigInt term = record { value = Number (pos 0); in_domain = zero_in BigInt term }
-some_member Boolean term = record { value = Truth true; in_domain = tt }
-some_member Text term = record { value = Bytes []; in_domain = tt }

@@ -1,5 +1,5 @@
 -- A tree without a refusal at the end of a path: each row that fits the columns and agrees with the path has one owner.
-use Rattle.std.proofs.Common.{◌≡◌, ℕ, zero, suc, ◌+◌, Bool, true, false, not, ◌&&◌, List, [], ◌∷◌, ◌++◌, refl, ◌∙◌, ap, arith}
+use Rattle.std.proofs.Common.{◌≡◌, ℕ, zero, suc, ◌+◌, Bool, true, false, not, ◌&&◌, ◌||◌, List, [], ◌∷◌, ◌++◌, refl, ◌∙◌, ap, arith}
 use Rattle.std.specs.Prelude.{Option, Some, None, if◌then◌else◌, slice_get}
 use Rattle.std.proofs.lemmas.Option.{get_or_from_slice_get}
 use Rattle.filter_tree.specs.Datum.{Constant, Datum, Missing, Known, value_at}
@@ -25,19 +25,13 @@ use Rattle.shard_checker.specs.Rows.{IsTyped}
 use Rattle.shard_checker.specs.Trying.{has_value, is_empty}
 use Rattle.shard_checker.specs.declared.error.CheckError.{CheckError}
 use Rattle.shard_checker.specs.declared.error.CheckError.TheVariants.{NotEmpty, MayBeNull, NotOwner}
-use Rattle.shard_checker.proofs.FactLemmas.{null_is, missing_term, present_is, never_null_is, value_left, all_left}
-use Rattle.shard_checker.proofs.RangeLemmas.{known_in_domain, some_member}
+use Rattle.shard_checker.proofs.FactLemmas.{null_is, present_is, never_null_is, value_left}
+use Rattle.shard_checker.proofs.RangeLemmas.{known_in_domain}
 use Rattle.shard_checker.proofs.ValueLemmas.{value_found}
 use Rattle.shard_checker.proofs.OwnerLemmas.{only_owner}
 use Rattle.shard_checker.proofs.Testing.{by_test, by_either, not_true, clash}
 
 -- ---- nodes that say that a term is empty
-
-missing_found : (columns : List Column) (row : List Datum) (term : Term) (path : Path) → Agrees row path → value_at row (column_of term) ≡ Missing
-    → has_value (kind_at columns (column_of term)) term path ≡ true
-missing_found columns row term path agrees missing =
-    let some = some_member (kind_at columns (column_of term)) term in
-    value_found (kind_at columns (column_of term)) term path some.value some.in_domain (all_left row term (Some some.value) path agrees (missing_term term row missing))
 
 known_found : (columns : List Column) (row : List Datum) (term : Term) (path : Path) (value : Constant) → IsTyped columns row → Agrees row path
     → value_at row (column_of term) ≡ Known value → has_value (kind_at columns (column_of term)) term path ≡ true
@@ -45,18 +39,20 @@ known_found columns row term path value valid agrees is =
     let known = known_in_domain columns term row value valid is in
     value_found (kind_at columns (column_of term)) term path known.value known.in_domain (value_left row term known.value path agrees known.is)
 
+-- a row on which the column isn't null
 some_found : (columns : List Column) (row : List Datum) (term : Term) (path : Path) (value : Datum) → IsTyped columns row → Agrees row path
-    → value_at row (column_of term) ≡ value → has_value (kind_at columns (column_of term)) term path ≡ true
-some_found columns row term path Missing valid agrees is = missing_found columns row term path agrees is
-some_found columns row term path (Known value) valid agrees is = known_found columns row term path value valid agrees is
+    → (value ≡ Missing → ⊥) → value_at row (column_of term) ≡ value → has_value (kind_at columns (column_of term)) term path ≡ true
+some_found columns row term path Missing valid agrees present is = absurd (present refl)
+some_found columns row term path (Known value) valid agrees present is = known_found columns row term path value valid agrees is
 
 -- no row that fits the columns agrees with a path that leaves a term empty
 empty_is : (columns : List Column) (row : List Datum) (term : Term) (path : Path) → IsTyped columns row → Agrees row path → is_empty columns term path ≡ true → ⊥
 empty_is columns row term path valid agrees h =
-    by_either (is_null (column_of term) path && is_present columns (column_of term) path) (not (has_value (kind_at columns (column_of term)) term path)) h
-    (λ torn. let both = both_true (is_null (column_of term) path) (is_present columns (column_of term) path) torn in
-    present_is columns row (column_of term) path valid agrees both.1 (null_is row (column_of term) path agrees both.0))
-    (λ none. clash (has_value (kind_at columns (column_of term)) term path) (some_found columns row term path (value_at row (column_of term)) valid agrees refl) (not_true _ none))
+    let both = both_true (is_present columns (column_of term) path) (is_null (column_of term) path || not (has_value (kind_at columns (column_of term)) term path)) h in
+    let present : value_at row (column_of term) ≡ Missing → ⊥ = present_is columns row (column_of term) path valid agrees both.0 in
+    by_either (is_null (column_of term) path) (not (has_value (kind_at columns (column_of term)) term path)) both.1
+    (λ null. present (null_is row (column_of term) path agrees null))
+    (λ none. clash (has_value (kind_at columns (column_of term)) term path) (some_found columns row term path (value_at row (column_of term)) valid agrees present refl) (not_true _ none))
 
 -- a test that decides whether there is a refusal
 passed : (b : Bool) (error : CheckError) → (if b then None else Some error) ≡ None → b ≡ true

@@ -12,6 +12,10 @@ pub two_true : (p q : Bool) → p ≡ true → q ≡ true → (p && q) ≡ true
 two_true true q h k = k
 two_true false q h k = absurd cc
 
+pub two_false : (p q : Bool) → p ≡ false → q ≡ false → (p || q) ≡ false
+two_false true q h k = absurd cc
+two_false false q h k = k
+
 pub both_false : (p q : Bool) → (p || q) ≡ false → (p ≡ false) × (q ≡ false)
 both_false true q h = absurd cc
 both_false false q h = (refl, h)

@@ -1,6 +1,6 @@
 -- The values that are tried decide whether a value is left to a term.
 use Rattle.std.proofs.Common.{◌≡◌, ℕ, zero, suc, ◌+◌, ◌-◌, ℤ, pos, negsuc, ◌+ℤ◌, ◌≤ℤ◌, Bool, true, false, not, ◌&&◌, ◌||◌, List, [], ◌∷◌, refl, sym, ◌∙◌, ap, subst, arith}
-use Rattle.std.specs.Prelude.{Some, None, int_le}
+use Rattle.std.specs.Prelude.{Option, Some, None, int_le}
 use Rattle.std.specs.Int.Signed.{le_z_yes}
 use Rattle.std.specs.Bool.{passes}
 use Rattle.std.specs.Str.{bytes_eq}
@@ -8,10 +8,9 @@ use Rattle.std.specs.List.{list_any}
 use Rattle.std.proofs.lemmas.Int.{ints}
 use Rattle.std.proofs.lemmas.Slice.Eq.{bytes_eq-Decides}
 use Rattle.filter_tree.specs.Datum.{Constant, Number, Truth, Bytes}
-use Rattle.filter_tree.specs.Compare.{compare_numbers_of, compare_known}
-use Rattle.filter_tree.specs.Expr.{AtomOf, Cmp, IsNull}
+use Rattle.filter_tree.specs.Compare.{compare_numbers_of}
+use Rattle.filter_tree.specs.Expr.{AtomOf, Cmp, IsNull, In, Between, Distinct}
 use Rattle.filter_tree.specs.Paths.{Path}
-use Rattle.filter_tree.specs.Same.{same_term}
 use Rattle.filter_tree.specs.declared.filter.Op.{Op}
 use Rattle.filter_tree.specs.declared.filter.Op.TheVariants.{Eq, Ne, Lt, Le, Gt, Ge}
 use Rattle.filter_tree.specs.declared.filter.Term.{Term}
@@ -19,12 +18,51 @@ use Rattle.filter_tree.specs.declared.table.ColType.{ColType}
 use Rattle.filter_tree.specs.declared.table.ColType.TheVariants.{SmallInt, Integer, BigInt, Boolean, Text}
 use Rattle.filter_tree.specs.declared.tri.Tri.{Tri}
 use Rattle.filter_tree.specs.declared.tri.Tri.TheVariants.{True, False, Null}
-use Rattle.filter_tree.proofs.SameLemmas.{both_true}
 use Rattle.shard_checker.specs.Domain.{range_of, IsIn, IsInDomain}
-use Rattle.shard_checker.specs.Facts.{holds_of, leaves, may_be}
-use Rattle.shard_checker.specs.Trying.{serves, names_number, has_number, names_text, has_text, has_value}
+use Rattle.shard_checker.specs.Facts.{compares, holds_of, is_about, leaves, may_be}
+use Rattle.shard_checker.specs.Trying.{serves, constants_of, gives_number, names_number, has_number, gives_text, names_text, has_text, has_value}
 use Rattle.shard_checker.specs.declared.domain.Range.{Range}
-use Rattle.shard_checker.proofs.Testing.{by_test, two_true, both_false, left_true, right_true, clash, not_true_false, from_test}
+use Rattle.shard_checker.proofs.Testing.{by_test, two_true, two_false, both_false, left_true, right_true, clash, not_true_false, from_test}
+
+-- ---- two values of which atoms say the same
+
+-- each comparison with one of the constants says the same of both values
+abbrev AreAlike : Option Constant → Option Constant → List Constant → Type 0
+AreAlike one other [] = Unit {0}
+AreAlike one other (constant ∷ constants) = ((op : Op) → compares op one constant ≡ compares op other constant) × AreAlike one other constants
+
+among_alike : (one other : Option Constant) (constants : List Constant) → AreAlike one other constants → list_any (compares Eq one) constants ≡ list_any (compares Eq other) constants
+among_alike one other [] alike = refl
+among_alike one other (constant ∷ constants) alike = let here = alike.0 Eq in let there = among_alike one other constants alike.1 in cc
+
+-- an atom says the same of both if each comparison with its constants does
+holds_alike : (one other : Option Constant) (atom : AtomOf) → AreAlike one other (constants_of atom) → holds_of atom one ≡ holds_of atom other
+holds_alike one other (Cmp term op constant) alike = alike.0 op
+holds_alike one other (IsNull column) alike = refl
+holds_alike one other (In term constants) alike = among_alike one other constants alike
+holds_alike one other (Between term low high) alike = let above = alike.0 Ge in let below = alike.1.0 Le in cc
+holds_alike one other (Distinct term constant) alike = alike.0 Ne
+
+leaves_alike : (term : Term) (one other : Option Constant) (atom : AtomOf) (found : Tri) → (is_about term atom ≡ true → holds_of atom one ≡ holds_of atom other)
+    → leaves term one atom found ≡ leaves term other atom found
+leaves_alike term one other atom True alike = by_test (is_about term atom)
+    (λ about. rw about (alike about))
+    (λ apart. rw apart refl)
+leaves_alike term one other atom False alike = by_test (is_about term atom)
+    (λ about. rw about (ap not (alike about)))
+    (λ apart. rw apart refl)
+leaves_alike term one other atom Null alike = refl
+
+-- a path of atoms that a test takes none of leaves both values or neither, if each such atom says the same of both
+all_alike : (term : Term) (one other : Option Constant) (test : AtomOf → Bool)
+    → ((atom : AtomOf) → test atom ≡ false → is_about term atom ≡ true → holds_of atom one ≡ holds_of atom other)
+    → (part : Path) → list_any (λ entry. test entry.0) part ≡ false → may_be term part one ≡ may_be term part other
+all_alike term one other test alike [] none = refl
+all_alike term one other test alike (entry ∷ part) none =
+    let both = both_false (test entry.0) (list_any (λ entry. test entry.0) part) none in
+    let here = leaves_alike term one other entry.0 entry.1 (alike entry.0 both.0) in
+    let there = all_alike term one other test alike part both.1 in
+    cc
 
 -- ---- numbers
 
@@ -49,54 +87,35 @@ same_side Le before number constant e above below = grind (arith, ints)
 same_side Gt before number constant e above below = grind (arith, ints)
 same_side Ge before number constant e above below = grind (arith, ints)
 
-number_stays : (op : Op) (before number : ℤ) (constant : Constant) → number ≡ before +ℤ pos 1 → (constant ≡ Number number → ⊥) → (constant ≡ Number before → ⊥)
-    → compare_known op (Number number) constant ≡ compare_known op (Number before) constant
-number_stays op before number (Number k) e above below = same_side op before number k e (λ same. above (ap Number same)) (λ same. below (ap Number same))
-number_stays op before number (Truth b) e above below = refl
-number_stays op before number (Bytes s) e above below = refl
-
--- the number of a comparison of the term is neither the number that serves nor the one before
-not_named : (range : Range) (term other : Term) (path : Path) (before number : ℤ) (op : Op) (constant : Constant) → number ≡ before +ℤ pos 1
-    → serves range term path number ≡ true → names_number range term path (Cmp other op constant) ≡ false → same_term other term ≡ true
-    → (constant ≡ Number number → ⊥) × (constant ≡ Number before → ⊥)
-not_named range term other path before number op (Number k) e here names same =
-    let none : (serves range term path k || serves range term path (k +ℤ pos 1)) ≡ false = rw same at names in
-    let both = both_false (serves range term path k) (serves range term path (k +ℤ pos 1)) none in (
-      (λ is. let equal : k ≡ number = cc in let there : serves range term path k ≡ true = subst (λ n. serves range term path n ≡ true) (sym equal) here in clash _ there both.0),
-      (λ is. let equal : k ≡ before = cc in let there : serves range term path (k +ℤ pos 1) ≡ true = subst (λ n. serves range term path n ≡ true) (e ∙ ap (λ n. n +ℤ pos 1) (sym equal)) here in clash _ there both.1),
+-- the constants that neither serve nor come before a number that does tell a number that serves from the one before as little as others do
+numbers_alike : (range : Range) (term : Term) (path : Path) (before number : ℤ) → number ≡ before +ℤ pos 1 → serves range term path number ≡ true
+    → (constants : List Constant) → list_any (gives_number range term path) constants ≡ false → AreAlike (Some (Number number)) (Some (Number before)) constants
+numbers_alike range term path before number e here [] none = tt
+numbers_alike range term path before number e here (Number k ∷ constants) none =
+    let both = both_false (serves range term path k || serves range term path (k +ℤ pos 1)) (list_any (gives_number range term path) constants) none in
+    let gone = both_false (serves range term path k) (serves range term path (k +ℤ pos 1)) both.0 in (
+      (λ op. same_side op before number k e
+          (λ is. clash _ (subst (λ n. serves range term path n ≡ true) (sym is) here) gone.0)
+          (λ is. clash _ (subst (λ n. serves range term path n ≡ true) (e ∙ ap (λ n. n +ℤ pos 1) (sym is)) here) gone.1)),
+      numbers_alike range term path before number e here constants both.1,
     )
-not_named range term other path before number op (Truth b) e here names same = ((λ is. cc), (λ is. cc))
-not_named range term other path before number op (Bytes s) e here names same = ((λ is. cc), (λ is. cc))
+numbers_alike range term path before number e here (Truth b ∷ constants) none = ((λ op. refl), numbers_alike range term path before number e here constants none)
+numbers_alike range term path before number e here (Bytes s ∷ constants) none = ((λ op. refl), numbers_alike range term path before number e here constants none)
+
+-- what is known to be false where another is true
+under : (p q : Bool) → (p && q) ≡ false → p ≡ true → q ≡ false
+under true q h e = h
+under false q h e = absurd cc
 
 -- what leaves a number that is not named, nor comes after one that is, leaves the one before
-leaves_before : (range : Range) (term : Term) (path : Path) (before number : ℤ) → number ≡ before +ℤ pos 1 → serves range term path number ≡ true
-    → (atom : AtomOf) (found : Tri) → names_number range term path atom ≡ false
-    → leaves term (Some (Number number)) atom found ≡ true → leaves term (Some (Number before)) atom found ≡ true
-leaves_before range term path before number e here (Cmp other op constant) True names h = by_test (same_term other term)
-    (λ same. let apart = not_named range term other path before number op constant e here names same in
-    let equal = number_stays op before number constant e apart.0 apart.1 in
-    let was : compare_known op (Number number) constant ≡ true = rw same at h in
-    rw same (sym equal ∙ was))
-    (λ differs. rw differs refl)
-leaves_before range term path before number e here (Cmp other op constant) False names h = by_test (same_term other term)
-    (λ same. let apart = not_named range term other path before number op constant e here names same in
-    let equal = number_stays op before number constant e apart.0 apart.1 in
-    let was : not (compare_known op (Number number) constant) ≡ true = rw same at h in
-    rw same (ap not (sym equal) ∙ was))
-    (λ differs. rw differs refl)
-leaves_before range term path before number e here (Cmp other op constant) Null names h = refl
-leaves_before range term path before number e here (IsNull column) found names h = refl
-
 all_before : (range : Range) (term : Term) (path : Path) (before number : ℤ) → number ≡ before +ℤ pos 1 → serves range term path number ≡ true
-    → (part : Path) → list_any (λ entry. names_number range term path entry.0) part ≡ false
-    → may_be term part (Some (Number number)) ≡ true → may_be term part (Some (Number before)) ≡ true
-all_before range term path before number e here [] names h = refl
-all_before range term path before number e here (entry ∷ part) names h =
-    let none = both_false (names_number range term path entry.0) (list_any (λ entry. names_number range term path entry.0) part) names in
-    let both = both_true (leaves term (Some (Number number)) entry.0 entry.1) (may_be term part (Some (Number number))) h in
-    two_true (leaves term (Some (Number before)) entry.0 entry.1) (may_be term part (Some (Number before)))
-    (leaves_before range term path before number e here entry.0 entry.1 none.0 both.0)
-    (all_before range term path before number e here part none.1 both.1)
+    → list_any (λ entry. names_number range term path entry.0) path ≡ false → may_be term path (Some (Number number)) ≡ may_be term path (Some (Number before))
+all_before range term path before number e here none =
+    all_alike term (Some (Number number)) (Some (Number before)) (names_number range term path)
+    (λ atom unnamed about. holds_alike (Some (Number number)) (Some (Number before)) atom
+    (numbers_alike range term path before number e here (constants_of atom)
+    (under (is_about term atom) (list_any (gives_number range term path) (constants_of atom)) unnamed about)))
+    path none
 
 -- down from a number that serves, to one that is tried
 descend : (range : Range) (term : Term) (path : Path) (steps : ℕ) (number : ℤ) → number ≡ range.least +ℤ pos steps → IsIn range number
@@ -112,7 +131,7 @@ descend range term path (suc steps) number e inside left = by_test (list_any (λ
     let within : before ≤ℤ number = omega (arith, ints) in
     let high : before ≤ℤ range.greatest = omega (arith, ints, inside.below_greatest) in
     descend range term path steps before refl (record { above_least = low; below_greatest = high })
-    (all_before range term path before number next (serves_when range term path number inside left) path unnamed left))
+    (sym (all_before range term path before number next (serves_when range term path number inside left) unnamed) ∙ left))
 
 -- how far a number is above another
 distance : (low high : ℤ) → low ≤ℤ high → (steps : ℕ) × (high ≡ low +ℤ pos steps)
@@ -134,9 +153,8 @@ text_apart term path text named left gone = not_true_false (bytes_eq text named)
     (λ same. let e : text ≡ named = (bytes_eq-Decides text named).0 same in
     clash (may_be term path (Some (Bytes named))) (subst (λ t. may_be term path (Some (Bytes t)) ≡ true) e left) gone)
 
--- a text that the comparison doesn't name compares as any other such text
-pub unnamed_text : (op : Op) (text : List ℕ) (constant : Constant) → ((named : List ℕ) → constant ≡ Bytes named → bytes_eq text named ≡ false)
-    → compare_known op (Bytes text) constant ≡ holds_of op None constant
+-- a text that isn't the constant compares as any other such text
+unnamed_text : (op : Op) (text : List ℕ) (constant : Constant) → compares Eq (Some (Bytes text)) constant ≡ false → compares op (Some (Bytes text)) constant ≡ compares op None constant
 unnamed_text Eq text (Number k) apart = refl
 unnamed_text Ne text (Number k) apart = refl
 unnamed_text Lt text (Number k) apart = refl
@@ -149,46 +167,47 @@ unnamed_text Lt text (Truth b) apart = refl
 unnamed_text Le text (Truth b) apart = refl
 unnamed_text Gt text (Truth b) apart = refl
 unnamed_text Ge text (Truth b) apart = refl
-unnamed_text Eq text (Bytes named) apart = apart named refl
-unnamed_text Ne text (Bytes named) apart = rw (apart named refl) refl
+unnamed_text Eq text (Bytes named) apart = apart
+unnamed_text Ne text (Bytes named) apart = rw apart refl
 unnamed_text Lt text (Bytes named) apart = refl
 unnamed_text Le text (Bytes named) apart = refl
 unnamed_text Gt text (Bytes named) apart = refl
 unnamed_text Ge text (Bytes named) apart = refl
 
-named_apart : (term other : Term) (path : Path) (text : List ℕ) (op : Op) (constant : Constant) → may_be term path (Some (Bytes text)) ≡ true
-    → names_text term path (Cmp other op constant) ≡ false → same_term other term ≡ true
-    → (named : List ℕ) → constant ≡ Bytes named → bytes_eq text named ≡ false
-named_apart term other path text op constant left names same named is =
-    let there : names_text term path (Cmp other op (Bytes named)) ≡ false = subst (λ c. names_text term path (Cmp other op c) ≡ false) is names in
-    let gone : may_be term path (Some (Bytes named)) ≡ false = rw same at there in
-    text_apart term path text named left gone
+texts_alike : (text : List ℕ) (constants : List Constant) → list_any (compares Eq (Some (Bytes text))) constants ≡ false → AreAlike (Some (Bytes text)) None constants
+texts_alike text [] apart = tt
+texts_alike text (constant ∷ constants) apart =
+    let both = both_false (compares Eq (Some (Bytes text)) constant) (list_any (compares Eq (Some (Bytes text))) constants) apart in
+    ((λ op. unnamed_text op text constant both.0), texts_alike text constants both.1)
 
--- what leaves a text that no comparison names leaves each such text
-leaves_unnamed : (term : Term) (path : Path) (text : List ℕ) → may_be term path (Some (Bytes text)) ≡ true → (atom : AtomOf) (found : Tri) → names_text term path atom ≡ false
-    → leaves term (Some (Bytes text)) atom found ≡ leaves term None atom found
-leaves_unnamed term path text left (Cmp other op constant) True names = by_test (same_term other term)
-    (λ same. rw same (unnamed_text op text constant (named_apart term other path text op constant left names same)))
-    (λ differs. rw differs refl)
-leaves_unnamed term path text left (Cmp other op constant) False names = by_test (same_term other term)
-    (λ same. rw same (ap not (unnamed_text op text constant (named_apart term other path text op constant left names same))))
-    (λ differs. rw differs refl)
-leaves_unnamed term path text left (Cmp other op constant) Null names = refl
-leaves_unnamed term path text left (IsNull column) found names = refl
+-- the atom names the text
+abbrev pub has_constant : List ℕ → AtomOf → Bool
+has_constant text atom = list_any (compares Eq (Some (Bytes text))) (constants_of atom)
 
-all_unnamed : (term : Term) (path : Path) (text : List ℕ) → may_be term path (Some (Bytes text)) ≡ true → (part : Path) → list_any (λ entry. names_text term path entry.0) part ≡ false
-    → may_be term part (Some (Bytes text)) ≡ may_be term part None
-all_unnamed term path text left [] names = refl
-all_unnamed term path text left (entry ∷ part) names =
-    let none = both_false (names_text term path entry.0) (list_any (λ entry. names_text term path entry.0) part) names in
-    let here = leaves_unnamed term path text left entry.0 entry.1 none.0 in
-    let there = all_unnamed term path text left part none.1 in
-    cc
+-- what leaves a text that no atom names leaves each such text
+pub all_unnamed : (term : Term) (text : List ℕ) (test : AtomOf → Bool) → ((atom : AtomOf) → test atom ≡ false → is_about term atom ≡ true → has_constant text atom ≡ false)
+    → (path : Path) → list_any (λ entry. test entry.0) path ≡ false → may_be term path (Some (Bytes text)) ≡ may_be term path None
+all_unnamed term text test apart path none =
+    all_alike term (Some (Bytes text)) None test
+    (λ atom unnamed about. holds_alike (Some (Bytes text)) None atom (texts_alike text (constants_of atom) (apart atom unnamed about)))
+    path none
+
+-- constants that are not left differ from a text that is
+named_apart : (term : Term) (path : Path) (text : List ℕ) → may_be term path (Some (Bytes text)) ≡ true
+    → (constants : List Constant) → list_any (gives_text term path) constants ≡ false → list_any (compares Eq (Some (Bytes text))) constants ≡ false
+named_apart term path text left [] none = refl
+named_apart term path text left (Bytes named ∷ constants) none =
+    let both = both_false (may_be term path (Some (Bytes named))) (list_any (gives_text term path) constants) none in
+    two_false (bytes_eq text named) _ (text_apart term path text named left both.0) (named_apart term path text left constants both.1)
+named_apart term path text left (Number k ∷ constants) none = named_apart term path text left constants none
+named_apart term path text left (Truth b ∷ constants) none = named_apart term path text left constants none
 
 text_found : (term : Term) (path : Path) (text : List ℕ) → may_be term path (Some (Bytes text)) ≡ true → has_text term path ≡ true
 text_found term path text left = by_test (list_any (λ entry. names_text term path entry.0) path)
     (λ named. right_true (may_be term path None) _ named)
-    (λ unnamed. left_true (may_be term path None) _ (sym (all_unnamed term path text left path unnamed) ∙ left))
+    (λ unnamed. left_true (may_be term path None) _ (sym (all_unnamed term text (names_text term path)
+    (λ atom names about. named_apart term path text left (constants_of atom) (under (is_about term atom) (list_any (gives_text term path) (constants_of atom)) names about))
+    path unnamed) ∙ left))
 
 -- ---- a value that is left is found
 

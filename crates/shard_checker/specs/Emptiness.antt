@@ -1,4 +1,4 @@
--- When a term has no value left at the end of a path, so that no row is there: "9.2 Comparison Functions and Operators", by which a comparison is null where its column is, and only there.
+-- When a term has no value left at the end of a path, so that no row is there: "9.2 Comparison Functions and Operators", by which a comparison is null where its column is, and only there, and `IS DISTINCT FROM` is never null.
 use Rattle.std.specs.Prelude.{◌≡◌, Bool, true, false, ◌↔◌, List, Some}
 use Rattle.filter_tree.specs.Datum.{Constant, Datum, Missing, Known}
 use Rattle.filter_tree.specs.Lists.{column_of}
@@ -8,7 +8,7 @@ use Rattle.filter_tree.specs.declared.table.Column.{Column}
 use Rattle.shard_checker.specs.Domain.{kind_at, IsInDomain}
 use Rattle.shard_checker.specs.Facts.{is_null, is_present, may_be}
 
--- the constant is left to the term: it is of the term's domain, nothing says that the column is null, and each comparison of the term that was found true or false is so of it
+-- the constant is left to the term: it is of the term's domain, nothing says that the column is null, and each test of the term that was found true or false is so of it
 pub record IsConstantLeft (columns : List Column) (term : Term) (path : Path) (constant : Constant) : Type 0 where
   pub in_domain : IsInDomain (kind_at columns (column_of term)) term constant
   pub may_be_known : is_null (column_of term) path ≡ false

@@ -1,15 +1,15 @@
--- What the atoms that were found on the way to a node tell of a row there: that a column is null or isn't, and which constants a term may be. Restates "9.2 Comparison Functions and Operators": a comparison is null where its column is, and only there.
+-- What the atoms that were found on the way to a node tell of a row there: that a column is null or isn't, and which constants a term may be. Restates "9.2 Comparison Functions and Operators" and IN of "9.24 Row and Array Comparisons": all of them but `IS NULL` and `IS DISTINCT FROM` are null where their column is, and only there.
 use Rattle.std.specs.Prelude.{ℕ, ◌==◌, Bool, true, false, not, ◌&&◌, ◌||◌, if◌then◌else◌, List, Option, Some, None, slice_get}
 use Rattle.std.specs.List.{list_any, list_all}
-use Rattle.filter_tree.specs.Datum.{Constant, Bytes}
+use Rattle.filter_tree.specs.Datum.{Constant, Number, Bytes}
 use Rattle.filter_tree.specs.Compare.{compare_known}
-use Rattle.filter_tree.specs.Expr.{AtomOf, Cmp, IsNull}
-use Rattle.filter_tree.specs.Lists.{column_of, term_of}
+use Rattle.filter_tree.specs.Expr.{AtomOf, Cmp, IsNull, In, Between, Distinct, term_of}
+use Rattle.filter_tree.specs.Lists.{column_of}
 use Rattle.filter_tree.specs.Mask.{same_tri}
 use Rattle.filter_tree.specs.Paths.{Path}
 use Rattle.filter_tree.specs.Same.{same_term, same_atom}
 use Rattle.filter_tree.specs.declared.filter.Op.{Op}
-use Rattle.filter_tree.specs.declared.filter.Op.TheVariants.{Ne}
+use Rattle.filter_tree.specs.declared.filter.Op.TheVariants.{Eq, Ne, Le, Ge}
 use Rattle.filter_tree.specs.declared.filter.Term.{Term}
 use Rattle.filter_tree.specs.declared.table.Column.{Column}
 use Rattle.filter_tree.specs.declared.tri.Tri.{Tri}
@@ -17,18 +17,29 @@ use Rattle.filter_tree.specs.declared.tri.Tri.TheVariants.{True, False, Null}
 
 -- ---- null
 
--- the atom with this value says that the column is null: `IS NULL` is true, or a comparison is null
-abbrev pub says_null : ℕ → AtomOf → Tri → Bool
-says_null column (Cmp term op constant) Null = column_of term == column
-says_null column (IsNull other) True = other == column
-says_null column atom value = false
+-- the atom has this value only where its column is null: `IS NULL` is true, or a comparison, IN or BETWEEN is null
+abbrev pub tells_null : AtomOf → Tri → Bool
+tells_null (Cmp term op constant) value = same_tri value Null
+tells_null (IsNull column) value = same_tri value True
+tells_null (In term constants) value = same_tri value Null
+tells_null (Between term low high) value = same_tri value Null
+tells_null (Distinct term constant) value = false
 
--- it says that the column isn't null: `IS NULL` is false, or a comparison is known
+-- the atom has this value only where its column isn't null: `IS NULL` or `IS DISTINCT FROM` is false, or a comparison, IN or BETWEEN is known
+abbrev pub tells_present : AtomOf → Tri → Bool
+tells_present (Cmp term op constant) value = not (same_tri value Null)
+tells_present (IsNull column) value = same_tri value False
+tells_present (In term constants) value = not (same_tri value Null)
+tells_present (Between term low high) value = not (same_tri value Null)
+tells_present (Distinct term constant) value = same_tri value False
+
+-- the atom with this value says that the column is null
+abbrev pub says_null : ℕ → AtomOf → Tri → Bool
+says_null column atom value = tells_null atom value && (column_of (term_of atom) == column)
+
+-- it says that the column isn't null
 abbrev pub says_present : ℕ → AtomOf → Tri → Bool
-says_present column (Cmp term op constant) True = column_of term == column
-says_present column (Cmp term op constant) False = column_of term == column
-says_present column (IsNull other) False = other == column
-says_present column atom value = false
+says_present column atom value = tells_present atom value && (column_of (term_of atom) == column)
 
 abbrev pub not_null_in : Option Column → Bool
 not_null_in None = false
@@ -57,27 +68,47 @@ is_this_null wanted atom value = same_atom wanted atom && same_tri value Null
 abbrev pub has_null : AtomOf → Path → Bool
 has_null wanted path = list_any (λ entry. is_this_null wanted entry.0 entry.1) path
 
-abbrev pub is_null_test : AtomOf → Bool
-is_null_test (Cmp term op constant) = false
-is_null_test (IsNull column) = true
+-- the atom is true or false of each value, and of null
+abbrev pub is_always_known : AtomOf → Bool
+is_always_known (Cmp term op constant) = false
+is_always_known (IsNull column) = true
+is_always_known (In term constants) = false
+is_always_known (Between term low high) = false
+is_always_known (Distinct term constant) = true
 
--- the atom was found to be null, which it can't be: it is an `IS NULL`, or its column is declared NOT NULL
+-- the atom was found to be null, which it can't be: it is an `IS NULL` or an `IS DISTINCT FROM`, or its column is declared NOT NULL
 abbrev pub is_never_null : List Column → AtomOf → Path → Bool
-is_never_null columns atom path = has_null atom path && (is_null_test atom || is_declared columns (column_of (term_of atom)))
+is_never_null columns atom path = has_null atom path && (is_always_known atom || is_declared columns (column_of (term_of atom)))
 
 -- ---- values
 
--- the comparison holds of a value; none stands for a text that differs from the constant of each comparison
-abbrev pub holds_of : Op → Option Constant → Constant → Bool
-holds_of op (Some value) constant = compare_known op value constant
-holds_of Ne None (Bytes text) = true
-holds_of op None constant = false
+-- the comparison holds of a value; none is a text that differs from each constant
+abbrev pub compares : Op → Option Constant → Constant → Bool
+compares op (Some value) constant = compare_known op value constant
+compares Ne None (Bytes text) = true
+compares op None constant = false
 
--- what was found of the atom leaves this value to the term: a comparison of the term that is true or false is so of the value
+-- the atom is true of a value, which isn't null; none is a text that differs from each constant that the atom names
+abbrev pub holds_of : AtomOf → Option Constant → Bool
+holds_of (Cmp term op constant) value = compares op value constant
+holds_of (IsNull column) value = false
+holds_of (In term constants) value = list_any (compares Eq value) constants
+holds_of (Between term low high) value = compares Ge value (Number low) && compares Le value (Number high)
+holds_of (Distinct term constant) value = compares Ne value constant
+
+-- the atom is a test of the values of the term, as all are but `IS NULL`
+abbrev pub is_about : Term → AtomOf → Bool
+is_about term (Cmp other op constant) = same_term other term
+is_about term (IsNull column) = false
+is_about term (In other constants) = same_term other term
+is_about term (Between other low high) = same_term other term
+is_about term (Distinct other constant) = same_term other term
+
+-- what was found of the atom leaves this value to the term: a test of the term that is true or false is so of the value
 abbrev pub leaves : Term → Option Constant → AtomOf → Tri → Bool
-leaves term value (Cmp other op constant) True = if same_term other term then holds_of op value constant else true
-leaves term value (Cmp other op constant) False = if same_term other term then not (holds_of op value constant) else true
-leaves term value atom found = true
+leaves term value atom True = if is_about term atom then holds_of atom value else true
+leaves term value atom False = if is_about term atom then not (holds_of atom value) else true
+leaves term value atom Null = true
 
 -- all that was found does
 abbrev pub may_be : Term → Path → Option Constant → Bool

@@ -9,26 +9,41 @@ ghost use Rattle.shard_checker.specs.Facts as spec;
 use filter_tree::{Atom, Column, Tri, same_atom};
 use std::alloc::Allocator;
 
+/// Whether the atom has this value only where its column is null.
+fn tells_null<A: Allocator>(atom: &Atom<A>, value: Tri) -> bool
+    ensures { result ≡ spec.tells_null (atom_view atom.now) value }
+{
+    match atom {
+        Atom::Cmp(..) | Atom::In(..) | Atom::Between(..) => matches!(value, Tri::Null),
+        Atom::IsNull(_) => matches!(value, Tri::True),
+        Atom::Distinct(..) => false,
+    }
+}
+
+/// Whether the atom has this value only where its column isn't null.
+fn tells_present<A: Allocator>(atom: &Atom<A>, value: Tri) -> bool
+    ensures { result ≡ spec.tells_present (atom_view atom.now) value }
+{
+    match atom {
+        Atom::Cmp(..) | Atom::In(..) | Atom::Between(..) => {
+            matches!(value, Tri::True | Tri::False)
+        }
+        Atom::IsNull(_) | Atom::Distinct(..) => matches!(value, Tri::False),
+    }
+}
+
 /// Whether the atom with this value says that the column is null.
 fn says_null<A: Allocator>(column: usize, atom: &Atom<A>, value: Tri) -> bool
     ensures { result ≡ spec.says_null column (atom_view atom.now) value }
 {
-    match (atom, value) {
-        (Atom::Cmp(term, _, _), Tri::Null) => term.column() == column,
-        (Atom::IsNull(other), Tri::True) => *other == column,
-        (Atom::Cmp(..) | Atom::IsNull(_), _) => false,
-    }
+    tells_null(atom, value) && atom.term().column() == column
 }
 
 /// Whether the atom with this value says that the column isn't null.
 fn says_present<A: Allocator>(column: usize, atom: &Atom<A>, value: Tri) -> bool
     ensures { result ≡ spec.says_present column (atom_view atom.now) value }
 {
-    match (atom, value) {
-        (Atom::Cmp(term, _, _), Tri::True | Tri::False) => term.column() == column,
-        (Atom::IsNull(other), Tri::False) => *other == column,
-        (Atom::Cmp(..) | Atom::IsNull(_), _) => false,
-    }
+    tells_present(atom, value) && atom.term().column() == column
 }
 
 /// Whether the column is declared NOT NULL.
@@ -89,14 +104,18 @@ fn has_null<A: Allocator>(wanted: &Atom<A>, path: &[(&Atom<A>, Tri)]) -> bool
     false
 }
 
-fn is_null_test<A: Allocator>(atom: &Atom<A>) -> bool
-    ensures { result ≡ spec.is_null_test (atom_view atom.now) }
+/// Whether the atom is true or false of each value, and of null.
+fn is_always_known<A: Allocator>(atom: &Atom<A>) -> bool
+    ensures { result ≡ spec.is_always_known (atom_view atom.now) }
 {
-    matches!(atom, Atom::IsNull(_))
+    match atom {
+        Atom::IsNull(_) | Atom::Distinct(..) => true,
+        Atom::Cmp(..) | Atom::In(..) | Atom::Between(..) => false,
+    }
 }
 
-/// Whether the path has the atom with the value null, which it can't have: it is an `IS NULL`, or its column is declared
-/// NOT NULL.
+/// Whether the path has the atom with the value null, which it can't have: it is an `IS NULL` or an `IS DISTINCT FROM`,
+/// or its column is declared NOT NULL.
 pub fn is_never_null<A: Allocator>(
     columns: &[Column],
     atom: &Atom<A>,
@@ -104,5 +123,5 @@ pub fn is_never_null<A: Allocator>(
 ) -> bool
     ensures { result ≡ spec.is_never_null columns.now (atom_view atom.now) (path_view path.now) }
 {
-    has_null(atom, path) && (is_null_test(atom) || is_declared(columns, atom.term().column()))
+    has_null(atom, path) && (is_always_known(atom) || is_declared(columns, atom.term().column()))
 }

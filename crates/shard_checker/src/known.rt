@@ -26,10 +26,14 @@ pub struct Known {
 fn open_mask<A: Allocator>(atom: &Atom<A>) -> Mask
     ensures { result ≡ spec.atom_mask [] (atom_view atom.now) }
 {
+    let null = match atom {
+        Atom::Cmp(..) | Atom::In(..) | Atom::Between(..) => true,
+        Atom::IsNull(_) | Atom::Distinct(..) => false,
+    };
     Mask {
         truth: true,
         falsity: true,
-        null: matches!(atom, Atom::Cmp(..)),
+        null,
     }
 }
 

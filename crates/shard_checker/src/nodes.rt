@@ -23,14 +23,14 @@ use filter_tree::{Atom, Column, Term, Tri};
 use split_cert::Node;
 use std::alloc::Allocator;
 
-/// Whether no value is left to the term at the end of the path: its column would have to be null and not null, or none
-/// of the values that are tried is left.
+/// Whether no value is left to the term at the end of the path: its column isn't null, and would have to be, or none of
+/// the values that are tried is left.
 fn is_empty<A: Allocator>(columns: &[Column], term: Term, path: &[(&Atom<A>, Tri)]) -> bool
     ensures { result ≡ trying.is_empty columns.now term (path_view path.now) }
 {
     let column = term.column();
-    (is_null(column, path) && is_present(columns, column, path))
-        || !has_value(kind_at(columns, column), term, path)
+    is_present(columns, column, path)
+        && (is_null(column, path) || !has_value(kind_at(columns, column), term, path))
 }
 
 /// Checks that the atom by which a node splits is there.

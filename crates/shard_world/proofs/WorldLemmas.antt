@@ -19,16 +19,16 @@ use Rattle.table_changes.specs.Setting.{Setting}
 use Rattle.tables_log.specs.StandsFor.{Transaction, left_by, after, IsAccepted, AreAccepted}
 use Rattle.shard_world.specs.Finding.{in_shard}
 use Rattle.shard_world.specs.Following.{IsPublished}
-use Rattle.shard_world.specs.World.{Peer, World, Event, Commit, On, Answer, first_world, peer_step, broken, with_peer, with_transaction, StepsOn, Steps, Leads}
+use Rattle.shard_world.specs.World.{Connection, Peer, World, Event, Commit, On, Answer, first_world, peer_step, broken, with_peer, with_transaction, StepsOn, Steps, Leads}
 use Rattle.shard_world.specs.Sayable.{IsTextTransaction, IsSayable}
-use Rattle.shard_world.specs.WorldLaws.{IsPublisher, BringsTexts, IsTextEvent, HoldsExactly, WorldsHoldExactly, has_row, WorldsDivideRows}
+use Rattle.shard_world.specs.WorldLaws.{IsPublisher, BringsTexts, IsTextEvent, HoldsExactly, WorldsHoldExactly, IsStartedAsAsked, WorldsStartAsAsked, has_row, WorldsDivideRows}
 use Rattle.shard_world.proofs.CommandSteps.{IsRight}
 use Rattle.shard_world.proofs.EntryLemmas.{right_at}
 use Rattle.shard_world.proofs.FollowingBytesLemmas.{first_follows}
 use Rattle.shard_world.proofs.SayableLemmas.{logs_can_be_said}
 use Rattle.shard_world.proofs.WorldHearing.{longer_good}
 use Rattle.shard_world.proofs.WorldItems.{sayable_first}
-use Rattle.shard_world.proofs.WorldPeers.{IsGood, good_follows}
+use Rattle.shard_world.proofs.WorldPeers.{IsConnectedAt, IsGood, good_follows}
 use Rattle.shard_world.proofs.WorldSteps.{peer_good, broken_good}
 
 accepted_more : (setting : Setting) (tables : Tables) (transactions : List Transaction) (transaction : Transaction) → AreAccepted setting tables transactions
@@ -208,6 +208,15 @@ can_be_said checked most publisher events texts world leads =
 pub worlds_hold_exactly : WorldsHoldExactly
 worlds_hold_exactly checked most publisher events texts world leads =
     hold_exactly checked publisher.covered publisher.apart most events (all_timed events texts) world leads (can_be_said checked most publisher events texts world leads)
+
+pub worlds_start_as_asked : WorldsStartAsAsked
+worlds_start_as_asked checked most publisher events texts world leads subscriber =
+    let good = good_at checked publisher.covered publisher.apart most events (all_timed events texts) world leads (can_be_said checked most publisher events texts world leads) in
+    asked (world.peers subscriber) (world.peers subscriber).connection (good.peers subscriber).connected
+  where
+    asked : (peer : Peer) (connection : Option Connection) → IsConnectedAt checked world.transactions subscriber peer connection → IsStartedAsAsked peer connection
+    asked peer None connected = tt
+    asked peer (Some c) connected = connected.1.started
 
 -- ---- all together
 

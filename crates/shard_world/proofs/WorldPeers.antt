@@ -21,16 +21,13 @@ use Rattle.shard_world.specs.FollowingBytes.{IsFollowed}
 use Rattle.shard_world.specs.Items.{Item, Response, spelled, move_items}
 use Rattle.shard_world.specs.Sayable.{IsSayable}
 use Rattle.shard_world.specs.World.{Connection, Peer, down_items, down_bytes, position_in, machine_in, position_now, machine_now, loses}
+pub use Rattle.shard_world.specs.WorldLaws.{StartsAt}
 use Rattle.shard_world.proofs.CuttingLemmas.{cut_nothing}
 use Rattle.shard_world.proofs.FollowingBytesLemmas.{follows_alike, opened_followed}
 use Rattle.shard_world.proofs.ItemLemmas.{streams_are_items}
 use Rattle.shard_world.proofs.WorldItems.{whole_more, more_raise, items_append, IsClocked, stream_sent}
 
 -- ---- what is so of a connection
-
-abbrev pub StartsAt : ℕ → Option ℕ → Type 0
-StartsAt position None = Unit {0}
-StartsAt position (Some start) = start ≡ position
 
 -- it says no more than what it reached
 abbrev pub IsReported : ℕ → Status → Type 0

@@ -1,5 +1,5 @@
 -- What holds in each world that events lead to: each subscriber has exactly its shard of the publisher's tables after the commits that it applied; and where all have applied the same, each row is at exactly one of them: PostgreSQL 15, "Logical Replication", 31.2 Subscription and 31.3 Row Filters.
-use Rattle.std.specs.Prelude.{◌≡◌, ◌<◌, ◌≤◌, ◌^◌, ℕ, Bool, true, List, All, length, take}
+use Rattle.std.specs.Prelude.{◌≡◌, ◌<◌, ◌≤◌, ◌^◌, ℕ, Bool, true, List, All, length, take, Option, Some, None}
 use Rattle.filter_tree.specs.Datum.{Datum}
 use Rattle.table_changes.specs.Standing.{Covered, KeepsApart, Sound}
 use Rattle.table_changes.specs.Tables.{is_row, holds}
@@ -13,7 +13,7 @@ use Rattle.pgoutput_msgs.specs.Telling.{oid_of}
 use Rattle.copy_both.specs.Streams.{count_before}
 use Rattle.shard_world.specs.Following.{own_key, HasShard}
 use Rattle.shard_world.specs.Sayable.{IsTextCommand}
-use Rattle.shard_world.specs.World.{World, Event, Commit, On, first_world, position_now, machine_now, Leads}
+use Rattle.shard_world.specs.World.{Connection, Peer, World, Event, Commit, On, first_world, position_now, machine_now, Leads}
 
 -- ---- what is asked of the publisher and of events
 
@@ -37,6 +37,22 @@ BringsTexts (On subscriber event) = Unit {0}
 
 abbrev pub IsTextEvent : ℕ × Event → Type 0
 IsTextEvent event = (event.0 < 2 ^ 64) × BringsTexts event.1
+
+-- ---- where streams start
+
+-- one that has started did at this position
+abbrev pub StartsAt : ℕ → Option ℕ → Type 0
+StartsAt position None = Unit {0}
+StartsAt position (Some start) = start ≡ position
+
+-- the stream of a connection starts at the position that was asked for as it was opened
+abbrev pub IsStartedAsAsked : Peer → Option Connection → Type 0
+IsStartedAsAsked peer None = Unit {0}
+IsStartedAsAsked peer (Some c) = StartsAt peer.position c.start
+
+abbrev pub WorldsStartAsAsked : Type 0
+WorldsStartAsAsked = (checked : CheckedOf) (most : ℕ) → IsPublisher checked most → (events : List (ℕ × Event)) → All IsTextEvent events
+    → (world : World) → Leads checked most events first_world world → (subscriber : ℕ) → IsStartedAsAsked (world.peers subscriber) (world.peers subscriber).connection
 
 -- ---- each has its shard
 

@@ -11,7 +11,7 @@ ghost use Rattle.shard_world.specs.Refusals.{DeliversAreAnswered, ReportsAreAnsw
 ghost use Rattle.shard_world.specs.Refusals.{HearHalts, TakeHalts, KeepHalts, DeliverHalts, ReportHalts, LossBreaks};
 ghost use Rattle.shard_world.specs.Sayable.{LogsCanBeSaid};
 ghost use Rattle.shard_world.specs.UpsHeard.{StartsAreHeard, StatusesAreHeard};
-ghost use Rattle.shard_world.specs.WorldLaws.{CheckedPublish, WorldsHoldExactly, WorldsDivideRows};
+ghost use Rattle.shard_world.specs.WorldLaws.{CheckedPublish, WorldsHoldExactly, WorldsDivideRows, WorldsStartAsAsked};
 ghost use Rattle.shard_world.specs.FollowingBytes.{BytesAreFollowed, FedFollow, StoppedFollow, LostFollow, FirstFollows, FollowsLonger};
 
 /// A law, and no code, of streams. A stream is the frames of its items, one after another (`spelled`), and bytes that are
@@ -65,12 +65,14 @@ pub fn logs_can_be_said()
 /// connections that are opened and lost, on which bytes are heard and delivered in any pieces (`Steps`). Events, each with
 /// its time, lead from the world without rows to another one. There each subscriber has exactly its shard of the publisher's
 /// tables after the commits that its position counts (`exactly`). Where all have applied the same commits, each row of the
-/// tables after them is at exactly one subscriber, and no subscriber has another row (`divided`).
+/// tables after them is at exactly one subscriber, and no subscriber has another row (`divided`). A stream that has started
+/// did at the position that its subscriber asked for, since what was confirmed never passes that (`asked`).
 ///
 /// PostgreSQL 15, "Logical Replication", 31.2 Subscription and 31.3 Row Filters.
 pub fn subscribers_divide_the_tables()
     ensures exactly { WorldsHoldExactly }
     ensures divided { WorldsDivideRows }
+    ensures asked { WorldsStartAsAsked }
 {}
 
 /// A law, and no code, of a subscriber with a connection, in each world that events lead to. If all that it sent is heard,
