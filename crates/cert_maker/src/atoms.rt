@@ -114,10 +114,8 @@ fn place_of(terms: &[Term], term: Term) -> usize {
 fn bit_of(kind: &AtomKind, number: usize) -> u64 {
     match kind {
         AtomKind::IsNull => 0,
-        AtomKind::Cmp(..)
-        | AtomKind::In(_)
-        | AtomKind::Between(..)
-        | AtomKind::Distinct(_) => if number < 64 { 1u64 << number } else { 0 },
+        AtomKind::Cmp(..) | AtomKind::In(_) | AtomKind::Between(..) | AtomKind::Distinct(_) =>
+            if number < 64 { 1u64 << number } else { 0 },
     }
 }
 

@@ -1,7 +1,7 @@
 //! What is known at a node of the tree that is looked for.
 
 use crate::facts::{Facts, open};
-use crate::masks::{is_sure, mask_at, put, settled};
+use crate::masks::{is_settled, is_sure, mask_at, put};
 use crate::problem::{Claim, Problem};
 use filter_tree::{Mask, Tri};
 use std::alloc::{AllocError, Global};
@@ -168,11 +168,11 @@ impl Board {
 
     /// Whether the atom has one value on the path.
     pub fn is_known(&self, atom: usize) -> bool {
-        settled(mask_at(&self.known, atom)).is_some()
+        is_settled(mask_at(&self.known, atom))
     }
 
     /// Whether the facts leave the atom one value, which it doesn't have on the path.
     pub fn is_forced(&self, atom: usize) -> bool {
-        !self.is_known(atom) && settled(mask_at(&self.likely, atom)).is_some()
+        !self.is_known(atom) && is_settled(mask_at(&self.likely, atom))
     }
 }

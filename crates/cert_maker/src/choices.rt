@@ -66,12 +66,7 @@ fn choice(
     match column.kind {
         ColType::Text => Some(Some(text_for(problem, board, place)?)),
         ColType::SmallInt | ColType::Integer | ColType::BigInt | ColType::Boolean => {
-            Some(Some(number_for(
-                problem,
-                board,
-                place,
-                whole_range(column.kind),
-            )?))
+            Some(Some(number_for(problem, board, place, whole_range(column.kind))?))
         }
     }
 }

@@ -145,11 +145,7 @@ impl Facts {
                 Nullness::Open
             };
             let emptied = None;
-            put(
-                &mut self.columns,
-                number,
-                ColumnFacts { nullness, emptied },
-            );
+            put(&mut self.columns, number, ColumnFacts { nullness, emptied });
         }
     }
 

@@ -1,6 +1,6 @@
 //! Filters over the numbers of atoms.
 
-use crate::masks::{mask_at, settled};
+use crate::masks::{both, either, is_settled, mask_at};
 use filter_tree::{Atom, Filter, Mask, Test, Tri, same_atom};
 use replica_identity::Share;
 use std::alloc::{AllocError, Allocator, Global};
@@ -16,11 +16,17 @@ pub enum Formula {
     Is(Test, Box<Formula>),
 }
 
-/// The truth values that a formula may have, how many of its atoms may make a difference to it, and the first of them.
+/// The truth values that a formula may have, and how many of its atoms may make a difference to it.
 #[derive(Clone, Copy)]
 pub struct Weighed {
     pub mask: Mask,
-    pub weight: u64,
+    pub weight: u32,
+}
+
+/// The truth values that a formula may have, and the first atom that may make a difference to it.
+#[derive(Clone, Copy)]
+pub struct Opened {
+    pub mask: Mask,
     pub first: Option<usize>,
 }
 
@@ -80,35 +86,19 @@ pub fn formula_of_share<A: Allocator>(
     }
 }
 
-/// Of a formula to which no atom makes a difference.
-fn decided(mask: Mask) -> Weighed {
+/// Of a formula whose values are in `mask`, and of whose atoms so many make a difference to its parts.
+fn weighing(mask: Mask, weight: u32) -> Weighed {
     Weighed {
         mask,
-        weight: 0,
-        first: None,
+        weight: if is_settled(mask) { 0 } else { weight },
     }
 }
 
-fn weighed_atom(mask: Mask, number: usize) -> Weighed {
-    if settled(mask).is_some() {
-        return decided(mask);
-    }
-    Weighed {
+/// Of a formula whose values are in `mask`, where this is the first atom that makes a difference to its parts.
+fn opening(mask: Mask, first: Option<usize>) -> Opened {
+    Opened {
         mask,
-        weight: 1,
-        first: Some(number),
-    }
-}
-
-/// Of a formula of two parts, whose values together are in `mask`.
-fn joined(mask: Mask, left: Weighed, right: Weighed) -> Weighed {
-    if settled(mask).is_some() {
-        return decided(mask);
-    }
-    Weighed {
-        mask,
-        weight: left.weight.saturating_add(right.weight),
-        first: left.first.or(right.first),
+        first: if is_settled(mask) { None } else { first },
     }
 }
 
@@ -119,8 +109,8 @@ impl Formula {
             Formula::Const(known) => Mask::single(Tri::from(*known)),
             Formula::Atom(number) => mask_at(atoms, *number),
             Formula::Not(part) => part.mask(atoms).not(),
-            Formula::And(left, right) => left.mask(atoms).and(right.mask(atoms)),
-            Formula::Or(left, right) => left.mask(atoms).or(right.mask(atoms)),
+            Formula::And(left, right) => both(left.mask(atoms), right.mask(atoms)),
+            Formula::Or(left, right) => either(left.mask(atoms), right.mask(atoms)),
             Formula::Is(test, part) => part.mask(atoms).is(*test),
         }
     }
@@ -128,23 +118,49 @@ impl Formula {
     /// Those truth values, and how many atoms may make a difference.
     pub fn weighed(&self, atoms: &[Mask]) -> Weighed {
         match self {
-            Formula::Const(known) => decided(Mask::single(Tri::from(*known))),
-            Formula::Atom(number) => weighed_atom(mask_at(atoms, *number), *number),
+            Formula::Const(known) => weighing(Mask::single(Tri::from(*known)), 0),
+            Formula::Atom(number) => weighing(mask_at(atoms, *number), 1),
             Formula::Not(part) => {
                 let part = part.weighed(atoms);
-                joined(part.mask.not(), part, decided(part.mask))
+                weighing(part.mask.not(), part.weight)
             }
             Formula::And(left, right) => {
                 let (left, right) = (left.weighed(atoms), right.weighed(atoms));
-                joined(left.mask.and(right.mask), left, right)
+                let weight = left.weight.saturating_add(right.weight);
+                weighing(both(left.mask, right.mask), weight)
             }
             Formula::Or(left, right) => {
                 let (left, right) = (left.weighed(atoms), right.weighed(atoms));
-                joined(left.mask.or(right.mask), left, right)
+                let weight = left.weight.saturating_add(right.weight);
+                weighing(either(left.mask, right.mask), weight)
             }
             Formula::Is(test, part) => {
                 let part = part.weighed(atoms);
-                joined(part.mask.is(*test), part, decided(part.mask))
+                weighing(part.mask.is(*test), part.weight)
+            }
+        }
+    }
+
+    /// Those truth values, and the first atom that may make a difference.
+    pub fn opened(&self, atoms: &[Mask]) -> Opened {
+        match self {
+            Formula::Const(known) => opening(Mask::single(Tri::from(*known)), None),
+            Formula::Atom(number) => opening(mask_at(atoms, *number), Some(*number)),
+            Formula::Not(part) => {
+                let part = part.opened(atoms);
+                opening(part.mask.not(), part.first)
+            }
+            Formula::And(left, right) => {
+                let (left, right) = (left.opened(atoms), right.opened(atoms));
+                opening(both(left.mask, right.mask), left.first.or(right.first))
+            }
+            Formula::Or(left, right) => {
+                let (left, right) = (left.opened(atoms), right.opened(atoms));
+                opening(either(left.mask, right.mask), left.first.or(right.first))
+            }
+            Formula::Is(test, part) => {
+                let part = part.opened(atoms);
+                opening(part.mask.is(*test), part.first)
             }
         }
     }

@@ -26,6 +26,29 @@ pub fn settled(mask: Mask) -> Option<Tri> {
     }
 }
 
+/// Whether the set has just one truth value.
+pub fn is_settled(mask: Mask) -> bool {
+    (mask.truth ^ mask.falsity ^ mask.null) & !(mask.truth & mask.falsity & mask.null)
+}
+
+/// As `Mask::and` of sets that aren't empty, with no branch.
+pub fn both(left: Mask, right: Mask) -> Mask {
+    Mask {
+        truth: left.truth & right.truth,
+        falsity: left.falsity | right.falsity,
+        null: (left.null & (right.truth | right.null)) | (left.truth & right.null),
+    }
+}
+
+/// As `Mask::or` of sets that aren't empty, with no branch.
+pub fn either(left: Mask, right: Mask) -> Mask {
+    Mask {
+        truth: left.truth | right.truth,
+        falsity: left.falsity & right.falsity,
+        null: (left.null & (right.falsity | right.null)) | (left.falsity & right.null),
+    }
+}
+
 /// Whether the set has true alone.
 pub fn is_sure(mask: Mask) -> bool {
     mask.truth && !mask.falsity && !mask.null

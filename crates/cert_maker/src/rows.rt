@@ -141,7 +141,13 @@ fn add_listed(
 fn add_texts(numbers: &mut Vec<Choice>, problem: &Problem<'_>) -> Result<(), AllocError> {
     add(numbers, empty_text(problem))?;
     add(numbers, problem.texts.unnamed())?;
-    for (place, _) in problem.texts.list.iter().take(problem.texts.alone).enumerate() {
+    for (place, _) in problem
+        .texts
+        .list
+        .iter()
+        .take(problem.texts.alone)
+        .enumerate()
+    {
         add(numbers, number(place))?;
     }
     Ok(())

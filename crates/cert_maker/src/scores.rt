@@ -1,7 +1,7 @@
 //! Which atom the rows at a node are split by.
 
 use crate::board::{Board, Standing};
-use crate::masks::{is_sure, mask_at, put, settled};
+use crate::masks::{is_settled, is_sure, mask_at, put};
 use crate::problem::{Claim, Problem};
 use filter_tree::{Mask, Tri};
 use std::alloc::{AllocError, Global};
@@ -144,7 +144,7 @@ impl Board {
                 self.count(claim);
                 let weighed = claim.formula.weighed(&self.likely);
                 if weighed.mask.truth {
-                    weight = weight.saturating_add(weighed.weight);
+                    weight = weight.saturating_add(u64::from(weighed.weight));
                 }
             }
         }
@@ -180,7 +180,7 @@ impl Board {
         let share = self.first(Standing::Undecided)?;
         let claim = problem.claims.get(share)?;
         self.count(claim);
-        claim.formula.weighed(&self.likely).first
+        claim.formula.opened(&self.likely).first
     }
 
     /// The atom, of those to which the facts leave several values, that leaves the least to decide. What was found of the
@@ -195,7 +195,7 @@ impl Board {
         let mut best = WORST;
         let mut found = None;
         for (atom, mask) in likely.iter().enumerate() {
-            if settled(*mask).is_none() {
+            if !is_settled(*mask) {
                 let score = self.score(problem, atom, *mask, best);
                 if score < best {
                     best = score;

@@ -15,10 +15,13 @@ use std::alloc::{AllocError, AllocFailed, Global};
 
 /// After so many steps a search goes on to no further node. A step is a look at a node of a share's filter, or at an
 /// atom, a term, a column or a class of numbers that the atoms of a term don't tell apart.
-pub const MAX_STEPS: u64 = 400_000_000;
+pub const MAX_STEPS: u64 = 200_000_000;
 
 /// After so many nodes splits are no longer chosen with care.
 const CAREFUL_NODES: usize = 20_000;
+
+/// After so many steps neither.
+const CAREFUL_STEPS: u64 = MAX_STEPS / 2;
 
 /// Why the search for a certificate ends without one.
 #[derive(Clone, Copy, Debug)]
@@ -156,12 +159,7 @@ impl<'a, 'q> Search<'a, 'q> {
         let if_null = self.branch(arena, may_split, fork, Tri::Null)?;
         let if_true = self.branch(arena, may_split, fork, Tri::True)?;
         let if_false = self.branch(arena, may_split, fork, Tri::False)?;
-        Ok(Cert::Split(
-            number(fork.atom)?,
-            if_true,
-            if_false,
-            if_null,
-        ))
+        Ok(Cert::Split(number(fork.atom)?, if_true, if_false, if_null))
     }
 
     /// The branch where the atom has this value.
@@ -234,7 +232,7 @@ impl<'a, 'q> Search<'a, 'q> {
     }
 
     fn halve(&mut self) -> Result<Step, Stop> {
-        if self.nodes > CAREFUL_NODES {
+        if self.nodes > CAREFUL_NODES || self.board.steps > CAREFUL_STEPS {
             let atom = self.board.first_open(self.problem);
             return self.split_by(atom);
         }
