@@ -167,10 +167,7 @@ FORMS = [
     same("\"a \"\"b\"\"::bigint\" = 'it''s'", "(\"a \"\"b\"\"::bigint\" = 'it''s'::text)"),
     same('"é (s)::integer" % 3 = 1', '(("é (s)::integer" % 3) = 1)'),
     other("\"é (s)::integer\" = '-5'", '("é (s)::integer" = -5)'),
-]
-
-# What the grammar of pgshard is to have soon. Until then pgshard is not asked of their values.
-LATER_FORMS = [
+    # Lists, and what is distinct.
     same("s IN (5, -5, 7)", "(s IN (5, -5, 7))"),
     same("s NOT IN (5, 3000000000)", "(s NOT IN (5, 3000000000))"),
     same("i IN (5, -5)", "(i IN (5, -5))"),

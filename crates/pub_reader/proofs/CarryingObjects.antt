@@ -13,7 +13,8 @@ use Rattle.sql_reader.specs.Items.{Items}
 use Rattle.sql_reader.specs.Names.{name}
 use Rattle.sql_reader.specs.Reading.{with_rest, look, eat, expect, item_ahead, rest_of}
 use Rattle.sql_reader.specs.Turns.{link}
-use Rattle.sql_reader.proofs.Carrying.{mapped, Carries, then-same, then-carried, repeat-carried, link-carried, expression-carried}
+use Rattle.sql_reader.proofs.Carrying.{mapped, Carries, then-same, then-carried, repeat-carried, link-carried}
+use Rattle.sql_reader.proofs.CarryingExpressions.{expression-carried}
 use Rattle.pub_reader.specs.declared.coverage.ObjectKind.{ObjectKind}
 use Rattle.pub_reader.specs.declared.coverage.ObjectKind.TheVariants as o
 use Rattle.pub_catalog.specs.Catalogs.{columns_at}

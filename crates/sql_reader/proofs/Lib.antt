@@ -1,5 +1,8 @@
 pub mod Ahead
+pub mod AscendingLemmas
 pub mod Carrying
+pub mod CarryingExpressions
+pub mod CarryingParts
 pub mod CountingLemmas
 pub mod Cuts
 pub mod Doubling
@@ -8,6 +11,7 @@ pub mod Leaving
 pub mod Meanings
 pub mod Nesting
 pub mod OrderLemmas
+pub mod Placing
 pub mod PlainNames
 pub mod Required
 pub mod SpelledRows

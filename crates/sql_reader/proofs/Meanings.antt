@@ -1,21 +1,25 @@
 -- An expression means as a filter tree what it means as it is written.
-use Rattle.std.proofs.Common.{◌≡◌, ℕ, true, false, List, refl, ap, sym}
+use Rattle.std.proofs.Common.{◌≡◌, ℕ, ℤ, Bool, true, false, ◌||◌, List, [], ◌∷◌, refl, ap, sym, ◌∙◌}
 use Rattle.std.specs.Prelude.{not}
 use Rattle.std.specs.Cmp.{bool_eq_equiv}
+use Rattle.std.specs.List.{list_any}
 use Rattle.std.specs.Str.{bytes_eq}
 use Rattle.std.proofs.lemmas.Cmp.{int_eq_equiv}
 use Rattle.std.proofs.lemmas.Bool.Decides.{same_from_decides}
 use Rattle.std.proofs.lemmas.Slice.Eq.{bytes_eq-Decides}
 use Rattle.filter_tree.specs.declared.filter.Op.{Op}
 use Rattle.filter_tree.specs.declared.filter.Op.TheVariants.{Eq, Ne, Lt, Le, Gt, Ge}
+use Rattle.filter_tree.specs.declared.tri.Tri.TheVariants.{Null}
 use Rattle.filter_tree.specs.declared.filter.Term.{Term}
 use Rattle.filter_tree.specs.declared.filter.Term.TheVariants.{Col, Mod}
 use Rattle.filter_tree.specs.Datum.{Constant, Number, Truth, Bytes, Datum, Missing, Known, value_at}
-use Rattle.filter_tree.specs.Compare.{compare_of, compare_known}
+use Rattle.filter_tree.specs.Compare.{compare_of, compare_known, equals, among_of, between_of, distinct_of}
 use Rattle.filter_tree.specs.Lists.{column_of}
-use Rattle.filter_tree.specs.Logic.{tri_of}
+use Rattle.filter_tree.specs.Logic.{or_of, tri_of}
 use Rattle.filter_tree.specs.Expr.{term_value, remainder_of, is_missing, meaning}
-use Rattle.sql_reader.specs.Written.{Written, Told, Column, Compared, ComparedFrom, IsNull, Is, Negated, And, Or, compare_values, truth_value, turned, as_written, as_filter, filter_of, written_meaning}
+use Rattle.sql_reader.specs.Ascending.{ascending}
+use Rattle.sql_reader.specs.Written.{Written, Told, Column, Compared, ComparedFrom, Among, Between, Distinct, IsNull, Is, Negated, And, Or, compare_values, among_values, between_values, distinct_values, truth_value, turned, as_written, as_filter, filter_of, written_meaning}
+use Rattle.sql_reader.proofs.AscendingLemmas.{or_false, any_ascending}
 use Rattle.sql_reader.proofs.Carrying.{Carries}
 
 pub filters_carry : Carries as_written as_filter filter_of
@@ -24,6 +28,9 @@ filters_carry = record {
   held = λ column. refl;
   compared = λ term op constant. refl;
   compared_from = λ constant op term. refl;
+  among = λ term first others. refl;
+  between = λ term low high. refl;
+  distinct = λ term constant. refl;
   lacking = λ term. refl;
   asked = λ test s. refl;
   negated = λ s. refl;
@@ -90,12 +97,45 @@ compared_from-same : (op : Op) (value : Datum) (constant : Constant) → compare
 compared_from-same op Missing constant = refl
 compared_from-same op (Known value) constant = ap tri_of (turned-same op value constant)
 
+-- ---- IN, BETWEEN and IS DISTINCT FROM
+
+or_of_known : (p q : Bool) → tri_of (p || q) ≡ or_of (tri_of p) (tri_of q)
+or_of_known true true = refl
+or_of_known true false = refl
+or_of_known false true = refl
+or_of_known false false = refl
+
+any-among : (value first : Constant) (others : List Constant) → tri_of (list_any (equals (Known value)) (first ∷ others)) ≡ among_values (Known value) first others
+any-among value first [] = ap tri_of (or_false (compare_known Eq value first))
+any-among value first (next ∷ others) =
+    or_of_known (compare_known Eq value first) (list_any (equals (Known value)) (next ∷ others))
+    ∙ ap (or_of (tri_of (compare_known Eq value first))) (any-among value next others)
+
+missing-among : (first : Constant) (others : List Constant) → Null ≡ among_values Missing first others
+missing-among first [] = refl
+missing-among first (next ∷ others) = ap (or_of Null) (missing-among next others)
+
+among-same : (value : Datum) (first : Constant) (others : List Constant) → among_of value (ascending (first ∷ others)) ≡ among_values value first others
+among-same Missing first others = missing-among first others
+among-same (Known value) first others = ap tri_of (any_ascending (equals (Known value)) (first ∷ others)) ∙ any-among value first others
+
+between-same : (value : Datum) (low high : ℤ) → between_of value low high ≡ between_values value low high
+between-same Missing low high = refl
+between-same (Known value) low high = refl
+
+distinct-same : (value : Datum) (constant : Constant) → distinct_of value constant ≡ distinct_values value constant
+distinct-same Missing constant = refl
+distinct-same (Known value) constant = refl
+
 -- the tree of an expression means what the expression means
 pub meaning-filter_of : (expression : Written) (row : List Datum) → meaning (filter_of expression) row ≡ written_meaning expression row
 meaning-filter_of (Told truth) row = refl
 meaning-filter_of (Column column) row = held-same (value_at row column)
 meaning-filter_of (Compared term op constant) row = compared-same op (term_value term row) constant
 meaning-filter_of (ComparedFrom constant op term) row = compared_from-same op (term_value term row) constant
+meaning-filter_of (Among term first others) row = among-same (term_value term row) first others
+meaning-filter_of (Between term low high) row = between-same (term_value term row) low high
+meaning-filter_of (Distinct term constant) row = distinct-same (term_value term row) constant
 meaning-filter_of (IsNull term) row = missing-same term row
 meaning-filter_of (Is test part) row = rw (meaning-filter_of part row) refl
 meaning-filter_of (Negated part) row = rw (meaning-filter_of part row) refl

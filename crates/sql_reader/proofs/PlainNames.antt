@@ -1,5 +1,5 @@
 -- A name that is read has 1 to 63 bytes of UTF-8, none of which is zero, and so have those of columns.
-use Rattle.std.proofs.Common.{◌≡◌, ℕ, zero, suc, Bool, true, false, ◌||◌, List, [], ◌∷◌, ◌++◌, All, refl}
+use Rattle.std.proofs.Common.{◌≡◌, ℕ, zero, suc, Bool, true, false, ◌||◌, List, [], ◌∷◌, All, refl}
 use Rattle.std.specs.Prelude.{if◌then◌else◌, Option, Some, None, Ok, Err}
 use Rattle.std.proofs.lemmas.List.Elements.{All-nil, All-cons, All-head, All-tail, All-push}
 use Rattle.std.proofs.lemmas.Str.{IsUtf8-had}
@@ -11,7 +11,6 @@ use Rattle.sql_tokens.specs.Left.{text_of, left}
 use Rattle.sql_tokens.specs.Lexed.{Lexed, End, Bad, Then as After}
 use Rattle.sql_tokens.specs.PlainNames.{IsPlainName, IsPlainToken, AreTokensPlain}
 use Rattle.sql_tokens.proofs.PlainNames.{are_plain}
-use Rattle.sql_reader.specs.declared.column.FoundColumn.{FoundColumn}
 use Rattle.sql_reader.specs.declared.column_rule.Constraints.{Constraints}
 use Rattle.sql_reader.specs.declared.item.Item.{Item}
 use Rattle.sql_reader.specs.declared.item.Item.TheVariants as i
@@ -22,13 +21,12 @@ use Rattle.sql_reader.specs.declared.reader.Reader.{Reader}
 use Rattle.sql_reader.specs.declared.word.Keyword.{Keyword}
 use Rattle.sql_reader.specs.declared.word.Keyword.TheVariants as k
 use Rattle.sql_reader.specs.Ahead.{ahead_of, to_read}
-use Rattle.sql_reader.specs.Columns.{Parts, no_parts, new_column, required, type_by, type_taken, column_type, given_by, constraint_by, constraint, constraint_ahead, no_constraints, constraints, has_key, column_element, once_in_key, key_column, key_columns, first_key, key_element, element_by, element, elements}
+use Rattle.sql_reader.specs.Columns.{Parts, no_parts, new_column, required, type_taken, column_type, given_by, constraint_by, constraint, constraint_ahead, no_constraints, constraints, has_key, column_element, once_in_key, key_column, key_columns, first_key, key_element, element_by, element, elements}
 use Rattle.sql_reader.specs.Expressions.{known_column}
 use Rattle.sql_reader.specs.Items.{Items, Stop, Broken, Then, Seen, word_or_keyword, is_name, item_of, within_quotes, items}
 use Rattle.sql_reader.specs.Keywords.{keyword_of}
 use Rattle.sql_reader.specs.Names.{name_ahead, name_meant, name}
-use Rattle.sql_reader.specs.Reading.{Fault, Outcome, Rule, and_then, Verdict, with_rest, looked, look, next_is, eat, expect, item_ahead, is_ahead, rest_of, refuse}
-use Rattle.sql_reader.specs.Turns.{repeat}
+use Rattle.sql_reader.specs.Reading.{Fault, Outcome, Rule, and_then, Verdict, with_rest, look, next_is, expect, item_ahead, is_ahead, rest_of, refuse}
 use Rattle.sql_reader.proofs.Leaving.{Leaves, then-leaves, chosen-leaves, links-leave, each-leave}
 
 -- ---- tokens

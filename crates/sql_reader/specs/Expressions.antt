@@ -1,5 +1,5 @@
--- Filters as they are written: PostgreSQL 15, "Value Expressions", 4.2, with the precedences of 4.1.6 Operator Precedence: `%` binds tighter than comparisons, these tighter than IS tests, then NOT, AND and OR; AND and OR build to the left.
-use Rattle.std.specs.Prelude.{ℕ, zero, suc, ◌+◌, Bool, true, false, if◌then◌else◌, List, [], ◌∷◌, Option, Some, None, Ok, Err}
+-- Filters as they are written: PostgreSQL 15, "Value Expressions", 4.2, with the precedences of 4.1.6 Operator Precedence: `%` binds tighter than comparisons, IN and BETWEEN, these tighter than IS tests, then NOT, AND and OR; AND and OR build to the left.
+use Rattle.std.specs.Prelude.{ℕ, zero, suc, ◌+◌, Bool, true, false, if◌then◌else◌, List, [], ◌∷◌, ◌++◌, length, Option, Some, None, Ok, Err}
 use Rattle.std.specs.Str.{bytes_eq}
 use Rattle.sql_tokens.specs.declared.kinds.Operator.TheVariants as o
 use Rattle.filter_tree.specs.declared.table.Column.{Column}
@@ -14,14 +14,19 @@ use Rattle.sql_reader.specs.declared.name.PlacedName.{PlacedName}
 use Rattle.sql_reader.specs.declared.column.FoundColumn.{FoundColumn}
 use Rattle.sql_reader.specs.declared.truth_test.Asked.{Asked}
 use Rattle.sql_reader.specs.declared.truth_test.Asked.TheVariants as a
-use Rattle.sql_reader.specs.declared.truth_test.TruthTest.{TruthTest}
+use Rattle.sql_reader.specs.declared.truth_test.DistinctWords.{DistinctWords}
+use Rattle.sql_reader.specs.declared.truth_test.TestAhead.{TestAhead}
+use Rattle.sql_reader.specs.declared.truth_test.TestAhead.TheVariants as b
+use Rattle.sql_reader.specs.declared.membership.Membership.{Membership}
+use Rattle.sql_reader.specs.declared.membership.Membership.TheVariants as m
+use Rattle.sql_reader.specs.declared.membership.MembershipWord.{MembershipWord}
 use Rattle.sql_reader.specs.declared.error.Omitted.TheVariants as l
-use Rattle.sql_reader.specs.declared.error.Later.TheVariants as y
 use Rattle.sql_reader.specs.Wrong as w
 use Rattle.sql_reader.specs.Items.{is_name}
 use Rattle.sql_reader.specs.Names.{name, string_meant}
+use Rattle.sql_reader.specs.Memberships.{among_part, between_part, distinct_part, room_in_list}
 use Rattle.sql_reader.specs.Numbers.{placed_number}
-use Rattle.sql_reader.specs.Operands.{PartOf, OfTerm, OfLiteral, part, wanted, negated, joined, dividend, remainder, comparison_by, compared_part, tested as tested_part}
+use Rattle.sql_reader.specs.Operands.{OperandOf, PartOf, OfTerm, OfLiteral, part, wanted, negated, joined, dividend, remainder, comparison_by, compared_part, tested as tested_part}
 pub use Rattle.sql_reader.specs.Operands.{Forms}
 use Rattle.sql_reader.specs.Reading.{Rule, Verdict, fault, ◌>>=◌, ◌>>◌, pure, check, here, refuse, refuse_as, advance, look, eat, expect, next_is, is_ahead, item_ahead, place_ahead, written_ahead}
 use Rattle.sql_reader.specs.Turns.{link, repeat}
@@ -116,32 +121,71 @@ simple_by columns _ = column_part columns
 unfoldable pub simple : {S : Type 0} → List Column → Rule (PartOf S)
 simple columns ts = simple_by columns (item_ahead ts) ts
 
--- ---- operators after an operand that are not read: all bind tighter than comparisons
-
-abbrev pub no_word_by : Option Item → Rule (Unit {0})
-no_word_by (Some (i.Keyword k.Like)) = refuse_as (w.LeftOut l.Operator)
-no_word_by (Some (i.Keyword k.Ilike)) = refuse_as (w.LeftOut l.Operator)
-no_word_by (Some (i.Keyword k.Similar)) = refuse_as (w.LeftOut l.Operator)
-no_word_by (Some (i.Keyword k.In)) = refuse_as (w.NotYet y.In)
-no_word_by (Some (i.Keyword k.Between)) = refuse_as (w.NotYet y.Between)
-no_word_by _ = pure tt
-
-unfoldable pub no_word_operator : Rule (Unit {0})
-no_word_operator ts = no_word_by (item_ahead ts) ts
-
--- NOT after an operand begins one of these words' operators
-unfoldable pub no_negated_operator : Rule (Unit {0})
-no_negated_operator = advance >> no_word_operator >> refuse
+-- ---- operators after an operand that are not read
 
 abbrev pub no_operator_by : Option Item → Rule (Unit {0})
 no_operator_by (Some i.DoubleColon) = refuse_as (w.LeftOut l.Cast)
 no_operator_by (Some (i.Operator o.Minus)) = refuse_as (w.LeftOut l.Operator)
 no_operator_by (Some (i.Operator o.Star)) = refuse_as (w.LeftOut l.Operator)
-no_operator_by (Some (i.Keyword k.Not)) = no_negated_operator
-no_operator_by _ = no_word_operator
+no_operator_by (Some (i.Keyword k.Like)) = refuse_as (w.LeftOut l.Operator)
+no_operator_by (Some (i.Keyword k.Ilike)) = refuse_as (w.LeftOut l.Operator)
+no_operator_by (Some (i.Keyword k.Similar)) = refuse_as (w.LeftOut l.Operator)
+no_operator_by _ = pure tt
 
 unfoldable pub no_operator : Rule (Unit {0})
 no_operator = look >> (λ ts. no_operator_by (item_ahead ts) ts)
+
+-- ---- IN and BETWEEN
+
+unfoldable pub membership_word : Bool → Rule MembershipWord
+membership_word is_negated = λ ts. (advance >> pure (record { place = place_ahead ts; is_negated = is_negated })) ts
+
+-- a list in parentheses is due after IN
+abbrev pub list_due : Rule (Unit {0})
+list_due ts = if is_ahead i.Open ts then Ok (tt, ts) else refuse ts
+
+unfoldable pub list_ahead : Bool → Rule (Option Membership)
+list_ahead is_negated = do
+  word ← membership_word is_negated
+  list_due
+  pure (Some (m.List word))
+
+-- BETWEEN SYMMETRIC is left out, and ASYMMETRIC too, which changes nothing
+abbrev pub no_symmetry_by : Option Item → Rule (Unit {0})
+no_symmetry_by (Some (i.Keyword k.Symmetric)) = refuse_as (w.LeftOut l.Operator)
+no_symmetry_by (Some (i.Keyword k.Asymmetric)) = refuse_as (w.LeftOut l.Operator)
+no_symmetry_by _ = pure tt
+
+unfoldable pub no_symmetry : Rule (Unit {0})
+no_symmetry ts = no_symmetry_by (item_ahead ts) ts
+
+unfoldable pub range_ahead : Bool → Rule (Option Membership)
+range_ahead is_negated = do
+  word ← membership_word is_negated
+  no_symmetry
+  pure (Some (m.Range word))
+
+-- after an operand and NOT
+abbrev pub negated_membership_by : Option Item → Rule (Option Membership)
+negated_membership_by (Some (i.Keyword k.In)) = list_ahead true
+negated_membership_by (Some (i.Keyword k.Between)) = range_ahead true
+negated_membership_by (Some (i.Keyword k.Like)) = refuse_as (w.LeftOut l.Operator)
+negated_membership_by (Some (i.Keyword k.Ilike)) = refuse_as (w.LeftOut l.Operator)
+negated_membership_by (Some (i.Keyword k.Similar)) = refuse_as (w.LeftOut l.Operator)
+negated_membership_by _ = refuse
+
+unfoldable pub negated_membership : Rule (Option Membership)
+negated_membership = advance >> (λ ts. negated_membership_by (item_ahead ts) ts)
+
+abbrev pub membership_by : Option Item → Rule (Option Membership)
+membership_by (Some (i.Keyword k.In)) = list_ahead false
+membership_by (Some (i.Keyword k.Between)) = range_ahead false
+membership_by (Some (i.Keyword k.Not)) = negated_membership
+membership_by _ = pure None
+
+-- IN or BETWEEN after an operand, with NOT before it or not, if one is ahead
+unfoldable pub membership_or_none : Rule (Option Membership)
+membership_or_none ts = membership_by (item_ahead ts) ts
 
 -- ---- IS tests
 
@@ -150,37 +194,46 @@ asked_by (Some (i.Keyword k.Null)) = advance >> pure a.Null
 asked_by (Some (i.Keyword k.True)) = advance >> pure (a.Truth t.True)
 asked_by (Some (i.Keyword k.False)) = advance >> pure (a.Truth t.False)
 asked_by (Some (i.Keyword k.Unknown)) = advance >> pure (a.Truth t.Unknown)
-asked_by (Some (i.Keyword k.Distinct)) = refuse_as (w.NotYet y.DistinctFrom)
 asked_by _ = refuse
 
 unfoldable pub asked_for : Rule Asked
 asked_for ts = asked_by (item_ahead ts) ts
 
-unfoldable pub is_test : Rule (Option TruthTest)
+-- after IS, which is at this place, or IS NOT
+unfoldable pub truth_test : ℕ → Bool → Rule (Option TestAhead)
+truth_test place is_negated = do
+  what ← asked_for
+  pure (Some (b.Truth (record { place = place; is_negated = is_negated; asked = what })))
+
+unfoldable pub distinct_words : ℕ → Bool → Rule (Option TestAhead)
+distinct_words place is_negated = do
+  distinct_place ← expect (i.Keyword k.Distinct)
+  expect (i.Keyword k.From)
+  pure (Some (b.Distinct (record { place = place; is_negated = is_negated; distinct_place = distinct_place })))
+
+unfoldable pub after_is : ℕ → Bool → Rule (Option TestAhead)
+after_is place is_negated ts =
+    if is_ahead (i.Keyword k.Distinct) ts then distinct_words place is_negated ts else truth_test place is_negated ts
+
+unfoldable pub is_test : Rule (Option TestAhead)
 is_test = do
   place ← expect (i.Keyword k.Is)
   is_negated ← eat (i.Keyword k.Not)
-  what ← asked_for
-  pure (Some (record { place = place; is_negated = is_negated; asked = what }))
+  after_is place is_negated
 
 -- ISNULL and NOTNULL
-unfoldable pub null_test : Bool → Rule (Option TruthTest)
-null_test is_negated = λ ts. (advance >> pure (Some (record { place = place_ahead ts; is_negated = is_negated; asked = a.Null }))) ts
+unfoldable pub null_test : Bool → Rule (Option TestAhead)
+null_test is_negated = λ ts. (advance >> pure (Some (b.Truth (record { place = place_ahead ts; is_negated = is_negated; asked = a.Null })))) ts
 
-abbrev pub test_by : Option Item → Rule (Option TruthTest)
+abbrev pub test_by : Option Item → Rule (Option TestAhead)
 test_by (Some (i.Keyword k.Is)) = is_test
 test_by (Some (i.Keyword k.IsNull)) = null_test false
 test_by (Some (i.Keyword k.NotNull)) = null_test true
 test_by _ = pure None
 
 -- a test, if one is ahead
-unfoldable pub test_or_none : Rule (Option TruthTest)
+unfoldable pub test_or_none : Rule (Option TestAhead)
 test_or_none ts = test_by (item_ahead ts) ts
-
-unfoldable pub tested : {S : Type 0} → Forms S → PartOf S → Rule (PartOf S)
-tested forms asked_part = do
-  asking ← test_or_none
-  check (tested_part forms asking asked_part)
 
 -- ---- expressions
 
@@ -192,13 +245,19 @@ side_ended read = no_operator >> pure read
 abbrev pub closed : {S : Type 0} → ℕ → PartOf S → Rule (PartOf S)
 closed place inner = expect i.Close >> pure (part place inner.operand)
 
+-- what is nested: what is after NOT, an expression in parentheses, or the list of IN with its left side
+pub data Nested (S : Type 0) : Type 0 where
+  AfterNot : Nested S
+  InParentheses : Nested S
+  InList : MembershipWord → PartOf S → Nested S
+
 module _ {S : Type 0} (forms : Forms S) (columns : List Column) where
-  -- What is in parentheses, and after NOT. Each adds one to the nesting, which is refused at the parenthesis or the NOT that passes the limit.
+  -- Each of these adds one to the nesting, which is refused at the parenthesis or the NOT that passes the limit.
   abbrev Below : Type 0
-  Below = Bool → Rule (PartOf S)
+  Below = Nested S → Rule (PartOf S)
 
   unfoldable pub primary : Below → Rule (PartOf S)
-  primary below ts = if is_ahead i.Open ts then below false ts else simple columns ts
+  primary below ts = if is_ahead i.Open ts then below InParentheses ts else simple columns ts
 
   -- `%` and the divisor, after what begins at this place
   unfoldable pub divisor : Below → ℕ → Option FoundColumn → Rule (PartOf S)
@@ -229,9 +288,48 @@ module _ {S : Type 0} (forms : Forms S) (columns : List Column) where
     whole ← check (compared_part forms place left operator right)
     side_ended whole
 
+  -- one more entry of a list, after the first and these others
+  unfoldable pub one_entry : Below → List (OperandOf S) → Rule (List (OperandOf S))
+  one_entry below others = do
+    room_in_list (length others)
+    entry ← side below
+    pure (others ++ entry.operand ∷ [])
+
+  unfoldable pub other_entries : Below → Rule (List (OperandOf S))
+  other_entries below = repeat (link i.Comma (one_entry below)) []
+
+  -- a list after IN, which is checked at its parenthesis
+  unfoldable pub in_list : Below → MembershipWord → PartOf S → Rule (PartOf S)
+  in_list below word left = do
+    expect i.Open
+    first ← side below
+    others ← other_entries below
+    expect i.Close
+    whole ← check (among_part forms word left first.operand others)
+    side_ended whole
+
+  -- the bounds after BETWEEN, which are checked as a comparison is
+  unfoldable pub bounds : Below → MembershipWord → PartOf S → Rule (PartOf S)
+  bounds below word left = do
+    low ← side below
+    expect (i.Keyword k.And)
+    high ← term below
+    no_cast
+    whole ← check (between_part forms word left low.operand high.operand)
+    side_ended whole
+
+  abbrev pub member_by : Below → PartOf S → Option Membership → Rule (PartOf S)
+  member_by below left (Some (m.List word)) = below (InList word left)
+  member_by below left (Some (m.Range word)) = bounds below word left
+  member_by below left None = pure left
+
+  -- the list or the bounds after IN or BETWEEN, if one of these is ahead
+  unfoldable pub member_or_none : Below → PartOf S → Rule (PartOf S)
+  member_or_none below left = membership_or_none >>= member_by below left
+
   abbrev pub right_side_by : Below → PartOf S → Option Op → Rule (PartOf S)
   right_side_by below left (Some operator) = right_side below left operator
-  right_side_by below left None = pure left
+  right_side_by below left None = member_or_none below left
 
   unfoldable pub right_side_or_none : Below → PartOf S → Rule (PartOf S)
   right_side_or_none below left ts = right_side_by below left (comparison_by (item_ahead ts)) ts
@@ -239,11 +337,27 @@ module _ {S : Type 0} (forms : Forms S) (columns : List Column) where
   unfoldable pub comparison : Below → Rule (PartOf S)
   comparison below = side below >>= right_side_or_none below
 
+  -- what is after IS DISTINCT FROM
+  unfoldable pub distinct_side : Below → PartOf S → DistinctWords → Rule (PartOf S)
+  distinct_side below left words = do
+    right ← term below
+    no_cast
+    whole ← check (distinct_part forms words left right.operand)
+    side_ended whole
+
+  abbrev pub tested_by : Below → PartOf S → Option TestAhead → Rule (PartOf S)
+  tested_by below left (Some (b.Truth test)) = check (tested_part forms test left)
+  tested_by below left (Some (b.Distinct words)) = distinct_side below left words
+  tested_by below left None = pure left
+
+  unfoldable pub tested : Below → PartOf S → Rule (PartOf S)
+  tested below left = test_or_none >>= tested_by below left
+
   unfoldable pub predicate : Below → Rule (PartOf S)
-  predicate below = comparison below >>= tested forms
+  predicate below = comparison below >>= tested below
 
   unfoldable pub negation : Below → Rule (PartOf S)
-  negation below ts = if is_ahead (i.Keyword k.Not) ts then below true ts else predicate below ts
+  negation below ts = if is_ahead (i.Keyword k.Not) ts then below AfterNot ts else predicate below ts
 
   unfoldable pub after_not : Below → Rule (PartOf S)
   after_not below = do
@@ -276,11 +390,12 @@ module _ {S : Type 0} (forms : Forms S) (columns : List Column) where
     inner ← disjunction below
     closed place inner
 
-  -- NOT and what it negates, or an expression in parentheses, where so many more may nest
+  -- what is nested, where so many more may nest
   unfoldable pub nested : ℕ → Below
-  nested zero is_not = refuse_as w.TooDeep
-  nested (suc n) true = after_not (nested n)
-  nested (suc n) false = in_parentheses (nested n)
+  nested zero inner = refuse_as w.TooDeep
+  nested (suc n) AfterNot = after_not (nested n)
+  nested (suc n) InParentheses = in_parentheses (nested n)
+  nested (suc n) (InList word left) = in_list (nested n) word left
 
   -- a filter
   unfoldable pub expression : Rule S

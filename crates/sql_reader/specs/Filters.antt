@@ -1,16 +1,18 @@
 -- The rules of Expressions as they make filters, where parentheses and NOT may nest this much deeper: PostgreSQL 15, "Value Expressions", 4.2.
-use Rattle.std.specs.Prelude.{ℕ, Bool, Option, List}
+use Rattle.std.specs.Prelude.{ℕ, Option, List}
 use Rattle.filter_tree.specs.declared.filter.Op.{Op}
 use Rattle.filter_tree.specs.declared.table.Column.{Column}
 use Rattle.filter_tree.specs.Expr.{Expr}
 use Rattle.sql_reader.specs.declared.column.FoundColumn.{FoundColumn}
+use Rattle.sql_reader.specs.declared.membership.MembershipWord.{MembershipWord}
+use Rattle.sql_reader.specs.declared.truth_test.DistinctWords.{DistinctWords}
+use Rattle.sql_reader.specs.Expressions.{Nested}
 use Rattle.sql_reader.specs.Expressions as rules
-use Rattle.sql_reader.specs.Operands.{PartOf}
+use Rattle.sql_reader.specs.Operands.{OperandOf, PartOf}
 use Rattle.sql_reader.specs.Reading.{Rule}
 use Rattle.sql_reader.specs.Written.{as_filter}
 
--- what is in parentheses, or after NOT
-abbrev pub nested : List Column → ℕ → Bool → Rule (PartOf Expr)
+abbrev pub nested : List Column → ℕ → Nested Expr → Rule (PartOf Expr)
 nested columns depth = rules.nested as_filter columns depth
 
 -- ---- from what binds tightest
@@ -33,11 +35,29 @@ side columns depth = rules.side as_filter columns (nested columns depth)
 abbrev pub right_side : List Column → ℕ → PartOf Expr → Op → Rule (PartOf Expr)
 right_side columns depth = rules.right_side as_filter columns (nested columns depth)
 
+abbrev pub one_entry : List Column → ℕ → List (OperandOf Expr) → Rule (List (OperandOf Expr))
+one_entry columns depth = rules.one_entry as_filter columns (nested columns depth)
+
+abbrev pub other_entries : List Column → ℕ → Rule (List (OperandOf Expr))
+other_entries columns depth = rules.other_entries as_filter columns (nested columns depth)
+
+abbrev pub bounds : List Column → ℕ → MembershipWord → PartOf Expr → Rule (PartOf Expr)
+bounds columns depth = rules.bounds as_filter columns (nested columns depth)
+
+abbrev pub member_or_none : List Column → ℕ → PartOf Expr → Rule (PartOf Expr)
+member_or_none columns depth = rules.member_or_none as_filter columns (nested columns depth)
+
 abbrev pub right_side_or_none : List Column → ℕ → PartOf Expr → Rule (PartOf Expr)
 right_side_or_none columns depth = rules.right_side_or_none as_filter columns (nested columns depth)
 
 abbrev pub comparison : List Column → ℕ → Rule (PartOf Expr)
 comparison columns depth = rules.comparison as_filter columns (nested columns depth)
+
+abbrev pub distinct_side : List Column → ℕ → PartOf Expr → DistinctWords → Rule (PartOf Expr)
+distinct_side columns depth = rules.distinct_side as_filter columns (nested columns depth)
+
+abbrev pub tested : List Column → ℕ → PartOf Expr → Rule (PartOf Expr)
+tested columns depth = rules.tested as_filter columns (nested columns depth)
 
 abbrev pub predicate : List Column → ℕ → Rule (PartOf Expr)
 predicate columns depth = rules.predicate as_filter columns (nested columns depth)

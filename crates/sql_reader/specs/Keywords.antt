@@ -48,6 +48,7 @@ late_keyword word =
 unfoldable pub early_free_keyword : List ℕ → Option Keyword
 early_free_keyword word =
     if str_eq_ignore_ascii_case word (codes "alter") then Some k.Alter else
+    if str_eq_ignore_ascii_case word (codes "asymmetric") then Some k.Asymmetric else
     if str_eq_ignore_ascii_case word (codes "between") then Some k.Between else
     if str_eq_ignore_ascii_case word (codes "case") then Some k.Case else
     if str_eq_ignore_ascii_case word (codes "connection") then Some k.Connection else
@@ -72,6 +73,7 @@ late_free_keyword word =
     if str_eq_ignore_ascii_case word (codes "schema") then Some k.Schema else
     if str_eq_ignore_ascii_case word (codes "similar") then Some k.Similar else
     if str_eq_ignore_ascii_case word (codes "subscription") then Some k.Subscription else
+    if str_eq_ignore_ascii_case word (codes "symmetric") then Some k.Symmetric else
     if str_eq_ignore_ascii_case word (codes "tables") then Some k.Tables else
     if str_eq_ignore_ascii_case word (codes "text") then Some k.Text else
     if str_eq_ignore_ascii_case word (codes "unknown") then Some k.Unknown else
@@ -88,6 +90,7 @@ keyword_of word = or_else (early_keyword word) (or_else (late_keyword word) (or_
 -- whether a keyword can be no unquoted name
 abbrev pub is_reserved : Keyword → Bool
 is_reserved k.Alter = false
+is_reserved k.Asymmetric = false
 is_reserved k.Between = false
 is_reserved k.Case = false
 is_reserved k.Connection = false
@@ -107,6 +110,7 @@ is_reserved k.Replica = false
 is_reserved k.Schema = false
 is_reserved k.Similar = false
 is_reserved k.Subscription = false
+is_reserved k.Symmetric = false
 is_reserved k.Tables = false
 is_reserved k.Text = false
 is_reserved k.Unknown = false

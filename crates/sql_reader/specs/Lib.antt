@@ -1,4 +1,5 @@
 pub mod Ahead
+pub mod Ascending
 pub mod Columns
 pub mod Counting
 pub mod Expressions
@@ -8,6 +9,7 @@ pub mod Keywords
 pub mod KindNames
 pub mod Limits
 pub mod Magnitude
+pub mod Memberships
 pub mod Names
 pub mod Numbers
 pub mod OperandView

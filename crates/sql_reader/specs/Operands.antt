@@ -1,5 +1,5 @@
 -- What a part of an expression is once it was read, and which parts fit together: PostgreSQL 15, "4.2 Value Expressions", of which filters ("31.3 Row Filters") have here the comparisons of one column with a literal, "9.1 Logical Operators", "9.2 Comparison Functions and Operators" and `%` of "9.3 Mathematical Functions and Operators".
-use Rattle.std.specs.Prelude.{ℕ, ℤ, pos, Bool, true, false, if◌then◌else◌, Option, Some, None, Ok, Err}
+use Rattle.std.specs.Prelude.{ℕ, ℤ, pos, Bool, true, false, if◌then◌else◌, List, Option, Some, None, Ok, Err}
 use Rattle.std.specs.Ordering.{int_eq}
 use Rattle.sql_tokens.specs.declared.kinds.Operator.TheVariants as o
 use Rattle.filter_tree.specs.declared.table.ColType.{ColType}
@@ -31,6 +31,11 @@ pub record Forms (S : Type 0) : Type 0 where
   -- a column or a remainder compared with a literal, and a literal with a column or a remainder
   pub compared : Term → Op → Constant → S
   pub compared_from : Constant → Op → Term → S
+  -- a column or a remainder IN a list of literals, which has a first one and perhaps others
+  pub among : Term → Constant → List Constant → S
+  -- BETWEEN two numbers, and IS DISTINCT FROM a literal
+  pub between : Term → ℤ → ℤ → S
+  pub distinct : Term → Constant → S
   -- IS NULL of a column or a remainder
   pub lacking : Term → S
   -- IS TRUE, IS FALSE and IS UNKNOWN
@@ -58,6 +63,10 @@ part place operand = record { place = place; operand = operand }
 abbrev pub verdict_map : {A B : Type 0} → (A → B) → Verdict A → Verdict B
 verdict_map f (Ok a) = Ok (f a)
 verdict_map f (Err fault) = Err fault
+
+abbrev pub verdict_then : {A B : Type 0} → Verdict A → (A → Verdict B) → Verdict B
+verdict_then (Ok a) more = more a
+verdict_then (Err fault) more = Err fault
 
 -- ---- boolean parts
 
@@ -166,8 +175,7 @@ abbrev pub negated_if : {S : Type 0} → Forms S → Bool → S → S
 negated_if forms true s = forms.negated s
 negated_if forms false s = s
 
--- a part that is tested, or one that is not
-unfoldable pub tested : {S : Type 0} → Forms S → Option TruthTest → PartOf S → Verdict (PartOf S)
-tested forms None asked_part = Ok asked_part
-tested forms (Some truth_test) asked_part =
+-- a part that is tested
+unfoldable pub tested : {S : Type 0} → Forms S → TruthTest → PartOf S → Verdict (PartOf S)
+tested forms truth_test asked_part =
     verdict_map (λ s. part asked_part.place (OfFormula (negated_if forms truth_test.is_negated s))) (answered forms truth_test.place truth_test.asked asked_part.operand)

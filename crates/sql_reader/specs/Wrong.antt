@@ -4,7 +4,6 @@ use Rattle.sql_tokens.specs.declared.kinds.FaultKind.{FaultKind}
 use Rattle.sql_tokens.specs.declared.kinds.FaultKind.TheVariants as f
 use Rattle.sql_reader.specs.declared.error.ErrorKind.{ErrorKind}
 use Rattle.sql_reader.specs.declared.error.ErrorKind.TheVariants as e
-use Rattle.sql_reader.specs.declared.error.Later.{Later}
 use Rattle.sql_reader.specs.declared.error.Omitted.{Omitted}
 use Rattle.sql_reader.specs.declared.error.Omitted.TheVariants.{Number, StringForm, Operator}
 use Rattle.sql_reader.specs.declared.error.Limit.{Limit}
@@ -17,7 +16,6 @@ pub data Wrong : Type 0 where
   UnknownName : Wrong
   NameTwice : Wrong
   ColumnList : Wrong
-  NotYet : Later → Wrong
   LeftOut : Omitted → Wrong
   TypeClash : Wrong
   NumberTooLarge : Wrong
@@ -36,7 +34,6 @@ wrong_of e.NameTooLong = Some NameTooLong
 wrong_of e.UnknownName = Some UnknownName
 wrong_of e.NameTwice = Some NameTwice
 wrong_of e.ColumnList = Some ColumnList
-wrong_of (e.NotYet form) = Some (NotYet form)
 wrong_of (e.LeftOut form) = Some (LeftOut form)
 wrong_of e.TypeClash = Some TypeClash
 wrong_of e.NumberTooLarge = Some NumberTooLarge

@@ -59,7 +59,7 @@ fn equality(place: usize, op: Op) -> Result<(), ReadError>
 }
 
 /// Refuses to compare a column of this type, or a remainder of one, with this literal.
-fn fits(place: usize, kind: ColType, op: Op, literal: &Literal) -> Result<(), ReadError>
+pub fn fits(place: usize, kind: ColType, op: Op, literal: &Literal) -> Result<(), ReadError>
     ensures { Answers (λ u. u) (spec.fits place kind op (constant_view literal.now)) result }
 {
     match (kind, literal) {

@@ -27,8 +27,6 @@ pub enum ErrorKind {
     NameTwice,
     #[error("lists of columns are not read after a table of a publication")]
     ColumnList,
-    #[error("{0} is not read yet")]
-    NotYet(Later),
     #[error("{0} is left out here")]
     LeftOut(Omitted),
     #[error("the types of the operands do not fit")]
@@ -49,17 +47,6 @@ pub enum ErrorKind {
     OutOfMemory,
     #[error("a column of this index may be null, so that it identifies no row")]
     NullableIndex,
-}
-
-/// Forms that are not read yet.
-#[derive(Clone, Copy, Debug, PartialEq, Eq, Error)]
-pub enum Later {
-    #[error("IN")]
-    In,
-    #[error("BETWEEN")]
-    Between,
-    #[error("IS DISTINCT FROM")]
-    DistinctFrom,
 }
 
 /// Forms of PostgreSQL that are left out.
@@ -114,6 +101,8 @@ pub enum Limit {
     Steps,
     #[error("unique indexes of a table (8)")]
     Indexes,
+    #[error("entries of an IN list (100)")]
+    InList,
 }
 
 impl ErrorKind {
@@ -131,7 +120,6 @@ impl ErrorKind {
             ErrorKind::UnknownName => "UnknownName",
             ErrorKind::NameTwice => "NameTwice",
             ErrorKind::ColumnList => "ColumnList",
-            ErrorKind::NotYet(_) => "NotYet",
             ErrorKind::LeftOut(_) => "LeftOut",
             ErrorKind::TypeClash => "TypeClash",
             ErrorKind::NumberTooLarge => "NumberTooLarge",

@@ -1,10 +1,11 @@
 //! The filters of WHERE clauses.
 
-ghost use Rattle.std.specs.Prelude.{◌<◌, false, true};
+ghost use Rattle.std.specs.Prelude.{◌<◌, map};
 ghost use Rattle.filter_tree.specs.Shape.{expr_view};
 ghost use Rattle.sql_reader.specs.Expressions as spec;
+ghost use Rattle.sql_reader.specs.Expressions.{AfterNot, InParentheses, InList};
 ghost use Rattle.sql_reader.specs.Filters as filters;
-ghost use Rattle.sql_reader.specs.OperandView.{part_view};
+ghost use Rattle.sql_reader.specs.OperandView.{operand_view, part_view};
 ghost use Rattle.sql_reader.specs.Taking.{Takes, TakesSome};
 ghost use Rattle.sql_reader.specs.Written.{as_filter};
 
@@ -12,15 +13,19 @@ use crate::column::FoundColumn;
 use crate::comparison::{compared_part, comparison_by};
 use crate::error::{ErrorKind, ReadError};
 use crate::item::Item;
-use crate::operand::{Part, both, dividend, either, negated, remainder, wanted};
+use crate::list::{among_part, room_in_list};
+use crate::membership::{Membership, MembershipWord, membership_or_none};
+use crate::operand::{Operand, Part, both, dividend, either, negated, remainder, wanted};
 use crate::operator::{no_cast, no_operator};
 use crate::reader::Reader;
 use crate::simple::simple;
-use crate::truth_test::tested;
+use crate::subject::{between_part, distinct_part};
+use crate::truth_test::{DistinctWords, TestAhead, test_or_none, tested_part};
 use crate::word::Keyword;
 use filter_tree::{Column, Filter, Op};
 use sql_tokens::Operator;
 use std::alloc::Global;
+use std::collections::VecDeque;
 
 /// How deep parentheses and NOT may nest.
 const MAX_NESTING: u32 = 64;
@@ -45,7 +50,7 @@ fn in_parentheses(
     columns: &[Column],
     depth: u32,
 ) -> Result<Part, ReadError>
-    ensures { TakesSome part_view (filters.nested columns.now depth false) r.old result r.new }
+    ensures { TakesSome part_view (filters.nested columns.now depth InParentheses) r.old result r.new }
 {
     if depth == 0 {
         return Err(r.refused(ErrorKind::TooDeep));
@@ -168,7 +173,111 @@ fn right_side(
     Ok(side_ended(r, whole)?)
 }
 
-/// Takes a comparison operator and the side after it, if they follow.
+/// Takes one more entry of a list.
+#[cycle(expression)]
+#[tactic(auto, unfolding(crate::specs::Expressions::one_entry))]
+fn one_entry(
+    r: &mut Reader<'_>,
+    alloc: Global,
+    columns: &[Column],
+    depth: u32,
+    others: &mut VecDeque<Operand>,
+) -> Result<(), ReadError>
+    ensures { TakesSome (λ _. map operand_view others.new.items)
+        (filters.one_entry columns.now depth (map operand_view others.old.items)) r.old result r.new }
+{
+    room_in_list(r, others.len())?;
+    let entry = side(r, alloc, columns, depth)?;
+    others.push_back(entry.operand)?;
+    Ok(())
+}
+
+/// Takes the entries after the first of a list, which commas part.
+#[cycle(expression)]
+#[tactic(auto, using(crate::proofs::Turning::chains), unfolding(crate::specs::Expressions::other_entries))]
+fn other_entries(
+    r: &mut Reader<'_>,
+    alloc: Global,
+    columns: &[Column],
+    depth: u32,
+) -> Result<VecDeque<Operand>, ReadError>
+    ensures { Takes (λ others. map operand_view others.items) (filters.other_entries columns.now depth)
+        r.old result r.new }
+{
+    let mut others = VecDeque::new(alloc);
+    while r.next_is(Item::Comma)? {
+        r.advance();
+        one_entry(r, alloc, columns, depth, &mut others)?;
+    }
+    Ok(others)
+}
+
+/// Takes the list in parentheses after IN.
+#[cycle(expression)]
+#[tactic(auto, using(crate::proofs::Nesting::nests), unfolding(crate::specs::Expressions::in_list))]
+fn in_list(
+    r: &mut Reader<'_>,
+    alloc: Global,
+    columns: &[Column],
+    depth: u32,
+    word: MembershipWord,
+    left: Part,
+) -> Result<Part, ReadError>
+    ensures { TakesSome part_view (filters.nested columns.now depth (InList word (part_view left)))
+        r.old result r.new }
+{
+    if depth == 0 {
+        return Err(r.refused(ErrorKind::TooDeep));
+    }
+    r.expect(Item::Open, "`(`")?;
+    let first = side(r, alloc, columns, depth - 1)?;
+    let others = other_entries(r, alloc, columns, depth - 1)?;
+    r.expect(Item::Close, "`,` or `)`")?;
+    let whole = among_part(alloc, word, left, first, others)?;
+    Ok(side_ended(r, whole)?)
+}
+
+/// Takes the bounds after BETWEEN.
+#[cycle(expression)]
+#[tactic(auto, unfolding(crate::specs::Expressions::bounds))]
+fn bounds(
+    r: &mut Reader<'_>,
+    alloc: Global,
+    columns: &[Column],
+    depth: u32,
+    word: MembershipWord,
+    left: Part,
+) -> Result<Part, ReadError>
+    ensures { TakesSome part_view (filters.bounds columns.now depth word (part_view left)) r.old result r.new }
+{
+    let low = side(r, alloc, columns, depth)?;
+    r.expect(Item::Keyword(Keyword::And), "AND")?;
+    let high = term(r, alloc, columns, depth)?;
+    no_cast(r)?;
+    let whole = between_part(alloc, word, left, low, high)?;
+    Ok(side_ended(r, whole)?)
+}
+
+/// Takes IN and its list or BETWEEN and its bounds, with NOT before them or not, if they follow.
+#[cycle(expression)]
+#[tactic(auto, unfolding(crate::specs::Expressions::member_or_none))]
+fn member_or_none(
+    r: &mut Reader<'_>,
+    alloc: Global,
+    columns: &[Column],
+    depth: u32,
+    left: Part,
+) -> Result<Part, ReadError>
+    ensures { Takes part_view (filters.member_or_none columns.now depth (part_view left)) r.old result r.new }
+{
+    match membership_or_none(r)? {
+        Some(Membership::List(word)) => Ok(in_list(r, alloc, columns, depth, word, left)?),
+        Some(Membership::Range(word)) => Ok(bounds(r, alloc, columns, depth, word, left)?),
+        None => Ok(left),
+    }
+}
+
+/// Takes a comparison, IN or BETWEEN, and what follows it, if they are ahead.
 #[cycle(expression)]
 #[tactic(auto, unfolding(crate::specs::Expressions::right_side_or_none))]
 fn right_side_or_none(
@@ -182,7 +291,7 @@ fn right_side_or_none(
 {
     match comparison_by(r.item()) {
         Some(op) => Ok(right_side(r, alloc, columns, depth, left, op)?),
-        None => Ok(left),
+        None => Ok(member_or_none(r, alloc, columns, depth, left)?),
     }
 }
 
@@ -201,6 +310,47 @@ fn comparison(
     Ok(right_side_or_none(r, alloc, columns, depth, left)?)
 }
 
+/// Takes what is after IS DISTINCT FROM.
+#[cycle(expression)]
+#[tactic(auto, unfolding(crate::specs::Expressions::distinct_side))]
+fn distinct_side(
+    r: &mut Reader<'_>,
+    alloc: Global,
+    columns: &[Column],
+    depth: u32,
+    left: Part,
+    words: DistinctWords,
+) -> Result<Part, ReadError>
+    ensures { TakesSome part_view
+        (filters.distinct_side columns.now depth (part_view left) words) r.old result r.new }
+{
+    let right = term(r, alloc, columns, depth)?;
+    no_cast(r)?;
+    let whole = distinct_part(alloc, words, left, right)?;
+    Ok(side_ended(r, whole)?)
+}
+
+/// Takes the test after a part, if there is one.
+#[cycle(expression)]
+#[tactic(auto, unfolding(crate::specs::Expressions::tested))]
+fn tested(
+    r: &mut Reader<'_>,
+    alloc: Global,
+    columns: &[Column],
+    depth: u32,
+    part: Part,
+) -> Result<Part, ReadError>
+    ensures { Takes part_view (filters.tested columns.now depth (part_view part)) r.old result r.new }
+{
+    match test_or_none(r)? {
+        Some(TestAhead::Truth(test)) => Ok(tested_part(alloc, test, part)?),
+        Some(TestAhead::Distinct(words)) => Ok(distinct_side(
+            r, alloc, columns, depth, part, words,
+        )?),
+        None => Ok(part),
+    }
+}
+
 /// Takes a comparison with a test after it or none.
 #[cycle(expression)]
 #[tactic(auto, unfolding(crate::specs::Expressions::predicate))]
@@ -213,7 +363,7 @@ fn predicate(
     ensures { TakesSome part_view (filters.predicate columns.now depth) r.old result r.new }
 {
     let part = comparison(r, alloc, columns, depth)?;
-    Ok(tested(r, alloc, part)?)
+    Ok(tested(r, alloc, columns, depth, part)?)
 }
 
 /// Takes NOT and what it negates.
@@ -225,7 +375,7 @@ fn after_not(
     columns: &[Column],
     depth: u32,
 ) -> Result<Part, ReadError>
-    ensures { TakesSome part_view (filters.nested columns.now depth true) r.old result r.new }
+    ensures { TakesSome part_view (filters.nested columns.now depth AfterNot) r.old result r.new }
 {
     if depth == 0 {
         return Err(r.refused(ErrorKind::TooDeep));

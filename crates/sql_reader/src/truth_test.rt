@@ -1,6 +1,6 @@
-//! The tests IS NULL, IS TRUE, IS FALSE and IS UNKNOWN.
+//! The tests IS NULL, IS TRUE, IS FALSE and IS UNKNOWN, and the words IS DISTINCT FROM.
 
-ghost use Rattle.std.specs.Prelude.{◌≡◌, ◌<◌, IfOk, Some};
+ghost use Rattle.std.specs.Prelude.{◌≡◌, ◌<◌, IfOk};
 ghost use Rattle.std.specs.Option.{option_map};
 ghost use Rattle.filter_tree.specs.Shape.{expr_view};
 ghost use Rattle.sql_reader.specs.Expressions as grammar;
@@ -11,7 +11,7 @@ ghost use Rattle.sql_reader.specs.Taking.{Takes, TakesSome};
 ghost use Rattle.sql_reader.specs.Written.{as_filter};
 ghost use Rattle.sql_reader.specs.declared.truth_test.Asked.TheVariants.{Null, Truth};
 
-use crate::error::{ErrorKind, Later, Omitted, ReadError};
+use crate::error::{ErrorKind, Omitted, ReadError};
 use crate::item::Item;
 use crate::operand::{Operand, Part, truth};
 use crate::reader::Reader;
@@ -34,6 +34,22 @@ pub struct TruthTest {
     pub asked: Asked,
 }
 
+/// IS DISTINCT FROM, by the places of IS and of DISTINCT.
+#[derive(Clone, Copy)]
+pub struct DistinctWords {
+    pub place: usize,
+    pub is_negated: bool,
+    pub distinct_place: usize,
+}
+
+/// A test that follows an operand.
+#[derive(Clone, Copy)]
+pub enum TestAhead {
+    Truth(TruthTest),
+    /// IS DISTINCT FROM, whose right side is still to read.
+    Distinct(DistinctWords),
+}
+
 /// Takes what follows IS.
 #[tactic(auto, using(crate::proofs::Ahead::rest_is_no_more), unfolding(crate::specs::Expressions::asked_for))]
 fn asked_for(r: &mut Reader<'_>) -> Result<Asked, ReadError>
@@ -44,47 +60,89 @@ fn asked_for(r: &mut Reader<'_>) -> Result<Asked, ReadError>
         Some(Item::Keyword(Keyword::True)) => Asked::Truth(Test::True),
         Some(Item::Keyword(Keyword::False)) => Asked::Truth(Test::False),
         Some(Item::Keyword(Keyword::Unknown)) => Asked::Truth(Test::Unknown),
-        Some(Item::Keyword(Keyword::Distinct)) => {
-            return Err(r.refused(ErrorKind::NotYet(Later::DistinctFrom)));
-        }
-        _ => return Err(r.refusal("NULL, TRUE, FALSE or UNKNOWN")),
+        _ => return Err(r.refusal("NULL, TRUE, FALSE, UNKNOWN or DISTINCT FROM")),
     };
     r.advance();
     Ok(asked)
 }
 
+/// Takes what a test asks for, after IS, which is at `place`, or IS NOT.
+#[tactic(auto, unfolding(crate::specs::Expressions::truth_test))]
+fn truth_test(
+    r: &mut Reader<'_>,
+    place: usize,
+    is_negated: bool,
+) -> Result<Option<TestAhead>, ReadError>
+    ensures { Takes (λ test. test) (grammar.truth_test place is_negated) r.old result r.new }
+{
+    let asked = asked_for(r)?;
+    Ok(Some(TestAhead::Truth(TruthTest {
+        place,
+        is_negated,
+        asked,
+    })))
+}
+
+/// Takes DISTINCT FROM, after IS, which is at `place`, or IS NOT.
+#[tactic(auto, unfolding(crate::specs::Expressions::distinct_words))]
+fn distinct_words(
+    r: &mut Reader<'_>,
+    place: usize,
+    is_negated: bool,
+) -> Result<Option<TestAhead>, ReadError>
+    ensures { Takes (λ test. test) (grammar.distinct_words place is_negated) r.old result r.new }
+{
+    let distinct_place = r.expect(Item::Keyword(Keyword::Distinct), "DISTINCT")?;
+    r.expect(Item::Keyword(Keyword::From), "FROM")?;
+    Ok(Some(TestAhead::Distinct(DistinctWords {
+        place,
+        is_negated,
+        distinct_place,
+    })))
+}
+
+/// Takes what follows IS, which is at `place`, or IS NOT.
+#[tactic(auto, unfolding(crate::specs::Expressions::after_is))]
+fn after_is(
+    r: &mut Reader<'_>,
+    place: usize,
+    is_negated: bool,
+) -> Result<Option<TestAhead>, ReadError>
+    ensures { Takes (λ test. test) (grammar.after_is place is_negated) r.old result r.new }
+{
+    if r.is(Item::Keyword(Keyword::Distinct)) {
+        return distinct_words(r, place, is_negated);
+    }
+    truth_test(r, place, is_negated)
+}
+
 /// Takes IS and what is asked.
 #[tactic(auto, unfolding(crate::specs::Expressions::is_test))]
-fn is_test(r: &mut Reader<'_>) -> Result<Option<TruthTest>, ReadError>
+fn is_test(r: &mut Reader<'_>) -> Result<Option<TestAhead>, ReadError>
     ensures { TakesSome (λ test. test) grammar.is_test r.old result r.new }
 {
     let place = r.expect(Item::Keyword(Keyword::Is), "IS")?;
     let is_negated = r.eat(Item::Keyword(Keyword::Not));
-    let asked = asked_for(r)?;
-    Ok(Some(TruthTest {
-        place,
-        is_negated,
-        asked,
-    }))
+    Ok(after_is(r, place, is_negated)?)
 }
 
 /// Takes ISNULL or NOTNULL.
 #[tactic(auto, using(crate::proofs::Ahead::rest_is_no_more), unfolding(crate::specs::Expressions::null_test))]
-fn null_test(r: &mut Reader<'_>, is_negated: bool) -> Result<Option<TruthTest>, ReadError>
+fn null_test(r: &mut Reader<'_>, is_negated: bool) -> Result<Option<TestAhead>, ReadError>
     ensures { Takes (λ test. test) (grammar.null_test is_negated) r.old result r.new }
 {
     let place = r.place();
     r.advance();
-    Ok(Some(TruthTest {
+    Ok(Some(TestAhead::Truth(TruthTest {
         place,
         is_negated,
         asked: Asked::Null,
-    }))
+    })))
 }
 
-/// Takes a test, if one is ahead.
+/// Takes a test up to its right side, if one is ahead.
 #[tactic(auto, unfolding(crate::specs::Expressions::test_or_none))]
-fn test_or_none(r: &mut Reader<'_>) -> Result<Option<TruthTest>, ReadError>
+pub fn test_or_none(r: &mut Reader<'_>) -> Result<Option<TestAhead>, ReadError>
     ensures { Takes (λ test. test) grammar.test_or_none r.old result r.new }
 {
     match r.item() {
@@ -163,7 +221,7 @@ fn answered(
 }
 
 /// NOT of a filter, where it is negated.
-fn negated_if(alloc: Global, is_negated: bool, filter: Filter) -> Result<Filter, AllocError>
+pub fn negated_if(alloc: Global, is_negated: bool, filter: Filter) -> Result<Filter, AllocError>
     ensures { IfOk result (λ f. expr_view f ≡ spec.negated_if as_filter is_negated (expr_view filter)) }
 {
     if is_negated {
@@ -174,8 +232,8 @@ fn negated_if(alloc: Global, is_negated: bool, filter: Filter) -> Result<Filter,
 
 /// The test of a part.
 #[tactic(auto, unfolding(crate::specs::Operands::tested))]
-fn tested_by(alloc: Global, test: TruthTest, part: Part) -> Result<Part, ReadError>
-    ensures { Answers part_view (spec.tested as_filter (Some test) (part_view part)) result }
+pub fn tested_part(alloc: Global, test: TruthTest, part: Part) -> Result<Part, ReadError>
+    ensures { Answers part_view (spec.tested as_filter test (part_view part)) result }
 {
     let place = part.place;
     let filter = answered(alloc, test.place, test.asked, part.operand)?;
@@ -183,15 +241,4 @@ fn tested_by(alloc: Global, test: TruthTest, part: Part) -> Result<Part, ReadErr
         place,
         operand: Operand::Formula(negated_if(alloc, test.is_negated, filter)?),
     })
-}
-
-/// Takes the test after a part, if there is one.
-#[tactic(auto, unfolding(crate::specs::Expressions::tested, crate::specs::Operands::tested))]
-pub fn tested(r: &mut Reader<'_>, alloc: Global, part: Part) -> Result<Part, ReadError>
-    ensures { Takes part_view (grammar.tested as_filter (part_view part)) r.old result r.new }
-{
-    match test_or_none(r)? {
-        Some(test) => Ok(tested_by(alloc, test, part)?),
-        None => Ok(part),
-    }
 }

@@ -36,6 +36,7 @@ pub enum Keyword {
     Where,
     With,
     Alter,
+    Asymmetric,
     Between,
     Case,
     Connection,
@@ -55,6 +56,7 @@ pub enum Keyword {
     Schema,
     Similar,
     Subscription,
+    Symmetric,
     Tables,
     Text,
     Unknown,
@@ -83,6 +85,7 @@ pub fn is_reserved(keyword: Keyword) -> bool
 {
     match keyword {
         Keyword::Alter
+        | Keyword::Asymmetric
         | Keyword::Between
         | Keyword::Case
         | Keyword::Connection
@@ -102,6 +105,7 @@ pub fn is_reserved(keyword: Keyword) -> bool
         | Keyword::Schema
         | Keyword::Similar
         | Keyword::Subscription
+        | Keyword::Symmetric
         | Keyword::Tables
         | Keyword::Text
         | Keyword::Unknown => false,
@@ -192,6 +196,8 @@ fn early_free_keyword(word: &str) -> Option<Keyword>
 {
     if same_word(word, "alter") {
         Some(Keyword::Alter)
+    } else if same_word(word, "asymmetric") {
+        Some(Keyword::Asymmetric)
     } else if same_word(word, "between") {
         Some(Keyword::Between)
     } else if same_word(word, "case") {
@@ -240,6 +246,8 @@ fn late_free_keyword(word: &str) -> Option<Keyword>
         Some(Keyword::Similar)
     } else if same_word(word, "subscription") {
         Some(Keyword::Subscription)
+    } else if same_word(word, "symmetric") {
+        Some(Keyword::Symmetric)
     } else if same_word(word, "tables") {
         Some(Keyword::Tables)
     } else if same_word(word, "text") {

@@ -39,6 +39,19 @@ HALVES: list[tuple[str, str, str, int, str]] = [
     (" WHERE (id % 2 = 0)", " WHERE (id % 2 = 1 OR id % 2 = -1)", THREE, 0, ACCEPTED),
     (" WHERE (id = 5)", " WHERE (id < 5 OR id > 5)", THREE, 0, ACCEPTED),
     (" WHERE (id = 5)", " WHERE (id < 5 OR id > 5)", HOLE, 1, "refused NotEmpty public.t 10\n"),
+    (" WHERE (id BETWEEN 1 AND 9)", " WHERE (id NOT BETWEEN 1 AND 9)", "s 0 o 0 o 1 n 0\n", 0, ACCEPTED),
+    (
+        " WHERE (region IN ('us', 'eu'))", " WHERE (region NOT IN ('eu', 'us') OR region IS NULL)",
+        "s 0 s 1 e 0 o 0 n 1 o 1 s 1 o 1 e 0 n 1\n", 0, ACCEPTED,
+    ),
+    (
+        " WHERE (region IN ('us', 'eu'))", " WHERE (region NOT IN ('eu', 'us') OR region IS NULL)",
+        "s 0 s 1 e 0 o 0 n 1 o 1 e 0\n", 1, "refused NotEmpty public.t 6\n",
+    ),
+    (
+        " WHERE (region IS DISTINCT FROM 'eu')", " WHERE (region IS NOT DISTINCT FROM 'eu')", "s 0 o 0 o 1 n 0\n",
+        0, ACCEPTED,
+    ),
     ("", "", "o 0\n", 1, "refused SecondOwner public.t 0 s1\n"),
     ("", "", "o 1\n", 1, "refused SecondOwner public.t 0 s0\n"),
 ]
@@ -66,6 +79,16 @@ OUTSIDE = """\
 CREATE TABLE t (id integer, region text, PRIMARY KEY (id));
 CREATE PUBLICATION pa FOR TABLE t WHERE (region = 'eu');
 CREATE PUBLICATION pb FOR TABLE t WHERE (id >= 100);
+CREATE SUBSCRIPTION s0 CONNECTION '' PUBLICATION pa;
+CREATE SUBSCRIPTION s1 CONNECTION '' PUBLICATION pb;
+"""
+
+# Halves by a truth value that may be null, which goes to neither. That the value is neither TRUE nor FALSE leaves null.
+TRUTHS = """\
+CREATE TABLE t (id integer, ok boolean, PRIMARY KEY (id));
+ALTER TABLE t REPLICA IDENTITY FULL;
+CREATE PUBLICATION pa FOR TABLE t WHERE (ok IS NOT DISTINCT FROM TRUE);
+CREATE PUBLICATION pb FOR TABLE t WHERE (ok IS NOT DISTINCT FROM FALSE);
 CREATE SUBSCRIPTION s0 CONNECTION '' PUBLICATION pa;
 CREATE SUBSCRIPTION s1 CONNECTION '' PUBLICATION pb;
 """
@@ -108,6 +131,7 @@ CATALOGS: list[tuple[str, str, int, str]] = [
     (INDEXED, C, 0, ACCEPTED),
     (BESIDE, C, 1, "refused NotCovered pa public.u id\n"),
     (NULLABLE, C, 3, "catalog 152 NullableIndex\n"),
+    (TRUTHS, "s 0 s 1 e 0 o 1 n 1 s 1 o 0 e 0 n 1 n 0\n", 1, "refused NotEmpty public.t 2\n"),
     (NOTHING, C, 1, "refused NoIdentity public.t\n"),
     (NOTHING, "o\n", 3, "certificate 1 Ended\n"),
     ("", "", 0, ACCEPTED),

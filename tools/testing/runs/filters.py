@@ -15,6 +15,11 @@ FAULTS: list[tuple[str, str]] = [
     (f"{TABLE}WHERE (id < 9223372036854775808);", "catalog 99 NumberTooLarge\n"),
     (f"{TABLE}WHERE (id %-2 = 0);", "catalog 97 LeftOut\n"),
     (f"{TABLE}WHERE ({'(' * 65}", "catalog 158 TooDeep\n"),
+    (f"{TABLE}WHERE (id IN ());", "catalog 101 Expected\n"),
+    (f"{TABLE}WHERE (id IN ({'7, ' * 100}7));", "catalog 401 TooMany\n"),
+    (f"{TABLE}WHERE (id IN ({'7, ' * 100}));", "catalog 401 Expected\n"),
+    (f"{TABLE}WHERE (region BETWEEN 'a' AND 'b');", "catalog 101 LeftOut\n"),
+    (f"{TABLE}WHERE (id IS DISTINCT FROM NULL);", "catalog 114 LeftOut\n"),
     (f"CREATE TABLE {'a' * 64}", "catalog 13 NameTooLong\n"),
 ]
 
@@ -26,6 +31,16 @@ VALUES: list[tuple[str, str, str]] = [
     ),
     ("region = 'eu' IS NOT TRUE", "(1, NULL)\n", "p=true\n"),
     ("5 > id AND (region) ISNULL", "(4, NULL)\n(5, NULL)\n(4, '')\n", "p=true\np=false\np=false\n"),
+    ("id BETWEEN 1 AND 9", "(0, NULL)\n(1, NULL)\n(9, NULL)\n(10, NULL)\n", "p=false\np=true\np=true\np=false\n"),
+    ("id NOT BETWEEN 1 AND 9", "(9, NULL)\n(10, NULL)\n", "p=false\np=true\n"),
+    ("region IN ('us', 'eu', 'us')", "(1, 'eu')\n(1, 'ap')\n(1, NULL)\n", "p=true\np=false\np=null\n"),
+    (
+        "region NOT IN ('eu', 'us') OR region IS NULL", "(1, 'eu')\n(1, 'ap')\n(1, NULL)\n",
+        "p=false\np=true\np=true\n",
+    ),
+    ("region NOT IN ('eu')", "(1, NULL)\n", "p=null\n"),
+    ("region IS DISTINCT FROM 'eu'", "(1, 'eu')\n(1, 'us')\n(1, NULL)\n", "p=false\np=true\np=true\n"),
+    ("region IS NOT DISTINCT FROM 'eu'", "(1, 'eu')\n(1, 'us')\n(1, NULL)\n", "p=true\np=false\np=false\n"),
 ]
 
 # Publications of whole tables.

@@ -12,6 +12,11 @@ SOUND: list[tuple[str, str]] = [
     (" WHERE (id = 5)", " WHERE (id < 5 OR id > 5)"),
     (" WHERE (region = 'eu')", " WHERE (region = 'eu' IS NOT TRUE)"),
     ("", " WHERE (FALSE)"),
+    (" WHERE (id BETWEEN 1 AND 9)", " WHERE (id < 1 OR id > 9)"),
+    (" WHERE (id IN (1, 3, 5))", " WHERE (id NOT IN (5, 3, 1, 1))"),
+    (" WHERE (id % 3 IN (0, 1, -1))", " WHERE (id % 3 IN (2, -2))"),
+    (" WHERE (region IN ('us', 'eu'))", " WHERE (region NOT IN ('eu', 'us') OR region IS NULL)"),
+    (" WHERE (region IS DISTINCT FROM 'eu')", " WHERE (region = 'eu')"),
 ]
 
 # Conditions of two halves, and how the row begins and ends that shows what is wrong.
@@ -19,6 +24,16 @@ WRONG: list[tuple[str, str, str, str]] = [
     (" WHERE (region = 'eu')", " WHERE (region <> 'eu')", "counter public.t (", ", NULL) owners none\n"),
     (" WHERE (id % 2 = 0)", " WHERE (id % 2 = 1)", "counter public.t (-", " owners none\n"),
     (" WHERE (id < 100)", " WHERE (id > 100)", "counter public.t (100, ", " owners none\n"),
+    (" WHERE (id BETWEEN 1 AND 9)", " WHERE (id NOT BETWEEN 1 AND 8)", "counter public.t (9, ", " owners s0,s1\n"),
+    (" WHERE (id IN (1, 3, 5))", " WHERE (id NOT IN (1, 2, 3, 5))", "counter public.t (2, ", " owners none\n"),
+    (
+        " WHERE (region IN ('eu', 'us'))", " WHERE (region NOT IN ('eu', 'us'))",
+        "counter public.t (", ", NULL) owners none\n",
+    ),
+    (
+        " WHERE (region IS DISTINCT FROM 'eu')", " WHERE (region IS NOT DISTINCT FROM 'eu' OR region IS NULL)",
+        "counter public.t (", ", NULL) owners s0,s1\n",
+    ),
     (" WHERE (id <= 100)", " WHERE (id >= 100)", "counter public.t (100, ", " owners s0,s1\n"),
     ("", "", "counter public.t (", " owners s0,s1\n"),
 ]

@@ -31,7 +31,7 @@ pub fn columns(alloc: Global) -> Result<Vec<Column>, AllocError> {
 }
 
 /// The filter of a text that ends it by `);`.
-fn ended_filter(alloc: Global, text: &str) -> Result<Filter, ReadError> {
+pub fn ended_filter(alloc: Global, text: &str) -> Result<Filter, ReadError> {
     let columns = columns(alloc)?;
     let mut r = Reader::new(text);
     let filter = read_filter(&mut r, alloc, columns.as_slice())?;

@@ -1,9 +1,9 @@
 //! Inputs at their limits. There is memory for all of them, so that none is refused for want of it.
 
 use super::elements::elements;
-use super::expressions::columns;
+use super::expressions::{columns, ended_filter};
 use crate::calls::{exceeded, repeated, row_of, said, written};
-use crate::checks::{holds, same};
+use crate::checks::{expect, holds, same};
 use filter_tree::{Atom, Column, Filter, Tri};
 use sql_reader::{Limit, ReadError, Reader, read_filter, read_name};
 use std::alloc::{AllocError, Global};
@@ -154,6 +154,86 @@ fn reads_the_deepest_filters(rt: HostRuntime) -> Result<(), Fail> {
         let text = around(rt.alloc(), 64, before, "b", after)?;
         expect_true(&rt, rt.alloc(), text.as_str())?;
     }
+    Ok(())
+}
+
+/// A list among parentheses and NOT: what comes so often before a filter, the filter, what comes as often after it, what
+/// is wrong with it ("ok" for nothing), and at which byte.
+const NESTED: &[(usize, &str, &str, &str, &str, usize)] = &[
+    (63, "(", "id NOT IN (5)", ")", "ok", 0),
+    (64, "(", "id IN (5)", ")", "TooDeep", 70),
+    (64, "(", "id IN 5", ")", "Expected", 70),
+    (64, "NOT ", "id IN (5)", "", "TooDeep", 262),
+    (64, "(", "id BETWEEN 1 AND 5 OR id IS NOT DISTINCT FROM 5", ")", "ok", 0),
+];
+
+#[test]
+fn nests_lists(rt: HostRuntime) -> Result<(), Fail> {
+    let alloc = rt.alloc();
+    for (count, before, filter, after, kind, place) in NESTED {
+        let text = around(alloc, *count, before, filter, after)?;
+        let ended = format!(in alloc; "{text});")?;
+        expect(&rt, alloc, filter, ended_filter(alloc, ended.as_str()), kind, *place)?;
+    }
+    Ok(())
+}
+
+/// Parentheses around the one entry of a list, what is wrong, and at which byte.
+const NESTED_ENTRIES: &[(usize, &str, usize)] = &[(63, "ok", 0), (64, "TooDeep", 70)];
+
+#[test]
+fn nests_entries(rt: HostRuntime) -> Result<(), Fail> {
+    let alloc = rt.alloc();
+    for (count, kind, place) in NESTED_ENTRIES {
+        let entry = around(alloc, *count, "(", "5", ")")?;
+        let text = format!(in alloc; "id IN ({entry}));")?;
+        expect(&rt, alloc, "nested", ended_filter(alloc, text.as_str()), kind, *place)?;
+    }
+    Ok(())
+}
+
+/// What follows the hundredth entry of a list, what is wrong with it, and at which byte.
+const LISTS: &[(&str, &str, usize)] = &[
+    ("));", "ok", 0),
+    (" $", "BadToken", 306),
+    (",", "Expected", 306),
+    (", ));", "Expected", 307),
+    (", $", "BadToken", 307),
+    (", 7));", "TooMany(InList)", 307),
+    (", -7));", "TooMany(InList)", 307),
+    (", (7)));", "TooMany(InList)", 307),
+    (", nope));", "TooMany(InList)", 307),
+    (", TRUE));", "TooMany(InList)", 307),
+];
+
+#[test]
+fn reads_the_longest_lists(rt: HostRuntime) -> Result<(), Fail> {
+    let alloc = rt.alloc();
+    let entries = joined(alloc, "7", ", ", 100)?;
+    for (rest, kind, place) in LISTS {
+        let text = format!(in alloc; "id IN ({entries}{rest}")?;
+        expect(&rt, alloc, rest, ended_filter(alloc, text.as_str()), kind, *place)?;
+    }
+    let list = format!(in alloc; "id IN ({entries})")?;
+    expect_true(&rt, alloc, list.as_str())?;
+    Ok(())
+}
+
+/// A list of a hundred numbers that descend, and one of a hundred long texts.
+#[test]
+fn puts_a_list_in_order(rt: HostRuntime) -> Result<(), Fail> {
+    let alloc = rt.alloc();
+    let mut text = String::from_str(alloc, "id NOT IN (-8")?;
+    for number in 9..108 {
+        write!(text, ", -{number}")?;
+    }
+    text.push_str(") AND id IN (8, 7, 6)")?;
+    expect_true(&rt, alloc, text.as_str())?;
+    let longest = quoted(alloc, "a", "'", TEXT)?;
+    let other = quoted(alloc, "b", "'", TEXT)?;
+    let others = joined(alloc, other.as_str(), ", ", 99)?;
+    let texts = format!(in alloc; "region IN ({others}, {longest})")?;
+    expect_true(&rt, alloc, texts.as_str())?;
     Ok(())
 }
 

@@ -1,0 +1,34 @@
+-- The constants of a list in ascending order, each once: the order of "7.5 Sorting Rows", where duplicates are dropped as in "7.3.3 DISTINCT".
+use Rattle.std.specs.Prelude.{◌≡◌, ℕ, Bool, List, [], fold}
+use Rattle.std.specs.BTreeSet.{insert_key}
+use Rattle.std.specs.List.{list_any}
+use Rattle.std.specs.List.Sorted.{IsStrictlySortedBy}
+use Rattle.std.specs.declared.cmp.Ordering.{Ordering}
+use Rattle.filter_tree.specs.Datum.{Constant, Known}
+use Rattle.filter_tree.specs.Order.{rank_of, datum_cmp}
+use Rattle.filter_tree.specs.Same.{same_constant}
+
+-- the order of the values that two constants are
+abbrev pub constant_cmp : Constant → Constant → Ordering
+constant_cmp one other = datum_cmp (Known one) (Known other)
+
+-- numbers come before truth values, and these before texts; no list that is read has constants of two kinds
+abbrev pub constant_rank : Constant → ℕ
+constant_rank constant = rank_of (Known constant)
+
+-- a list in order, with the constant in its place unless it is there
+abbrev pub placed : List Constant → Constant → List Constant
+placed constants constant = insert_key constant_cmp constants constant
+
+unfoldable pub ascending : List Constant → List Constant
+ascending constants = fold placed [] constants
+
+-- ---- laws
+
+abbrev pub has_constant : Constant → List Constant → Bool
+has_constant constant constants = list_any (same_constant constant) constants
+
+-- Each constant is less than the next, and the list has exactly the constants that it is made from.
+pub record ListsAscend : Type 0 where
+  pub strictly : (constants : List Constant) → IsStrictlySortedBy constant_cmp (ascending constants)
+  pub members : (constant : Constant) (constants : List Constant) → has_constant constant (ascending constants) ≡ has_constant constant constants
