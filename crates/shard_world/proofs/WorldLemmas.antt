@@ -1,6 +1,6 @@
 -- In each world that events lead to each subscriber has its shard, and together they have the tables.
 use Rattle.std.proofs.Common.{◌≡◌, ℕ, ◌<◌, ◌≤◌, ◌^◌, Bool, true, false, ◌&&◌, List, [], ◌∷◌, ◌++◌, length, take, refl, sym, ◌∙◌, ap, subst, arith, append_assoc, length-append}
-use Rattle.std.specs.Prelude.{All, ◌==◌, fold, nat_lt, slice_index_or, if◌then◌else◌}
+use Rattle.std.specs.Prelude.{All, ◌==◌, fold, nat_lt, slice_index_or, if◌then◌else◌, Option, Some, None}
 use Rattle.std.specs.Cmp.{unsigned_Decides}
 use Rattle.std.proofs.Common.{inl, inr}
 use Rattle.std.proofs.lemmas.Bool.{ltb-true, ltb-false}
