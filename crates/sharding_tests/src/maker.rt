@@ -1,10 +1,10 @@
 mod families;
 mod limits;
 
-use bumpalo::Bump;
-use cert_maker::{Made, make};
 use crate::calls::{catalog_of, plan_of, row_of};
 use crate::checks::{holds, same};
+use bumpalo::Bump;
+use cert_maker::{Made, make};
 use filter_tree::{Filter, Row, Tri, Value, copy_in, eval};
 use pub_catalog::Catalog;
 use replica_identity::{Plan, Share};

@@ -1,3 +1,4 @@
+use super::{BY_HALVES, certificate};
 use crate::calls::catalog_of;
 use crate::checks::{holds, same};
 use crate::takers::{both_take, takes_one_alone};
@@ -9,7 +10,6 @@ use split_cert::Cert;
 use std::alloc::{AllocError, Global};
 use std::process::Abort;
 use std::test::Fail;
-use super::{BY_HALVES, certificate};
 
 /// The operations that a publication has where nothing is said of them.
 pub const ALL: &str = "insert, update, delete, truncate";

@@ -1,5 +1,7 @@
 //! Catalogs, filters and certificates at the limits of those that are read.
 
+use super::catalogs::{ALL, accepted, refusal};
+use super::{ID, answer, bad_index, number, or, second_owner};
 use crate::calls::{catalog_of, plan_of};
 use crate::checks::{holds, same};
 use crate::spellings::{deep_beginning, followed, large_beginning};
@@ -11,8 +13,6 @@ use split_cert::Cert;
 use std::alloc::{AllocError, Global};
 use std::process::Abort;
 use std::test::Fail;
-use super::{ID, answer, bad_index, number, or, second_owner};
-use super::catalogs::{ALL, accepted, refusal};
 
 /// 100 columns: a key, and 99 texts.
 fn wide_columns(alloc: Global) -> Result<String, AllocError> {

@@ -1,18 +1,18 @@
 //! Shardings by the texts of their certificates.
 
+use super::BY_HALVES;
+use super::catalogs::{LOW, catalog, halves};
 use crate::calls::catalog_of;
 use crate::checks::same;
 use crate::spellings::{deep_beginning, followed, large_beginning};
 use pub_catalog::Catalog;
 use replica_identity::plan;
-use shard_checker::{CheckError, TextError, check_text};
 use shard_checker::TextError::{Check, Text};
+use shard_checker::{CheckError, TextError, check_text};
 use split_cert::CertError::{BadToken, Ended, Trailing};
 use std::alloc::{AllocError, Global};
 use std::process::Abort;
 use std::test::Fail;
-use super::BY_HALVES;
-use super::catalogs::{LOW, catalog, halves};
 
 /// Why a sharding is refused by these texts, or `None`.
 fn refusal(

@@ -2,10 +2,10 @@
 
 mod cases;
 
-use cases::{DELETIONS, Deletion, Recorded, SHARES, Side, UPDATES, Update};
 use crate::calls::{catalog_of, longest_text, plan_of, row_of, text};
 use crate::checks::{holds, same};
 use crate::tables::{columns_alike, table_of};
+use cases::{DELETIONS, Deletion, Recorded, SHARES, Side, UPDATES, Update};
 use filter_tree::{ColType, Identity, Row, Table, Text, Value, copy_value};
 use pub_catalog::Catalog;
 use replica_identity::{Change, OldPart, Out, Plan, carries, old_part, transform};
