@@ -1,5 +1,4 @@
 mod catalogs;
-mod forms;
 mod limits;
 mod sharing;
 mod terms;
@@ -40,10 +39,6 @@ fn text(alloc: Global, term: Term, op: Op, value: &str) -> Result<Filter, AllocE
     Ok(Filter::Atom(Atom::Cmp(term, op, value)))
 }
 
-fn not(alloc: Global, part: Filter) -> Result<Filter, AllocError> {
-    Ok(Filter::Not(Box::new(alloc, part)?))
-}
-
 fn or(alloc: Global, left: Filter, right: Filter) -> Result<Filter, AllocError> {
     Ok(Filter::Or(Box::new(alloc, left)?, Box::new(alloc, right)?))
 }
@@ -64,20 +59,6 @@ fn answer(
     Ok(check_one(alloc, table, shares, &cert))
 }
 
-/// Fails the test where the check of the table with these shares gives another answer.
-fn expect_of(
-    rt: &impl Abort,
-    alloc: Global,
-    table: &Table,
-    shares: &[&Share],
-    cases: &[(&str, Result<(), CheckError>)],
-) -> Result<(), Fail> {
-    for (spelling, wanted) in cases {
-        same(rt, answer(alloc, table, shares, *spelling)?, *wanted);
-    }
-    Ok(())
-}
-
 /// Fails the test where the check of `t` with these shares gives another answer.
 fn expect_answers(
     rt: &impl Abort,
@@ -86,7 +67,10 @@ fn expect_answers(
     cases: &[(&str, Result<(), CheckError>)],
 ) -> Result<(), Fail> {
     let table = table(alloc, Identity::Full)?;
-    expect_of(rt, alloc, &table, shares, cases)
+    for (spelling, wanted) in cases {
+        same(rt, answer(alloc, &table, shares, *spelling)?, *wanted);
+    }
+    Ok(())
 }
 
 fn not_owner(node: usize) -> Result<(), CheckError> {

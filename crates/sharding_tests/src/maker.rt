@@ -1,4 +1,3 @@
-mod families;
 mod limits;
 
 use crate::calls::{catalog_of, plan_of, row_of};

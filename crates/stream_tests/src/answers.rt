@@ -3,9 +3,9 @@
 use crate::answer_cases::{
     FRAMES, OPTION_LISTS, OTHER_COMMANDS, PUBLICATION_NAMES, REFUSED, STARTS, UNREAD,
 };
+use crate::checks::{holds, same};
 use bytes::BytesMut;
 use copy_both::{Asked, Offer, SqlState, answer_start};
-use crate::checks::{holds, same};
 use pub_catalog::Catalog;
 use pub_reader::read_catalog;
 use std::alloc::{AllocError, Global};

@@ -1,8 +1,8 @@
 //! Starts that are refused, and those that are not.
 
+use crate::checks::{holds, same};
 use Given::{BinaryOff, BinaryOn, Names, Unknown, Version1, Version2};
 use bytes::BytesMut;
-use crate::checks::{holds, same};
 use copy_both::{
     Offer, OptionValue, Refusal, StartCommand, StartOption, append_error_response, find_slot,
     start_refusal, streams_grow,

@@ -10,12 +10,12 @@ ghost use Rattle.replica_identity.specs.PlanView.{plan_view};
 
 pub mod findings;
 
-use bumpalo::Bump;
-use cert_maker::{Made, make};
 use crate::failure::{Failure, InputFault, Status};
 use crate::make::findings::finding_line;
 use crate::output::write_line;
 use crate::parts::cut;
+use bumpalo::Bump;
+use cert_maker::{Made, make};
 use pub_catalog::Catalog;
 use pub_reader::read_catalog;
 use replica_identity::{Plan, plan};

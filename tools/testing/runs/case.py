@@ -67,6 +67,23 @@ class Made:
         tally.check(self.name, ended(*found), ended(0, ACCEPTED))
 
 
+@dataclass(frozen=True)
+class Sized:
+    """A catalog of one table whose certificate has at least so many nodes, and fewer than so many."""
+
+    name: str
+    catalog: str
+    fewest: int
+    end: int
+
+    def check(self, tally: Tally) -> None:
+        """Makes the run."""
+        status, output = pgshard("make", text=self.catalog, seconds=SECONDS)
+        nodes = sum(word in ("s", "o", "e", "n") for word in output.split())
+        found = status, self.fewest <= nodes < self.end
+        tally.check(f"{self.name}, of which there are {nodes}", found, (0, True))
+
+
 def ended(status: int | None, output: str) -> str:
     """An output with the status as its last line."""
     return f"{output}status {status}\n"

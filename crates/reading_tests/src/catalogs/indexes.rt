@@ -1,5 +1,7 @@
 //! What a catalog has of unique indexes, and how many it may have.
 
+use super::index_cases::{IDENTITIES, INDEXED, INDEXES};
+use super::{check_catalogs, expect_outcome, numbered};
 use crate::calls::catalog_of;
 use crate::checks::same;
 use filter_tree::{Identity, Table, UniqueIndex};
@@ -7,8 +9,6 @@ use pub_catalog::Catalog;
 use std::alloc::{AllocError, Global};
 use std::process::Abort;
 use std::test::Fail;
-use super::{check_catalogs, expect_outcome, numbered};
-use super::index_cases::{IDENTITIES, INDEXED, INDEXES};
 
 #[test]
 fn reads_indexes_or_their_first_fault(rt: HostRuntime) -> Result<(), Fail> {

@@ -1,5 +1,6 @@
 //! Scripts.
 
+use super::script_cases::{SCRIPTED, SCRIPTS, STEPS};
 use crate::calls::{catalog_of, repeated, written};
 use crate::checks::{expect, same};
 use pub_catalog::Catalog;
@@ -7,7 +8,6 @@ use pub_reader::{Command, Line, ReadError, Step, read_script};
 use std::alloc::{AllocError, Global};
 use std::process::Abort;
 use std::test::Fail;
-use super::script_cases::{SCRIPTED, SCRIPTS, STEPS};
 
 /// A command as it is written, but for the numbers of its tables.
 fn shown_command(alloc: Global, command: &Command) -> Result<String, AllocError> {

@@ -181,8 +181,16 @@ pub const EXPRESSIONS: &[Case] = &[
     ("b ISNULL NOTNULL);", "Expected", 9),
     // IN.
     ("id IN (5));", "ok", 0),
-    ("id IN (5, -3, 5) OR id % 2 NOT IN (0, (1), ((- 1))));", "ok", 0),
-    ("region IN ('a'::text, ('b')) AND b IN (TRUE, FALSE));", "ok", 0),
+    (
+        "id IN (5, -3, 5) OR id % 2 NOT IN (0, (1), ((- 1))));",
+        "ok",
+        0,
+    ),
+    (
+        "region IN ('a'::text, ('b')) AND b IN (TRUE, FALSE));",
+        "ok",
+        0,
+    ),
     ("NOT id IN (5) IS NOT TRUE);", "ok", 0),
     ("id IN ());", "Expected", 7),
     ("id IN 5);", "Expected", 6),
@@ -236,7 +244,11 @@ pub const EXPRESSIONS: &[Case] = &[
     ("id BETWEEN 1 AND id % 2 $", "LeftOut(TwoColumns)", 3),
     ("5 BETWEEN 1 AND 2);", "LeftOut(Constant)", 2),
     ("5 NOT BETWEEN id AND 'a');", "LeftOut(Constant)", 6),
-    ("NOT (id BETWEEN 1 AND 5) BETWEEN 1 AND 2);", "TypeClash", 25),
+    (
+        "NOT (id BETWEEN 1 AND 5) BETWEEN 1 AND 2);",
+        "TypeClash",
+        25,
+    ),
     ("region BETWEEN 'a' AND 'b');", "LeftOut(Order)", 7),
     ("region BETWEEN 'a' AND 'b' - 1);", "LeftOut(Order)", 7),
     ("region BETWEEN 1 AND 'b');", "TypeClash", 7),

@@ -164,7 +164,14 @@ const NESTED: &[(usize, &str, &str, &str, &str, usize)] = &[
     (64, "(", "id IN (5)", ")", "TooDeep", 70),
     (64, "(", "id IN 5", ")", "Expected", 70),
     (64, "NOT ", "id IN (5)", "", "TooDeep", 262),
-    (64, "(", "id BETWEEN 1 AND 5 OR id IS NOT DISTINCT FROM 5", ")", "ok", 0),
+    (
+        64,
+        "(",
+        "id BETWEEN 1 AND 5 OR id IS NOT DISTINCT FROM 5",
+        ")",
+        "ok",
+        0,
+    ),
 ];
 
 #[test]
@@ -173,7 +180,14 @@ fn nests_lists(rt: HostRuntime) -> Result<(), Fail> {
     for (count, before, filter, after, kind, place) in NESTED {
         let text = around(alloc, *count, before, filter, after)?;
         let ended = format!(in alloc; "{text});")?;
-        expect(&rt, alloc, filter, ended_filter(alloc, ended.as_str()), kind, *place)?;
+        expect(
+            &rt,
+            alloc,
+            filter,
+            ended_filter(alloc, ended.as_str()),
+            kind,
+            *place,
+        )?;
     }
     Ok(())
 }
@@ -187,7 +201,14 @@ fn nests_entries(rt: HostRuntime) -> Result<(), Fail> {
     for (count, kind, place) in NESTED_ENTRIES {
         let entry = around(alloc, *count, "(", "5", ")")?;
         let text = format!(in alloc; "id IN ({entry}));")?;
-        expect(&rt, alloc, "nested", ended_filter(alloc, text.as_str()), kind, *place)?;
+        expect(
+            &rt,
+            alloc,
+            "nested",
+            ended_filter(alloc, text.as_str()),
+            kind,
+            *place,
+        )?;
     }
     Ok(())
 }
@@ -212,7 +233,14 @@ fn reads_the_longest_lists(rt: HostRuntime) -> Result<(), Fail> {
     let entries = joined(alloc, "7", ", ", 100)?;
     for (rest, kind, place) in LISTS {
         let text = format!(in alloc; "id IN ({entries}{rest}")?;
-        expect(&rt, alloc, rest, ended_filter(alloc, text.as_str()), kind, *place)?;
+        expect(
+            &rt,
+            alloc,
+            rest,
+            ended_filter(alloc, text.as_str()),
+            kind,
+            *place,
+        )?;
     }
     let list = format!(in alloc; "id IN ({entries})")?;
     expect_true(&rt, alloc, list.as_str())?;

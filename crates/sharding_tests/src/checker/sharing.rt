@@ -1,10 +1,14 @@
 //! Filters that have atoms and parts many times, and paths on which atoms are tested again.
 
-use super::{ID, REGION, expect_answers, not, not_owner, number, or, second_owner, text};
+use super::{ID, REGION, expect_answers, not_owner, number, or, second_owner, text};
 use filter_tree::{Atom, Filter, Op, Test};
 use replica_identity::Share;
 use std::alloc::{AllocError, Global};
 use std::test::Fail;
+
+fn not(alloc: Global, part: Filter) -> Result<Filter, AllocError> {
+    Ok(Filter::Not(Box::new(alloc, part)?))
+}
 
 fn and(alloc: Global, left: Filter, right: Filter) -> Result<Filter, AllocError> {
     Ok(Filter::And(Box::new(alloc, left)?, Box::new(alloc, right)?))

@@ -7,8 +7,8 @@ ghost use Rattle.subcommands.specs.Make.FindingView.{finding_view};
 ghost use Rattle.subcommands.specs.Make.Making as spec;
 ghost use Rattle.subcommands.specs.Names.{spaced, table_name};
 
-use cert_maker::Made;
 use crate::names::{push_table, push_word, subscriber_name};
+use cert_maker::Made;
 use filter_tree::Row;
 use pub_catalog::{Catalog, Subscription};
 use split_cert::write;

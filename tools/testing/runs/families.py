@@ -1,0 +1,151 @@
+"""Families of shardings that grow with the number of subscribers: for each `make` finds a certificate that `check` then
+accepts, or, where one of its conditions is a little wrong, a row that shows it."""
+
+from collections.abc import Iterator, Sequence
+
+from .case import Case, Made, Outline, Sized
+
+# The columns of a table: a key of each type of integer, a region or none, and a truth value or none.
+KEYS = ["id smallint PRIMARY KEY", "id integer PRIMARY KEY", "id bigint PRIMARY KEY"]
+ID = KEYS[1]
+REGION = f"{ID}, region text"
+NOT_NULL_REGION = f"{REGION} NOT NULL"
+PAID = f"{ID}, paid boolean"
+
+# How many subscribers there are.
+COUNTS = [2, 3, 8, 16, 31, 32]
+
+
+def catalog(columns: str, filters: Sequence[str]) -> str:
+    """A table with these columns, and a subscriber for each of the filters."""
+    lines = [f"CREATE TABLE t ({columns});", "ALTER TABLE t REPLICA IDENTITY FULL;"]
+    for number, condition in enumerate(filters):
+        lines.append(f"CREATE PUBLICATION p{number} FOR TABLE t WHERE ({condition});")
+        lines.append(f"CREATE SUBSCRIPTION s{number} CONNECTION '' PUBLICATION p{number};")
+    return "\n".join(lines) + "\n"
+
+
+def one_range(number: int, count: int, end: int, falls: bool = False) -> str:
+    """Hundreds up to an end. The first of them has no least number, and the last no end."""
+    parts = ["TRUE"]
+    if number > 0:
+        parts.append(f"id > {100 * number - 1}" if falls else f"id >= {100 * number}")
+    if number < count - 1:
+        parts.append(f"{end - 1} >= id" if falls else f"NOT id >= {end}")
+    return " AND ".join(parts)
+
+
+def ranges(count: int, by: int = 0, falls: bool = False) -> list[str]:
+    """Ranges of hundreds, of which the one in the middle ends so much later. Falling ones have other operators, too."""
+    middle = count // 2 - 1
+    rising = [one_range(at, count, 100 * at + 100 + (by if at == middle else 0), falls) for at in range(count)]
+    return rising[::-1] if falls else rising
+
+
+def remainders(count: int, has_negative: bool) -> list[str]:
+    """A remainder for each subscriber, with the one below zero or not."""
+    return [
+        f"id % {count} = {at}" + (f" OR id % {count} = -{at}" if has_negative and at > 0 else "") for at in range(count)]
+
+
+def regions(count: int, others: str) -> list[str]:
+    """Two regions for each subscriber but the last, which has those that pass this test of the others."""
+    named = [f"region = 'a{at}' OR 'b{at}' = region" for at in range(1, count)]
+    return [*named, f"({' OR '.join(['FALSE', *named])}) {others}"]
+
+
+def region_lists(count: int, size: int, others: str) -> list[str]:
+    """A list of regions for each subscriber but the last, which has what is in none of them."""
+    lists = [", ".join(f"'r{at}_{place}'" for place in range(size)) for at in range(1, count)]
+    return [*(f"region IN ({it})" for it in lists), f"{' AND '.join(f'region NOT IN ({it})' for it in lists)} {others}"]
+
+
+def key_lists(count: int, size: int, left_out: int) -> list[str]:
+    """Lists of remainders by the number of all entries, those below zero with those above, but for so many."""
+    divisor = count * size
+    shares = []
+    for at in range(count):
+        numbers = range(at, divisor, count)
+        entries = [str(it) for it in numbers] + [f"-{it}" for it in numbers if it > 0]
+        shares.append(f"id % {divisor} IN ({', '.join(entries[:len(entries) - (left_out if at == 0 else 0)])})")
+    return shares
+
+
+def betweens(count: int, by: int) -> list[str]:
+    """Ranges by BETWEEN, with a first one below and a last one above them. The first BETWEEN ends so much later."""
+    inner = [f"id BETWEEN {100 * at} AND {100 * at + 99 + (by if at == 1 else 0)}" for at in range(1, count - 1)]
+    return ["id < 100", *inner, f"id >= {100 * (count - 1)}"]
+
+
+def regions_in_ranges(places: int, count: int, by: int) -> list[str]:
+    """Each of so many regions, of which the last has the others too, in each of so many ranges."""
+    filters = []
+    for place in range(places):
+        named = " OR ".join(["FALSE", *(f"region = 'r{other}'" for other in range(place))])
+        where = f"region = 'r{place}'" if place < places - 1 else f"({named}) IS NOT TRUE"
+        for at in range(count):
+            moved = by if place == 0 and at == 0 else 0
+            filters.append(f"{where} AND {one_range(at, count, 100 * at + 100 + moved)}")
+    return filters
+
+
+def flags(count: int, others: str) -> list[str]:
+    """A truth value that is true, and the others by this test, in each of so many ranges."""
+    found = [one_range(at, count, 100 * at + 100) for at in range(count)]
+    return [f"paid {test} AND {it}" for it in found for test in ("IS TRUE", others)]
+
+
+def pairs(count: int) -> tuple[str, list[str]]:
+    """The columns of so many pairs of truth values; rows of which one pair is both true, and the others."""
+    columns = "".join(f", a{at} boolean NOT NULL, b{at} boolean NOT NULL" for at in range(count))
+    some = " OR ".join(["FALSE", *(f"a{at} AND b{at}" for at in range(count))])
+    return ID + columns, [some, f"NOT ({some})"]
+
+
+def listed() -> Iterator[tuple[str, str, list[str], bool]]:
+    """For each sharding its name, the columns and the filters, and whether it is sound."""
+    for key in KEYS:
+        for count in COUNTS:
+            for falls in (False, True):
+                for by in (0, -1, 1):
+                    yield f"{count} ranges of {key}, {falls}, {by}", key, ranges(count, by, falls), by == 0
+            for has_negative in (True, False):
+                filters = remainders(count, has_negative)
+                yield f"{count} remainders of {key}, {has_negative}", key, filters, has_negative
+    for count in (2, 8, 32):
+        for columns, others, sound in [
+            (REGION, "IS NOT TRUE", True), (REGION, "IS FALSE", False), (NOT_NULL_REGION, "IS FALSE", True),
+            (NOT_NULL_REGION, "IS TRUE", False),
+        ]:
+            yield f"{count} regions of {columns}, {others}", columns, regions(count, others), sound
+        for size in (1, 3, 10, 100):
+            filters = region_lists(count, size, "OR region IS NULL")
+            yield f"{count} lists of {size} regions", REGION, filters, True
+            yield f"{count} lists of {size} regions without nulls", REGION, region_lists(count, size, ""), False
+    for count, size in [(2, 2), (3, 2), (8, 3), (32, 3)]:
+        for left_out in (0, 1):
+            yield f"{count} lists of {size} keys, {left_out}", ID, key_lists(count, size, left_out), left_out == 0
+    for count in (3, 8, 32):
+        for by in (0, -1, 1):
+            yield f"{count} ranges by BETWEEN, {by}", ID, betweens(count, by), by == 0
+    for places, count in [(2, 2), (4, 2), (4, 8), (8, 4)]:
+        for by in (0, 1):
+            yield f"{places} regions in {count} ranges, {by}", REGION, regions_in_ranges(places, count, by), by == 0
+    for count in (1, 4, 16):
+        for others, sound in [("IS NOT TRUE", True), ("IS FALSE", False), ("IS NOT FALSE", False)]:
+            yield f"truth values in {count} ranges, {others}", PAID, flags(count, others), sound
+
+
+def cases() -> Iterator[Case | Made | Sized]:
+    """A run of make for each, and of check where a certificate is to be made."""
+    for name, columns, filters, sound in listed():
+        text = catalog(columns, filters)
+        if sound:
+            yield Made(f"make of {name}", text)
+        else:
+            yield Case(f"make of {name}", ("make",), text, 1, Outline("counter public.t ("))
+    # A certificate for n pairs has at least 6 * 2^n - 5 nodes, for 12 so many that splits are no longer chosen with care.
+    for count, fewest in [(1, 7), (4, 91), (12, 24_571)]:
+        yield Sized(f"nodes for {count} pairs", catalog(*pairs(count)), fewest, 2 * fewest + 2)
+    yield Sized("nodes for 32 ranges", catalog(ID, ranges(32)), 1, 2_000)
+    yield Sized("nodes for 8 regions in 4 ranges", catalog(REGION, regions_in_ranges(8, 4, 0)), 1, 2_000)

@@ -1,0 +1,72 @@
+"""Certificates over IN, BETWEEN and IS DISTINCT FROM, each with what `check` says of it."""
+
+from collections.abc import Iterator
+
+from .case import ACCEPTED, Case, two_parts
+from .families import catalog
+
+ID = "id integer PRIMARY KEY"
+REGION = f"{ID}, region text"
+
+# One owner where the atom is true, another where it is false, and no row where it is null.
+TWO_WAYS = "s 0 o 0 o 1 n 0"
+
+# Remainders by 51 are the 101 numbers from -50 to 50.
+HUNDRED = f"id % 51 IN ({', '.join(str(it) for it in range(-50, 50))})"
+
+# Two regions, and the others with nulls; and what is true of all but one of them, and of null.
+LISTED = ["region IN ('eu', 'us')", "region NOT IN ('us', 'eu') OR region IS NULL"]
+ELSEWHERE = ["region IN ('eu', 'us')", "region IS DISTINCT FROM 'eu' OR region IS DISTINCT FROM 'us'"]
+EXACTLY = ["ok IS NOT DISTINCT FROM TRUE", "ok IS NOT DISTINCT FROM FALSE"]
+
+# A truth value, and no row where it is neither true nor false; the same after the nulls.
+TRUE_OR_FALSE = "s 0 s 1 e 0 o 1 n 1 s 1 o 0 e 0 n 1 n 0"
+AFTER_NULLS = f"s 2 s 0 s 1 o 2 e 0 n 1 e 0 n 0 {TRUE_OR_FALSE} n 2"
+
+# The columns, the filters of the subscribers, and certificates with the answers: none where it is accepted.
+FORMS: list[tuple[str, list[str], list[tuple[str, str]]]] = [
+    (ID, ["id BETWEEN 1 AND 9", "id NOT BETWEEN 1 AND 9"], [
+        (TWO_WAYS, ""), ("s 0 e 0 o 1 n 0", "NotEmpty public.t 1"), ("s 0 o 0 e 0 n 0", "NotEmpty public.t 2"),
+        ("s 0 o 0 o 1 o 1", "NotOwner public.t 3"),
+    ]),
+    # No number is between a greater and a smaller one, and one is between equal ones.
+    (ID, ["id BETWEEN 9 AND 8", "id NOT BETWEEN 9 AND 8"], [
+        ("s 0 e 0 o 1 n 0", ""), ("s 0 o 0 e 0 n 0", "NotEmpty public.t 2"),
+    ]),
+    (ID, ["id BETWEEN 9 AND 9", "id NOT BETWEEN 9 AND 9"], [("s 0 e 0 o 1 n 0", "NotEmpty public.t 1")]),
+    # A number of a column that may be null is outside the range, or null.
+    (f"{ID}, low smallint", ["low BETWEEN -32768 AND 9", "low NOT BETWEEN -32768 AND 9 OR low IS NULL"], [
+        ("s 0 s 1 e 0 o 0 n 1 o 1 s 1 o 1 e 0 n 1", ""),
+        ("s 0 s 1 e 0 o 0 n 1 o 1 n 0", "MayBeNull public.t 6"),
+        ("s 0 s 1 e 0 o 0 n 1 e 0 n 0", "NotEmpty public.t 5"),
+    ]),
+    (REGION, LISTED, [
+        ("s 0 s 1 e 0 o 0 n 1 o 1 s 1 o 1 e 0 n 1", ""),
+        ("s 0 s 1 e 0 e 0 n 1 o 1 n 0", "NotEmpty public.t 3"),
+        ("s 0 s 1 e 0 o 0 n 1 o 1 n 0", "MayBeNull public.t 6"),
+        ("s 0 s 1 e 0 o 0 n 1 o 1 s 1 e 0 e 0 n 1", "NotEmpty public.t 7"),
+    ]),
+    (ID, [HUNDRED, f"NOT {HUNDRED}"], [(TWO_WAYS, ""), ("s 0 o 0 e 0 n 0", "NotEmpty public.t 2")]),
+    (REGION, ["region IS DISTINCT FROM 'eu'", "region IS NOT DISTINCT FROM 'eu'"], [
+        (TWO_WAYS, ""), ("s 0 e 0 o 1 n 0", "NotEmpty public.t 1"), ("s 0 o 0 e 0 n 0", "NotEmpty public.t 2"),
+    ]),
+    # Where a text is in the list, and is neither of its texts, there is none.
+    (REGION, ELSEWHERE, [
+        ("s 0 s 1 e 0 e 0 n 1 e 0 e 0", "NotEmpty public.t 2"),
+        ("s 0 s 1 s 2 e 0 e 0 n 2 e 0 n 1 e 0 e 0", "NotEmpty public.t 4"),
+    ]),
+    # What differs from each truth value is null, which a column may be, or is not by its declaration or by what was found.
+    (f"{ID}, ok boolean NOT NULL", EXACTLY, [(TRUE_OR_FALSE, "")]),
+    (f"{ID}, ok boolean", EXACTLY, [(TRUE_OR_FALSE, "NotEmpty public.t 2")]),
+    (f"{ID}, ok boolean", [*EXACTLY, "ok IS NULL"], [(AFTER_NULLS, "")]),
+]
+
+
+def cases() -> Iterator[Case]:
+    """A run of check for each certificate."""
+    for columns, filters, certificates in FORMS:
+        for certificate, refusal in certificates:
+            name = f"check of {certificate} for {filters[0][:40]}"
+            text = two_parts(catalog(columns, filters), f"{certificate}\n")
+            expected = (1, f"refused {refusal}\n") if refusal else (0, ACCEPTED)
+            yield Case(name, ("check",), text, *expected)
