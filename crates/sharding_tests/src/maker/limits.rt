@@ -1,16 +1,16 @@
 //! Tables, filters and texts at the limits of those that are read.
 
-use bumpalo::Bump;
-use cert_maker::{Made, make};
+use super::{ID, REGION, counter, expect_sort, sort_at, write_subscription};
 use crate::calls::{catalog_of, longest_text, plan_of};
 use crate::checks::same;
+use bumpalo::Bump;
+use cert_maker::{Made, make};
 use filter_tree::Value;
 use pub_catalog::Catalog;
 use replica_identity::Plan;
 use split_cert::Cert;
 use std::alloc::{AllocError, Global};
 use std::test::Fail;
-use super::{ID, REGION, counter, expect_sort, sort_at, write_subscription};
 
 /// A key, and 99 columns more, of which each takes a null.
 fn wide_columns(alloc: Global) -> Result<String, AllocError> {
