@@ -22,7 +22,8 @@ def z3_time(setup, folder, sharding):
     path = folder / "question.smt2"
     path.write_text(families.question(sharding))
     words = ["z3", "-T:20", str(path)]
-    return setup.milliseconds(words, path), setup.answer(words, path).strip()
+    solution = setup.answer(words, path).strip()
+    return setup.milliseconds(words, path, 1 if solution == "timeout" else None), solution
 
 
 def row(setup, folder, sharding):
