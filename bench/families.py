@@ -1,7 +1,8 @@
 """Families of shardings that operators write, each as a catalog and as the same question for an SMT solver.
 
-A condition is a tuple: ("cmp", term, operator, literal), ("null", column), ("and", ..), ("or", ..), ("not", condition) or
-("is true", condition). A term is a column's name, or a pair of a column's name and a divisor for a remainder.
+A condition is a tuple: ("cmp", term, operator, literal), ("in", term, literals), ("between", term, low, high), ("null",
+column), ("and", ..), ("or", ..), ("not", condition) or ("is true", condition). A term is a column's name, or a pair of a
+column's name and a divisor for a remainder.
 """
 
 from dataclasses import dataclass
@@ -105,7 +106,54 @@ def forgotten_null(count):
     return sharding
 
 
+# ---- the families of lists and of BETWEEN, with so many entries in each list
+
+
+def region_lists(count, entries):
+    """A list of regions for each subscriber but the last, which has the others and those without a region."""
+    lists = [("in", "region", [f"r{entries * at + more}" for more in range(entries)]) for at in range(count - 1)]
+    last = ("or", ("not", one_of(lists)), ("null", "region"))
+    return Sharding([Column("id", "integer", True), Column("region", "text")], lists + [last])
+
+
+def key_lists(count, entries):
+    """A list of keys for each subscriber but the last, which has the others. The lists lie in one another."""
+    lists = [("in", "id", [7 * (count * more + at) for more in range(entries)]) for at in range(count - 1)]
+    return Sharding([Column("id", "integer", True)], lists + [("not", one_of(lists))])
+
+
+def remainder_lists(count, entries):
+    """A list of remainders of an integer key for each subscriber but the last, which has the others and the negative ones."""
+    term = ("id", count * entries)
+    lists = [("in", term, [count * more + at for more in range(entries)]) for at in range(count - 1)]
+    return Sharding([Column("id", "bigint", True)], lists + [("not", one_of(lists))])
+
+
+def between(count, entries):
+    """Ranges of so many keys by BETWEEN, and the other keys."""
+    shards = [("between", "id", entries * at, entries * (at + 1) - 1) for at in range(count - 1)]
+    return Sharding([Column("id", "integer", True)], shards + [("not", one_of(shards))])
+
+
+def lists_and_between(count, entries):
+    """Lists of regions, of which each is split by BETWEEN of the key."""
+    low = ("between", "id", -1000, 999)
+    sides = region_lists(count // 2, entries).conditions if count > 3 else [None]
+    shards = [bound if side is None else ("and", side, bound) for side in sides for bound in (low, ("not", low))]
+    return Sharding([Column("id", "integer", True), Column("region", "text")], shards)
+
+
+def shared_region(count, entries):
+    """Lists of regions, where the last subscriber has one of the first's too."""
+    sharding = region_lists(count, entries)
+    first, *others = sharding.conditions[:-1]
+    shorter = ("in", "region", first[2][1:])
+    sharding.conditions[-1] = ("or", ("not", one_of([shorter, *others])), ("null", "region"))
+    return sharding
+
+
 FAMILIES = {it.__name__: it for it in (ranges, remainders, text_lists, regions_and_ranges, flags, hole, overlap, no_negative, forgotten_null)}
+LISTS = {it.__name__: it for it in (region_lists, key_lists, remainder_lists, between, lists_and_between, shared_region)}
 
 
 # ---- as a catalog
@@ -125,6 +173,10 @@ def condition_text(condition):
     head, *parts = condition
     if head == "cmp":
         return f"{term_text(parts[0])} {parts[1]} {literal_text(parts[2])}"
+    if head == "in":
+        return f"{term_text(parts[0])} IN ({', '.join(map(literal_text, parts[1]))})"
+    if head == "between":
+        return f"{term_text(parts[0])} BETWEEN {parts[1]} AND {parts[2]}"
     if head == "null":
         return f"{parts[0]} IS NULL"
     if head == "not":
@@ -185,13 +237,21 @@ class Question:
             return f"(not (= {self.term(term)} {self.literal(value)}))"
         return f"({operator} {self.term(term)} {self.literal(value)})"
 
+    def among(self, term, values):
+        equal = " ".join(f"(= it {self.literal(value)})" for value in values)
+        return f"(let ((it {self.term(term)})) (or {equal}))"
+
+    def between(self, term, low, high):
+        return f"(let ((it {self.term(term)})) (and (<= {self.literal(low)} it) (<= it {self.literal(high)})))"
+
     def says(self, condition, wanted):
         """That the condition is true, or that it is false; where it is null it is neither."""
         head, *parts = condition
-        if head == "cmp":
+        tests = {"cmp": self.compared, "in": self.among, "between": self.between}
+        if head in tests:
             column = parts[0] if isinstance(parts[0], str) else parts[0][0]
-            compared = self.compared(*parts)
-            return f"(and (not {column}_null) {compared if wanted else f'(not {compared})'})"
+            holds = tests[head](*parts)
+            return f"(and (not {column}_null) {holds if wanted else f'(not {holds})'})"
         if head == "null":
             return f"{parts[0]}_null" if wanted else f"(not {parts[0]}_null)"
         if head == "not":

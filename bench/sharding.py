@@ -6,7 +6,9 @@ import families
 from measuring import print_table
 
 COUNTS = (2, 8, 16, 32)
-HEADS = ["Family", "Subscribers", "Answer", "make, ms", "check, ms", "z3, ms", "z3 says"]
+ENTRIES = (3, 10, 100)
+MOST = 32
+HEADS = ["Answer", "make, ms", "check, ms", "z3, ms", "z3 says"]
 
 
 def nodes(certificate):
@@ -20,11 +22,11 @@ def z3_time(setup, folder, sharding):
     path = folder / "question.smt2"
     path.write_text(families.question(sharding))
     words = ["z3", "-T:20", str(path)]
-    return setup.milliseconds(words, path), setup.answer(words, path).strip()
+    solution = setup.answer(words, path).strip()
+    return setup.milliseconds(words, path, 1 if solution == "timeout" else None), solution
 
 
-def row(setup, folder, name, count):
-    sharding = families.FAMILIES[name](count)
+def row(setup, folder, sharding):
     text, certified = folder / "catalog", folder / "certified"
     text.write_text(families.catalog(sharding))
     words = [setup.program, "make"]
@@ -39,8 +41,11 @@ def row(setup, folder, name, count):
     solved, solution = z3_time(setup, folder, sharding)
     agrees = {"sat": not is_certificate, "unsat": is_certificate}.get(solution, True)
     shown = [f"{it:.1f}" if it is not None else "" for it in (made, checked, solved)]
-    return [name, count, said, *shown, solution if agrees else f"{solution}, which differs"]
+    return [said, *shown, solution if agrees else f"{solution}, which differs"]
 
 
 def measure(setup, folder):
-    print_table(HEADS, (row(setup, folder, name, count) for name in families.FAMILIES for count in COUNTS))
+    rows = ([name, count, *row(setup, folder, it(count))] for name, it in families.FAMILIES.items() for count in COUNTS)
+    print_table(["Family", "Subscribers", *HEADS], rows)
+    lists = ([name, entries, *row(setup, folder, it(MOST, entries))] for name, it in families.LISTS.items() for entries in ENTRIES)
+    print_table(["Family", "Entries", *HEADS], lists)
