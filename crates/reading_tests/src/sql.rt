@@ -3,6 +3,7 @@ mod elements;
 mod expression_cases;
 mod expressions;
 mod largest;
+mod membership_cases;
 mod row_cases;
 mod written_rows;
 

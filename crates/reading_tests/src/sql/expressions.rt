@@ -1,6 +1,7 @@
 //! Filters as they are read: their faults, their trees and what they mean.
 
-use super::expression_cases::{EXPRESSIONS, TREES, VALUES};
+use super::expression_cases::{Case, EXPRESSIONS, TREES, VALUES};
+use super::membership_cases::MEMBERSHIPS;
 use crate::calls::{copied, said, text};
 use crate::checks::{expect, same};
 use filter_tree::{ColType, Column, Filter, Tri};
@@ -40,13 +41,22 @@ pub fn ended_filter(alloc: Global, text: &str) -> Result<Filter, ReadError> {
     Ok(filter)
 }
 
-#[test]
-fn reads_filters_or_their_first_fault(rt: HostRuntime) -> Result<(), Fail> {
-    let alloc = rt.alloc();
-    for (text, kind, place) in EXPRESSIONS {
-        expect(&rt, alloc, text, ended_filter(alloc, text), kind, *place)?;
+/// Fails the test where another fault is answered of a filter, or another place.
+fn expect_filters(rt: &impl Abort, alloc: Global, cases: &[Case]) -> Result<(), Fail> {
+    for (text, kind, place) in cases {
+        expect(rt, alloc, text, ended_filter(alloc, text), kind, *place)?;
     }
     Ok(())
+}
+
+#[test]
+fn reads_filters_or_their_first_fault(rt: HostRuntime) -> Result<(), Fail> {
+    expect_filters(&rt, rt.alloc(), EXPRESSIONS)
+}
+
+#[test]
+fn reads_lists_and_bounds_or_their_first_fault(rt: HostRuntime) -> Result<(), Fail> {
+    expect_filters(&rt, rt.alloc(), MEMBERSHIPS)
 }
 
 /// The filter that a text is.
