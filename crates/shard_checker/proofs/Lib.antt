@@ -4,6 +4,7 @@ pub mod EmptyLemmas
 pub mod ExistingLemmas
 pub mod FactLemmas
 pub mod KnownLemmas
+pub mod ListedLemmas
 pub mod LimitFacts
 pub mod MaskLemmas
 pub mod NamingLemmas

@@ -66,7 +66,7 @@ all_alike term one other test alike (entry ∷ part) none =
 
 -- ---- numbers
 
-le_test : (a b : ℤ) → a ≤ℤ b → int_le a b ≡ true
+pub le_test : (a b : ℤ) → a ≤ℤ b → int_le a b ≡ true
 le_test a b h = from_test _ h.le
 
 pub test_le : (a b : ℤ) → int_le a b ≡ true → a ≤ℤ b

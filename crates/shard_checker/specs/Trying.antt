@@ -1,5 +1,5 @@
 -- How the code tells whether a value is left to a term, which no public contract speaks of: it tries the least number of the term's range, the numbers that atoms name and those after them, and the texts that atoms name and one that none does. `Emptiness` defines what it tells. Certificates are this project's own, and restate no section of PostgreSQL's documentation.
-use Rattle.std.specs.Prelude.{ℤ, pos, ◌+ℤ◌, int_le, Bool, true, false, not, ◌&&◌, ◌||◌, List, [], ◌∷◌, Option, Some, None}
+use Rattle.std.specs.Prelude.{ℤ, pos, ◌+ℤ◌, int_le, Bool, true, false, not, ◌&&◌, ◌||◌, List, [], ◌∷◌, if◌then◌else◌, Option, Some, None}
 use Rattle.std.specs.Borrow.{Bor}
 use Rattle.std.specs.List.{list_any}
 use Rattle.std.specs.Option.{option_map}
@@ -15,6 +15,9 @@ use Rattle.filter_tree.specs.declared.table.ColType.TheVariants.{SmallInt, Integ
 use Rattle.filter_tree.specs.declared.table.Column.{Column}
 use Rattle.shard_checker.specs.Domain.{kind_at, range_of}
 use Rattle.shard_checker.specs.Facts.{is_null, is_present, is_about, may_be}
+use Rattle.filter_tree.specs.Same.{same_term}
+use Rattle.filter_tree.specs.declared.tri.Tri.{Tri}
+use Rattle.filter_tree.specs.declared.tri.Tri.TheVariants.{True}
 use Rattle.shard_checker.specs.declared.domain.Range.{Range}
 
 abbrev pub a_number : ℤ → Option Constant
@@ -86,6 +89,30 @@ has_value Integer term path = has_number (range_of Integer term) term path
 has_value BigInt term path = has_number (range_of BigInt term) term path
 has_value Boolean term path = may_be term path (Some (Truth true)) || may_be term path (Some (Truth false))
 has_value Text term path = has_text term path
+
+-- ---- a list that the term's value is in
+
+abbrev pub list_of : Term → AtomOf → Tri → Option (List Constant)
+list_of term (In other constants) True = if same_term other term then Some constants else None
+list_of term atom found = None
+
+abbrev pub list_or : Option (List Constant) → Option (List Constant) → Option (List Constant)
+list_or None later = later
+list_or (Some constants) later = Some constants
+
+-- the first list that the path has the term's value in, if it has one
+abbrev pub first_list : Term → Path → Option (List Constant)
+first_list term [] = None
+first_list term (entry ∷ path) = list_or (list_of term entry.0 entry.1) (first_list term path)
+
+-- the constant is a value of the term of a column of this type, and left to it
+abbrev pub is_tried : ColType → Term → Path → Constant → Bool
+is_tried SmallInt term path (Number number) = serves (range_of SmallInt term) term path number
+is_tried Integer term path (Number number) = serves (range_of Integer term) term path number
+is_tried BigInt term path (Number number) = serves (range_of BigInt term) term path number
+is_tried Boolean term path (Truth truth) = may_be term path (Some (Truth truth))
+is_tried Text term path (Bytes text) = may_be term path (Some (Bytes text))
+is_tried kind term path constant = false
 
 -- no value is left: the column isn't null, and would have to be, or none of the values that are tried is left
 abbrev pub is_empty : List Column → Term → Path → Bool

@@ -10,6 +10,7 @@ mod facts;
 mod formulas;
 mod known;
 mod laws;
+mod listed;
 mod masks;
 mod nodes;
 mod numbering;

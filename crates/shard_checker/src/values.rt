@@ -130,7 +130,7 @@ fn all_leave<A: Allocator, B: Allocator>(
 
 /// Whether all atoms on the path leave the value to the term. The last one goes first: where the path leaves nothing, that
 /// is mostly since the last split was made.
-fn may_be<A: Allocator, B: Allocator>(
+pub fn may_be<A: Allocator, B: Allocator>(
     term: Term,
     path: &[(&Atom<A>, Tri)],
     value: Option<&Literal<B>>,
@@ -153,7 +153,7 @@ fn may_be_truth<A: Allocator>(term: Term, path: &[(&Atom<A>, Tri)], truth: bool)
 }
 
 /// Whether the number is in the range, and left to the term.
-fn serves<A: Allocator>(range: Range, term: Term, path: &[(&Atom<A>, Tri)], number: i64) -> bool
+pub fn serves<A: Allocator>(range: Range, term: Term, path: &[(&Atom<A>, Tri)], number: i64) -> bool
     ensures { result ≡ trying.serves range term (path_view path.now) number }
 {
     range.least <= number && number <= range.greatest && may_be_number(term, path, number)
@@ -355,8 +355,9 @@ fn has_text<A: Allocator>(term: Term, path: &[(&Atom<A>, Tri)]) -> bool
     may_be_unnamed_text(term, path) || has_named_text(term, path)
 }
 
-/// Whether some value of the domain of the term, whose column has this type, is left to it by all atoms on the path.
-pub fn has_value<A: Allocator>(kind: ColType, term: Term, path: &[(&Atom<A>, Tri)]) -> bool
+/// Whether some value of the domain of the term, whose column has this type, is left to it by all atoms on the path: one
+/// that an atom names, or one that speaks for those that none names.
+pub fn has_tried_value<A: Allocator>(kind: ColType, term: Term, path: &[(&Atom<A>, Tri)]) -> bool
     ensures { result ≡ trying.has_value kind term (path_view path.now) }
 {
     match kind {
