@@ -1,4 +1,4 @@
--- Lists that have each item once, seen through what the items stand for.
+-- Lists that have each item once, where the items are seen through a view.
 use Rattle.std.proofs.Common.{◌≡◌, ℕ, ◌≤◌, length, take, Bool, true, false, List, [], ◌∷◌, refl, sym, ◌∙◌, ap, subst}
 use Rattle.std.specs.Prelude.{nat_eq, map, fold, ◌||◌}
 use Rattle.std.specs.List.{list_any}
@@ -22,7 +22,7 @@ any_viewed : {X Y : Type 0} (view : X → Y) (p : Y → Bool) (xs : List X) → 
 any_viewed view p [] = refl
 any_viewed view p (x ∷ xs) = ap (λ b. p (view x) || b) (any_viewed view p xs)
 
--- one more item, seen through what the items stand for
+-- one more item, where the items are seen through a view
 pub map-with_item : {X Y : Type 0} (view : X → Y) (same : Y → Y → Bool) (xs : List X) (x : X)
     → map view (with_item (λ one other. same (view one) (view other)) xs x) ≡ with_item same (map view xs) (view x)
 map-with_item view same xs x = by_test (list_any (same (view x)) (map view xs))

@@ -1,4 +1,4 @@
--- Row filters ("31.3 Row Filters") as plain data, and their meaning on a row: "4.2 Value Expressions" with the operators of "9.1 Logical Operators", "9.2 Comparison Functions and Operators" "9.3 Mathematical Functions and Operators" and "9.24 Row and Array Comparisons".
+-- Row filters ("31.3 Row Filters") as plain data, and their meaning on a row: "4.2 Value Expressions" with the operators of "9.1 Logical Operators", "9.2 Comparison Functions and Operators", "9.3 Mathematical Functions and Operators" and "9.24 Row and Array Comparisons".
 use Rattle.std.specs.Prelude.{ℕ, ℤ, Bool, List, int_rem}
 use Rattle.filter_tree.specs.Datum.{Constant, Number, Datum, Missing, Known, value_at}
 use Rattle.filter_tree.specs.Logic.{and_of, or_of, not_of, is_of, tri_of}

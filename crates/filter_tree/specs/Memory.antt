@@ -6,7 +6,7 @@ abbrev pub TellsFault : {A F : Type 0} → Option F → Result A F → Type 0
 TellsFault None answer = Unit {0}
 TellsFault (Some fault) answer = answer ≡ Err fault
 
--- The result is this answer, or want of memory. `view` is what a value stands for, and `told` the fault that an error tells, if it tells one.
+-- The result is this answer, or want of memory. `view` gives a value as plain data, and `told` the fault that an error tells, if it tells one.
 abbrev pub Answers : {V E A F : Type 0} → (V → A) → (E → Option F) → Result A F → Result V E → Type 0
 Answers view told answer (Ok value) = answer ≡ Ok (view value)
 Answers view told answer (Err error) = TellsFault (told error) answer

@@ -1,4 +1,4 @@
--- The order of values and of rows, as ORDER BY .. NULLS FIRST sorts them: PostgreSQL 15, 7.5 Sorting Rows, 9.2 Comparison Functions and Operators, and for texts 24.2.2 Collations (collation "C", which compares their bytes).
+-- The order of values and of rows, as ORDER BY .. NULLS FIRST sorts them: PostgreSQL 15, 7.5 Sorting Rows, 9.2 Comparison Functions and Operators, and for texts 24.2.2.1 Standard Collations (collation "C", which compares their bytes).
 use Rattle.std.specs.Prelude.{◌≡◌, ℕ, ℤ, pos, Bool, false, List, []}
 use Rattle.std.specs.Ordering.{nat_cmp, int_cmp, bool_cmp, eq_by_cmp, on, then_cmp}
 use Rattle.std.specs.Cmp.Lexicographic.{slice_cmp}

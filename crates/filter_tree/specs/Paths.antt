@@ -29,7 +29,7 @@ abbrev pub first_value : AtomOf → Path → Option Tri
 first_value atom [] = None
 first_value atom (entry ∷ path) = if same_atom atom entry.0 then Some entry.1 else first_value atom path
 
--- what an atom may be of which nothing is known: `IS NULL` and `IS DISTINCT FROM` are never null
+-- what an atom may be while nothing is known of it: `IS NULL` and `IS DISTINCT FROM` are never null
 abbrev pub open_mask : AtomOf → Mask
 open_mask (Cmp term op constant) = mask_where (λ value. true)
 open_mask (IsNull column) = record { truth = true; falsity = true; null = false }

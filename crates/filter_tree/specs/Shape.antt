@@ -1,4 +1,4 @@
--- Which filter a tree of the program stands for, in whatever memory it lies.
+-- A filter tree of the program as plain data, in whatever memory it lies.
 use Rattle.std.specs.Prelude.{List, map}
 use Rattle.std.specs.Borrow.{Bor}
 use Rattle.filter_tree.specs.Values.{constant_view}

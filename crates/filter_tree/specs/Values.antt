@@ -1,4 +1,4 @@
--- What a value of a row and a constant of a filter stand for, in whatever memory they lie.
+-- The values of rows and the constants of filters of the program as plain data, in whatever memory they lie.
 use Rattle.filter_tree.specs.Datum.{Constant, Number, Truth, Bytes, Datum, Missing, Known}
 use Rattle.filter_tree.specs.declared.value.Value.{Value}
 use Rattle.filter_tree.specs.declared.value.Value.TheVariants.{Null, Int, Bool, Text}

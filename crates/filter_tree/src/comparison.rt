@@ -10,7 +10,10 @@ use crate::tri::Tri;
 use crate::value::{Literal, Value};
 use std::alloc::Allocator;
 
-/// SQL's `value op literal`: null where the value is null.
+/// SQL's `value op literal`: null where the value is null. Otherwise a comparison of unlike types is false, and so is
+/// an order of texts or of truth values.
+///
+/// PostgreSQL 15, 9.2 Comparison Functions and Operators.
 pub fn compare<A: Allocator, B: Allocator>(op: Op, value: &Value<A>, literal: &Literal<B>) -> Tri
     ensures { result ≡ compare_of op (datum_view value.now) (constant_view literal.now) }
 {
@@ -24,6 +27,8 @@ pub fn compare<A: Allocator, B: Allocator>(op: Op, value: &Value<A>, literal: &L
 }
 
 /// SQL's `value IN (literals)`: null where the value is null.
+///
+/// PostgreSQL 15, 9.24.1 IN.
 pub fn compare_list<A: Allocator, B: Allocator>(value: &Value<A>, literals: &[Literal<B>]) -> Tri
     ensures { result ≡ among_of (datum_view value.now) (map constant_view literals.now) }
 {
@@ -57,6 +62,8 @@ fn is_equal<A: Allocator, B: Allocator>(value: &Value<A>, literal: &Literal<B>) 
 }
 
 /// SQL's `value BETWEEN low AND high`: null where the value is null.
+///
+/// PostgreSQL 15, 9.2 Comparison Functions and Operators.
 pub fn compare_between<A: Allocator>(value: &Value<A>, low: i64, high: i64) -> Tri
     ensures { result ≡ between_of (datum_view value.now) low high }
 {
@@ -68,6 +75,8 @@ pub fn compare_between<A: Allocator>(value: &Value<A>, low: i64, high: i64) -> T
 }
 
 /// SQL's `value IS DISTINCT FROM literal`, which is true where the value is null.
+///
+/// PostgreSQL 15, 9.2 Comparison Functions and Operators.
 pub fn compare_distinct<A: Allocator, B: Allocator>(value: &Value<A>, literal: &Literal<B>) -> Tri
     ensures { result ≡ distinct_of (datum_view value.now) (constant_view literal.now) }
 {
@@ -77,7 +86,10 @@ pub fn compare_distinct<A: Allocator, B: Allocator>(value: &Value<A>, literal: &
     }
 }
 
-/// Whether `left op right` holds of two constants. It never holds of constants of different types.
+/// Whether `left op right` holds of two constants. It never holds of constants of different types, and of texts and
+/// truth values only `=` and `<>` may hold.
+///
+/// PostgreSQL 15, 9.2 Comparison Functions and Operators.
 pub fn compare_literals<A: Allocator, B: Allocator>(
     op: Op,
     left: &Literal<A>,

@@ -3,7 +3,10 @@ ghost use Rattle.std.specs.Prelude.{◌≡◌};
 use crate::value::Literal;
 use std::alloc::{Allocator, Global};
 
-/// What a comparison looks at: a column, by its number from 0, or the remainder of an integer column by a divisor.
+/// What a comparison looks at: a column, by its number from 0, or the remainder of an integer column by a divisor. A
+/// remainder has the sign of the column's value, and the remainder by 0 is that value.
+///
+/// PostgreSQL 15, 9.3 Mathematical Functions and Operators.
 #[derive(Clone, Copy, Debug, PartialEq, Eq)]
 pub enum Term {
     Col(usize),
@@ -24,6 +27,8 @@ impl Term {
 }
 
 /// A comparison operator: `=`, `<>`, `<`, `<=`, `>`, `>=`.
+///
+/// PostgreSQL 15, 9.2 Comparison Functions and Operators.
 #[derive(Clone, Copy, Debug, PartialEq, Eq)]
 pub enum Op {
     Eq,
@@ -43,7 +48,7 @@ pub enum Atom<A: Allocator = Global> {
     IsNull(usize),
     /// `IN` a list of constants. A filter that is read has each of them once, in ascending order.
     In(Term, Vec<Literal<A>, A>),
-    /// `BETWEEN` two numbers, the lower one first, which are both taken.
+    /// `BETWEEN` two numbers, the low end first. Both ends are included.
     Between(Term, i64, i64),
     /// `IS DISTINCT FROM` a constant.
     Distinct(Term, Literal<A>),
@@ -68,6 +73,8 @@ impl<A: Allocator> Atom<A> {
 }
 
 /// What `IS TRUE`, `IS FALSE` and `IS UNKNOWN` ask for.
+///
+/// PostgreSQL 15, 9.2 Comparison Functions and Operators.
 #[derive(Clone, Copy, Debug, PartialEq, Eq)]
 pub enum Test {
     True,
@@ -77,6 +84,8 @@ pub enum Test {
 
 /// A row filter. A chain of ANDs and ORs, however long, leans to the left; `drop` goes down it in a loop, and takes
 /// stack only for a right part.
+///
+/// PostgreSQL 15, "Logical Replication", 31.3 Row Filters.
 #[derive(Debug)]
 pub enum Filter<A: Allocator = Global> {
     Const(bool),

@@ -37,10 +37,11 @@ impl<A: Allocator> PartialOrd for Value<A> {
     }
 }
 
-/// Null first, numbers by their size, FALSE before TRUE, texts byte by byte. Values of two kinds, which no column has, are
-/// in the order numbers, truth values, texts.
+/// Null first, numbers by their size, FALSE before TRUE, texts byte by byte. Values of two kinds, which no column has,
+/// are in the order numbers, truth values, texts.
 ///
-/// PostgreSQL 15, 7.5 Sorting Rows (NULLS FIRST), 9.2 Comparison Functions and Operators, 24.2.2 Collations ("C").
+/// PostgreSQL 15, 7.5 Sorting Rows (NULLS FIRST), 9.2 Comparison Functions and Operators, 24.2.2.1 Standard
+/// Collations ("C").
 impl<A: Allocator> Ord for Value<A> {
     ghost cmp = { on (λ value. datum_view value) datum_cmp };
 
@@ -114,9 +115,9 @@ impl<A: Allocator> Ord for Row<A> {
     }
 }
 
-/// A law, and no code, of the order of rows: it is total (`total`), so that an ordered map may have rows as its keys; what
-/// it ties is equal (`equal`), and it ties exactly the same rows (`ties`); and two values are in the order that PostgreSQL
-/// gives those of a column (`values`).
+/// A law, and no code, of the order of rows. It is total (`total`), so that an ordered map may have rows as its keys.
+/// What it ties is equal (`equal`), and it ties exactly the same rows (`ties`). Two values are in the order that
+/// PostgreSQL gives those of a column (`values`).
 #[tactic(auto, using(crate::proofs::OrderLemmas::row_total, crate::proofs::OrderLemmas::row_tie, crate::proofs::OrderLemmas::ties_same_rows, crate::proofs::OrderLemmas::orders_values))]
 pub fn rows_are_ordered()
     ensures total { IsTotalOrder row_cmp }

@@ -4,6 +4,8 @@ use crate::items::Items;
 use crate::text::Text;
 
 /// A column's data type.
+///
+/// PostgreSQL 15, Chapter 8 Data Types.
 #[derive(Clone, Copy, Debug, PartialEq, Eq)]
 pub enum ColType {
     SmallInt,
@@ -17,6 +19,8 @@ impl ColType {
     ghost use Rattle.filter_tree.specs.Range.{least_of, greatest_of};
 
     /// The least number of an integer type. The types that are not integers have the range of `BigInt`.
+    ///
+    /// PostgreSQL 15, 8.1.1 Integer Types.
     pub fn least(self) -> i64
         ensures { result ≡ least_of self }
     {
@@ -28,6 +32,8 @@ impl ColType {
     }
 
     /// The greatest number of an integer type. The types that are not integers have the range of `BigInt`.
+    ///
+    /// PostgreSQL 15, 8.1.1 Integer Types.
     pub fn greatest(self) -> i64
         ensures { result ≡ greatest_of self }
     {
@@ -39,7 +45,9 @@ impl ColType {
     }
 }
 
-/// A column: its name, its data type, and whether it takes no null, as the columns of a primary key do.
+/// A column: its name, its data type, and whether it takes no null. The columns of a primary key take none.
+///
+/// PostgreSQL 15, 5.4.2 Not-Null Constraints.
 #[derive(Debug, Drop)]
 pub struct Column {
     pub name: Text,
@@ -48,16 +56,19 @@ pub struct Column {
 }
 
 /// A unique index of a table: its name, and the numbers of its columns, from 0, in the index's order. No two rows have
-/// the same values in these columns, but rows with a null in one of them. PostgreSQL 15, SQL Commands, CREATE INDEX.
+/// the same values in these columns, unless one of the values is null.
+///
+/// PostgreSQL 15, 11.6 Unique Indexes, and SQL Commands, CREATE INDEX.
 #[derive(Debug, Drop)]
 pub struct UniqueIndex {
     pub name: Text,
     pub columns: Items<usize>,
 }
 
-/// A table's replica identity: what is recorded of an old row. `Default` records the primary key's columns, `Index` those
-/// of the table's unique index of this number, from 0, `Full` the whole row, `Nothing` none. PostgreSQL 15, SQL Commands,
-/// ALTER TABLE (REPLICA IDENTITY).
+/// A table's replica identity: what is recorded of an old row. `Default` records the primary key's columns, `Index`
+/// those of the table's unique index of this number, from 0, `Full` the whole row, `Nothing` nothing.
+///
+/// PostgreSQL 15, SQL Commands, ALTER TABLE (REPLICA IDENTITY).
 #[derive(Clone, Copy, Debug, PartialEq, Eq)]
 pub enum Identity {
     Default,
@@ -68,6 +79,8 @@ pub enum Identity {
 
 /// A table. `key` has the numbers of the primary key's columns, from 0, in the key's order; `indexes` are its unique
 /// indexes in the order in which they are made, without that of the primary key.
+///
+/// PostgreSQL 15, SQL Commands, CREATE TABLE.
 #[derive(Debug, Drop)]
 pub struct Table {
     pub schema: Text,

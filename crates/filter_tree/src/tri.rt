@@ -3,7 +3,9 @@ ghost use Rattle.filter_tree.specs.Logic.{and_of, or_of, not_of, is_of};
 
 use crate::filter::Test;
 
-/// A truth value of SQL. `Null` stands for "unknown".
+/// A truth value of SQL. `Null` is what SQL calls "unknown".
+///
+/// PostgreSQL 15, 9.1 Logical Operators.
 #[derive(Clone, Copy, Debug, PartialEq, Eq)]
 pub enum Tri {
     True,
@@ -45,7 +47,10 @@ impl Tri {
         }
     }
 
-    /// SQL's `self IS TRUE`, `IS FALSE` or `IS UNKNOWN`: whether it is the value that the test asks for; never null.
+    /// SQL's `self IS TRUE`, `IS FALSE` or `IS UNKNOWN`: whether it is the value that the test asks for. The answer is
+    /// never null.
+    ///
+    /// PostgreSQL 15, 9.2 Comparison Functions and Operators.
     pub fn is(self, test: Test) -> Tri
         ensures { result ≡ is_of test self }
     {

@@ -36,6 +36,9 @@ pub enum RowFault {
 pub const MAX_TEXT_BYTES: usize = 65_535;
 
 /// Tells whether the row fits the table, or the first fault: the width goes first, and then the columns in their order.
+/// Of a text with both faults the zero byte is told.
+///
+/// PostgreSQL 15, 8.1 Numeric Types, and 5.4 Constraints.
 #[tactic(auto, using(crate::proofs::ValidLemmas::valid_from_no_fault, crate::proofs::ValidLemmas::no_fault_from_valid))]
 pub fn valid<R: Allocator>(table: &Table, row: &Row<R>) -> Result<(), RowFault>
     ensures exact { result ≡ verdict_of (row_fault table.now.columns row.now) }
