@@ -49,7 +49,7 @@ AreTaken-prop count numbers = Prim.hlevel props
 all_taken-prop : (count : ℕ) (subscriptions : List Subscription) → IsProp (All (TakesKnown count) subscriptions)
 all_taken-prop count subscriptions = Prim.hlevel (props, AreTaken-prop)
 
--- the names that publications have are those of what they stand for
+-- publications have the same names as plain data
 pub names_viewed : (publications : List Publication) → map (λ (p : PublicationOf Expr). p.name) (map publication_view publications) ≡ map (λ (p : Publication). p.name) publications
 names_viewed [] = refl
 names_viewed (publication ∷ publications) = ap (λ names. publication.name ∷ names) (names_viewed publications)

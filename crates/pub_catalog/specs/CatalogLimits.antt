@@ -1,4 +1,4 @@
--- How much a catalog has at most, that what its tables say of their columns by number is there, and what names are: PostgreSQL 15, "SQL Syntax", 4.1.1 Identifiers and Key Words.
+-- How much a catalog has at most, that the columns of its unique indexes are there, and what names are: PostgreSQL 15, "SQL Syntax", 4.1.1 Identifiers and Key Words.
 use Rattle.std.specs.Prelude.{◌≡◌, ◌<◌, ◌≤◌, true, List, All, length, slice_get}
 use Rattle.filter_tree.specs.declared.table.Column.{Column}
 use Rattle.filter_tree.specs.declared.table.Identity.{Identity}
@@ -13,7 +13,7 @@ use Rattle.pub_catalog.specs.IndexIdentities.{identifies}
 abbrev pub IsIndexOf : List Column → UniqueIndex → Type 0
 IsIndexOf columns index = All (λ number. number < length columns) index.columns
 
--- an identity by an index names one of these, none of whose columns takes a null
+-- an identity by an index names one of these whose columns take no null
 abbrev pub IsIdentity : List Column → List UniqueIndex → Identity → Type 0
 IsIdentity columns indexes (Index number) = identifies columns (slice_get indexes number) ≡ true
 IsIdentity columns indexes _ = Unit {0}

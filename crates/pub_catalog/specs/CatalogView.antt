@@ -1,4 +1,4 @@
--- What a catalog that was read stands for.
+-- A catalog of the code as plain data.
 use Rattle.std.specs.Prelude.{map}
 use Rattle.std.specs.Option.{option_map}
 use Rattle.filter_tree.specs.Expr.{Expr}

@@ -12,7 +12,7 @@ takes_no_null (Some column) = column.not_null
 abbrev pub take_no_null : List Column → List ℕ → Bool
 take_no_null columns numbers = list_all (λ number. takes_no_null (slice_get columns number)) numbers
 
--- an index that is there, and none of whose columns takes a null
+-- an index that is there, whose columns take no null
 abbrev pub identifies : List Column → Option UniqueIndex → Bool
 identifies columns None = false
 identifies columns (Some index) = take_no_null columns index.columns

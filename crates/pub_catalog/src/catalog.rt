@@ -9,13 +9,15 @@ use filter_tree::{Filter, Items, Table, Text};
 /// The tables, the publications and the subscriptions of a catalog, each in the order in which they are made, so that
 /// each has a number from 0.
 ///
-/// It is always within its limits: at most 64 tables of at most 100 columns and 8 unique indexes, 64 publications and 32
-/// subscriptions. What a table says of its columns by number is there, an identity by an index names one of the table's,
-/// none of whose columns takes a null, and the names of schemas, tables and columns have 1 to 63 bytes of UTF-8, none of
-/// which is zero.
+/// It is always within its limits: at most 64 tables of at most 100 columns and 8 unique indexes, 64 publications and
+/// 32 subscriptions. The columns of a unique index are columns of its table. An identity by an index names an index of
+/// the table whose columns take no null. The names of schemas, tables and columns have 1 to 63 bytes of UTF-8, and no
+/// zero byte.
 ///
-/// Each publication has such a name of its own, and each subscription, which takes at least one of the publications, and
-/// none twice.
+/// The names of publications are of that kind too, and no two of them are the same; nor are those of subscriptions.
+/// Each subscription takes at least one of the publications, and none twice.
+///
+/// PostgreSQL 15, "Logical Replication", 31.1 Publication, 31.2 Subscription and 31.3 Row Filters.
 #[derive(Drop)]
 pub struct Catalog {
     pub tables: Vec<Table>,
@@ -30,7 +32,9 @@ pub struct Catalog {
     ghost taken_publications: { ∥ All (TakesKnown (length publications.items)) subscriptions.items ∥₁ },
 }
 
-/// The operations of which a publication sends the changes.
+/// Which operations a publication publishes.
+///
+/// PostgreSQL 15, SQL Commands, CREATE PUBLICATION (publish).
 #[derive(Clone, Copy, Debug, PartialEq, Eq)]
 pub struct Operations {
     pub insert: bool,
@@ -41,6 +45,8 @@ pub struct Operations {
 
 /// A publication: its name, the operations that it publishes, and the tables that it carries: those that it names, and
 /// then, in the order of the tables, each that it carries whole by FOR ALL TABLES or TABLES IN SCHEMA.
+///
+/// PostgreSQL 15, "Logical Replication", 31.1 Publication.
 #[derive(Drop)]
 pub struct Publication {
     pub name: Text,
@@ -48,15 +54,20 @@ pub struct Publication {
     pub entries: Vec<Entry>,
 }
 
-/// A table that a publication carries: its number, and the filter of the rows. With no filter all rows are carried.
+/// A table that a publication carries: its number, from 0, and the filter of its rows. With no filter all rows are
+/// carried.
+///
+/// PostgreSQL 15, "Logical Replication", 31.3 Row Filters.
 #[derive(Drop)]
 pub struct Entry {
     pub table: usize,
     pub filter: Option<Filter>,
 }
 
-/// A subscription: its name, which is that of its replication slot too, and the numbers of the publications that it
-/// takes, in the order of its list.
+/// A subscription: its name, which is also the name of its replication slot, and the numbers of the publications that
+/// it takes, from 0, in the order of its list.
+///
+/// PostgreSQL 15, "Logical Replication", 31.2 Subscription.
 #[derive(Drop)]
 pub struct Subscription {
     pub name: Text,

@@ -1,4 +1,4 @@
--- What changes, the parts of old rows in them, and what subscribers get of them stand for.
+-- Changes, the parts of old rows in them, and what subscribers get of them, as plain data.
 use Rattle.std.specs.Prelude.{Option, Some, None}
 use Rattle.replica_identity.specs.declared.change.OldPart.{OldPart}
 use Rattle.replica_identity.specs.declared.change.OldPart.TheVariants as p

@@ -1,4 +1,4 @@
--- What a plan of the code stands for.
+-- A plan of the code as plain data.
 use Rattle.std.specs.Prelude.{map}
 use Rattle.replica_identity.specs.declared.shares.Plan.{Plan}
 use Rattle.replica_identity.specs.Plans.{PlanOf}

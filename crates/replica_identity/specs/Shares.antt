@@ -15,7 +15,7 @@ pub data ShareOf : Type 0 where
   Everything : ShareOf
   Where : Expr → ShareOf
 
--- what a share of the code stands for
+-- a share of the code as plain data
 abbrev pub share_view : {A : _} → Share A → ShareOf
 share_view s.Nothing = Nothing
 share_view s.Everything = Everything
@@ -36,7 +36,7 @@ abbrev pub any_of : List Expr → ShareOf
 any_of [] = Nothing
 any_of (filter ∷ filters) = Where (fold Or filter filters)
 
--- the share of entries with these filters, in their order: none stands for the whole table
+-- the share of entries with these filters, in their order: an entry without a filter has the whole table
 abbrev pub share_by : List (Option Expr) → ShareOf
 share_by filters = if list_any is_none filters then Everything else any_of (filter_map (λ filter. filter) filters)
 

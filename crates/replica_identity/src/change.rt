@@ -6,8 +6,8 @@ ghost use Rattle.replica_identity.specs.ChangeView.{part_view, change_view};
 use filter_tree::{Row, copy_row};
 use std::alloc::{AllocError, Global};
 
-/// What is recorded of an old row: nothing, the row with nulls outside the columns of the replica identity, or the whole
-/// row.
+/// What is recorded of an old row: nothing, the row with nulls outside the columns of the replica identity, or the
+/// whole row.
 ///
 /// PostgreSQL 15, SQL Commands, ALTER TABLE (REPLICA IDENTITY).
 #[derive(Debug, Drop, PartialEq, Eq)]
@@ -30,8 +30,8 @@ impl OldPart {
     }
 }
 
-/// A change of tables, which are told by their numbers from 0: a new row, a new row in the place of an old one, an old row
-/// that is gone, or tables that are emptied.
+/// A change of tables, which are told by their numbers from 0: a new row, a new row in the place of an old one, an old
+/// row that is gone, or tables that are emptied.
 ///
 /// PostgreSQL 15, Chapter 6 Data Manipulation, and SQL Commands, TRUNCATE.
 #[derive(Debug, Drop, PartialEq, Eq)]

@@ -52,7 +52,9 @@ pub fn identity_columns(alloc: Global, table: &Table) -> Result<Vec<usize>, Allo
     }
 }
 
-/// Whether a table's replica identity has the column of this number.
+/// Whether a table's replica identity has the column of this number, from 0.
+///
+/// PostgreSQL 15, SQL Commands, ALTER TABLE (REPLICA IDENTITY).
 #[tactic(auto, using(crate::proofs::NumberLemmas::has_numbers))]
 pub fn covered(table: &Table, column: usize) -> bool
     ensures { result ≡ spec.is_covered table.now column }
@@ -96,9 +98,9 @@ fn index_tells(table: &Table, number: usize) -> bool
     }
 }
 
-/// Whether what a table's replica identity records of an old row tells which row of the table it was. That is not so of
-/// `Nothing`, nor of an `Index` that the table doesn't have or that has a column which may be null; `read_catalog` gives no
-/// such index.
+/// Whether what a table's replica identity records of an old row tells which row of the table it was. `Nothing`
+/// doesn't, nor does an `Index` that the table doesn't have or that has a column which may be null. No catalog names
+/// such an index.
 ///
 /// PostgreSQL 15, SQL Commands, ALTER TABLE (REPLICA IDENTITY).
 pub fn tells_rows_apart(table: &Table) -> bool

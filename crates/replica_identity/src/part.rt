@@ -83,9 +83,9 @@ fn key_part(
     }
 }
 
-/// What is recorded of an old row that goes, or that a new one replaces. Where the replica identity is the primary key or
-/// a unique index, it is the row with nulls outside its columns, and that only if there is no new row or one of the
-/// columns changes; for `Full` it is the whole row, for `Nothing` nothing. The only error is want of memory.
+/// What is recorded of an old row that goes, or that a new one replaces. For `Full` it is the whole row, for `Nothing`
+/// nothing. For the primary key or a unique index it is the row with nulls outside the columns of that, if there is no
+/// new row or one of these columns changes; otherwise nothing. The only error is want of memory.
 ///
 /// PostgreSQL 15, SQL Commands, ALTER TABLE (REPLICA IDENTITY).
 #[tactic(auto, using(crate::proofs::PartLemmas::by_default, crate::proofs::PartLemmas::by_index, crate::proofs::PartLemmas::by_full, crate::proofs::PartLemmas::by_nothing))]

@@ -126,9 +126,10 @@ fn all_shares(alloc: Global, catalog: &Catalog) -> Result<Vec<Vec<Share>>, Alloc
     Ok(all)
 }
 
-/// What each subscriber takes of each table of a catalog: every row where some publication that it takes carries the
-/// table whole, or else the rows for which one of their filters is true, joined by OR in the order of the subscription's
-/// list. The only error is want of memory. A filter's nesting takes stack; `read_catalog` limits it.
+/// What each subscriber takes of each table of a catalog. It takes every row where some publication that it takes
+/// carries the table whole. Otherwise it takes the rows for which one of the publications' filters is true: the filters
+/// joined by OR in the order of the subscription's list. The only error is want of memory. A filter's nesting takes
+/// stack; `read_catalog` limits it.
 ///
 /// PostgreSQL 15, "Logical Replication", 31.3.6 Combining Multiple Row Filters.
 #[tactic(auto, using(crate::proofs::PassingLemmas::takes_what_passes))]

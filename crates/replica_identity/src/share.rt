@@ -11,6 +11,8 @@ use filter_tree::{Filter, Row, Tri, copy_in, eval};
 use std::alloc::{AllocError, Allocator, Global};
 
 /// What a subscriber takes of a table: no row, every row, or the rows for which a filter is true.
+///
+/// PostgreSQL 15, "Logical Replication", 31.3.6 Combining Multiple Row Filters.
 #[derive(Debug, Drop)]
 pub enum Share<A: Allocator = Global> {
     Nothing,
@@ -43,7 +45,7 @@ fn either(alloc: Global, left: Filter, right: Filter) -> Result<Filter, AllocErr
     Ok(Filter::Or(left, right))
 }
 
-/// The share with one filter more, of which there are some already.
+/// The share of a filter, with one filter more.
 fn with_filter(alloc: Global, filter: Filter, more: &Filter) -> Result<Share, AllocError>
     ensures { IfOk result (λ share. share_view share ≡ Where (Or (expr_view filter) (expr_view more.now))) }
 {
@@ -58,7 +60,8 @@ fn first_filter(alloc: Global, filter: &Filter) -> Result<Share, AllocError>
     Ok(Share::Where(copy_in(alloc, filter)?))
 }
 
-/// What is taken where a publication more carries the table: whole, or the rows of a filter.
+/// What is taken where one more publication carries the table, whole or the rows of a filter. The only error is want of
+/// memory.
 pub fn joined(alloc: Global, share: Share, more: Option<&Filter>) -> Result<Share, AllocError>
     ensures { IfOk result
         (λ joined. share_view joined ≡ joined_of (share_view share)

@@ -5,7 +5,7 @@ ghost use Rattle.replica_identity.specs.Shares.{share_view, is_nothing};
 
 use crate::share::Share;
 
-/// What each subscriber takes of each table, both by their numbers.
+/// What each subscriber takes of each table, both by their numbers from 0 in the catalog.
 #[derive(Debug, Drop)]
 pub struct Plan {
     shares: Vec<Vec<Share>>,

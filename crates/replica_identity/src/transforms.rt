@@ -13,8 +13,10 @@ use crate::share::Share;
 use crate::shares::Plan;
 use filter_tree::Row;
 
-/// What a subscriber gets of a change, with the change's own rows and tables. The table is the change's; `Truncate` has all
-/// tables of the change, of which the subscriber may take nothing of some.
+/// What a subscriber gets of a change, with the change's own rows and tables. The table is the change's. `Truncate` has
+/// all tables of the change, also those of which the subscriber takes nothing.
+///
+/// PostgreSQL 15, "Logical Replication", 31.3.3 UPDATE Transformations.
 #[derive(Clone, Copy, Debug, PartialEq, Eq)]
 pub enum Out<'a> {
     Insert(&'a Row),
@@ -23,8 +25,8 @@ pub enum Out<'a> {
     Truncate(&'a [usize]),
 }
 
-/// Whether a subscriber takes anything of a table, by their numbers from 0 in the catalog. Of tables and subscribers that
-/// the catalog lacks it takes nothing.
+/// Whether a subscriber takes anything of a table, by their numbers from 0 in the catalog. Of tables and subscribers
+/// that the catalog lacks it takes nothing.
 ///
 /// PostgreSQL 15, "Logical Replication", 31.2 Subscription.
 pub fn carries(plan: &Plan, subscriber: usize, table: usize) -> bool
@@ -45,7 +47,7 @@ fn carries_any(plan: &Plan, subscriber: usize, tables: &[usize]) -> bool
     false
 }
 
-/// The row of which it is asked whether the old row passed: its part, and where nothing is recorded the new row.
+/// The old row counts as passing where this row passes: its recorded part, or the new row where nothing is recorded.
 fn asked<'a>(old: &'a OldPart, new: &'a Row) -> &'a Row
     ensures { result.now ≡ spec.asked (part_view old.now) new.now }
 {
@@ -57,9 +59,10 @@ fn asked<'a>(old: &'a OldPart, new: &'a Row) -> &'a Row
 }
 
 /// What a subscriber gets of a change, by its share of the change's table: an INSERT if the new row passes, a DELETE if
-/// the recorded part of the old row does. Of an UPDATE it gets an INSERT if the new row alone passes, a DELETE if the old
-/// row alone does, and nothing if neither does; where nothing is recorded of the old row, it passes if the new one does. A
-/// TRUNCATE is had whatever the filters, where the subscriber takes anything of one of its tables. Nothing is copied.
+/// the recorded part of the old row does. Of an UPDATE it gets an INSERT if the new row alone passes, a DELETE if the
+/// old row alone does, and nothing if neither does; where nothing is recorded of the old row, it passes if the new one
+/// does. A TRUNCATE is had whatever the filters, where the subscriber takes anything of one of its tables. Nothing is
+/// copied.
 ///
 /// PostgreSQL 15, "Logical Replication", 31.3.1 Row Filter Rules and 31.3.3 UPDATE Transformations.
 pub fn transform<'a>(plan: &Plan, subscriber: usize, change: &'a Change) -> Option<Out<'a>>

@@ -6,6 +6,8 @@ use crate::kinds::{Token, TokenFault};
 use crate::scan::token_at;
 
 /// A cursor over the tokens of a text. It takes no memory, and may be copied to read ahead.
+///
+/// PostgreSQL 15, "SQL Syntax", 4.1 Lexical Structure.
 #[derive(Clone, Copy)]
 pub struct Tokens<'a> {
     text: &'a str,

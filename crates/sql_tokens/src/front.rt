@@ -98,8 +98,8 @@ fn any_front(bytes: &[u8]) -> Piece
     }
 }
 
-/// What is at the front of some bytes. Digits, and the marks that part values, come so often that they are told by their
-/// first byte alone.
+/// What is at the front of some bytes. Digits, and the marks that part values, come so often that they are told by
+/// their first byte alone.
 #[tactic(auto, using(crate::proofs::Fronts::fronts))]
 pub(crate) fn front(bytes: &[u8]) -> Piece
     requires { 0 < length bytes.now }

@@ -38,6 +38,8 @@ pub enum TokenKind {
 }
 
 /// The operators that are known here.
+///
+/// PostgreSQL 15, "SQL Syntax", 4.1.3 Operators.
 #[derive(Clone, Copy, Debug, PartialEq, Eq)]
 pub enum Operator {
     /// `=`
@@ -80,7 +82,7 @@ pub enum FaultKind {
     NumberTooLarge,
     /// A string constant of more than 65,535 bytes.
     LiteralBytes,
-    /// A number with a point after it.
+    /// A number with a point after it, which may be a decimal one.
     Number,
     /// A string constant or a quoted name with a letter before it that changes how it is read.
     StringForm,

@@ -60,7 +60,7 @@ fn undoubled_len(quote: u8, inner: &[u8]) -> usize
     length
 }
 
-/// Whether more bytes than this are left once doubled quotes are undone, of which there are no more than before.
+/// Whether more bytes than the limit are left once doubled quotes are undone. There are never more than before.
 #[tactic(auto, using(crate::proofs::QuoteTurns::shorter))]
 fn is_longer(quote: u8, inner: &[u8], limit: usize) -> bool
     ensures { result ≡ nat_lt limit (length (spec.undoubled quote inner.now)) }

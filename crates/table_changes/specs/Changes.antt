@@ -79,7 +79,7 @@ abbrev pub RowsStayApart : Type 0
 RowsStayApart = (setting : Setting) → KeepsApart setting → (tables : Tables) (number : ℕ) (commands : List Command) → first_fault setting tables number commands ≡ None
     → Stands setting.keys tables → Apart setting tables → Apart setting (all_applied setting tables commands)
 
--- Tables without rows are the first of which all that is so.
+-- All that is so of tables without rows.
 pub record BeginsWell (setting : Setting) : Type 0 where
   pub keyed : Stands setting.keys no_rows
   pub fit : AllFit setting no_rows

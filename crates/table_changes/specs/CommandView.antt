@@ -1,4 +1,4 @@
--- What commands of the code stand for: PostgreSQL 15, Chapter 6 Data Manipulation, and SQL Commands, TRUNCATE.
+-- Commands of the code as plain data: PostgreSQL 15, Chapter 6 Data Manipulation, and SQL Commands, TRUNCATE.
 use Rattle.table_changes.specs.Commands as c
 use Rattle.table_changes.specs.declared.command.Command.{Command}
 use Rattle.table_changes.specs.declared.command.Command.TheVariants as v

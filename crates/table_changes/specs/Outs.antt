@@ -13,7 +13,7 @@ pub data OutOf : Type 0 where
   Delete : Option r.PartOf → OutOf
   Truncate : List ℕ → OutOf
 
--- the row of which it is asked whether the old row passed: the recorded part, and where nothing is recorded the new row
+-- The old row counts as passing where this row passes: the recorded part, or the new row where nothing is recorded.
 abbrev pub asked : Option r.PartOf → List Datum → List Datum
 asked None new = new
 asked (Some (r.Key part)) new = part
@@ -39,7 +39,7 @@ transform_of passes carries (r.Update table part new) = out_by (passes table (as
 transform_of passes carries (r.Delete table part) = out_gone (passes table) part
 transform_of passes carries (r.Truncate numbers) = if list_any carries numbers then Some (Truncate numbers) else None
 
--- ---- what it stands for
+-- ---- it as a change, and as what is seen
 
 -- the table of a change of rows
 abbrev pub table_of : r.ChangeOf → ℕ

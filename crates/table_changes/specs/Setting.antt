@@ -14,7 +14,7 @@ pub data Recorded : Type 0 where
 pub record Setting : Type 0 where
   -- the table is there
   pub known : ℕ → Bool
-  -- what first keeps the row from standing in it
+  -- the first reason why the row may not be in it
   pub fault : ℕ → List Datum → Option RowFault
   pub keys : Keys
   pub recorded : ℕ → Recorded

@@ -22,8 +22,8 @@ fn copy_at<A: Allocator, B: Allocator + Clone>(
     }
 }
 
-/// The row's values in these columns, in their order; null for a column past the row's end. The only error is want of
-/// memory.
+/// The row's values in the columns of these numbers, from 0, in their order; null for a column past the row's end. The
+/// only error is want of memory.
 pub fn values_at<A: Allocator, B: Allocator + Clone>(
     alloc: B,
     columns: &[usize],
@@ -38,8 +38,8 @@ pub fn values_at<A: Allocator, B: Allocator + Clone>(
     Ok(Row::from_values(values))
 }
 
-/// The values of the row in the columns of the table's primary key, in the key's order; null for a column past the row's
-/// end. The only error is want of memory.
+/// The values of the row in the columns of the table's primary key, in the key's order; null for a column past the
+/// row's end. The only error is want of memory.
 ///
 /// PostgreSQL 15, 5.4.4 Primary Keys.
 pub fn key_of<A: Allocator, B: Allocator + Clone>(

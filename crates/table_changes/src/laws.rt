@@ -6,10 +6,12 @@ ghost use Rattle.table_changes.specs.Changes.{RowsStand, RowsStayKeyed, RowsStay
 ghost use Rattle.table_changes.specs.Growing.{SameAreAlike, FaultOfOneMore, FirstFaultStays, LeftByOneMore, RecordOfOneMore};
 ghost use Rattle.table_changes.specs.Showing.{RecordShows, RecordShowsAll};
 
-/// A law, and no code, of tables in which a row is found by each of its unique keys, and has a primary key. A row that
-/// comes where no row has its value in a unique key (`comes`), a row that goes (`goes`) and tables that are emptied
-/// (`empties`) change no other row, and rows stay where each of their unique keys finds them (`stay`). Rows of a table that
+/// A law, and no code, of tables in which a row is found by each of its unique keys, and has a primary key. No other
+/// row changes where a row comes whose values in unique keys no row has (`comes`), where a row goes (`goes`) and where
+/// tables are emptied (`empties`). Rows stay where each of their unique keys finds them (`stay`). Rows of a table that
 /// share a value in a unique key are one row (`one`).
+///
+/// PostgreSQL 15, Chapter 6 Data Manipulation, 5.4.4 Primary Keys, and 11.6 Unique Indexes.
 #[tactic(auto, using(crate::proofs::TableLemmas::holds_with, crate::proofs::TableLemmas::row_goes, crate::proofs::TableLemmas::holds_emptied, crate::proofs::TableLemmas::others_stay, crate::proofs::TableLemmas::one_row))]
 pub fn rows_come_and_go()
     ensures comes { RowComes }
@@ -20,9 +22,11 @@ pub fn rows_come_and_go()
 {}
 
 /// A law, and no code, of commands on tables. A command without a fault leaves exactly the rows that it adds and those
-/// that it doesn't take out (`stand`). Commands without a fault, each on what the earlier ones leave, keep each row where
-/// each of its unique keys has it (`keyed`), rows that fit their tables (`fit`), and the rows of a table apart by their
-/// identity (`apart`), as rows are in tables without any (`begin`).
+/// that it doesn't take out (`stand`). Commands without a fault, each on what the earlier ones leave, keep each row
+/// where each of its unique keys has it (`keyed`), rows that fit their tables (`fit`), and the rows of a table apart by
+/// their identity (`apart`). Tables without rows have all of that (`begin`).
+///
+/// PostgreSQL 15, Chapter 6 Data Manipulation, and SQL Commands, TRUNCATE.
 #[tactic(auto, using(crate::proofs::ChangeLemmas::rows_stand, crate::proofs::ChangeLemmas::stay_keyed, crate::proofs::ChangeLemmas::stay_fit, crate::proofs::ChangeLemmas::stay_apart, crate::proofs::ChangeLemmas::begins_well))]
 pub fn commands_change_rows()
     ensures stand { RowsStand }
@@ -32,10 +36,12 @@ pub fn commands_change_rows()
     ensures begin { (setting : Setting) → BeginsWell setting }
 {}
 
-/// A law, and no code, of lists of commands. On tables with the same row in each place commands have the same faults, and
-/// leave, record and show the same (`alike`). After commands without a fault the first fault is that of one more command
-/// (`fault`), and after a fault it stays the first (`first`). One more command acts on what the others leave (`left`), and
-/// its change is recorded after theirs (`recorded`).
+/// A law, and no code, of lists of commands. On tables with the same row in each place commands have the same faults,
+/// and leave, record and show the same (`alike`). After commands without a fault the first fault is that of one more
+/// command (`fault`), and after a fault it stays the first (`first`). One more command acts on what the others leave
+/// (`left`), and its change is recorded after theirs (`recorded`).
+///
+/// PostgreSQL 15, Chapter 6 Data Manipulation.
 #[tactic(auto, using(crate::proofs::GrowingLemmas::are_alike, crate::proofs::GrowingLemmas::fault_of_one_more, crate::proofs::GrowingLemmas::first_fault_stays, crate::proofs::GrowingLemmas::left_by_one_more, crate::proofs::GrowingLemmas::record_of_one_more))]
 pub fn commands_come_one_by_one()
     ensures alike { SameAreAlike }
