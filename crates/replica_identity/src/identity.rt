@@ -99,8 +99,8 @@ fn index_tells(table: &Table, number: usize) -> bool
 }
 
 /// Whether what a table's replica identity records of an old row tells which row of the table it was. `Nothing`
-/// doesn't, nor does an `Index` that the table doesn't have or that has a column which may be null. No catalog names
-/// such an index.
+/// doesn't, nor does an `Index` that the table doesn't have or that has a column which may be null. No `Catalog` has
+/// such an identity.
 ///
 /// PostgreSQL 15, SQL Commands, ALTER TABLE (REPLICA IDENTITY).
 pub fn tells_rows_apart(table: &Table) -> bool

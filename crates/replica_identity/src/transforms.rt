@@ -60,9 +60,9 @@ fn asked<'a>(old: &'a OldPart, new: &'a Row) -> &'a Row
 
 /// What a subscriber gets of a change, by its share of the change's table: an INSERT if the new row passes, a DELETE if
 /// the recorded part of the old row does. Of an UPDATE it gets an INSERT if the new row alone passes, a DELETE if the
-/// old row alone does, and nothing if neither does; where nothing is recorded of the old row, it passes if the new one
-/// does. A TRUNCATE is had whatever the filters, where the subscriber takes anything of one of its tables. Nothing is
-/// copied.
+/// old row alone does, and nothing if neither does; where nothing is recorded of the old row, it counts as passing if
+/// the new one does. The subscriber gets a TRUNCATE, whatever the filters, if it takes anything of one of the tables.
+/// Nothing is copied.
 ///
 /// PostgreSQL 15, "Logical Replication", 31.3.1 Row Filter Rules and 31.3.3 UPDATE Transformations.
 pub fn transform<'a>(plan: &Plan, subscriber: usize, change: &'a Change) -> Option<Out<'a>>
