@@ -1,4 +1,4 @@
--- What a checked catalog of the code stands for: a catalog and its plan, of which it is known that the sharding is sound.
+-- A checked catalog of the code as plain data: a catalog and its plan, whose sharding is known to be sound.
 use Rattle.filter_tree.specs.Expr.{Expr}
 use Rattle.pub_catalog.specs.CatalogView.{catalog_view}
 use Rattle.pub_catalog.specs.Catalogs.{CatalogOf}
@@ -20,6 +20,6 @@ checked_of catalog plan = record { catalog = catalog_view catalog; plan = plan_v
 abbrev pub checked_view : Checked → CheckedOf
 checked_view checked = checked_of checked.catalog checked.plan
 
--- the setting in which changes of its tables stand
+-- the setting of changes of its tables
 abbrev pub setting_in : CheckedOf → Setting
 setting_in checked = setting_of checked.catalog checked.plan

@@ -23,7 +23,7 @@ names_only atoms (e.And left right) = names_only atoms left && names_only atoms 
 names_only atoms (e.Or left right) = names_only atoms left && names_only atoms right
 names_only atoms (e.Is test part) = names_only atoms part
 
--- the step of this number is the filter, of which each part is a step too
+-- the step of this number is the filter, and each part of the filter is a step too
 abbrev pub Stands : List AtomOf → List Step → ℕ → Expr → Type 0
 Stands atoms steps number (e.Const known) = slice_get steps number ≡ Some (Const known)
 Stands atoms steps number (e.Atom atom) = (place : ℕ) × ((slice_get steps number ≡ Some (Atom place)) × (slice_get atoms place ≡ Some atom))

@@ -1,4 +1,4 @@
--- What the code's record of a certificate's subject stands for.
+-- The code's record of a certificate's subject as plain data.
 use Rattle.filter_tree.specs.Shape.{atoms_view}
 use Rattle.shard_checker.specs.declared.subject.Subject.{Subject}
 use Rattle.shard_checker.specs.Owners.{shares_view}

@@ -9,11 +9,13 @@ ghost use Rattle.shard_checker.specs.Sound.{IsSound};
 use pub_catalog::Catalog;
 use replica_identity::Plan;
 
-/// A catalog and its own plan that the check accepted. Whoever holds one knows that the catalog's sharding is sound, and
-/// of changes of its tables what the laws about them ask: that a row's replica identity tells to whom the row passes,
-/// that commands that are accepted leave no two rows of a table with one identity, and that each row that fits its table
-/// passes to exactly one subscriber. As each catalog, it is within its limits, and its publications and subscriptions have
-/// names of their own.
+/// A catalog and its own plan that the check accepted. Whoever holds one knows that the catalog's sharding is sound. It
+/// also has what the laws about changes of tables ask: a row's replica identity tells who gets the row, commands that
+/// are accepted leave no two rows of a table with one identity, and each row that fits its table passes to exactly one
+/// subscriber. Like each catalog it is within its limits, and its publications and subscriptions have names of their
+/// own.
+///
+/// PostgreSQL 15, "Logical Replication", 31.3 Row Filters.
 #[derive(Drop)]
 pub struct Checked {
     catalog: Catalog,
@@ -42,9 +44,9 @@ impl Checked {
         Checked { catalog, plan }
     }
 
-    /// The catalog, which is within its limits (`limits`), whose publications and subscriptions have names of their own
-    /// (`names`), and whose sharding is sound. In the setting that it makes with its plan a row's replica identity tells to
-    /// whom the row passes (`covered`), commands that are accepted leave no two rows of a table with one identity
+    /// The catalog. It is within its limits (`limits`), its publications and subscriptions have names of their own
+    /// (`names`), and its sharding is sound. In the setting that it makes with its plan a row's replica identity tells
+    /// who gets the row (`covered`), commands that are accepted leave no two rows of a table with one identity
     /// (`apart`), and each row that fits its table passes to exactly one subscriber (`divided`).
     #[tactic(auto, using(crate::proofs::LimitFacts::checked_limited))]
     pub fn catalog(&self) -> &Catalog

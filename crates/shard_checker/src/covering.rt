@@ -140,8 +140,8 @@ fn check_taken(
     }
 }
 
-/// Checks that each publication that is taken carries only tables that are there, and that its filters name only columns
-/// of their replica identities.
+/// Checks that each publication that is taken carries only tables that are there, and that its filters name only
+/// columns of their replica identities.
 pub fn check_covering(
     alloc: Global,
     tables: &[Table],

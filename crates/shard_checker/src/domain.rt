@@ -13,7 +13,7 @@ pub struct Range {
     pub greatest: i64,
 }
 
-/// The type of a column; a column past the last counts as a bigint.
+/// The type of the column of this number, from 0; a column past the last counts as a bigint.
 pub fn kind_at(columns: &[Column], column: usize) -> ColType
     ensures { result ≡ spec.kind_at columns.now column }
 {
@@ -77,6 +77,8 @@ fn range_within(kind: ColType, far: i64) -> Range
 }
 
 /// The numbers that the term of an integer column of this type has. The remainder by 0 is the number itself.
+///
+/// PostgreSQL 15, 8.1 Numeric Types, and 9.3 Mathematical Functions and Operators.
 pub fn range_of(kind: ColType, term: Term) -> Range
     ensures { result ≡ spec.range_of kind term }
 {

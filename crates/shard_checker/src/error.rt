@@ -4,6 +4,8 @@ use std::alloc::AllocError;
 use thiserror::Error;
 
 /// An operation whose changes a publication may leave out.
+///
+/// PostgreSQL 15, SQL Commands, CREATE PUBLICATION (publish).
 #[derive(Clone, Copy, Debug, PartialEq, Eq, Error)]
 pub enum Operation {
     #[error("insert")]
@@ -17,8 +19,8 @@ pub enum Operation {
 }
 
 /// Why a sharding is refused. Publications, tables, columns and subscribers are named by their numbers in the catalog,
-/// from 0, and the nodes of a table's certificate by their numbers in the order in which it is written, from 0: a split,
-/// and then its branches.
+/// from 0, and the nodes of a table's certificate by their numbers in the order in which it is written, from 0: a
+/// split, and then its branches.
 #[derive(Clone, Copy, Debug, PartialEq, Eq, Error)]
 pub enum CheckError {
     /// A subscription takes the publication, which doesn't publish the operation.
@@ -27,14 +29,14 @@ pub enum CheckError {
         publication: usize,
         operation: Operation,
     },
-    /// The table's replica identity doesn't tell its rows apart: it is NOTHING, or a unique index that the table doesn't
-    /// have or that has a column which may be null. No catalog that `read_catalog` gives has such an index.
+    /// The table's replica identity doesn't tell its rows apart: it is NOTHING, or a unique index that the table
+    /// doesn't have or that has a column which may be null. No catalog that `read_catalog` gives has such an index.
     #[error("the replica identity of table {table} does not tell its rows apart")]
     NoIdentity {
         table: usize,
     },
-    /// A subscription takes the publication, which carries a table that isn't there. No catalog that `read_catalog` gives
-    /// has one.
+    /// A subscription takes the publication, which carries a table that isn't there. No catalog that `read_catalog`
+    /// gives has one.
     #[error("publication {publication} carries table {table}, which is not in the catalog")]
     UnknownTable {
         publication: usize,

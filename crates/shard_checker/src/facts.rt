@@ -1,5 +1,5 @@
-//! What the atoms on a path tell of the rows there: the path of a node has each atom that was split by on the way to it,
-//! with its value there.
+//! What the atoms on a path tell of the rows there: the path of a node has each atom that was split by on the way to
+//! it, with its value there.
 
 ghost use Rattle.std.specs.Prelude.{◌≡◌};
 ghost use Rattle.filter_tree.specs.Paths.{path_view};

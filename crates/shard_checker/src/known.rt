@@ -22,7 +22,7 @@ pub struct Known {
     pub befores: Vec<Before>,
 }
 
-/// What an atom may be of which nothing is known.
+/// What an atom may be while nothing is known of it.
 fn open_mask<A: Allocator>(atom: &Atom<A>) -> Mask
     ensures { result ≡ spec.atom_mask [] (atom_view atom.now) }
 {

@@ -1,4 +1,4 @@
-//! Whether a value is left to a term of which some atom on the path says that it is in a list.
+//! Whether a value is left to a term that is in a list, as some atom on the path says.
 
 ghost use Rattle.std.specs.Prelude.{◌≡◌, map};
 ghost use Rattle.std.specs.List.{list_any};

@@ -1,4 +1,4 @@
-//! The sets of truth values that steps may have, of which only those are computed again that may have changed.
+//! The sets of truth values that steps may have. Only sets that may have changed are computed again.
 
 ghost use Rattle.std.specs.Prelude.{◌≡◌, ◌+◌, ◌*◌, ◌≤◌, ◌<◌, ◌/◌, length, replicate, true, false, slice_set, IfOk, IsTrue};
 ghost use Rattle.filter_tree.specs.Logic.{and_of, or_of};
@@ -117,7 +117,7 @@ fn mark(stale: &mut [bool], blocks: &[usize])
 }
 
 impl Masks {
-    /// Places for so many steps, of which each has to be computed.
+    /// Places for so many steps, each of them still to be computed.
     pub fn new(alloc: Global, steps: usize) -> Result<Masks, AllocError>
         ensures sized { IfOk result (λ masks. length masks.list.items ≡ steps) }
         ensures stale { IfOk result (λ masks. masks.stale.items ≡ replicate (steps / 8 + 1) true) }
@@ -153,8 +153,8 @@ impl Masks {
     }
 }
 
-/// Computes again what a step may be, and where that is new notes that the steps that it is a part of have to be computed
-/// again.
+/// Computes again what a step may be, and where that is new notes that the steps that it is a part of have to be
+/// computed again.
 #[tactic(auto, using(crate::proofs::BlockLemmas::telling))]
 fn tell(steps: &[Step], users: &Users, atoms: &[Mask], masks: &mut Masks, number: usize)
     requires there { number < length steps.now }

@@ -63,7 +63,7 @@ fn check_certificate<C: Source>(
     check_table(alloc, number, table, &shares, cert)
 }
 
-/// Checks the certificates of the tables, of which there are as many.
+/// Checks the certificates of the tables, one for each table.
 fn check_certificates<C: Source>(
     alloc: Global,
     plan: &Plan,
@@ -142,23 +142,25 @@ fn check_sharding<A: Allocator>(
     Ok(())
 }
 
-/// Checks that the sharding of the catalog is sound: that each row that may be in its table, with texts of any length,
-/// passes to exactly one subscriber, as the certificates of the tables, in their order, say it does; that each publication
-/// that a subscription takes publishes insert, update, delete and truncate, and carries only tables that are there, by
-/// filters that name only columns of their replica identities; and that each table's replica identity tells its rows
-/// apart, as NOTHING doesn't, nor an index that isn't there or has a column which may be null. The plan is the catalog's
-/// own.
+/// Checks that the sharding of the catalog is sound. Each row that may be in its table, with texts of any length, has
+/// to pass to exactly one subscriber, as the certificates of the tables, in their order, say it does. Each publication
+/// that a subscription takes has to publish insert, update, delete and truncate, and to carry only tables that are
+/// there, by filters that name only columns of their replica identities. Each table's replica identity has to tell its
+/// rows apart; NOTHING doesn't, nor does an index that isn't there or has a column which may be null. The plan is the
+/// catalog's own.
 ///
-/// In the setting of a catalog that is accepted and its plan a row's replica identity tells to whom the row passes
+/// In the setting of a catalog that is accepted and its plan a row's replica identity tells who gets the row
 /// (`covered`), commands that are accepted leave no two rows of a table with one identity (`apart`), and each row that
 /// fits its table passes to exactly one subscriber (`divided`). A `Checked` keeps that.
 ///
-/// The error is the first of these: an operation that a publication which is taken doesn't publish, by publications; a
-/// table whose replica identity doesn't tell its rows apart; a table that isn't there, or a column that a filter names and
-/// the replica identity lacks, by publications that are taken, their entries, and columns in the order of first
-/// appearance; another number of certificates than of tables; and then that of the first certificate, as `check_one` has
-/// it, with the table's number. `OutOfMemory` may come in place of these, but of none of the first two sorts (`memory`).
-/// What an error says of what it names is so (`wrong`). With an error the catalog and the plan are dropped.
+/// # Errors
+///
+/// The first of these: an operation that a publication which is taken doesn't publish, by publications; a table whose
+/// replica identity doesn't tell its rows apart; a table that isn't there, or a column that a filter names and the
+/// replica identity lacks, by publications that are taken, their entries, and columns in the order of first appearance;
+/// another number of certificates than of tables; and then the error of the first certificate that has one, as
+/// `check_one` has it, with the table's number. `OutOfMemory` may come in place of these, but not of the first two
+/// (`memory`). What an error says of what it names is so (`wrong`). With an error the catalog and the plan are dropped.
 ///
 /// PostgreSQL 15, "Logical Replication", 31.3 Row Filters.
 #[tactic(auto, using(crate::proofs::StandingLemmas::standing, crate::proofs::ReasonLemmas::sharding_wrong))]

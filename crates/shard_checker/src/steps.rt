@@ -43,7 +43,7 @@ pub struct Steps {
     earlier: Vec<usize>,
 }
 
-/// What stands for no number.
+/// The number that means that there is none.
 const NO_STEP: usize = usize::MAX;
 
 /// The number at a place, or none.

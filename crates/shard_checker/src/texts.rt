@@ -62,13 +62,15 @@ fn check_texts(
     Ok(())
 }
 
-/// Checks that the sharding of the catalog is sound, as `check` does, by the texts of the certificates, and builds no tree
-/// of a text.
+/// Checks that the sharding of the catalog is sound, as `check` does, by the texts of the certificates, and builds no
+/// tree of a text. The plan is the catalog's own.
 ///
-/// The error is the first text that `read_in` doesn't read, with its line, counted from 1, and its fault; where all are
-/// read, it is what `check` answers for the certificates (`read`). So each text is read to its end before a node of any is
-/// checked. Want of memory is `Check(OutOfMemory)`, and goes before no text's fault. What a refusal says of what it names
-/// is so (`wrong`). With an error the catalog and the plan are dropped.
+/// # Errors
+///
+/// The first text that `read_in` doesn't read, with its line, counted from 1, and its fault; where all are read, what
+/// `check` answers for the certificates (`read`). So each text is read to its end before a node of any is checked. Want
+/// of memory is `Check(OutOfMemory)`, and comes only where all texts are read. What a refusal says of what it names is
+/// so (`wrong`). With an error the catalog and the plan are dropped.
 ///
 /// PostgreSQL 15, "Logical Replication", 31.3 Row Filters.
 #[tactic(auto, using(crate::proofs::StandingLemmas::standing))]

@@ -128,8 +128,8 @@ fn all_leave<A: Allocator, B: Allocator>(
     true
 }
 
-/// Whether all atoms on the path leave the value to the term. The last one goes first: where the path leaves nothing, that
-/// is mostly since the last split was made.
+/// Whether all atoms on the path leave the value to the term. The last one goes first: where the path leaves nothing,
+/// that is mostly since the last split was made.
 pub fn may_be<A: Allocator, B: Allocator>(
     term: Term,
     path: &[(&Atom<A>, Tri)],
@@ -275,8 +275,8 @@ fn has_named_number<A: Allocator>(range: Range, term: Term, path: &[(&Atom<A>, T
 
 /// Whether a number of the range is left to the term.
 ///
-/// Numbers with no constant of an atom between them are left or not together, so the least one of the range and those at
-/// the constants and directly after them speak for all.
+/// Numbers with no constant of an atom between them are left or not together, so the least one of the range and those
+/// at the constants and directly after them speak for all.
 fn has_number<A: Allocator>(range: Range, term: Term, path: &[(&Atom<A>, Tri)]) -> bool
     ensures { result ≡ trying.has_number range term (path_view path.now) }
 {
@@ -355,8 +355,8 @@ fn has_text<A: Allocator>(term: Term, path: &[(&Atom<A>, Tri)]) -> bool
     may_be_unnamed_text(term, path) || has_named_text(term, path)
 }
 
-/// Whether some value of the domain of the term, whose column has this type, is left to it by all atoms on the path: one
-/// that an atom names, or one that speaks for those that none names.
+/// Whether some value of the domain of the term, whose column has this type, is left to it by all atoms on the path:
+/// one that an atom names, or one that speaks for those that none names.
 pub fn has_tried_value<A: Allocator>(kind: ColType, term: Term, path: &[(&Atom<A>, Tri)]) -> bool
     ensures { result ≡ trying.has_value kind term (path_view path.now) }
 {

@@ -23,8 +23,8 @@ use filter_tree::{Atom, Tri};
 use split_cert::{Cert, Node, NodeReader};
 use std::alloc::{AllocError, Allocator, Global};
 
-/// Where the next node of a certificate comes: the atoms that were split by on the way to it, each with its value there,
-/// and the node's number. Numbers end at the greatest.
+/// Where the next node of a certificate comes: the atoms that were split by on the way to it, each with its value
+/// there, and the node's number. Numbers end at the greatest.
 #[derive(Drop)]
 pub struct Walk<'a, A: Allocator> {
     pub path: Vec<(&'a Atom<A>, Tri)>,
