@@ -1,4 +1,4 @@
--- What an answer of the maker says: of a certificate, that the check of its table accepts it; of a row, that it fits the table and which subscribers get it, of which there is not exactly one. PostgreSQL 15, "Logical Replication", 31.3 Row Filters.
+-- What an answer of the maker says: of a certificate, that the check of its table accepts it; of a row, that it fits the table and which subscribers get it: none, or several. PostgreSQL 15, "Logical Replication", 31.3 Row Filters.
 use Rattle.std.specs.Prelude.{◌≡◌, ◌≢◌, ℕ, ◌+◌, List, [], ◌∷◌, length, filter, Some, None, slice_get}
 use Rattle.filter_tree.specs.Datum.{Datum}
 use Rattle.filter_tree.specs.Expr.{Expr}

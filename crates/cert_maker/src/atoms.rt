@@ -15,8 +15,8 @@ pub enum AtomKind {
     Distinct(i64),
 }
 
-/// An atom: what it asks of which term, and its bit in the numbers that stand for sets of atoms. `IS NULL` has no bit, and
-/// none has an atom past the 64th.
+/// An atom: what it asks of which term, and its bit in a number that is a set of atoms. `IS NULL` has no bit, and
+/// neither has an atom past the 64th.
 #[derive(Drop)]
 pub struct PlainAtom {
     pub column: usize,
@@ -64,7 +64,7 @@ impl AtomKind {
     }
 }
 
-/// The number that stands for a constant.
+/// A constant's number: a number is its own, a truth value has 0 or 1, and a text has its place among the texts.
 fn number_of<'a, A: Allocator>(texts: &Texts<'a>, literal: &'a Literal<A>) -> i64 {
     match literal {
         Literal::Int(number) => *number,
@@ -73,7 +73,7 @@ fn number_of<'a, A: Allocator>(texts: &Texts<'a>, literal: &'a Literal<A>) -> i6
     }
 }
 
-/// The numbers that stand for constants, in ascending order.
+/// The constants' numbers, in ascending order.
 fn numbers_of<'a, A: Allocator>(
     alloc: Global,
     texts: &Texts<'a>,

@@ -5,14 +5,15 @@ use filter_tree::Op;
 use shard_checker::Range;
 use std::alloc::{AllocError, Global};
 
-/// Numbers one after another of which each atom of the term says the same, and the bits of the atoms that are true of them.
+/// Numbers one after another that each atom of the term says the same of, and the bits of the atoms that are true of
+/// them.
 #[derive(Clone, Copy)]
 pub struct Cell {
     pub range: Range,
     pub holding: u64,
 }
 
-/// The cells of which each atom of the term says the same, and the number in them that is nearest to zero.
+/// The cells that each atom of the term says the same of, and the number in them that is nearest to zero.
 #[derive(Clone, Copy)]
 pub struct Class {
     pub holding: u64,

@@ -9,7 +9,7 @@ use filter_tree::{ColType, Column};
 use shard_checker::Range;
 use std::alloc::{AllocError, Global};
 
-/// A value of a column: null, or the number that stands for it.
+/// A value of a column: null, or the value's number.
 pub type Choice = Option<i64>;
 
 /// The number of the empty text.

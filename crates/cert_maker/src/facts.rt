@@ -191,7 +191,7 @@ impl Facts {
         }
     }
 
-    /// Whether the values of the atoms leave a number to the term of which these atoms are true.
+    /// Whether the values of the atoms leave the term a number that these atoms are true of.
     pub fn leaves(&self, domain: &Domain, holding: u64) -> bool {
         agrees(holding, self.held & domain.bits, self.refused)
     }
@@ -208,8 +208,8 @@ impl Facts {
         }
     }
 
-    /// The term that has no value left where the atom has one that the facts don't leave to it: a term to which no number
-    /// is left unless the column is null, or else the atom's own.
+    /// The term that has no value left where the atom has one that the facts don't leave to it: a term to which no
+    /// number is left unless the column is null, or else the atom's own.
     pub fn empty_term(&self, plain: &PlainAtom) -> usize {
         match self.columns.get(plain.column) {
             None => plain.term,
@@ -217,7 +217,7 @@ impl Facts {
         }
     }
 
-    /// Which values the atom may have, of which these are known.
+    /// Which values the atom may have, where these are known.
     pub fn expected(&self, known: &[Mask], atom: usize, plain: &PlainAtom) -> Mask {
         if let Some(value) = value_at(known, atom) {
             return Mask::single(value);
@@ -233,7 +233,7 @@ impl Facts {
     }
 }
 
-/// Which values an atom may have of which nothing is known.
+/// Which values an atom may have while nothing is known of it.
 pub fn open(kind: &AtomKind) -> Mask {
     if kind.is_never_null() { NOT_NULL } else { ANY }
 }

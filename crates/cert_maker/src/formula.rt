@@ -86,7 +86,8 @@ pub fn formula_of_share<A: Allocator>(
     }
 }
 
-/// Of a formula whose values are in `mask`, and of whose atoms so many make a difference to its parts.
+/// The weight of a formula whose values are in `mask`, where so many atoms make a difference to its parts: none makes
+/// one to the formula where its value is settled.
 fn weighing(mask: Mask, weight: u32) -> Weighed {
     Weighed {
         mask,
@@ -94,7 +95,8 @@ fn weighing(mask: Mask, weight: u32) -> Weighed {
     }
 }
 
-/// Of a formula whose values are in `mask`, where this is the first atom that makes a difference to its parts.
+/// The opening of a formula whose values are in `mask`, where this is the first atom that makes a difference to its
+/// parts: none makes one to the formula where its value is settled.
 fn opening(mask: Mask, first: Option<usize>) -> Opened {
     Opened {
         mask,

@@ -9,13 +9,12 @@ use split_cert::Cert;
 pub enum Made<'b> {
     /// A certificate that the check accepts. Its nodes are in the arena.
     Cert(Cert<&'b Bump>),
-    /// A row that fits the table, and the numbers of the subscribers that get it, in ascending order, of which there is
-    /// not exactly one.
+    /// A row that fits the table, and the numbers of the subscribers that get it, in ascending order: none, or several.
     Counter(Row, Vec<usize>),
     /// Neither was found.
     Unknown,
-    /// The certificate that was looked for has more than 1,000,000 nodes, or more than 64 splits on a path, and no row was
-    /// found that shows that there is none.
+    /// The certificate that was looked for has more than 1,000,000 nodes, or more than 64 splits on a path, and no row
+    /// was found that shows that there is none.
     TooLarge,
     OutOfMemory,
 }

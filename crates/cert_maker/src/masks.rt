@@ -1,4 +1,4 @@
-//! Sets of truth values that stand for atoms, by the atoms' numbers.
+//! The truth values that atoms may have, by the atoms' numbers.
 
 use filter_tree::{Mask, Tri};
 

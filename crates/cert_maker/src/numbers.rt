@@ -134,8 +134,8 @@ fn period(problem: &Problem<'_>, column: usize) -> Option<i64> {
     Some(step)
 }
 
-/// A number from this one on, a step away or more, all of whose remainders the column may have, and the step by which they
-/// stay.
+/// A number from this one on, a step away or more, all of whose remainders the column may have, and the step by which
+/// they stay.
 fn with_remainders(
     problem: &Problem<'_>,
     board: &mut Board,

@@ -1,5 +1,5 @@
-//! What a certificate of a table has to decide, in numbers: of truth values and texts too, so that the values that a term
-//! may have are whole numbers from a least to a greatest one.
+//! What a certificate of a table has to decide, in numbers: of truth values and texts too, so that the values that a
+//! term may have are whole numbers from a least to a greatest one.
 
 use crate::atoms::{PlainAtom, plain_atoms};
 use crate::cells::{Cell, Class, bits_of, cells_of, classes_of};
@@ -10,8 +10,8 @@ use replica_identity::Share;
 use shard_checker::{Range, kind_at, range_of};
 use std::alloc::{AllocError, Allocator, Global};
 
-/// The numbers that a term has: of a boolean column 0 and 1, of a text column the numbers of the texts that atoms name, and
-/// one number more for every other text.
+/// The numbers that a term has: of a boolean column 0 and 1, of a text column the numbers of the texts that atoms name,
+/// and one number more for every other text.
 #[derive(Drop)]
 pub struct Domain {
     pub column: usize,

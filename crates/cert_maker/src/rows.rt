@@ -163,7 +163,7 @@ fn is_used(problem: &Problem<'_>, column: usize) -> bool {
     false
 }
 
-/// The simple values of a column, of which the first is the simplest.
+/// The simple values of a column, the simplest first.
 fn simple_values(
     alloc: Global,
     problem: &Problem<'_>,
@@ -265,8 +265,8 @@ fn count_takers(problem: &Problem<'_>, masks: &[Mask]) -> usize {
     count
 }
 
-/// The row of these values, if it fits the table and not exactly one share takes it. The row is made only where the values
-/// of its atoms tell that.
+/// The row of these values, if it fits the table and not exactly one share takes it. The row is made only where the
+/// values of its atoms tell that.
 pub fn counter_of(
     alloc: Global,
     problem: &Problem<'_>,

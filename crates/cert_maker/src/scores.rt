@@ -82,8 +82,8 @@ impl Board {
         found
     }
 
-    /// Of the values that the facts leave to the claim's atoms, those that are forced first, adds one after another to those
-    /// on the path, until the path meets the aim, and gives the atom of the last one.
+    /// Adds to the values on the path those that the facts leave to the claim's atoms, one after another and the forced
+    /// ones first, until the path meets the aim. The answer is the atom of the last one.
     pub fn needed(
         &mut self,
         alloc: Global,
@@ -117,7 +117,7 @@ impl Board {
         None
     }
 
-    /// An atom that lets the path tell of a share that it takes nothing, of which the facts tell that.
+    /// An atom by which the path would tell that a share takes nothing, where the facts already tell so.
     pub fn closing(
         &mut self,
         alloc: Global,
@@ -183,8 +183,8 @@ impl Board {
         claim.formula.opened(&self.likely).first
     }
 
-    /// The atom, of those to which the facts leave several values, that leaves the least to decide. What was found of the
-    /// atoms is lost.
+    /// The atom that leaves the least to decide, among those with several values left by the facts. What was found of
+    /// the atoms is lost.
     pub fn halving(
         &mut self,
         alloc: Global,

@@ -55,7 +55,8 @@ impl<T: Drop> From<AllocFailed<T>> for Stop {
     }
 }
 
-/// A split by an atom, to which the facts leave these values. Where it has another one, no number is left to the term.
+/// A split by an atom, and the values that the facts leave to it. Where it has another one, no number is left to the
+/// term.
 #[derive(Clone, Copy)]
 struct Fork {
     atom: usize,
