@@ -87,7 +87,7 @@ abbrev pub maybe_old_of : Option r.PartOf → Option OldTuple
 maybe_old_of None = None
 maybe_old_of (Some part) = Some (old_of part)
 
--- the message of a change, as the subscriber gets it: none of an old row of which nothing is recorded
+-- the message of a change, as the subscriber gets it; no message tells of an old row where nothing is recorded of it
 abbrev pub message_of : r.ChangeOf → List Msg
 message_of (r.Insert table new) = m.Insert (oid_of table) (cells_of new) ∷ []
 message_of (r.Update table part new) = m.Update (oid_of table) (maybe_old_of part) (cells_of new) ∷ []

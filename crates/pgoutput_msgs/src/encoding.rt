@@ -67,6 +67,8 @@ fn put_message(message: &Msg, out: &mut Vec<u8>)
 
 /// Whether the layout has room for the message: each table and each tuple has fewer than 2^15 columns, each text of a
 /// tuple fewer than 2^31 bytes, and fewer than 2^31 tables are emptied.
+///
+/// PostgreSQL 15, 55.9. Logical Replication Message Formats.
 pub fn fits(message: &Msg) -> bool
     ensures { IsTrue result ↔ IsWithinRange message.now }
 {

@@ -10,6 +10,8 @@ ghost use Rattle.pgoutput_msgs.specs.Laws.{NoneIsProperPrefix, EachSpellsOne, Sp
 /// So whoever reads spellings one after another can tell where each ends, and which message it spells.
 ///
 /// Each has to be a message: a name with a zero byte would be spelled as two.
+///
+/// PostgreSQL 15, 55.9. Logical Replication Message Formats.
 pub fn no_spelling_begins_another()
     ensures ends { NoneIsProperPrefix }
     ensures one { EachSpellsOne }
@@ -24,8 +26,8 @@ pub fn spellings_are_decoded()
 {}
 
 /// A law, and no code: the tuple of a row whose values are null or of their columns' types is read back as that row,
-/// value by value. So is that of a row that fits its table (`valid`), and what is recorded of an old row (`recorded`): as
-/// the row with nulls outside the columns of the replica identity, and under FULL as the row itself.
+/// value by value. So is that of a row that fits its table (`valid`), and what is recorded of an old row (`recorded`):
+/// as the row with nulls outside the columns of the replica identity, and under FULL as the row itself.
 pub fn rows_are_read_back()
     ensures rows { RowsReadBack }
     ensures valid { ValidRowsReadBack }
@@ -37,10 +39,11 @@ pub fn messages_are_read_back()
     ensures { MessagesAreReadBack }
 {}
 
-/// A law, and no code: in the messages of a commit (`one`), and of commits one after the other (`all`), each change is of
-/// tables that were told, before the commit or by a Relation that comes before it, and no Relation comes of a table that
-/// was told. Afterwards those tables were told that `messages_of` marks so. It holds where there is a flag for each table
-/// and the changes are of tables that there are, as what commands record (`recorded`) and each log (`logged`) is.
+/// A law, and no code: in the messages of a commit (`one`), and of commits one after the other (`all`), each change is
+/// of tables that were told, before the commit or by a Relation that comes before it, and no Relation comes of a table
+/// that was told. Afterwards those tables were told that `messages_of` marks so. It holds where there is a flag for
+/// each table and the changes are of tables that there are, as what commands record (`recorded`) and each log
+/// (`logged`) is.
 ///
 /// PostgreSQL 15, 55.5.3. Logical Replication Protocol Message Flow.
 pub fn relations_come_once()
@@ -50,10 +53,10 @@ pub fn relations_come_once()
     ensures logged { LogsAreOfTables }
 {}
 
-/// A law, and no code: without Begin, Commit and Relations the messages of a commit are those of what the subscriber sees
-/// of the commit's commands, in their order: an Insert for a new row alone, a Delete for an old row alone, and an Update
-/// for both, with what is recorded of the old row. So there are none where nothing is seen, and only there. It holds where
-/// a row's identity tells to whom it passes, as in each catalog that was checked.
+/// A law, and no code: without Begin, Commit and Relations the messages of a commit are those of what the subscriber
+/// sees of the commit's commands, in their order: an Insert for a new row alone, a Delete for an old row alone, and an
+/// Update for both, with what is recorded of the old row. So there are none where nothing is seen, and only there. It
+/// holds where a row's identity tells who gets the row, as in each catalog that was checked.
 ///
 /// PostgreSQL 15, "Logical Replication", 31.3.3 UPDATE Transformations.
 pub fn messages_tell_what_is_seen()

@@ -37,8 +37,10 @@ impl ReplicaIdentity {
     }
 }
 
-/// A column of a table: whether it is one of the replica identity's, its name, and the OID and the modifier of its type.
-/// The modifier is -1 for a type without one.
+/// A column of a table: whether it is one of the replica identity's, its name, and the OID and the modifier of its
+/// type. The modifier is -1 for a type without one.
+///
+/// PostgreSQL 15, 55.9. Logical Replication Message Formats (Relation).
 #[derive(Debug, Drop)]
 pub struct RelationColumn {
     pub is_key: bool,
@@ -48,6 +50,8 @@ pub struct RelationColumn {
 }
 
 /// A table: its OID, its schema (empty for `pg_catalog`), its name, its replica identity, and its columns.
+///
+/// PostgreSQL 15, 55.9. Logical Replication Message Formats (Relation).
 #[derive(Debug, Drop)]
 pub struct Relation {
     pub oid: u32,

@@ -12,7 +12,7 @@ use std::alloc::{AllocError, Global};
 /// The OID of the first table of a catalog. The others follow in their order.
 const FIRST_OID: u32 = 16_384;
 
-/// The OID of the table of this number, which is counted from 0.
+/// The OID of the table of this number, which is counted from 0: 16384 and the number. The OIDs are this project's own.
 pub fn oid_of(table: usize) -> u32
     requires { table < 2 ^ 31 }
     ensures { result ≡ spec.oid_of table }
@@ -55,7 +55,7 @@ fn copy_of(alloc: Global, text: &Text) -> Result<Text, AllocError>
     Ok(Text::new(copy))
 }
 
-/// A column, of which it is known whether it is one of the replica identity's.
+/// The column as a Relation has it, with the flag of the replica identity's columns or without it.
 fn column_of(alloc: Global, column: &Column, is_key: bool) -> Result<RelationColumn, AllocError>
     ensures exact { IfOk result (λ made. made ≡ spec.flagged is_key column.now) }
     ensures text { IfOk result (λ made. HasTextName made) }
@@ -68,8 +68,9 @@ fn column_of(alloc: Global, column: &Column, is_key: bool) -> Result<RelationCol
     })
 }
 
-/// The Relation message of the table of this number, which is counted from 0: its columns in their order, where the flag
-/// marks those of the replica identity, under FULL all. Its names are UTF-8 (`texts`). The only error is want of memory.
+/// The Relation message of the table of this number, which is counted from 0: its columns in their order, where the
+/// flag marks those of the replica identity, under FULL all. Its names are UTF-8 (`texts`). The only error is want of
+/// memory.
 ///
 /// PostgreSQL 15, 55.9. Logical Replication Message Formats (Relation).
 pub fn relation_of(alloc: Global, number: usize, table: &Table) -> Result<Relation, AllocError>

@@ -23,10 +23,10 @@ use tables_log::Commit;
 /// The messages that tell the subscriber of this number of a commit: Begin, then for each change that is for it the
 /// message of what it gets, and Commit; none if no change is for it. `told` has by a table's number whether its
 /// Relation was sent: one that wasn't comes directly before the first message that names its table, before a Truncate
-/// in its order, and is told from then on. Each message fits its layout (`room`), the bytes that spell it are decoded as
-/// that message, and there are at most 13,108,011 of them (`sent`).
-/// Commit n has the LSN `64 * n`, ends at `64 * n + 64` and is transaction `n + 2`; table j has the OID `16384 + j`.
-/// The only error is want of memory, which leaves `told` as it was.
+/// in its order, and is told from then on. Each message fits its layout (`room`), the bytes that spell it are decoded
+/// as that message, and there are at most 13,108,011 of them (`sent`). Commit n has the LSN `64 * n`, ends at `64 * n +
+/// 64` and is transaction `n + 2`; table j has the OID `16384 + j`. The only error is want of memory, which leaves
+/// `told` as it was.
 ///
 /// PostgreSQL 15, 55.5.3. Logical Replication Protocol Message Flow.
 pub fn messages_of(
@@ -58,7 +58,7 @@ pub fn messages_of(
     Ok(messages)
 }
 
-/// Begin, what is said, and Commit; nothing where nothing is said.
+/// Begin, what is said, and Commit; no message where nothing is said.
 #[tactic(auto, using(crate::proofs::TellingLemmas::enclosed_some, crate::proofs::TellingLemmas::enclosed_none))]
 fn enclosed(commit: &Commit, said: Vec<Msg>) -> Result<Vec<Msg>, AllocError>
     requires { All HasTexts said.items }
@@ -154,7 +154,7 @@ fn table_of(change: &Change) -> usize
     }
 }
 
-/// Those of the tables of which the subscriber takes anything.
+/// Those of the tables that the subscriber takes anything of.
 #[tactic(auto, using(crate::proofs::TellingLemmas::keeps_on, crate::proofs::TellingLemmas::keeps_past, crate::proofs::TellingLemmas::all_kept))]
 fn carried_of(
     alloc: Global,

@@ -15,6 +15,8 @@ use std::alloc::Global;
 use std::marker::Model;
 
 /// A column's value as a message has it: null, or the text of a value.
+///
+/// PostgreSQL 15, 55.9. Logical Replication Message Formats (TupleData).
 #[derive(Debug, Drop)]
 pub enum Cell {
     Null,
@@ -22,6 +24,8 @@ pub enum Cell {
 }
 
 /// The values of a row as a message has them, in the order of the columns. Contracts see the list of the cells.
+///
+/// PostgreSQL 15, 55.9. Logical Replication Message Formats (TupleData).
 #[derive(Debug, Drop)]
 pub struct Tuple {
     cells: Vec<Cell>,
@@ -76,6 +80,8 @@ impl Tuple {
 
 /// What is sent of an old row: `Key` has the values of the columns of the replica identity and null in the others,
 /// `Full` has all values.
+///
+/// PostgreSQL 15, 55.9. Logical Replication Message Formats (Update, Delete).
 #[derive(Debug, Drop)]
 pub enum OldTuple {
     Key(Tuple),

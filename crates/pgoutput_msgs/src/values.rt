@@ -12,6 +12,8 @@ use std::alloc::{AllocError, Allocator, Global};
 
 /// The row's values as a message has them. An Insert message has room for those of a row that fits a table of fewer
 /// than 2^15 columns. The only error is want of memory.
+///
+/// PostgreSQL 15, 55.9. Logical Replication Message Formats (TupleData).
 pub fn tuple_of<A: Allocator>(alloc: Global, row: &Row<A>) -> Result<Tuple, AllocError>
     ensures exact { IfOk result (λ tuple. tuple ≡ cells_of row.now) }
     ensures room { IfOk result (λ tuple. (columns : List Column) → IsValid columns row.now
