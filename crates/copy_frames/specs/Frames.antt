@@ -48,7 +48,7 @@ abbrev pub cut_some : ℕ → ℕ → List ℕ → Cut
 cut_some limit zero bytes = Rest bytes
 cut_some limit (suc n) bytes = cut_after (front limit bytes) bytes (cut_some limit n)
 
--- the frames of some bytes, of which there are no more than bytes
+-- the frames of some bytes; there are no more frames than bytes
 unfoldable pub cut : ℕ → List ℕ → Cut
 cut limit bytes = cut_some limit (length bytes) bytes
 

@@ -11,7 +11,7 @@ use bytes::BytesMut;
 use std::alloc::{AllocError, Global};
 use std::marker::Model;
 
-/// Cuts the bytes of a connection into frames, in whatever pieces they come.
+/// Cuts the bytes of a connection into frames, in whatever pieces they come ("55.7. Message Formats").
 #[derive(Drop)]
 pub struct Deframer {
     limit: u32,

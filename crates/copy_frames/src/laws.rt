@@ -5,9 +5,9 @@ ghost use Rattle.copy_frames.specs.ContentLaws.{XLogDataIsRead, KeepaliveIsRead,
 
 /// A law, and no code, of what bytes are cut into.
 ///
-/// What was cut, spelled again, are the bytes. The spellings of frames, one after another, are cut into those frames
-/// and what comes after them. Each frame is within the limit, what is left at the end is no whole frame, and a fault is
-/// that of the length there.
+/// The frames that were cut, spelled again, and what is left are the bytes. The spellings of frames, one after another,
+/// are cut into those frames and what comes after them. Each frame is within the limit, what is left at the end is no
+/// whole frame, and a fault is that of the length there ("55.7. Message Formats").
 #[tactic(auto, using(crate::proofs::CutLemmas::cuts_are_spelled, crate::proofs::CutLemmas::spelled_are_cut, crate::proofs::CutLemmas::cuts_are_whole))]
 pub fn bytes_make_frames()
     ensures spelled { CutsAreSpelled }

@@ -1,5 +1,5 @@
-//! Frames of a replication connection, which is in the COPY BOTH state once it streams: how bytes are cut into them, and
-//! what CopyData carries.
+//! Frames of a replication connection, which is in the COPY BOTH state once it streams: how bytes are cut into them,
+//! and what CopyData carries.
 #![tactic(auto)]
 
 mod copy_mode;

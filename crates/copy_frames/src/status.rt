@@ -1,4 +1,4 @@
-//! What a client says of how far it is.
+//! Statuses, by which a client says how far it is.
 
 ghost use Rattle.std.specs.Prelude.{◌≡◌, ◌++◌, OnOk, OnErr};
 ghost use Rattle.copy_frames.specs.Contents.{copy_data, status_body, status_in};
@@ -8,7 +8,7 @@ use crate::room::{put, put_flag, put_int64};
 use bytes::BytesMut;
 use std::alloc::AllocError;
 
-/// What a client says of the places in the log, in bytes, up to which it has written, flushed and applied what it got.
+/// How far a client is: the places in the log, in bytes, up to which it has written, flushed and applied what it got.
 /// The clock is its own, in microseconds since 2000-01-01 ("55.4. Streaming Replication Protocol", Standby status
 /// update).
 #[derive(Clone, Copy, Debug, PartialEq, Eq)]
