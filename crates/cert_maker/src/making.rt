@@ -92,8 +92,8 @@ fn answer<'b>(
 /// A certificate is answered only if `check_one` accepts it with the table and its shares, and if it has at most
 /// 1,000,000 nodes and at most 64 splits on a path, so that `read_in` reads what `write` gives for it. A row is
 /// answered only if it fits the table and no subscriber takes it, or several do. `Unknown` is answered where neither
-/// was found, and for a table that isn't there. The search goes on to no further node after `MAX_STEPS` steps. The only
-/// error is want of memory.
+/// was found, and for a table that isn't there. The search goes on to no further node after `MAX_STEPS` steps.
+/// `OutOfMemory` may come in place of any answer for a table that is there.
 pub fn make<'b>(
     alloc: Global,
     arena: &'b Bump,
