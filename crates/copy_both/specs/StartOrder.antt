@@ -10,7 +10,7 @@ use Rattle.copy_both.specs.declared.start_command.StartOption.{StartOption}
 use Rattle.copy_both.specs.declared.start_order.Offer.{Offer}
 use Rattle.copy_both.specs.Refusals.{RefusalOf, NoSlot, WrongOption, UnsupportedOption, MissingOption, NoPublication, OtherPublications, Ahead, InUse}
 
--- what a start is held against: the names of the publications, the subscriptions, of which each has the slot of its name, where the log ends, and which slots are in use
+-- what a start is held against: the names of the publications, the subscriptions, each with the slot of its name, where the log ends, and which slots are in use
 pub record OfferOf : Type 0 where
   pub publications : List (List ℕ)
   pub subscriptions : List Subscription
@@ -70,7 +70,7 @@ option_refusal earlier option =
     or_else (refused (is_wrong option.value || list_any (is_named option.name) earlier) (WrongOption option.name))
     (refused (is_unsupported option.value) (UnsupportedOption option.name))
 
--- the first of the options, of which some come before
+-- the first of the options that come after these
 abbrev pub options_refusal : List StartOption → List StartOption → Option RefusalOf
 options_refusal earlier [] = None
 options_refusal earlier (option ∷ later) = or_else (option_refusal earlier option) (options_refusal (earlier ++ option ∷ []) later)

@@ -124,8 +124,8 @@ fn answer_text(
     Ok(answer_command(offer, &command, response)?)
 }
 
-/// Answers the first frame of a client, of this kind and body: it starts a stream, or the ErrorResponse that refuses it is
-/// appended to `response` ("55.4. Streaming Replication Protocol"). The only error is want of memory, which leaves
+/// Answers the first frame of a client, of this kind and body: it starts a stream, or the ErrorResponse that refuses it
+/// is appended to `response` ("55.4. Streaming Replication Protocol"). The only error is want of memory, which leaves
 /// `response` as it was.
 #[tactic(auto, unfolding(crate::specs::StartAnswers::asked_of))]
 pub fn answer_start(

@@ -17,9 +17,9 @@ use tables_log::Book;
 /// How long a frame may be: the length that it says of itself.
 const LIMIT: u32 = 65_536;
 
-/// The half of a connection's end that hears: it cuts what the client sends into frames, starts the stream of a slot, and
-/// confirms what the client's statuses say is flushed. It has no output, so that it may run in a thread of its own; what
-/// is to be answered is said by a `Voice`.
+/// The half of a connection's end that hears: it cuts what the client sends into frames, starts the stream of a slot,
+/// and confirms what the client's statuses say is flushed. It has no output, so that it may run in a thread of its own;
+/// a `Voice` says what is to be answered.
 ///
 /// The first fault closes it, and so does the client's end; from then on `hear` answers `Closed`. The slot stays taken
 /// until `lose`.
@@ -64,17 +64,17 @@ impl Ear {
         }
     }
 
-    /// Hears the next bytes that the client sends, in whatever pieces they come: each frame that is whole, in order, up to
-    /// a fault or an end. The first frame starts a stream, and takes its slot; then statuses confirm the log for the slot.
-    /// `sent` is the sent position of the connection's voice, in bytes; it is not looked at where the stream starts in this
-    /// piece.
+    /// Hears the next bytes that the client sends, in whatever pieces they come: each frame that is whole, in order, up
+    /// to a fault or an end. The first frame starts a stream, and takes its slot; then statuses confirm the log for the
+    /// slot. `sent` is the sent position of the connection's voice, in bytes; it is not looked at where the stream
+    /// starts in this piece.
     ///
     /// # Errors
     ///
     /// The first of: `BadStart`, and then `refusal` has the response; `BadLength` for a status that has another length
-    /// than 34 bytes; `Unexpected`; `StatusAhead` for a status that has flushed more than was sent; and after all frames
-    /// before it `BadLength` and `FrameTooLong` for a length below 4 or above 65,536. Or `OutOfMemory`; then some first
-    /// frames were heard. Each closes it. `Closed` where it was closed before; then nothing changes.
+    /// than 34 bytes; `Unexpected`; `StatusAhead` for a status that has flushed more than was sent; and after all
+    /// frames before it `BadLength` and `FrameTooLong` for a length below 4 or above 65,536. Or `OutOfMemory`; then
+    /// some first frames were heard. Each closes it. `Closed` where it was closed before; then nothing changes.
     ///
     /// PostgreSQL 15, 55.4. Streaming Replication Protocol, and 55.7. Message Formats.
     pub fn hear(&mut self, piece: &[u8], book: &mut Book, sent: u64) -> Result<Heard, LinkFault>
@@ -106,8 +106,8 @@ impl Ear {
         self.session.response.as_slice()
     }
 
-    /// Loses the connection: closes it, and gives the slot back where its stream was started. Only the first loss changes
-    /// the book.
+    /// Loses the connection: closes it, and gives the slot back where its stream was started. Only the first loss
+    /// changes the book.
     pub fn lose(&mut self, book: &mut Book)
         ensures { Loses self.old self.new book.old book.new }
     {

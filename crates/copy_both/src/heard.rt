@@ -1,4 +1,4 @@
-//! What was heard of a client.
+//! What was heard from a client.
 
 /// What was heard in a piece of what a client sends.
 #[derive(Clone, Copy, Debug, PartialEq, Eq)]

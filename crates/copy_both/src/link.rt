@@ -29,11 +29,11 @@ fn entry_after(book: &Book, done: u64) -> Option<&Commit>
     book.entry(done as u32 + 1)
 }
 
-/// The publisher's end of a connection, for use by one thread: a client's bytes are put in, and what is to be sent to it
-/// waits in the output. It is made of both halves, an `Ear` and a `Voice`: what is heard is answered at once.
+/// The publisher's end of a connection, for use by one thread: a client's bytes are put in, and what is to be sent to
+/// it waits in the output. It is made of both halves, an `Ear` and a `Voice`: what is heard is answered at once.
 ///
-/// The first fault closes it, and so does the client's end; from then on each call that hears or speaks answers `Closed`.
-/// What waits stays as whole frames. The slot stays taken until `lose`.
+/// The first fault closes it, and so does the client's end; from then on each call that hears or speaks answers
+/// `Closed`. What waits stays as whole frames. The slot stays taken until `lose`.
 ///
 /// PostgreSQL 15, 55.4. Streaming Replication Protocol.
 #[derive(Drop)]
@@ -68,15 +68,16 @@ impl Link {
     /// Hears the next bytes that the client sends, in whatever pieces they come, up to a fault or an end, and says what
     /// answers them, in this order: CopyBothResponse where the stream starts, a keepalive that wants no status for each
     /// status that wants a reply, and CopyDone where the client ended the stream by it. A start that is refused is
-    /// answered by its ErrorResponse; any other fault by nothing, also of what was heard before it in the piece. `now` is
-    /// the clock, in microseconds since 2000-01-01.
+    /// answered by its ErrorResponse; any other fault by nothing, also of what was heard before it in the piece. `now`
+    /// is the clock, in microseconds since 2000-01-01.
     ///
     /// # Errors
     ///
     /// The first of: `BadStart`; `BadLength` for a status that has another length than 34 bytes; `Unexpected`;
-    /// `StatusAhead` for a status that has flushed more than the sent position; and after all frames before it `BadLength`
-    /// and `FrameTooLong` for a length below 4 or above 65,536. Or `OutOfMemory`; then some first frames were heard, and
-    /// some first frames said. Each closes it. `Closed` where it was closed before; then nothing changes.
+    /// `StatusAhead` for a status that has flushed more than the sent position; and after all frames before it
+    /// `BadLength` and `FrameTooLong` for a length below 4 or above 65,536. Or `OutOfMemory`; then some first frames
+    /// were heard, and some first frames said. Each closes it. `Closed` where it was closed before; then nothing
+    /// changes.
     ///
     /// PostgreSQL 15, 55.4. Streaming Replication Protocol, and 55.7. Message Formats.
     pub fn hear(&mut self, piece: &[u8], book: &mut Book, now: u64) -> Result<Heard, LinkFault>
@@ -107,17 +108,17 @@ impl Link {
         }
     }
 
-    /// Takes the next commit of the log up: says the messages that tell the subscriber of it, each in an XLogData at the
-    /// commit's position. A commit without a change for the subscriber is skipped. The answer is `Idle` where all of the
-    /// log is taken, and `NotStarted` before the start; then nothing is said. Each message that is said is decoded from its
-    /// spelling (`read_back`). `now` is the clock, in microseconds since 2000-01-01.
+    /// Takes the next commit of the log up: says the messages that tell the subscriber of it, each in an XLogData at
+    /// the commit's position. A commit without a change for the subscriber is skipped. The answer is `Idle` where all
+    /// of the log is taken, and `NotStarted` before the start; then nothing is said. Each message that is said is
+    /// decoded from its spelling (`read_back`). `now` is the clock, in microseconds since 2000-01-01.
     ///
     /// It takes time for the commit's changes and messages.
     ///
     /// # Errors
     ///
-    /// `Closed`; `FrameTooLong` where a message has more than 16,777,187 bytes; `OutOfMemory`. Each closes it, and nothing
-    /// of the commit is said.
+    /// `Closed`; `FrameTooLong` where a message has more than 16,777,187 bytes; `OutOfMemory`. Each closes it, and
+    /// nothing of the commit is said.
     ///
     /// PostgreSQL 15, 55.5. Logical Streaming Replication Protocol.
     pub fn take(&mut self, book: &Book, now: u64) -> Result<Taken, LinkFault>
@@ -145,8 +146,8 @@ impl Link {
         taken
     }
 
-    /// Says a keepalive with the sent position and this clock, in microseconds since 2000-01-01, which may want a status.
-    /// The answer is false where the stream has not started: then nothing is said.
+    /// Says a keepalive with the sent position and this clock, in microseconds since 2000-01-01, which may want a
+    /// status. The answer is false where the stream has not started: then nothing is said.
     ///
     /// # Errors
     ///
@@ -198,8 +199,8 @@ impl Link {
         self.voice.passed(count);
     }
 
-    /// Loses the connection: closes it, and gives the slot back where its stream was started. Only the first loss changes
-    /// the book. What waits stays.
+    /// Loses the connection: closes it, and gives the slot back where its stream was started. Only the first loss
+    /// changes the book. What waits stays.
     pub fn lose(&mut self, book: &mut Book)
         ensures { LinkLoses self.old self.new book.old book.new }
     {

@@ -13,12 +13,15 @@ pub enum Refusal<'a> {
     ExpectedQuery,
     /// The text is no START_REPLICATION command for a logical slot.
     Unreadable,
+    /// No subscription has a slot of this name.
     NoSlot(&'a str),
     /// The option is unknown or given twice, or has no value that it can have.
     WrongOption(&'a str),
     /// The option asks for another protocol version, or for what is left out.
     UnsupportedOption(&'a str),
+    /// `proto_version` or `publication_names` is not given.
     MissingOption(&'a str),
+    /// The catalog has no publication of this name.
     NoPublication(&'a str),
     /// The publications are not those of the subscription whose slot this is.
     OtherPublications(&'a str),
@@ -28,7 +31,7 @@ pub enum Refusal<'a> {
     InUse(&'a str),
 }
 
-/// The text of a refusal, in three parts.
+/// The text of a refusal: the name, and what comes before it and after it.
 #[derive(Clone, Copy, Debug)]
 pub struct Words<'a> {
     pub before: &'static str,
@@ -62,7 +65,7 @@ impl<'a> Refusal<'a> {
         self.state().code()
     }
 
-    /// The text: what is wrong, with the name of what is meant.
+    /// The text: what is wrong, with the name of the slot, the option or the publication.
     pub fn words(&self) -> Words<'a>
         ensures text { result.before.now ++ result.name.now ++ result.after.now ≡ text_of (refusal_view self.now) }
         ensures length { length result.before.now + length result.name.now + length result.after.now

@@ -21,8 +21,8 @@ use std::alloc::{AllocError, Global};
 use std::sync::Arc;
 use tables_log::Book;
 
-/// What was agreed with a client: the slot that streams and where in the log the stream starts, in bytes, or the response
-/// to a start that was refused.
+/// What was agreed with a client: the slot that streams and where in the log the stream starts, in bytes, or the
+/// response to a start that was refused.
 #[derive(Drop)]
 pub(crate) struct Session {
     pub(crate) alloc: Global,

@@ -18,17 +18,17 @@ pub struct StartOption {
     pub value: OptionValue,
 }
 
-/// What the value of an option says.
+/// What the value of an option says ("55.5.1. Logical Streaming Replication Parameters").
 #[derive(Debug, Drop)]
 pub enum OptionValue {
-    /// There is no option of this name, or its value is missing or none that it can have.
+    /// There is no option of this name, or its value is missing, or it can't have this value.
     Wrong,
-    /// Another version of the protocol than 1, or that something is on that is left out.
+    /// Another version of the protocol than 1, or a feature that is left out is on.
     Unsupported,
     /// Version 1 of the protocol.
     Version,
     /// The names of the publications.
     Publications(Items<Text>),
-    /// Something that is left out is off.
+    /// A feature that is left out is off.
     Off,
 }

@@ -206,6 +206,7 @@ pub struct Offer<'a> {
     pub in_use: &'a [bool],
 }
 
+/// The first refusal of a start from this slot, whose subscription takes these publications; or none.
 pub fn slot_refusal<'a>(
     offer: &Offer<'_>,
     command: &'a StartCommand,
@@ -246,6 +247,7 @@ pub fn find_slot(subscriptions: &[Subscription], name: &str) -> Option<usize>
         .position(|subscription| name == subscription.name.as_str())
 }
 
+/// The numbers of the publications that the subscription of this slot takes; none where there is no such subscription.
 pub fn publications_at(subscriptions: &[Subscription], slot: usize) -> &[usize]
     ensures { result.now ≡ spec.publications_at subscriptions.now slot }
 {
@@ -271,7 +273,8 @@ fn refusal_at<'a>(
     }
 }
 
-/// The first refusal of a start command, or none.
+/// The first refusal of a start command, or none ("55.4. Streaming Replication Protocol"). The order is this project's
+/// own.
 pub fn start_refusal<'a>(offer: &Offer<'_>, command: &'a StartCommand) -> Option<Refusal<'a>>
     ensures { option_map refusal_view result ≡ spec.start_refusal (spec.offer_view offer.now) command.now }
 {

@@ -41,18 +41,21 @@ pub enum Piece {
 /// The most bytes of a name.
 const NAME_BYTES: usize = 63;
 
+/// Whether the token is `,`.
 pub fn is_comma(token: &Token) -> bool
     ensures { result ≡ spec.is_comma token.now }
 {
     matches!(token, Token::Comma)
 }
 
+/// Whether the token is `)`.
 pub fn is_close(token: &Token) -> bool
     ensures { result ≡ spec.is_close token.now }
 {
     matches!(token, Token::Close)
 }
 
+/// Whether the token is this word, which is in lower case.
 pub fn is_keyword(token: &Token, keyword: &str) -> bool
     ensures { result ≡ spec.is_keyword keyword.now token.now }
 {

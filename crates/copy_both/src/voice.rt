@@ -18,11 +18,11 @@ pub(crate) enum Stage {
     Closed,
 }
 
-/// The half of a connection's end that sends: where it is in the log, the tables whose Relation was sent, and the output
-/// that waits. It needs neither the tables nor the log, so that it may run in a thread of its own.
+/// The half of a connection's end that sends: where it is in the log, the tables whose Relation was sent, and the
+/// output that waits. It needs neither the tables nor the log, so that it may run in a thread of its own.
 ///
-/// The first fault closes it, and so does its end; from then on each call that speaks answers `Closed`. What waits stays
-/// as whole frames.
+/// The first fault closes it, and so does its end; from then on each call that speaks answers `Closed`. What waits
+/// stays as whole frames.
 ///
 /// PostgreSQL 15, 55.4. Streaming Replication Protocol.
 #[derive(Drop)]
@@ -95,15 +95,15 @@ impl Voice {
 
     /// Takes the next commit up: says the messages that tell the subscriber of it, each in an XLogData at the commit's
     /// position. `now` is the clock, in microseconds since 2000-01-01. A commit without a change for the subscriber is
-    /// skipped. The commit is that of the number `next()`, where there is one. Each message that is said is decoded from its
-    /// spelling (`read_back`).
+    /// skipped. The commit is that of the number `next()`, where there is one. Each message that is said is decoded
+    /// from its spelling (`read_back`).
     ///
     /// It takes time for the commit's changes and messages.
     ///
     /// # Errors
     ///
-    /// `Closed`; `FrameTooLong` where a message has more than 16,777,187 bytes; `OutOfMemory`. Each closes it, and nothing
-    /// of the commit is said.
+    /// `Closed`; `FrameTooLong` where a message has more than 16,777,187 bytes; `OutOfMemory`. Each closes it, and
+    /// nothing of the commit is said.
     pub fn take_entry(&mut self, commit: &Commit, now: u64) -> Result<Taken, LinkFault>
         requires { IfSome (spec.next_of (voice_stage self.old)) (λ next. commit.now.number ≡ next) }
         ensures answer { Answers (λ taken. taken) told_fault
@@ -143,8 +143,8 @@ impl Voice {
         }
     }
 
-    /// Says a keepalive with the sent position and this clock, in microseconds since 2000-01-01, which may want a status.
-    /// The answer is false where the stream has not started: then nothing is said.
+    /// Says a keepalive with the sent position and this clock, in microseconds since 2000-01-01, which may want a
+    /// status. The answer is false where the stream has not started: then nothing is said.
     ///
     /// # Errors
     ///
