@@ -14,17 +14,18 @@ pub enum SubFault {
     /// The bytes are not cut into frames, or a frame of the stream is shorter than what it says it carries.
     #[error("{0}")]
     Frame(FrameFault),
-    /// A message is none of the protocol.
+    /// The bytes of a message are no message of the protocol.
     #[error("{0}")]
     Msg(MsgError),
-    /// A frame or a message that can't come here: a change outside a transaction, a transaction in another one, a Commit
-    /// with another LSN than its Begin, or a Relation other than the one that was kept for its OID.
+    /// A frame or a message that can't come here: a change outside a transaction, a transaction in another one, a
+    /// Commit with another LSN than its Begin, or a Relation other than the one that was kept for its OID.
     #[error("a frame or a message came where it can't come")]
     OutOfPlace,
     /// A change of a table with this OID, whose Relation did not come on this connection.
     #[error("no Relation came on this connection for the OID {0}")]
     NoRelation(u32),
-    /// A value that its column's type does not have, a row of another width, or a type that no column here has.
+    /// A value that its column's type does not have, a row of another width, or a type other than the five of columns
+    /// here.
     #[error("a value is none of its column's type")]
     BadValue,
     /// A new row has the values of another row in the columns of the replica identity.

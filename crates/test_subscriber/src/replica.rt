@@ -35,7 +35,8 @@ impl Replica {
     ghost use Rattle.test_subscriber.specs.Hearing.{committed, hear_commit, hear_idle, hear_busy, hear};
     ghost use Rattle.test_subscriber.specs.Hearing.{hear_relation, hear_insert, hear_update, hear_delete, hear_empty, hear_truncate};
 
-    /// Copies of the rows that are kept of the table with this OID, in the order of rows. The only error is want of memory.
+    /// Copies of the rows that are kept of the table with this OID, in the order of rows. The only error is want of
+    /// memory.
     pub(crate) fn rows(&self, oid: u32) -> Result<Vec<Row>, AllocError>
         ensures shows { IfOk result (λ rows. IsInOrder (listed_in (copy_of self.now.copies.items oid)) rows.items) }
         ensures found { OnOk result

@@ -15,13 +15,14 @@ use std::alloc::{AllocError, Global};
 /// The length of a frame, which counts itself and not the kind, is at most this.
 const LIMIT: u32 = 16_777_216;
 
-/// A subscriber: it asks for the stream of its slot, applies what comes in whatever pieces, and says how far it is. Over
-/// connections it keeps its position, its rows, and what each Relation said of its table.
+/// A subscriber: it asks for the stream of its slot, applies what comes in whatever pieces, and says how far it is.
+/// Over connections it keeps its position, its rows, and what each Relation said of its table.
 ///
 /// The first fault closes it, and so do want of memory and `lose`. From then on and before the first `open`, `feed` and
 /// `status` answer `Closed`, and no output waits.
 ///
-/// PostgreSQL 15, 31.2. Subscription, 55.4. Streaming Replication Protocol, 55.5. Logical Streaming Replication Protocol.
+/// PostgreSQL 15, 31.2. Subscription, 55.4. Streaming Replication Protocol, 55.5. Logical Streaming Replication
+/// Protocol.
 #[derive(Drop)]
 pub struct Subscriber {
     alloc: Global,
@@ -98,14 +99,14 @@ impl Subscriber {
         Ok(())
     }
 
-    /// Takes the next bytes of the connection and applies each frame that is whole then. The changes of a transaction are
-    /// shown at its Commit, all at once.
+    /// Takes the next bytes of the connection and applies each frame that is whole then. The changes of a transaction
+    /// are shown at its Commit, all at once.
     ///
     /// # Errors
     ///
-    /// The first fault of the frames in their order, that of a length after the frames before it; `Closed` where there is
-    /// no connection. It leaves the rows of the last applied transaction, and the position that the frames before it gave.
-    /// `OutOfMemory` leaves those after some of the frames that came, the first ones.
+    /// The first fault of the frames in their order, that of a length after the frames before it; `Closed` where there
+    /// is no connection. It leaves the rows of the last applied transaction, and the position that the frames before it
+    /// gave. `OutOfMemory` leaves those after some of the frames that came, the first ones.
     pub fn feed(&mut self, piece: &[u8]) -> Result<(), SubFault>
         ensures ok { OnOk result (spec.Feeds self.old piece.now self.new) }
         ensures stops { IfErr result (λ error. spec.FeedStops self.old piece.now error self.new) }
@@ -198,8 +199,8 @@ impl Subscriber {
     }
 
     /// Copies of the rows of the table with this OID, as the last applied transaction left them, in their order: NULL
-    /// first, numbers by their size, FALSE before TRUE, texts byte by byte, by the first column in which the rows differ.
-    /// There are none of a table of which no Relation came. The only error is want of memory.
+    /// first, numbers by their size, FALSE before TRUE, texts byte by byte, by the first column in which the rows
+    /// differ. There are none of a table whose Relation did not come. The only error is want of memory.
     ///
     /// PostgreSQL 15, 7.5 Sorting Rows.
     pub fn rows(&self, oid: u32) -> Result<Vec<Row>, AllocError>
@@ -209,8 +210,8 @@ impl Subscriber {
         self.replica.rows(oid)
     }
 
-    /// The place in the log, in bytes, up to which all is applied: where the last applied transaction ends, or that of a
-    /// later keepalive outside a transaction, if that is greater.
+    /// The place in the log, in bytes, up to which all is applied: where the last applied transaction ends, or that of
+    /// a later keepalive outside a transaction, if that is greater.
     pub fn position(&self) -> u64
         ensures { result ≡ (sub_machine self.now).position }
     {

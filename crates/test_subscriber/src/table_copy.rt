@@ -11,8 +11,8 @@ use std::alloc::{AllocError, Global};
 use table_changes::values_at;
 use tables_log::Staged;
 
-/// A subscriber's copy of a table: what its Relation says, whether that came on this connection, and the rows, which are
-/// found by their values in the columns of the replica identity. The changes of a transaction are staged in them.
+/// A subscriber's copy of a table: what its Relation says, whether that came on this connection, and the rows, which
+/// are found by their values in the columns of the replica identity. The changes of a transaction are staged in them.
 #[derive(Drop)]
 pub(crate) struct TableCopy {
     pub(crate) shape: TableShape,
@@ -111,7 +111,7 @@ impl TableCopy {
         Ok(())
     }
 
-    /// The key of the row that an update or a delete is about: of what is sent of the old row.
+    /// The key of the row that an update or a delete is about, by what is sent of the old row.
     fn key_in(&self, alloc: Global, old: OldTuple) -> Result<Row, SubFault>
         ensures ok { IfOk result (λ key. key_in self.now.shape old ≡ Ok key) }
         ensures fault { IfErr result (RefusedBy (key_in self.now.shape old)) }
@@ -123,7 +123,8 @@ impl TableCopy {
         Ok(self.key_of(alloc, &part)?)
     }
 
-    /// The key of the row that gives way to this one: of what is sent of the old row, or of the new row where nothing is.
+    /// The key of the row that gives way to this one: by what is sent of the old row, or by the new row where nothing
+    /// is.
     fn gone_key(&self, alloc: Global, old: Option<OldTuple>, row: &Row) -> Result<Row, SubFault>
         ensures ok { IfOk result (λ key. gone_of self.now.shape old row.now ≡ Ok key) }
         ensures fault { IfErr result (RefusedBy (gone_of self.now.shape old row.now)) }
