@@ -119,7 +119,7 @@ module _ (case : Case) (is : IsCase case) (c : Connection) (some : (peer_of case
 
 -- ---- deliver
 
--- how many bytes are handed on
+-- how many bytes are passed on
 count_is : (count all done : ℕ) → done ≤ all → min count (all - done) ≡ as_many count all done
 count_is count all done h = refl
 

@@ -1,4 +1,4 @@
--- The subscribers of a catalog before their first connection stand for those of the first world.
+-- The subscribers of a catalog before their first connection match those of the first world.
 use Rattle.std.proofs.Common.{◌≡◌, ℕ, zero, suc, ◌<◌, ◌≤◌, List, [], ◌∷◌, ◌++◌, length, map, replicate, refl, sym, ap, subst, ◌∙◌, arith, false}
 use Rattle.std.specs.Prelude.{Some, None, slice_get}
 use Rattle.std.proofs.lemmas.List.{length-map}
@@ -40,7 +40,7 @@ as_many_first publications (subscription ∷ subscriptions) (peer ∷ peers) are
 as_many_first publications [] (peer ∷ peers) are = absurd are
 as_many_first publications (subscription ∷ subscriptions) [] are = absurd are
 
--- ---- each stands for the first one of the world
+-- ---- each matches the first one of the world
 
 record IsThere (publications : List (PublicationOf Expr)) (subscriptions : List Subscription) (number : ℕ) (peers : List PeerOf) : Type 0 where
   subscription : Subscription

@@ -107,7 +107,7 @@ at_also P Q (x ∷ xs) all also (suc number) = at_also (λ n. P (suc n)) (λ n. 
 -- ---- all that is shown
 
 module _ (checked : CheckedOf) (most : ℕ) (book : Book) (peers : List PeerOf) (events : List (ℕ × Event)) (world : w.World) (is : IsWorldBy checked most book peers events world) where
-  -- a subscriber that stands for that of the world is at its position, and has its rows
+  -- a subscriber that matches that of the world is at its position, and has its rows
   stays_at : (number : ℕ) (code : PeerOf) → PeerIs checked world.transactions number (book_slots book) code (world.peers number)
       → StaysAlike (sub_machine code.subscriber) (machine_now checked world.transactions number (world.peers number))
   stays_at number code stands = by_link code.link (world.peers number).connection refl stands.at

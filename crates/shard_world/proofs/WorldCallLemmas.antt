@@ -1,4 +1,4 @@
--- A program's world that stands for a world of the model still does after each event.
+-- A program's world that matches a world of the model still does after each event.
 use Rattle.std.proofs.Common.{◌≡◌, ℕ, ◌≤◌, List, [], ◌∷◌, ◌++◌, length, take, refl, sym, ap, subst, ◌∙◌}
 use Rattle.std.specs.Prelude.{Option, Some, None, slice_get}
 use Rattle.shard_checker.specs.CheckedView.{CheckedOf}

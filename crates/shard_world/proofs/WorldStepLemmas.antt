@@ -1,4 +1,4 @@
--- What a program's world stands for after a commit, and after a step on a connection.
+-- What a program's world matches after a commit, and after a step on a connection.
 use Rattle.std.proofs.Common.{◌≡◌, ◌≢◌, ℕ, zero, suc, ◌+◌, ◌<◌, ◌^◌, true, false, List, [], ◌∷◌, ◌++◌, length, refl, sym, ap, subst, ◌∙◌, arith, inl, inr}
 use Rattle.std.specs.Prelude.{Option, Some, None, All, ◌==◌, slice_get, slice_set, if◌then◌else◌}
 use Rattle.std.specs.Cmp.{unsigned_Decides}

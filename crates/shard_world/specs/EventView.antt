@@ -1,4 +1,4 @@
--- What events of a program stand for: this project's own.
+-- Events of a program as plain data. They are this project's own.
 use Rattle.std.specs.Prelude.{ℕ, map}
 use Rattle.table_changes.specs.CommandView.{command_view}
 use Rattle.shard_world.specs.World as w

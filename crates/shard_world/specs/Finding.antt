@@ -4,7 +4,7 @@ use Rattle.filter_tree.specs.Datum.{Datum}
 use Rattle.table_changes.specs.Setting.{Setting}
 use Rattle.table_changes.specs.Tables.{Tables, is_row, holds}
 
--- the rows that are found are those of which this test is true, each by its own key
+-- the rows that are found are those that pass this test, each by its own key
 pub record FindsRows (key_of : List Datum → List Datum) (found : List Datum → Option (List Datum)) (rows : List Datum → Bool) : Type 0 where
   pub keyed : (key row : List Datum) → found key ≡ Some row → key_of row ≡ key
   pub each : (row : List Datum) → is_row (found (key_of row)) row ≡ rows row

@@ -1,4 +1,4 @@
--- What calls on a subscriber and its connection do, in each world that they stand for at a time: PostgreSQL 15, 31.2. Subscription, and 55.4. Streaming Replication Protocol.
+-- What calls on a subscriber and its connection do, in each world that they match at a time: PostgreSQL 15, 31.2. Subscription, and 55.4. Streaming Replication Protocol.
 use Rattle.std.specs.Prelude.{◌≡◌, ◌<◌, ◌⊎◌, ◌^◌, ℕ, Option, Some, None}
 use Rattle.shard_checker.specs.CheckedView.{CheckedOf}
 use Rattle.tables_log.specs.BookView.{book_slots}
@@ -14,7 +14,7 @@ use Rattle.shard_world.specs.World.{Answer, Heard, Delivered, OutOfMemory, PeerE
 
 -- ---- memory is not refused
 
--- a world for which they stand at this time
+-- a world that they match at this time
 pub record Stands (checked : CheckedOf) (now : ℕ) (book : Book) (code : PeerOf) (case : Case) : Type 0 where
   pub is : IsCase case
   pub checked_is : case.checked ≡ checked

@@ -40,7 +40,7 @@ pub record IsCase (case : Case) : Type 0 where
   pub there : case.number < length case.checked.plan
   pub timed : case.now < 2 ^ 64
 
--- the subscriber of a program stands for that of the world
+-- the subscriber of a program matches that of the world
 abbrev pub StandsIn : Case → List Slot → PeerOf → Type 0
 StandsIn case slots code = PeerIs case.checked case.world.transactions case.number slots code (peer_of case)
 
@@ -54,7 +54,7 @@ pub record HasLog (case : Case) (book : Book) : Type 0 where
 abbrev pub stepped : Case → PeerEvent → Answer × w.Peer
 stepped case event = peer_step case.checked case.world.transactions case.number case.now event (peer_of case) (peer_of case).connection
 
--- it answers what the world's step answers, and leaves what stands for what that leaves
+-- it answers what the world's step answers, and leaves what matches what that leaves
 pub record StepsTo (case : Case) (event : PeerEvent) (answer : Answer) (slots : List Slot) (code : PeerOf) : Type 0 where
   pub answer_is : answer ≡ (stepped case event).0
   pub peer_is : PeerIs case.checked case.world.transactions case.number slots code (stepped case event).1

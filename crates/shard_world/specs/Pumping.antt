@@ -37,7 +37,7 @@ pub record WalksAll (before after : World) (now subscriber : ℕ) (events : List
   pub go_on : All GoesOn answers
   pub runs : RunsOn before after (map (on_clock now subscriber) events) answers
 
--- the first of them happen, of which the last is answered so, and no more
+-- the first of them happen, the last of these is answered so, and no more happens
 pub record WalksSome (before after : World) (now subscriber : ℕ) (events : List PeerEvent) (answer : Answer) : Type 0 where
   pub done : List PeerEvent
   pub others : List PeerEvent
@@ -76,7 +76,7 @@ Takes before after now subscriber (Err answer) = TakesSome before after now subs
 abbrev pub pump_events : ℕ → List PeerEvent
 pump_events takes = Hear all_bytes ∷ (replicate takes Take ++ Keep false ∷ Deliver all_bytes ∷ Report false ∷ Hear all_bytes ∷ [])
 
--- where a subscriber is in each world for which the program's stands
+-- where a subscriber is in each world that the program's matches
 abbrev pub IsPosition : World → ℕ → ℕ → Type 0
 IsPosition code subscriber position =
     subscriber < length (world_checked code).plan → (most : ℕ) (events : List (ℕ × Event)) (world : w.World) → IsWorld code most events world
@@ -92,13 +92,13 @@ pub record PumpsSome (before after : World) (now subscriber : ℕ) (answer : Ans
 
 -- ---- where a pump ends
 
--- in each world for which the program's stands, and which has this subscriber; with the status of the pump fewer than 2^32 were said
+-- in each world that the program's matches, and which has this subscriber; with the status of the pump fewer than 2^32 were said
 abbrev pub InEach : World → ℕ → (ℕ → w.World → Type 0) → Type 0
 InEach before subscriber Holds =
     subscriber < length (world_checked before).plan → (most : ℕ) (events : List (ℕ × Event)) (world : w.World) → IsWorld before most events world → statuses_in events + 1 < 2 ^ 32
     → Holds most world
 
--- the subscriber is where the last of so many commits ends, in a world for which the program's stands
+-- the subscriber is where the last of so many commits ends, in a world that the program's matches
 pub record IsAtEnd (before after : World) (subscriber count most : ℕ) : Type 0 where
   pub events : List (ℕ × Event)
   pub world : w.World

@@ -49,7 +49,7 @@ ReportsAreAnswered = (case : Case) (slots : List Slot) (old : PeerOf) (link : Li
 
 -- ---- a subscriber without a connection, whose connection can't be opened, stays without one
 
--- what is there stands for what the world's step leaves where memory is refused
+-- what is there matches what the world's step leaves where memory is refused
 pub record StepBreaks (case : Case) (event : PeerEvent) (slots : List Slot) (code : PeerOf) : Type 0 where
   pub some : ℕ
   pub peer_is : PeerIs case.checked case.world.transactions case.number slots code

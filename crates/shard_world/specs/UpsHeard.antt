@@ -12,7 +12,7 @@ abbrev pub start_in : Option (ℕ × ℕ) → Option ℕ
 start_in None = None
 start_in (Some begun) = Some begun.1
 
--- The session of the world that stands for what was heard, where these moves were made before. Each reply that is wanted is a keepalive.
+-- What was heard as a session of the world, where these moves were made before. Each reply that is wanted is a keepalive.
 abbrev pub session_of : ℕ → ℕ → List Move → HearingOf → Session
 session_of subscriber now moves h =
     record { confirmed = confirmed_at h.slots subscriber; start = start_in h.started; moves = moves ++ replicate h.heard.replies (Keep now false) }

@@ -14,7 +14,7 @@ use Rattle.shard_world.specs.World.{position_now}
 use Rattle.shard_world.specs.declared.view.SubscriberView.{SubscriberView}
 use Rattle.shard_world.specs.declared.view.View.{View}
 
--- the rows of which this is true, each once, in their order
+-- the rows that pass this test, each once, in their order
 pub record AreRows (test : List Datum → Bool) (rows : List (List Datum)) : Type 0 where
   pub all : (row : List Datum) → test row ≡ true → Contains rows row
   pub only : (row : List Datum) → Contains rows row → test row ≡ true

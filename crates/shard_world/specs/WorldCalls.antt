@@ -1,4 +1,4 @@
--- For which world of the model a program's world stands, and what its calls do there: PostgreSQL 15, 31.2. Subscription, and 55.4. Streaming Replication Protocol.
+-- Which world of the model a program's world matches, and what its calls do there: PostgreSQL 15, 31.2. Subscription, and 55.4. Streaming Replication Protocol.
 use Rattle.std.specs.Prelude.{◌≡◌, ◌<◌, ◌^◌, ℕ, List, [], ◌∷◌, ◌++◌, All, length, slice_get, Option, Some, None}
 use Rattle.std.specs.Arc.{arc_value}
 use Rattle.shard_checker.specs.CheckedView.{CheckedOf, checked_view}
@@ -24,14 +24,14 @@ world_book world = world.book
 abbrev pub world_peers : World → List PeerOf
 world_peers world = world.peers.items
 
--- ---- for which world it stands
+-- ---- which world it matches
 
--- the subscriber of this number is there, and stands for that of the world
+-- the subscriber of this number is there, and matches that of the world
 abbrev pub PeerAt : CheckedOf → List Transaction → ℕ → List Slot → w.Peer → Option PeerOf → Type 0
 PeerAt checked transactions number slots peer None = ⊥
 PeerAt checked transactions number slots peer (Some code) = PeerIs checked transactions number slots code peer
 
--- A book and subscribers stand for those of a world to which these events led. The log takes at most so many commits.
+-- A book and subscribers match those of a world that these events led to. The log takes at most so many commits.
 pub record IsWorldBy (checked : CheckedOf) (most : ℕ) (book : Book) (peers : List PeerOf) (events : List (ℕ × Event)) (world : w.World) : Type 0 where
   pub publisher : IsPublisher checked most
   pub texts : All IsTextEvent events
@@ -47,14 +47,14 @@ IsWorld code most events world = IsWorldBy (world_checked code) most (world_book
 
 -- ---- what calls do
 
--- an event is answered so, and leaves what stands for what the step of the world leaves
+-- an event is answered so, and leaves what matches what the step of the world leaves
 pub record StepsInto (before after : World) (most : ℕ) (events : List (ℕ × Event)) (world : w.World) (now : ℕ) (event : Event) (answer : Answer) : Type 0 where
   pub next : w.World
   pub steps : Steps (world_checked before) most world now event answer next
   pub is : IsWorld after most (events ++ (now, event) ∷ []) next
   pub checked : world_checked after ≡ world_checked before
 
--- in each world for which it stands, to which events led among which fewer than 2^32 said a status
+-- in each world that it matches, where fewer than 2^32 of the events that led there said a status
 abbrev pub StepsOn : World → World → ℕ → Event → Answer → Type 0
 StepsOn before after now event answer =
     (most : ℕ) (events : List (ℕ × Event)) (world : w.World) → IsWorld before most events world → statuses_in events < 2 ^ 32 → StepsInto before after most events world now event answer
@@ -74,7 +74,7 @@ pub record RunsInto (before after : World) (most : ℕ) (events : List (ℕ × E
   pub is : IsWorld after most (events ++ asked) next
   pub checked : world_checked after ≡ world_checked before
 
--- in each world for which it stands, where with these fewer than 2^32 events said a status
+-- in each world that it matches, where with these fewer than 2^32 events said a status
 abbrev pub RunsOn : World → World → List (ℕ × Event) → List Answer → Type 0
 RunsOn before after asked answers =
     (most : ℕ) (events : List (ℕ × Event)) (world : w.World) → IsWorld before most events world → statuses_in (events ++ asked) < 2 ^ 32

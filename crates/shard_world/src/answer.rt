@@ -1,8 +1,8 @@
-//! What is answered of what happens in a world.
+//! The answers to events.
 
 use tables_log::CommitError;
 
-/// What is answered of an event.
+/// The answer to an event, or to a pump.
 #[derive(Clone, Copy, Debug, PartialEq, Eq)]
 pub enum Answer {
     /// The commit has this number, from 1.

@@ -1,4 +1,5 @@
-//! The world of a publisher and its subscribers, and laws of the streams by which these follow the publisher's tables.
+//! The world of a publisher and its subscribers, and laws of the streams through which the subscribers follow the
+//! publisher's tables.
 #![tactic(auto)]
 
 mod answer;
