@@ -205,9 +205,9 @@ fn request_of<'a>(matches: &ArgMatches<'a>) -> Option<Request<'a>>
 ///
 /// # Errors
 ///
-/// `CommandLine` where the words are neither `check` or `make` alone, nor `eval`, a table's name and at most one `--insert`,
-/// nor `simulate` and at most one `--limit` of 1 to 1,000,000,000, nor ask for the help or the version, with a text for the
-/// user; `OutOfMemory`.
+/// `CommandLine` where the words are neither `check` or `make` alone, nor `eval`, a table's name and at most one
+/// `--insert`, nor `simulate` and at most one `--limit` of 1 to 1,000,000,000, nor ask for the help or the version,
+/// with a text for the user; `OutOfMemory`.
 pub fn parse<'a, S: AsStr>(alloc: Global, words: &'a [S]) -> Result<Asked<'a>, Failure<'a>>
     ensures asked { IfOk result (IsAsking (map S.text words.entry.now)) }
     ensures stopped { IfErr result (IsOfWords (map S.text words.entry.now)) }

@@ -111,8 +111,8 @@ pub fn write_refused<'a, W: Write>(
     Ok(Status::Refused)
 }
 
-/// Answers an input: a catalog, a line `%%`, and the texts of the certificates of its tables, one a line in the order of the
-/// tables. The check takes the catalog, so that for the names in a refusal its text is read once more.
+/// Answers an input: a catalog, a line `%%`, and the texts of the certificates of its tables, one a line in the order
+/// of the tables. The check takes the catalog, so that for the names in a refusal its text is read once more.
 pub fn check_input<'a, W: Write>(
     alloc: Global,
     input: &str,

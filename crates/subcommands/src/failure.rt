@@ -11,8 +11,8 @@ use std::fmt;
 pub enum Status {
     /// What was asked is answered, and the answer is no refusal.
     Done = 0,
-    /// The answer is a refusal: some row is not read or does not fit its table, the sharding is refused, or for some table
-    /// no certificate was found.
+    /// The answer is a refusal: some row is not read or does not fit its table, the sharding is refused, or for some
+    /// table no certificate was found.
     Refused = 1,
     /// The words of the command line ask nothing.
     CommandLine = 2,

@@ -8,8 +8,8 @@ use std::io::{ErrorKind, Read};
 /// The most bytes that an input may have.
 pub const MAX_INPUT: usize = 16_777_216;
 
-/// An input: a reader that is read at most 16,777,217 times, once for each byte of the longest text and once for its end.
-/// Its errors are `Interrupted`, after which it may be read again, and `Other`.
+/// An input: a reader that is read at most 16,777,217 times, once for each byte of the longest text and once for its
+/// end. Its errors are `Interrupted`, after which it may be read again, and `Other`.
 #[derive(Drop)]
 pub struct Input<R> {
     reader: R,

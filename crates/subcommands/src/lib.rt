@@ -1,5 +1,5 @@
-//! The subcommands of `pgshard`, over any reader and writer: they read a sharding of PostgreSQL tables, written as a catalog
-//! of publications with row filters, and answer questions about it.
+//! The subcommands of `pgshard`, over any reader and writer: they read a sharding of PostgreSQL tables, written as a
+//! catalog of publications with row filters, and answer questions about it.
 #![tactic(auto)]
 
 mod arguments;

@@ -1,5 +1,5 @@
-//! The names of a catalog's publications, tables, columns and subscribers, by their numbers, and the words of a line. What
-//! the catalog lacks has the empty name.
+//! The names of a catalog's publications, tables, columns and subscribers, by their numbers, and the words of a line.
+//! What the catalog lacks has the empty name.
 
 ghost use Rattle.std.specs.Prelude.{◌≡◌, ◌++◌, ◌∷◌, [], OnOk, Some, map, slice_get};
 ghost use Rattle.std.specs.String.{string_bytes};

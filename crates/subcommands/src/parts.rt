@@ -1,4 +1,4 @@
-//! The parts of an input, between which are lines that are exactly `%%`, and the lines of a part.
+//! The parts of an input, with lines between them that are exactly `%%`, and the lines of a part.
 
 ghost use Rattle.std.specs.Prelude.{◌≡◌};
 ghost use Rattle.std.specs.Option.{option_map};
@@ -23,6 +23,7 @@ impl<'a> Lines<'a> {
     ghost use Rattle.subcommands.specs.LinesView.{lines_left};
     ghost use Rattle.subcommands.specs.Parts.{lines_of};
 
+    /// The lines of this text.
     pub fn new(text: &'a str) -> Lines<'a>
         ensures { lines_left result ≡ lines_of text.now }
     {

@@ -86,8 +86,8 @@ fn write_report<W: Write>(text: &str, status: Status, writer: &mut W) -> Status
     }
 }
 
-/// Writes the lines of a failure, and tells the status of the program. Where the writer failed, nothing more is written.
-/// Where memory runs out for the lines, that is reported.
+/// Writes the lines of a failure, and tells the status of the program. Where the writer failed, nothing more is
+/// written. Where memory runs out for the lines, that is reported.
 pub fn report<W: Write>(alloc: Global, failure: Failure<'_>, writer: &mut W) -> Status
     ensures { IsReport failure.entry (W.contents writer.old) (W.contents writer.new) result }
 {
@@ -117,8 +117,8 @@ fn outcome<S: AsStr, R: Read + Drop, W: Write>(
 }
 
 /// Runs the program on the words of a command line, the program's name first, and gives its exit status: 0 or 1 where
-/// what is asked was answered (1 where some row is not read or does not fit its table, where the sharding is refused, or
-/// where for some table no certificate was found), 0 where the help or the version was asked, 2 where the words ask
+/// what is asked was answered (1 where some row is not read or does not fit its table, where the sharding is refused,
+/// or where for some table no certificate was found), 0 where the help or the version was asked, 2 where the words ask
 /// nothing, 3 where the input is not taken, 4 where the writer fails, 5 where memory runs out.
 ///
 /// With the statuses 2 and 3 a line says why, and nothing else is written. With 5 the first lines of the answer may be

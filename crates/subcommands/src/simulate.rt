@@ -76,8 +76,8 @@ fn step_text(
     }
 }
 
-/// Makes the steps of a script, and writes the lines of each: the first at the time 1, each of the others one microsecond
-/// later.
+/// Makes the steps of a script, and writes the lines of each: the first at the time 1, each of the others one
+/// microsecond later.
 fn write_steps<'a, W: Write>(
     alloc: Global,
     checked: Checked,
@@ -119,9 +119,10 @@ fn read_steps<'a>(alloc: Global, catalog: &Catalog, script: &str) -> Result<Vec<
     }
 }
 
-/// Answers an input: a catalog, the texts of the certificates of its tables, one a line, and a script, between which are
-/// lines `%%`. The log takes at most so many commits. A fault of the catalog goes before one of a certificate, and that
-/// before one of the script. The check takes the catalog, so that for the names in a refusal its text is read once more.
+/// Answers an input: a catalog, the texts of the certificates of its tables, one a line, and a script, with lines `%%`
+/// between them. The log takes at most so many commits. A fault of the catalog goes before one of a certificate, and
+/// that before one of the script. The check takes the catalog, so that for the names in a refusal its text is read once
+/// more.
 pub fn simulate<'a, W: Write>(
     alloc: Global,
     limit: u32,

@@ -1,4 +1,4 @@
--- What the program's own request of a world stands for.
+-- The program's own request of a world as plain data.
 use Rattle.shard_world.specs.EventView.{event_view}
 use Rattle.subcommands.specs.Simulate.Asking as a
 use Rattle.subcommands.specs.Simulate.Asking.{AskedOf}

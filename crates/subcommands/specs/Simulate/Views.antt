@@ -23,7 +23,7 @@ publisher_rows view = map (λ rows. rows.items) view.rows.items
 abbrev pub row_line : List ℕ → List Table → ℕ → List Datum → List ℕ
 row_line before tables number row = before ++ table_name tables number ++ 32 ∷ row_text row
 
--- a line for each row of each table, of which the first has this number
+-- a line for each row of each table, where the first table has this number
 abbrev pub rows_lines : List ℕ → List Table → ℕ → List (List (List Datum)) → List (List ℕ)
 rows_lines before tables number [] = []
 rows_lines before tables number (rows ∷ later) = map (row_line before tables number) rows ++ rows_lines before tables (number + 1) later
@@ -39,7 +39,7 @@ subscriber_line name shown =
 abbrev pub named_lines : List ℕ → List Table → SubscriberView → List (List ℕ)
 named_lines name tables shown = subscriber_line name shown ∷ rows_lines (name ++ 32 ∷ []) tables 0 (shown_rows shown)
 
--- those of each subscriber, of which the first has this number
+-- those of each subscriber, where the first one has this number
 abbrev pub subscribers_lines : CatalogOf Expr → ℕ → List SubscriberView → List (List ℕ)
 subscribers_lines catalog number [] = []
 subscribers_lines catalog number (shown ∷ later) =

@@ -15,7 +15,7 @@ use Rattle.subcommands.specs.declared.failure.Status.TheVariants.{Done}
 
 -- ---- one step
 
--- The step is made in the world for which the program's stands, the text is its lines, and the program's world stands for what is left. One status is said, or none.
+-- The step is made in the world that the program's matches, the text is its lines, and the program's world matches what is left. One status is said, or none.
 pub record MakesInto (before after : World) (most : ℕ) (events : List (ℕ × w.Event)) (world : w.World) (now : ℕ) (step : StepOf) (text : List ℕ) : Type 0 where
   pub lines : List (List ℕ)
   pub happened : List (ℕ × w.Event)
@@ -26,7 +26,7 @@ pub record MakesInto (before after : World) (most : ℕ) (events : List (ℕ × 
   pub checked : world_checked after ≡ world_checked before
   pub text_is : text ≡ text_of lines
 
--- in each world for which it stands, to which events led among which fewer than 2^32 - 1 said a status
+-- in each world that it matches, where fewer than 2^32 - 1 of the events that led there said a status
 abbrev pub MakesOn : World → World → ℕ → StepOf → List ℕ → Type 0
 MakesOn before after now step text =
     (most : ℕ) (events : List (ℕ × w.Event)) (world : w.World) → IsWorld before most events world → statuses_in events + 1 < 2 ^ 32 → MakesInto before after most events world now step text

@@ -6,8 +6,8 @@ ghost use Rattle.subcommands.specs.Eval.Tables.{schema_of, name_of, table_of};
 use crate::eval::carriers::Carrier;
 use filter_tree::Table;
 
-/// A table of a catalog: its number there, and the publications that carry it. A catalog has at most 64 tables of at most
-/// 100 columns.
+/// A table of a catalog: its number there, and the publications that carry it. A catalog has at most 64 tables of at
+/// most 100 columns.
 #[derive(Clone, Copy)]
 pub struct CatalogTable<'a> {
     pub number: usize,

@@ -1,4 +1,4 @@
-//! The line of a table for which a certificate was looked for.
+//! The line of a table, once a certificate was looked for.
 
 ghost use Rattle.std.specs.Prelude.{◌≡◌, ◌++◌, ◌∷◌, [], IfOk, OnOk, codes};
 ghost use Rattle.std.specs.String.{string_bytes};

@@ -1,4 +1,4 @@
-//! The lines that say what is answered of the steps of a script.
+//! The lines that answer the steps of a script.
 
 ghost use Rattle.std.specs.Prelude.{◌≡◌, ◌++◌, IfOk, OnOk, ◌∷◌, []};
 ghost use Rattle.std.specs.String.{string_bytes};
@@ -11,7 +11,7 @@ use shard_world::Answer;
 use std::alloc::{AllocError, Global};
 use tables_log::{CommandFault, CommitError};
 
-/// Half of a position in the log has 32 bits.
+/// A position in the log is written as two halves, each below this number.
 const HALF: u64 = 0x1_0000_0000;
 
 /// Writes a position in the log as two hexadecimal numbers, its high and its low 32 bits.
