@@ -285,7 +285,7 @@ fn catalog(alloc: Global) -> Result<Catalog, ReadError> {
     catalog_of(alloc, CATALOG)
 }
 
-/// That there are three columns, all NOT NULL, of which the second has a quote in its name.
+/// That there are three columns, all NOT NULL, and that the second has a quote in its name.
 fn expect_columns(rt: &impl Abort, columns: &[Column]) -> Result<(), Fail> {
     same(rt, columns.len(), 3);
     let second = columns.get(1).ok_or("a second column")?;

@@ -301,7 +301,7 @@ fn europe_twice(alloc: Global) -> Result<Filter, AllocError> {
     both(alloc, outside_or_rest(alloc)?, second)
 }
 
-/// Whether there are three atoms, the last of which is `id IS NULL`, and the first is the same as itself and no other.
+/// Whether there are three atoms, the last one `id IS NULL`, and the first is the same as itself and no other.
 fn are_apart(atoms: &[&Atom]) -> bool {
     match atoms {
         [first, second, third] => {

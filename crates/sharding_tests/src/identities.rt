@@ -232,7 +232,7 @@ fn an_identity_by_an_index_has_the_columns_of_the_index(rt: HostRuntime) -> Resu
     Ok(())
 }
 
-/// 64 tables of 100 columns, the first of which has them all as its key.
+/// 64 tables of 100 columns. The first has them all as its key.
 fn write_tables(text: &mut String) -> Result<(), AllocError> {
     for table in 0..64 {
         write!(text, "CREATE TABLE t{table} (")?;

@@ -12,7 +12,7 @@ fn table(alloc: Global, columns: usize, key: &[usize]) -> Result<Table, AllocErr
     table_of(alloc, "t", columns, key, &[], Identity::Default)
 }
 
-/// A number, where none stands for null.
+/// A number, or null where there is none.
 fn value(number: Option<i64>) -> Value {
     match number {
         None => Value::Null,

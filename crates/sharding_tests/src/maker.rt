@@ -216,7 +216,7 @@ fn each_kind_of_leaf_is_made(rt: HostRuntime) -> Result<(), Fail> {
     Ok(())
 }
 
-/// Columns and filters, and of the counterexample the row, and the subscribers that take it.
+/// Columns and filters, and the row of the counterexample with the subscribers that take it.
 #[derive(Clone, Copy)]
 struct CounterCase {
     columns: &'static str,

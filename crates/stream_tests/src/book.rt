@@ -19,7 +19,7 @@ CREATE PUBLICATION pb FOR TABLE t WHERE (id >= 100);
 CREATE SUBSCRIPTION s0 CONNECTION '' PUBLICATION pa;
 CREATE SUBSCRIPTION s1 CONNECTION '' PUBLICATION pb;";
 
-/// A table with a unique index, by which its rows are identified.
+/// A table whose rows are identified by a unique index.
 const INDEXED: &str = "CREATE TABLE u (id integer, code text NOT NULL, note text, PRIMARY KEY (id));
 CREATE UNIQUE INDEX u_code ON u (code);
 CREATE UNIQUE INDEX u_note ON u (note, id);
@@ -43,7 +43,7 @@ CREATE SUBSCRIPTION s CONNECTION '' PUBLICATION p;";
 
 const SPLIT: &str = "s 0 s 1 e 0 o 0 n 1 s 1 o 1 e 0 n 1 n 0";
 
-/// A book of the catalog's tables, for which these certificates are.
+/// A book of the catalog's tables, which have these certificates.
 fn book(alloc: Global, catalog: &str, certificates: &[&str], limit: u32) -> Result<Book, Fail> {
     let checked = accepted(alloc, catalog, certificates)?;
     let limit = if limit == 0 || limit > 1_000_000_000 {

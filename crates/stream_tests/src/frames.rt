@@ -11,8 +11,8 @@ use std::alloc::{AllocError, Global};
 use std::process::Abort;
 use std::test::Fail;
 
-/// What a publisher sends whose first commit inserts the row (7, 'eu') into `public.t`: CopyBothResponse, and then Begin,
-/// Relation, Insert and Commit as XLogData.
+/// What a publisher sends whose first commit inserts the row (7, 'eu') into `public.t`: CopyBothResponse, and then
+/// Begin, Relation, Insert and Commit as XLogData.
 const FRAMES: [&[u8]; 5] = [
     b"W\0\0\0\x07\0\0\0",
     b"d\0\0\0\x32w\0\0\0\0\0\0\0\x40\0\0\0\0\0\0\0\x40\0\0\0\0\0\0\0\x04B\0\0\0\0\0\0\0\x40\0\0\0\0\0\0\0\x01\0\0\0\x03",
@@ -80,7 +80,7 @@ fn is_waiting(deframer: &mut Deframer) -> Result<bool, AllocError> {
     Ok(deframer.next()?.is_none())
 }
 
-/// That the frames come from the stream in two pieces, the first of which ends here.
+/// That the frames come from the stream in two pieces, where the first ends here.
 fn expect_cut(rt: &impl Abort, alloc: Global, stream: &[u8], at: usize) -> Result<(), Fail> {
     let (first, second) = stream.split_at(at.min(stream.len()));
     let mut deframer = deframer(alloc);

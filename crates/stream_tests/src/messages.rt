@@ -87,7 +87,7 @@ fn spelled(alloc: Global, message: &Msg) -> Result<Vec<u8>, AllocError> {
     Ok(out)
 }
 
-/// A row of 100 texts of 65,535 bytes, the first of which are this letter.
+/// A row of 100 texts of 65,535 bytes, whose first bytes are this letter.
 fn longest(alloc: Global, letter: &str) -> Result<Row, AllocError> {
     let mut values = Vec::new(alloc);
     values.push(Value::Text(Text::new(letter.repeat(alloc, 65_535)?)))?;

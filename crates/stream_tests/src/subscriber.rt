@@ -11,8 +11,8 @@ use std::process::Abort;
 use std::test::Fail;
 use test_subscriber::{SubFault, Subscriber};
 
-/// What a publisher sends whose first commit inserts the row (7, 'eu') into `public.t`: CopyBothResponse, and then Begin,
-/// Relation, Insert and Commit as XLogData.
+/// What a publisher sends whose first commit inserts the row (7, 'eu') into `public.t`: CopyBothResponse, and then
+/// Begin, Relation, Insert and Commit as XLogData.
 const STREAM: &[u8] = b"W\0\0\0\x07\0\0\0\
     d\0\0\0\x32w\0\0\0\0\0\0\0\x40\0\0\0\0\0\0\0\x40\0\0\0\0\0\0\0\x04B\0\0\0\0\0\0\0\x40\0\0\0\0\0\0\0\x01\0\0\0\x03\
     d\0\0\0\x4aw\0\0\0\0\0\0\0\x40\0\0\0\0\0\0\0\x40\0\0\0\0\0\0\0\x04R\0\0\x40\0public\0t\0f\0\x02\

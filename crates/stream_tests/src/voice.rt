@@ -25,7 +25,8 @@ pub(crate) const SPLIT: &str = "s 0 s 1 e 0 o 0 n 1 s 1 o 1 e 0 n 1 n 0";
 
 pub(crate) const COPY_BOTH: &[u8] = b"W\0\0\0\x07\0\0\0";
 
-/// Begin, Relation, Insert and Commit of the commit 1, made at 1, which inserts (7, 'eu'), as XLogData with the clock 4.
+/// Begin, Relation, Insert and Commit of the commit 1, made at 1, which inserts (7, 'eu'), as XLogData with the clock
+/// 4.
 pub(crate) const FIRST_COMMIT: &[u8] =
     b"d\0\0\0\x32w\0\0\0\0\0\0\0\x40\0\0\0\0\0\0\0\x40\0\0\0\0\0\0\0\x04B\0\0\0\0\0\0\0\x40\0\0\0\0\0\0\0\x01\0\0\0\x03\
       d\0\0\0\x4aw\0\0\0\0\0\0\0\x40\0\0\0\0\0\0\0\x40\0\0\0\0\0\0\0\x04R\0\0\x40\0public\0t\0f\0\x02\

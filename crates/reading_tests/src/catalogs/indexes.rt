@@ -71,7 +71,7 @@ fn an_index_identifies_rows_where_its_columns_take_no_null(rt: HostRuntime) -> R
     Ok(())
 }
 
-/// Indexes of two tables, one of which identifies the first table's rows.
+/// Indexes of two tables. One of them identifies the first table's rows.
 const OF_TWO_TABLES: &str =
     "CREATE UNIQUE INDEX b ON u (note, id);CREATE UNIQUE INDEX \"A\" ON s.v (code);
 CREATE UNIQUE INDEX a ON u USING btree (code, note, id);CREATE UNIQUE INDEX c ON u (id);

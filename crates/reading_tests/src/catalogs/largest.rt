@@ -13,7 +13,7 @@ fn name(alloc: Global, letter: &str, number: usize) -> Result<String, AllocError
     format!(in alloc; "{}{number:03}", repeated(alloc, letter, 60)?)
 }
 
-/// 8 indexes of a table, each of these columns, of which the last identifies its rows.
+/// 8 indexes of a table, each of these columns. The last one identifies the table's rows.
 fn indexes(alloc: Global, schema: &str, table: &str, columns: &str) -> Result<String, AllocError> {
     let mut text = String::new(alloc);
     for number in 0..8 {
@@ -46,8 +46,8 @@ fn table(alloc: Global, number: usize) -> Result<String, AllocError> {
     )
 }
 
-/// A filter for each publication and table. The one of the last publication on the first table has a text of 65,535 bytes,
-/// and those on the last table together have 64 atoms and 1,000 nodes.
+/// A filter for each publication and table. The one of the last publication on the first table has a text of 65,535
+/// bytes, and those on the last table together have 64 atoms and 1,000 nodes.
 fn filter(alloc: Global, publication: usize, table: usize) -> Result<String, AllocError> {
     if publication == 63 && table == 0 {
         return format!(in alloc; "region = '{}'", repeated(alloc, "a", 65_535)?);
@@ -134,7 +134,8 @@ fn has_all_tables(publication: &Publication, filtered: bool) -> bool {
     publication.entries.len() == 64
 }
 
-/// That the table has 100 columns, all in its key and in each of its 8 indexes, of which the last identifies its rows.
+/// That the table has 100 columns, all in its key and in each of its 8 indexes, and that the last index identifies its
+/// rows.
 fn expect_table(rt: &impl Abort, table: &Table) {
     same(rt, table.columns.len(), 100);
     same(rt, table.key.len(), 100);

@@ -49,7 +49,7 @@ fn push_subscription(text: &mut String, subscription: &Subscription) -> Result<(
     Ok(())
 }
 
-/// The tables, the publications with their operations and entries, of which those with a filter have a `?`, and the
+/// The tables, the publications with their operations and entries, with a `?` after an entry that has a filter, and the
 /// subscriptions with the numbers of their publications.
 fn shown(alloc: Global, text: &str) -> Result<String, ReadError> {
     let catalog = catalog_of(alloc, text)?;

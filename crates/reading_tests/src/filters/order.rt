@@ -9,8 +9,8 @@ use std::process::Abort;
 use std::test::Fail;
 
 /// Rows in ascending order, each below all that follow: by the columns from the left, in each of them as PostgreSQL has
-/// them under ORDER BY .. NULLS FIRST, with texts in the collation "C". Rows of other widths and values of other kinds are
-/// in the order of this program.
+/// them under ORDER BY .. NULLS FIRST, with texts in the collation "C". Rows of other widths and values of other kinds
+/// are in the order of this program.
 const ASCENDING: [&[Cell]; 29] = [
     &[],
     &[Cell::Null],

@@ -8,7 +8,7 @@ use std::alloc::{AllocError, Global};
 use std::process::Abort;
 use std::test::Fail;
 
-/// A column of each type, the first of which is NOT NULL.
+/// A column of each type. The first one is NOT NULL.
 const KINDS: &[ColType] = &[
     ColType::SmallInt,
     ColType::Integer,

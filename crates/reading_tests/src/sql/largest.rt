@@ -157,8 +157,8 @@ fn reads_the_deepest_filters(rt: HostRuntime) -> Result<(), Fail> {
     Ok(())
 }
 
-/// A list among parentheses and NOT: what comes so often before a filter, the filter, what comes as often after it, what
-/// is wrong with it ("ok" for nothing), and at which byte.
+/// A list among parentheses and NOT: what comes so often before a filter, the filter, what comes as often after it,
+/// what is wrong with it ("ok" for nothing), and at which byte.
 const NESTED: &[(usize, &str, &str, &str, &str, usize)] = &[
     (63, "(", "id NOT IN (5)", ")", "ok", 0),
     (64, "(", "id IN (5)", ")", "TooDeep", 70),
@@ -290,7 +290,7 @@ fn reads_the_longest_texts(rt: HostRuntime) -> Result<(), Fail> {
     Ok(())
 }
 
-/// The limit that so many filters pass, each of which is one atom, and so many of the atoms differ.
+/// The limit that so many filters of one atom pass, where so many of the atoms differ.
 fn limit_of(alloc: Global, count: usize, different: usize) -> Result<Option<Limit>, AllocError> {
     let mut filters: Vec<Filter> = Vec::new(alloc);
     for number in 0..count {

@@ -18,8 +18,8 @@ pub const ALL: &str = "insert, update, delete, truncate";
 pub const LOW: &str = "id < 100";
 
 /// `t` with an index of each column and with this replica identity, and three publications of it: `pa` with these
-/// operations and this filter, `pb` for `id >= 100`, and `pc`. Two subscribers take the first and the second, and nobody
-/// the third.
+/// operations and this filter, `pb` for `id >= 100`, and `pc`. Two subscribers take the first and the second, and
+/// nobody the third.
 pub fn catalog(
     alloc: Global,
     identity: &str,

@@ -23,7 +23,7 @@ fn wide_columns(alloc: Global) -> Result<String, AllocError> {
     Ok(columns)
 }
 
-/// A filter of 1,000 nodes that each row passes: 499 atoms, of which 64 differ, or NOT FALSE. They are `id < 0` and
+/// A filter of 1,000 nodes that each row passes: 499 atoms, 64 of them different, or NOT FALSE. They are `id < 0` and
 /// `IS NULL` of the last 63 columns.
 fn large_filter(alloc: Global) -> Result<String, AllocError> {
     let mut filter = String::from_str(alloc, "NOT FALSE")?;
@@ -63,7 +63,7 @@ fn write_tables(
     Ok(())
 }
 
-/// 64 tables, each with a publication, and 32 subscriptions, each of which takes two of these; the last table has this
+/// 64 tables, each with a publication, and 32 subscriptions, each to two of these; the last table has this
 /// replica identity, and its publication publishes these operations.
 fn catalog(alloc: Global, last: &str, publishes: &str) -> Result<Catalog, Fail> {
     let mut text = String::new(alloc);

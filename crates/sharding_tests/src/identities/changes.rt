@@ -205,7 +205,7 @@ fn a_row_goes_to_another_shard_and_comes_back(rt: HostRuntime) -> Result<(), Fai
     Ok(())
 }
 
-/// Of which of the four tables each of the five subscribers, and one more, takes anything.
+/// Which of the four tables each of the five subscribers, and one more, takes anything of.
 const CARRIED: [[bool; 4]; 6] = [
     [true, false, false, false],
     [true, false, true, false],
@@ -215,7 +215,7 @@ const CARRIED: [[bool; 4]; 6] = [
     [false, false, false, false],
 ];
 
-/// Of which of the four tables a subscriber takes anything.
+/// Which of the four tables a subscriber takes anything of.
 fn carried(plan: &Plan, subscriber: usize) -> [bool; 4] {
     [0, 1, 2, 3].map(|table| carries(plan, subscriber, table))
 }

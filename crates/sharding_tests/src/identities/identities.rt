@@ -5,8 +5,8 @@ use replica_identity::tells_rows_apart;
 use std::alloc::{AllocError, Global};
 use std::test::Fail;
 
-/// A table of `a` and `c`, which are NOT NULL, and `b`, which may be null, with this replica identity. The indexes are of
-/// `a` and `c`, of `c` and `b`, and of `a` and a column that isn't there.
+/// A table of `a` and `c`, which are NOT NULL, and `b`, which may be null, with this replica identity. The indexes are
+/// of `a` and `c`, of `c` and `b`, and of `a` and a column that isn't there.
 fn table(alloc: Global, identity: Identity) -> Result<Table, AllocError> {
     let mut columns = Vec::new(alloc);
     for (name, not_null) in [("a", true), ("b", false), ("c", true)] {

@@ -12,7 +12,7 @@ use split_cert::Cert;
 use std::alloc::{AllocError, Global};
 use std::test::Fail;
 
-/// A key, and 99 columns more, of which each takes a null.
+/// A key, and 99 more columns that take a null.
 fn wide_columns(alloc: Global) -> Result<String, AllocError> {
     let mut columns = String::from_str(alloc, ID)?;
     for number in 1..100 {
@@ -78,7 +78,7 @@ fn write_publication(text: &mut String, number: usize, other: usize) -> Result<(
     )
 }
 
-/// 64 tables, and 32 subscribers, each of which takes two tables whole.
+/// 64 tables, and 32 subscribers, each with two tables whole.
 fn many_tables(alloc: Global) -> Result<Catalog, Fail> {
     let mut text = String::new(alloc);
     for number in 0..64 {

@@ -169,7 +169,7 @@ fn commands(alloc: Global, deeds: &[Deed]) -> Result<Vec<Command>, AllocError> {
     Ok(commands)
 }
 
-/// The rows after a list of deeds, of which the book says the same.
+/// The rows after a list of deeds. The book says the same of the list.
 fn turned(
     rt: &impl Abort,
     alloc: Global,

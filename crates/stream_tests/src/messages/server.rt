@@ -1,7 +1,7 @@
 //! Messages as PostgreSQL 15 sends them. They were taken from a server with its own OIDs, by
-//! `pg_logical_slot_peek_binary_changes` with `proto_version` 1, from tables with each replica identity: t with DEFAULT,
-//! f with FULL (smallint, bigint, boolean, varchar(12) and numeric(10,2)), u with USING INDEX, and "Tabelle 1" with
-//! NOTHING.
+//! `pg_logical_slot_peek_binary_changes` with `proto_version` 1, from tables with each replica identity: t with
+//! DEFAULT, f with FULL (smallint, bigint, boolean, varchar(12) and numeric(10,2)), u with USING INDEX, and "Tabelle 1"
+//! with NOTHING.
 
 use crate::checks::same;
 use crate::messages::{bytes_of, hexadecimal, spelled};

@@ -29,7 +29,7 @@ const FULL: &str = concat!(
 
 const SPLIT: &str = "s 0 s 1 e 0 o 0 n 1 s 1 o 1 e 0 n 1 n 0";
 
-/// Three tables, two of which go to one subscriber and the last to another.
+/// Three tables: two go to one subscriber, and the last to another.
 const THREE: &str = "CREATE TABLE t (id integer PRIMARY KEY);
 CREATE TABLE u (id integer PRIMARY KEY);
 CREATE TABLE v (id integer PRIMARY KEY);
@@ -41,7 +41,7 @@ CREATE SUBSCRIPTION s1 CONNECTION '' PUBLICATION pb;";
 /// The certificates of the three tables.
 const WHOLE: [&str; 3] = ["o 0", "o 0", "o 1"];
 
-/// A book in which the transactions of the script are committed, each at the time of its number.
+/// A book with the transactions of the script, each committed at the time of its number.
 fn book(alloc: Global, checked: &Arc<Checked, Global>, script: &str) -> Result<Book, Fail> {
     let mut book = Book::new(alloc, Arc::try_clone(checked)?, 10)?;
     let lines = read_script(alloc, checked.catalog(), script)?;

@@ -121,7 +121,8 @@ fn a_fault_leaves_what_was_committed(rt: HostRuntime) -> Result<(), Fail> {
     Ok(())
 }
 
-/// Loses the connection after the first bytes of the stream, so many of them, and follows the stream that the next one has.
+/// Loses the connection after the first bytes of the stream, so many of them, and follows the stream that the next one
+/// has.
 fn expect_lost(rt: &impl Abort, alloc: Global, at: usize) -> Result<(), Fail> {
     let mut subscriber = opened(alloc)?;
     feed_parts(&mut subscriber, &[(0, at)])?;

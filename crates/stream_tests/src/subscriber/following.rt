@@ -14,8 +14,8 @@ use std::test::Fail;
 use tables_log::Book;
 use test_subscriber::Subscriber;
 
-/// Tables of which each row goes to the one of two subscribers or to the other by the column that identifies it: by
-/// DEFAULT the primary key, by an index the index's column. In each row both columns have the same value.
+/// Tables whose rows go to one of two subscribers by the column that identifies a row: the primary key under DEFAULT,
+/// the index's column under an index. In each row both columns have the same value.
 const CATALOGS: [&str; 3] = [
     "CREATE TABLE t (id integer, code integer NOT NULL, note text, PRIMARY KEY (id));
 CREATE PUBLICATION pa FOR TABLE t WHERE (id < 100);
@@ -39,7 +39,7 @@ CREATE SUBSCRIPTION s1 CONNECTION '' PUBLICATION pb;",
 
 const SPLIT: &str = "s 0 s 1 e 0 o 0 n 1 s 1 o 1 e 0 n 1 n 0";
 
-/// Commits of all four kinds of change: updates that leave the key, that change it, and by which a row goes from one
+/// Commits of all four kinds of change, with updates that leave the key, that change it, and that move a row from one
 /// subscriber to the other, in both directions.
 const COMMITS: &str =
     "COMMIT INSERT t (1, 1, 'a'), INSERT t (2, 2, NULL), INSERT t (150, 150, 'far');
@@ -91,7 +91,7 @@ fn book_of(alloc: Global, checked: &Arc<Checked, Global>) -> Result<Book, Fail> 
     Ok(book)
 }
 
-/// Takes the commit of this number up, and hands on what is said, byte by byte.
+/// Takes the commit of this number up, and passes on what is said, byte by byte.
 fn take_and_feed(
     rt: &impl Abort,
     connection: &mut Connection,

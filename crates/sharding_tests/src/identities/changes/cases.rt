@@ -2,7 +2,7 @@
 
 use filter_tree::Identity;
 
-/// Three tables alike, of which the subscriber takes the rows of a filter on `id`, on `note` and on `code`.
+/// Three tables alike. The subscriber takes their rows by a filter on `id`, on `note` and on `code`.
 pub const SHARES: &str = "CREATE TABLE d (id integer PRIMARY KEY, code text, note text);
 CREATE TABLE f (id integer PRIMARY KEY, code text, note text);
 CREATE TABLE i (id integer PRIMARY KEY, code text, note text);
@@ -63,8 +63,8 @@ const CODE_A: Recorded = Recorded::Key("(NULL, 'a', NULL)");
 
 const CODE_C: Recorded = Recorded::Key("(NULL, 'c', NULL)");
 
-/// Worked out from the rules by hand: which columns change, what the identity records of the old row, and whether that and
-/// the new row pass.
+/// Worked out from the rules by hand: which columns change, what the identity records of the old row, and whether that
+/// and the new row pass.
 pub const UPDATES: [Update; 18] = [
     Update {
         identity: Identity::Default,
