@@ -21,7 +21,7 @@ WORDS = {"book": ["0"], "messages": ["0", "0"], "world": [WHOLE, "o 0", "1", "0"
 
 
 def stood_on(names):
-    """These crates of the repository and those that they stand on, each with its line of crates.txt."""
+    """These crates of the repository and those that they use, each with its line of crates.txt."""
     lines = {}
     for line in (ROOT / "crates.txt").read_text().splitlines():
         name, colon, needs = line.partition(":")

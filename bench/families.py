@@ -87,7 +87,7 @@ def hole(count):
 
 
 def overlap(count):
-    """Ranges of which two share one number."""
+    """Ranges, two of which share one number."""
     sharding = ranges(count)
     sharding.conditions[0] = ("cmp", "id", "<=", 100)
     return sharding
@@ -136,7 +136,7 @@ def between(count, entries):
 
 
 def lists_and_between(count, entries):
-    """Lists of regions, of which each is split by BETWEEN of the key."""
+    """Lists of regions, each split by BETWEEN of the key."""
     low = ("between", "id", -1000, 999)
     sides = region_lists(count // 2, entries).conditions if count > 3 else [None]
     shards = [bound if side is None else ("and", side, bound) for side in sides for bound in (low, ("not", low))]

@@ -30,7 +30,7 @@ def region_filters():
 
 
 def large_catalog(tables):
-    """Tables of which each is split over all publications, two for each subscription."""
+    """Tables, each split over all publications, two for each subscription."""
     names = [f"t{at}" for at in range(tables)]
     lines = [line for it in names for line in (create_table(it), f"ALTER TABLE {it} REPLICA IDENTITY FULL;")]
     for at, condition in enumerate(region_filters()):

@@ -5,7 +5,7 @@ import json
 import forms
 from programs import catalog_of, pgshard, without_subscriptions
 
-# Each publication has a subscription of its own, of which pgshard reads 32.
+# Each publication has a subscription of its own, and pgshard reads at most 32 of these.
 FORMS_A_TABLE = 30
 
 
@@ -86,7 +86,7 @@ class Comparison:
 
 
 def unlike(some, others, place):
-    """The first rows of which two lists of values differ at a place."""
+    """The first rows whose values in the two lists differ at a place."""
     if len(some) != len(others):
         return [f"{len(some)} rows and {len(others)}"]
     return [row for row, (one, other) in enumerate(zip(some, others)) if one[place] != other[place]][:5]

@@ -16,15 +16,15 @@ PROVER = "#!/bin/sh\nsleep 1.2\n"
 
 # What is found of a command line in a folder.
 LINES = [
-    ("/opt/rattle/bin/rattle check --crate-name one src/lib.rt --jobs 2", "/work/crates/one", Part("one", "proofs")),
-    ("/opt/rattle/bin/rattle build --crate-name one src/lib.rt -o one.rlib", "/work/crates/one", Part("one", "proofs")),
-    ("/opt/rattle/bin/rattle build --crate-name one --test src/lib.rt", "/work/crates/one", Part("one", "tests")),
+    ("/opt/rattle/bin/rattle check --crate-name one src/lib.rt --jobs 2", "/repo/crates/one", Part("one", "proofs")),
+    ("/opt/rattle/bin/rattle build --crate-name one src/lib.rt -o one.rlib", "/repo/crates/one", Part("one", "proofs")),
+    ("/opt/rattle/bin/rattle build --crate-name one --test src/lib.rt", "/repo/crates/one", Part("one", "tests")),
     ("/opt/rattle/bin/rattle check --crate-name one src/lib.rt --jobs 1", "/tmp/rt-edit-71-abc", Part("one", "edits")),
-    ("python3 -c code /opt/rattle/bin/rattle check --crate-name one src/lib.rt", "/work", Part("one", "proofs")),
-    ("/opt/rattle/bin/rattle fmt src/lib.rt", "/work/crates/one", None),
-    ("/opt/rattle/bin/rattle check src/lib.rt --crate-name", "/work/crates/one", None),
-    ("python3 /usr/local/bin/rt check --crate-name one", "/work/crates/one", None),
-    ("", "/work", None),
+    ("python3 -c code /opt/rattle/bin/rattle check --crate-name one src/lib.rt", "/repo", Part("one", "proofs")),
+    ("/opt/rattle/bin/rattle fmt src/lib.rt", "/repo/crates/one", None),
+    ("/opt/rattle/bin/rattle check src/lib.rt --crate-name", "/repo/crates/one", None),
+    ("python3 /usr/local/bin/rt check --crate-name one", "/repo/crates/one", None),
+    ("", "/repo", None),
 ]
 
 TOTALS = Counter({

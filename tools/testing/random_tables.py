@@ -278,7 +278,7 @@ def text_of(filter):
 
 
 def catalog(tables):
-    """A catalog of the tables, of which each subscriber takes its share by one publication."""
+    """A catalog of the tables. Each subscriber takes its share of them by one publication."""
     lines = []
     for number, (columns, _) in enumerate(tables):
         declared = "".join(f", c{it} {kind}{' NOT NULL' if not_null else ''}" for it, (kind, not_null) in enumerate(columns))

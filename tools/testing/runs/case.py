@@ -52,7 +52,7 @@ class Case:
 
 @dataclass(frozen=True)
 class Made:
-    """A catalog for whose tables `make` has to find certificates that `check` then accepts."""
+    """A catalog. `make` has to find certificates of its tables that `check` then accepts."""
 
     name: str
     catalog: str
@@ -90,5 +90,5 @@ def ended(status: int | None, output: str) -> str:
 
 
 def two_parts(catalog: str, lines: str) -> str:
-    """An input of two parts, of which the first is empty or ends with a newline."""
+    """An input of two parts. The first is empty, or ends with a newline."""
     return f"{catalog}%%\n{lines}"

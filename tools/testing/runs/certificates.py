@@ -18,7 +18,7 @@ CREATE SUBSCRIPTION high CONNECTION '' PUBLICATION "p b";
 CREATE SUBSCRIPTION "low one" CONNECTION '' PUBLICATION pa;
 """
 
-# The halves of the first table: of its conditions `high` has the first, and `low one` the second.
+# The halves of the first table: `high` has the first of its conditions, and `low one` the second.
 MANY_T = "s 0 s 1 e 0 o 0 n 1 s 1 o 1 e 0 n 1 n 0"
 
 # A certificate for each table, and the status and the line.

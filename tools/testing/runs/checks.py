@@ -11,7 +11,7 @@ THREE = "s 0 s 1 e 0 s 2 e 0 o 0 n 2 n 1 s 1 o 1 s 2 o 1 e 0 n 2 n 1 n 0\n"
 # The same, but with the rows that neither of those two conditions takes left out.
 HOLE = "s 0 s 1 e 0 s 2 e 0 o 0 n 2 n 1 s 1 o 1 e 0 n 1 n 0\n"
 
-# Of REGIONS.
+# The certificate of REGIONS.
 BY_REGION = "s 0 s 1 e 0 s 2 e 0 o 0 n 2 e 0 s 1 s 2 e 0 o 1 n 2 e 0 e 0 s 1 e 0 e 0 s 2 o 2 e 0 n 2\n"
 
 LOW = " WHERE (id < 100)"
@@ -65,7 +65,7 @@ CREATE SUBSCRIPTION s0 CONNECTION '' PUBLICATION pa;
 CREATE SUBSCRIPTION s1 CONNECTION '' PUBLICATION pb;
 """
 
-# Halves of a table, of which one leaves out truncate.
+# Halves of a table. The publication of one leaves out truncate.
 KEEPS = """\
 CREATE TABLE t (id integer PRIMARY KEY);
 CREATE PUBLICATION pa FOR TABLE t WHERE (id < 100) WITH (publish = 'insert, update, delete');

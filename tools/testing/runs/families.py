@@ -36,7 +36,7 @@ def one_range(number: int, count: int, end: int, falls: bool = False) -> str:
 
 
 def ranges(count: int, by: int = 0, falls: bool = False) -> list[str]:
-    """Ranges of hundreds, of which the one in the middle ends so much later. Falling ones have other operators, too."""
+    """Ranges of hundreds. The one in the middle ends so much later. Falling ones have other operators, too."""
     middle = count // 2 - 1
     rising = [one_range(at, count, 100 * at + 100 + (by if at == middle else 0), falls) for at in range(count)]
     return rising[::-1] if falls else rising
@@ -78,7 +78,7 @@ def betweens(count: int, by: int) -> list[str]:
 
 
 def regions_in_ranges(places: int, count: int, by: int) -> list[str]:
-    """Each of so many regions, of which the last has the others too, in each of so many ranges."""
+    """Each of so many regions in each of so many ranges. The last region has the others too."""
     filters = []
     for place in range(places):
         named = " OR ".join(["FALSE", *(f"region = 'r{other}'" for other in range(place))])
@@ -96,7 +96,7 @@ def flags(count: int, others: str) -> list[str]:
 
 
 def pairs(count: int) -> tuple[str, list[str]]:
-    """The columns of so many pairs of truth values; rows of which one pair is both true, and the others."""
+    """The columns of so many pairs of truth values; rows with a pair that is both true, and the others."""
     columns = "".join(f", a{at} boolean NOT NULL, b{at} boolean NOT NULL" for at in range(count))
     some = " OR ".join(["FALSE", *(f"a{at} AND b{at}" for at in range(count))])
     return ID + columns, [some, f"NOT ({some})"]

@@ -148,7 +148,7 @@ OTHERS: list[tuple[tuple[str, ...], str, int, str]] = [
 
 
 def three_parts(catalog: str, certificates: str, script: str) -> str:
-    """An input of three parts, of which the first two end with a newline."""
+    """An input of three parts. The first two end with a newline."""
     return f"{catalog}%%\n{certificates}%%\n{script}"
 
 
