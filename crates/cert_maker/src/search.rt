@@ -17,10 +17,10 @@ use std::alloc::{AllocError, AllocFailed, Global};
 /// atom, a term, a column or a class of numbers that the atoms of a term don't tell apart.
 pub const MAX_STEPS: u64 = 200_000_000;
 
-/// After so many nodes splits are no longer chosen with care.
+/// After so many nodes splits are no longer chosen with care, so that the search ends sooner.
 const CAREFUL_NODES: usize = 20_000;
 
-/// After so many steps neither.
+/// Nor after so many steps.
 const CAREFUL_STEPS: u64 = MAX_STEPS / 2;
 
 /// Why the search for a certificate ends without one.

@@ -14,7 +14,11 @@ use std::process::ExitCode;
 use std::{env, io};
 use subcommands::{Failure, Input, report, run};
 
-/// The words of the command line, the program's name first. They are not UTF-8, or memory runs out.
+/// The words of the command line, the program's name first.
+///
+/// # Errors
+///
+/// `CommandLine` where a word is not UTF-8; `OutOfMemory`.
 fn words(rt: &HostRuntime) -> Result<Vec<String>, Failure<'static>>
     ensures { IfErr result
         (λ failure. (status_of_failure failure ≡ CommandLine) ⊎ (status_of_failure failure ≡ OutOfMemory)) }
