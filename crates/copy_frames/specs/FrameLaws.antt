@@ -1,4 +1,4 @@
--- What bytes as frames have to do with the bytes, and what a deframer gives over many calls ("55.7. Message Formats").
+-- How the frames that bytes are cut into give the bytes again, and what a deframer gives over many calls ("55.7. Message Formats").
 use Rattle.std.specs.Prelude.{◌≡◌, ℕ, ◌<◌, List, [], ◌∷◌, ◌++◌, slice_index}
 use Rattle.std.specs.List.{flat_map}
 use Rattle.copy_frames.specs.declared.frame.Frame.{Frame}

@@ -1,4 +1,4 @@
--- What a subscriber of a program and its connection have to do with those of the world: PostgreSQL 15, "Logical Replication", 31.2 Subscription, and 55.4. Streaming Replication Protocol.
+-- When a subscriber of a program and its connection match those of the world: PostgreSQL 15, "Logical Replication", 31.2 Subscription, and 55.4. Streaming Replication Protocol.
 use Rattle.std.specs.Prelude.{◌≡◌, ◌<◌, ◌≤◌, ◌^◌, ℕ, Bool, false, is_some, List, [], All, drop, length, map, slice_get, take, Option, Some, None}
 use Rattle.std.specs.List.{flat_map}
 use Rattle.filter_tree.specs.Datum.{Datum}

@@ -1,5 +1,6 @@
 //! First frames of a client, and what they are answered.
 
+/// The answer to a Query that is no command which starts a stream.
 pub const UNREAD: &str = "42601 cannot read the replication command";
 
 const UNKNOWN_SLOT: &str = "42704 replication slot \"s9\" does not exist";

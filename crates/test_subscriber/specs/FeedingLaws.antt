@@ -1,4 +1,4 @@
--- That to feed a subscriber pieces is to feed them at once ("55.7. Message Formats").
+-- That a subscriber makes the same of pieces that are fed one after another and of the pieces as one ("55.7. Message Formats").
 use Rattle.std.specs.Prelude.{ℕ, List, ◌++◌}
 use Rattle.test_subscriber.specs.Subscribers.{Feeds, FeedStops}
 use Rattle.test_subscriber.specs.declared.fault.SubFault.{SubFault}

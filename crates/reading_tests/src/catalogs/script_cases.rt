@@ -6,6 +6,7 @@ use super::catalog_cases::Case;
 pub const SCRIPTED: &str =
     "CREATE SCHEMA s;CREATE SCHEMA empty;CREATE TABLE t (id integer PRIMARY KEY, region text);CREATE TABLE s.u (id integer PRIMARY KEY);";
 
+/// Scripts over that catalog, with places counted from the first byte.
 pub const SCRIPTS: &[Case] = &[
     ("", "ok", 0),
     ("  -- nothing\n", "ok", 0),

@@ -212,6 +212,7 @@ pub const UPDATES: [Update; 18] = [
     },
 ];
 
+/// As `UPDATES`, of rows that are deleted.
 pub const DELETIONS: [Deletion; 7] = [
     Deletion {
         identity: Identity::Default,
