@@ -40,10 +40,10 @@ pub fn messages_are_read_back()
 {}
 
 /// A law, and no code: in the messages of a commit (`one`), and of commits one after the other (`all`), each change is
-/// of tables that were told, before the commit or by a Relation that comes before it, and no Relation comes of a table
-/// that was told. Afterwards those tables were told that `messages_of` marks so. It holds where there is a flag for
-/// each table and the changes are of tables that there are, as what commands record (`recorded`) and each log
-/// (`logged`) is.
+/// of tables that were told of, before the commit or by a Relation before the change. No Relation comes for a table
+/// that was told of. Afterwards the tables that `messages_of` marks are those that were told of. It holds where there
+/// is a flag for each table, and changes name only tables that are there, as do those that commands record (`recorded`)
+/// and those of each log (`logged`).
 ///
 /// PostgreSQL 15, 55.5.3. Logical Replication Protocol Message Flow.
 pub fn relations_come_once()

@@ -193,9 +193,9 @@ impl World {
     }
 
     /// The subscriber gets all that was committed, and says so, all at one clock: all that it sent is heard, each
-    /// commit that is left is taken up, a keepalive is said, all is delivered, and it says how far it is, which is
-    /// heard. It is answered by `At` with 64 times the log's length and 64 more. Where memory is refused, that ends it,
-    /// and the connection is lost; without a connection, or without the subscriber, nothing happens.
+    /// commit that is left is taken up, a keepalive is said, all is delivered, and the subscriber says how far it is,
+    /// which is heard. The answer is `At` with 64 times the log's length and 64 more. Want of memory ends the pump and
+    /// loses the connection. Without a connection, or without the subscriber, nothing happens.
     pub fn pump(&mut self, now: u64, subscriber: usize) -> Answer
         ensures { PumpsOn self.old self.new now subscriber result }
     {
