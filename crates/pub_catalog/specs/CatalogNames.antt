@@ -11,7 +11,7 @@ pub record AreOwnNames (names : List (List ℕ)) : Type 0 where
   pub plain : All IsPlainName names
   pub differ : IsDistinct bytes_eq names
 
--- numbers of publications, of which there are so many: one at least, and each once
+-- numbers of publications, where there are so many publications: at least one number, and none twice
 pub record AreTaken (count : ℕ) (numbers : List ℕ) : Type 0 where
   pub some : 0 < length numbers
   pub once : IsDistinct nat_eq numbers

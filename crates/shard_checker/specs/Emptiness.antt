@@ -28,7 +28,7 @@ pub record HasValue (columns : List Column) (term : Term) (path : Path) : Type 0
 abbrev pub Test : Type 0
 Test = List Column → Term → Path → Bool
 
--- the test holds exactly of the terms to which no value is left
+-- the test holds exactly of the terms that have no value left
 pub record IsEmptiness (test : Test) : Type 0 where
   pub empty : (columns : List Column) (term : Term) (path : Path) → (test columns term path ≡ true) ↔ (HasValue columns term path → ⊥)
   pub others : (columns : List Column) (term : Term) (path : Path) → (test columns term path ≡ false) ↔ HasValue columns term path

@@ -1,4 +1,4 @@
--- When the sharding of a catalog is sound: each row that may be in its table passes to exactly one subscriber, and what is taken publishes the operations and names the columns by which rows move between subscribers. PostgreSQL 15, "Logical Replication", 31.1 Publication and 31.3 Row Filters.
+-- When the sharding of a catalog is sound: each row that may be in its table passes to exactly one subscriber, the publications that are taken publish all four operations, and their filters name only columns of replica identities that tell rows apart. PostgreSQL 15, "Logical Replication", 31.1 Publication and 31.3 Row Filters.
 use Rattle.std.specs.Prelude.{◌≡◌, ℕ, ◌==◌, Bool, true, false, List, Option, Some, None, IfSome, slice_get}
 use Rattle.std.specs.List.{list_any, list_all}
 use Rattle.filter_tree.specs.Datum.{Datum}

@@ -13,7 +13,7 @@ use Rattle.sql_tokens.specs.Quotes.{quoted_name, string}
 use Rattle.sql_tokens.specs.Numbers.{number}
 use Rattle.sql_tokens.specs.Operators.{operator}
 
--- a comment, of which two characters are read
+-- a comment, after its first two characters
 abbrev pub comment_piece : Option ℕ → Piece
 comment_piece None = Faulty BadToken
 comment_piece (Some n) = Blank (2 + n)
@@ -24,7 +24,7 @@ is_string_form letter next after =
     let e = to_ascii_lowercase letter in
     ((e == 101 || e == 98 || e == 120 || e == 110) && next == 39) || (e == 117 && next == 38 && (after == 39 || after == 34))
 
--- a word of `n` bytes, of which a name has at most 63
+-- a word of `n` bytes; a name has at most 63
 abbrev pub word_piece : ℕ → List ℕ → Piece
 word_piece n bytes =
     if n == 1 && is_string_form (slice_index bytes 0) (slice_index bytes 1) (slice_index bytes 2) then Faulty StringForm

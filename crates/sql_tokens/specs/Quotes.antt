@@ -21,7 +21,7 @@ inner_len quote (b ∷ c ∷ bytes) =
 inner_len quote (b ∷ []) = if b == 0 then None else (if b == quote then Some 0 else None)
 inner_len quote [] = None
 
--- A name of `n` bytes between its quotes, of which `meant` are left once they are undoubled. It isn't empty, and `meant` is at most 63.
+-- A name of `n` bytes between its quotes, or of `meant` bytes once doubled quotes are undone. It isn't empty, and `meant` is at most 63.
 abbrev pub name_piece : ℕ → ℕ → Piece
 name_piece n meant = if n == 0 then Faulty BadToken else (if nat_lt 63 meant then Faulty NameTooLong else Whole QuotedName (n + 2))
 

@@ -32,7 +32,7 @@ out_gone passes None = None
 out_gone passes (Some (r.Key part)) = if passes part then Some (Delete (Some (r.Key part))) else None
 out_gone passes (Some (r.Full old)) = if passes old then Some (Delete (Some (r.Full old))) else None
 
--- What a subscriber gets of a change, if anything. `passes` tells which rows of a table pass to it, and `carries` of which tables it takes anything.
+-- What a subscriber gets of a change, if anything. `passes` tells which rows of a table pass to it, and `carries` which tables it takes anything of.
 abbrev pub transform_of : (ℕ → List Datum → Bool) → (ℕ → Bool) → r.ChangeOf → Option OutOf
 transform_of passes carries (r.Insert table new) = if passes table new then Some (Insert new) else None
 transform_of passes carries (r.Update table part new) = out_by (passes table (asked part new)) (passes table new) part new
