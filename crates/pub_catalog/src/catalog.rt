@@ -14,8 +14,8 @@ use filter_tree::{Filter, Items, Table, Text};
 /// the table whose columns take no null. The names of schemas, tables and columns have 1 to 63 bytes of UTF-8, and no
 /// zero byte.
 ///
-/// The names of publications are of that kind too, and no two of them are the same; nor are those of subscriptions.
-/// Each subscription takes at least one of the publications, and none twice.
+/// Publications have names of that kind too, and no two have the same name. The same is so of subscriptions. Each
+/// subscription takes at least one of the publications, and none twice.
 ///
 /// PostgreSQL 15, "Logical Replication", 31.1 Publication, 31.2 Subscription and 31.3 Row Filters.
 #[derive(Drop)]
