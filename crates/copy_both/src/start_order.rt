@@ -213,7 +213,8 @@ pub fn slot_refusal<'a>(
     slot: usize,
     taken: &[usize],
 ) -> Option<Refusal<'a>>
-    ensures { option_map refusal_view result ≡ spec.slot_refusal (spec.offer_view offer.now) command.now slot taken.now }
+    ensures { option_map refusal_view result
+        ≡ spec.slot_refusal (spec.offer_view offer.now) command.now slot taken.now }
 {
     let options = command.options.as_slice();
     if let Some(refusal) = options_refusal(options) {

@@ -201,7 +201,8 @@ impl Voice {
     fn end(&mut self) -> Result<(), LinkFault>
         ensures answer { Answers (λ done. done) told_fault (spec.done_answer (voice_stage self.old)) result }
         ensures checked { voice_checked self.new ≡ voice_checked self.old }
-        ensures ok { OnOk result (voice_output self.new ≡ voice_output self.old ++ spec.done_bytes (voice_stage self.old)) }
+        ensures ok { OnOk result (voice_output self.new
+            ≡ voice_output self.old ++ spec.done_bytes (voice_stage self.old)) }
         ensures err { OnErr result (voice_output self.new ≡ voice_output self.old) }
     {
         match self.stage {

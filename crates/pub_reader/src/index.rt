@@ -138,7 +138,8 @@ fn indexed_table(
     draft: &Draft,
     name: &PlacedName,
 ) -> Result<usize, ReadError>
-    ensures takes { TakesSome (λ number. number) (spec.indexed_table (draft_view draft.now) name.now) r.old result r.new }
+    ensures takes { TakesSome (λ number. number) (spec.indexed_table (draft_view draft.now) name.now)
+        r.old result r.new }
     ensures within { IfOk result (λ number. number < length (draft_view draft.now).tables) }
 {
     r.expect(Item::Keyword(Keyword::On), "ON")?;

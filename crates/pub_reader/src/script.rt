@@ -59,7 +59,8 @@ fn one_line(
 /// Takes steps to the end of a text.
 #[tactic(auto, using(sql_reader::proofs::Turning::turns), unfolding(crate::specs::Scripts::lines))]
 fn lines(r: &mut Reader<'_>, alloc: Global, tables: &[Table]) -> Result<Vec<Line>, ReadError>
-    ensures { Reads (λ lines. map line_view lines.items) (spec.lines tables.now (to_read r.old)) result (to_read r.new) }
+    ensures { Reads (λ lines. map line_view lines.items) (spec.lines tables.now (to_read r.old))
+        result (to_read r.new) }
 {
     let mut lines = Vec::new(alloc);
     while r.more_ahead()? {

@@ -166,7 +166,8 @@ fn command_list(
     alloc: Global,
     tables: &[Table],
 ) -> Result<Vec<Command>, ReadError>
-    ensures { TakesSome (λ commands. map command_view commands.items) (spec.command_list tables.now) r.old result r.new }
+    ensures { TakesSome (λ commands. map command_view commands.items) (spec.command_list tables.now)
+        r.old result r.new }
 {
     let mut commands = Vec::new(alloc);
     one_command(r, alloc, tables, &mut commands)?;
@@ -184,7 +185,8 @@ pub fn commands_or_none(
     alloc: Global,
     tables: &[Table],
 ) -> Result<Vec<Command>, ReadError>
-    ensures { Takes (λ commands. map command_view commands.items) (spec.commands_or_none tables.now) r.old result r.new }
+    ensures { Takes (λ commands. map command_view commands.items) (spec.commands_or_none tables.now)
+        r.old result r.new }
 {
     if r.next_is(Item::Semicolon)? {
         return Ok(Vec::new(alloc));

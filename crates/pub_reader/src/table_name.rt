@@ -45,7 +45,8 @@ fn table_in_schema(
     draft: &Draft,
     schema: &PlacedName,
 ) -> Result<usize, ReadError>
-    ensures takes { TakesSome (λ number. number) (spec.table_in_schema (draft_view draft.now) schema.now) r.old result r.new }
+    ensures takes { TakesSome (λ number. number) (spec.table_in_schema (draft_view draft.now) schema.now)
+        r.old result r.new }
     ensures within { IfOk result (λ number. number < length (draft_view draft.now).tables) }
 {
     let name = name_in_schema(r, alloc, draft, schema)?;

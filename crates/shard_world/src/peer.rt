@@ -220,7 +220,8 @@ impl Peer {
         now: u64,
         event: PeerEvent,
     ) -> Answer
-        ensures moves { Moves (checked_view (arc_value checked.now)) now event book.old book.new self.old self.new result }
+        ensures moves { Moves (checked_view (arc_value checked.now)) now event book.old book.new
+            self.old self.new result }
         ensures counted { IsCounted result }
     {
         match self.try_step(alloc, checked, book, now, event) {

@@ -144,7 +144,8 @@ impl Replica {
 
     /// Hears the message that the bytes spell.
     fn hear_bytes(&mut self, bytes: &[u8]) -> Result<(), SubFault>
-        ensures ok { OnOk result (Reaches (machine_of self.new) (hear_decoded (decoded bytes.now) (machine_of self.old))) }
+        ensures ok { OnOk result (Reaches (machine_of self.new)
+            (hear_decoded (decoded bytes.now) (machine_of self.old))) }
         ensures fault { IfErr result (RefusedBy (hear_decoded (decoded bytes.now) (machine_of self.old))) }
         ensures stays { OnErr result (Stays (machine_of self.old) (machine_of self.new)) }
     {
