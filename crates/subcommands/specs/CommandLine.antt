@@ -1,5 +1,5 @@
 -- What the words of a command line ask, as the crate `clap` reads words: the subcommand `eval`, and for it a table's name and the flag `--insert`, in any order; or `check` or `make`, and nothing for it; or `simulate`, and for it `--limit` and a number, or nothing; or the help or the version.
-use Rattle.std.specs.Prelude.{◌≡◌, ◌≢◌, ◌≤◌, ◌⊎◌, ℕ, true, List, Option, Some, None, codes}
+use Rattle.std.specs.Prelude.{◌≡◌, ◌≢◌, ◌≤◌, ◌⊎◌, ℕ, true, List, [], Option, Some, None, codes}
 use Rattle.std.specs.Str.Parse.{IsNumeral, digits_value, without_leading_plus}
 use Rattle.clap.specs.Words.{App, IsAmong, Row, Rule, Text, fault_of, first_of, new_app, new_rule, one_of, subcommand_of, with_rule, with_subcommand}
 use Rattle.clap.specs.Simple.{on_top}
@@ -112,8 +112,10 @@ IsTaken taken Check = Takes taken (codes "check")
 IsTaken taken Make = Takes taken (codes "make")
 IsTaken taken (Simulate limit) = TakesSimulate taken limit
 
-abbrev pub IsRequest : List Text → Request → Type 0
-IsRequest words request = IsTaken (subcommand_of pgshard words) request
+-- clap finds no fault in the words, and what it takes is the request
+pub record IsRequest (words : List Text) (request : Request) : Type 0 where
+  pub faultless : fault_of pgshard words ≡ []
+  pub taken : IsTaken (subcommand_of pgshard words) request
 
 -- ---- what else the words may be
 
@@ -128,9 +130,13 @@ pub record IsFaulty (words : List Text) : Type 0 where
   pub no_help : found ≢ kind.DisplayHelp
   pub no_version : found ≢ kind.DisplayVersion
 
--- clap finds a fault in the words, or they ask nothing
+-- clap finds no fault in the words, and they ask nothing that can be done
+pub record AsksNothing (words : List Text) : Type 0 where
+  pub faultless : fault_of pgshard words ≡ []
+  pub nothing : (request : Request) → IsTaken (subcommand_of pgshard words) request → ⊥
+
 abbrev pub IsMisworded : List Text → Type 0
-IsMisworded words = IsFaulty words ⊎ ((request : Request) → IsRequest words request → ⊥)
+IsMisworded words = IsFaulty words ⊎ AsksNothing words
 
 abbrev pub IsAsking : List Text → Asked → Type 0
 IsAsking words (Help text) = AsksHelp words
