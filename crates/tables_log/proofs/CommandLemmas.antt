@@ -1,6 +1,6 @@
 -- What commands do to the rows of one table is what they do to all tables.
-use Rattle.std.proofs.Common.{◌≡◌, ◌≢◌, ℕ, zero, suc, ◌+◌, ◌<◌, ◌≤◌, Bool, true, false, ◌&&◌, List, [], ◌∷◌, length, map, refl, sym, ◌∙◌, ap, subst, arith}
-use Rattle.std.specs.Prelude.{Option, Some, None, Result, Ok, Err, IfOk, slice_index_or, ◌==◌, is_none, is_some, nat_lt, slice_get, slice_set, option_map, if◌then◌else◌}
+use Rattle.std.proofs.Common.{◌≡◌, ℕ, zero, suc, ◌<◌, ◌≤◌, Bool, true, false, List, [], ◌∷◌, length, sym, ◌∙◌, ap, subst, arith}
+use Rattle.std.specs.Prelude.{Option, Some, None, Result, Ok, Err, IfOk, slice_index_or, is_some, nat_lt, slice_get, slice_set, option_map}
 use Rattle.std.proofs.lemmas.Bool.{lt-ltb, ltb-true}
 use Rattle.std.proofs.lemmas.List.{length-map}
 use Rattle.std.proofs.lemmas.Option.{slice_get-map, slice_get-get_or}
@@ -16,10 +16,8 @@ use Rattle.replica_identity.specs.Parts.{part_in}
 use Rattle.replica_identity.specs.Plans.{PlanOf}
 use Rattle.replica_identity.specs.Setting.{fault_in, keys_in, setting_of}
 use Rattle.replica_identity.proofs.PartLemmas.{records_parts}
-use Rattle.table_changes.specs.Commands.{Command, Insert, Update, Delete, Truncate, CommandFault, NoTable, NoSuchRow, DuplicateKey, unless, unless_unfit, named, fault_of, applied}
-use Rattle.table_changes.specs.Keys.{UniqueKey, Keys, value_in}
+use Rattle.table_changes.specs.Commands.{Insert, Update, Delete, CommandFault, NoTable, NoSuchRow, DuplicateKey, unless, unless_unfit, named, fault_of}
 use Rattle.table_changes.specs.Records as r
-use Rattle.table_changes.specs.Setting.{Setting}
 use Rattle.table_changes.specs.Tables.{Tables, SameTables, put, put_in, take_out, without, is_free_from, is_free}
 use Rattle.table_changes.proofs.GrowingLemmas.{free_from_alike}
 use Rattle.table_changes.proofs.TableLemmas.{by_test, some_is}

@@ -3,6 +3,7 @@ pub mod CommandLemmas
 pub mod LayerLemmas
 pub mod ListLemmas
 pub mod ListingLemmas
+pub mod NumberLemmas
 pub mod PassLemmas
 pub mod PlaceLemmas
 pub mod SendableLemmas

@@ -1,22 +1,21 @@
 -- Commands on tables, one after another: what is staged so far, and what the rest does.
 use Rattle.std.proofs.Common.{◌≡◌, ℕ, zero, suc, ◌+◌, ◌≤◌, List, [], ◌∷◌, ◌++◌, length, map, drop, refl, sym, ◌∙◌, ap, subst, append_assoc, append-nil, arith}
-use Rattle.std.specs.Prelude.{Option, Some, None, All}
+use Rattle.std.specs.Prelude.{All}
 use Rattle.std.proofs.lemmas.List.Elements.{All-nil, All-push}
-use Rattle.filter_tree.specs.Datum.{Datum}
 use Rattle.replica_identity.specs.ChangeView.{change_view}
 use Rattle.replica_identity.specs.declared.change.Change.{Change}
 use Rattle.table_changes.specs.CommandView.{command_view}
 use Rattle.table_changes.specs.declared.command.Command as m
-use Rattle.table_changes.specs.Commands.{Command, CommandFault, fault_of, applied, all_applied, numbered, first_fault}
+use Rattle.table_changes.specs.Commands.{Command, fault_of, applied, all_applied, numbered, first_fault}
 use Rattle.table_changes.specs.Growing.{AreAlike}
 use Rattle.table_changes.specs.Records.{ChangeOf, change_of, record_of}
 use Rattle.table_changes.specs.Setting.{Setting}
-use Rattle.table_changes.specs.Tables.{Tables, SameTables}
+use Rattle.table_changes.specs.Tables.{SameTables}
 use Rattle.table_changes.proofs.GrowingLemmas.{are_alike}
 use Rattle.tables_log.specs.Applying.{Applies}
 use Rattle.tables_log.specs.ApplyingAll.{AppliesAll, error_at, StopsAt}
-use Rattle.tables_log.specs.Faults.{Tells, fault_view}
-use Rattle.tables_log.specs.Places.{seen_in, kept_in, KeepsTables}
+use Rattle.tables_log.specs.Faults.{Tells}
+use Rattle.tables_log.specs.Places.{seen_in, KeepsTables}
 use Rattle.tables_log.specs.Sendable.{IsSendableChange}
 use Rattle.tables_log.specs.declared.error.Refused.{Refused}
 use Rattle.tables_log.specs.declared.error.Refused.TheVariants.{Fault, OutOfMemory}

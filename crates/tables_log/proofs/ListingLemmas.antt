@@ -1,121 +1,217 @@
 -- A map's values are all that is found in it, each once; and the rows of a table in their order are those that are found in it.
-use Rattle.std.proofs.Common.{◌≡◌, ℕ, zero, suc, ◌+◌, ◌<◌, Bool, true, false, List, [], ◌∷◌, length, get_or, map, refl, sym, ◌∙◌, ap, subst, arith}
-use Rattle.std.specs.Prelude.{Option, Some, None, Contains, slice_get, slice_index_or}
+use Rattle.std.proofs.Common.{◌≡◌, ℕ, ℤ, suc, ◌+◌, ◌<◌, Bool, true, false, List, [], ◌∷◌, ◌++◌, length, get_or, map, refl, sym, ◌∙◌, ap, subst, arith}
+use Rattle.std.specs.Prelude.{Option, Some, None, Contains, slice_get}
 use Rattle.std.specs.BTreeMap.{BTreeMap, IsOrdered, is_at, values}
-use Rattle.std.specs.Cmp.{IsEquivalence, IsTotalOrder}
+use Rattle.std.specs.Cmp.{Equal-is, IsTotalOrder, int_cmp_total}
+use Rattle.std.specs.FinMap.{IsAntisymmetric, int_cmp-IsAntisymmetric}
 use Rattle.std.specs.List.{AllByRecursion, IsDistinct}
-use Rattle.std.specs.List.Sorted.{IsStrictlySortedBy, IsPermutation, IsSorted}
+use Rattle.std.specs.List.Sorted.{IsStrictlySortedBy, IsSorted}
 use Rattle.std.specs.Map.{lookup, keys_of, values_of}
-use Rattle.std.specs.Ordering.{eq_by_cmp, is_eq, is_lt, ordering_reverse}
+use Rattle.std.specs.Ordering.{eq_by_cmp, int_cmp, is_eq, is_lt, ordering_reverse}
 use Rattle.std.specs.declared.cmp.Ordering.{Ordering}
 use Rattle.std.specs.declared.cmp.Ordering.TheVariants.{Less, Equal, Greater}
 use Rattle.std.proofs.lemmas.Cmp.{eq_by_cmp_equiv}
-use Rattle.std.proofs.lemmas.List.{get_or-map, length-map}
+use Rattle.std.proofs.lemmas.List.{get_or-map, length-map, map-append}
+use Rattle.std.proofs.lemmas.List.Elements.{Contains-append_left, Contains-append_right}
 use Rattle.std.proofs.lemmas.List.Sorted.{Contains-permutation, IsPermutation-sym}
 use Rattle.std.proofs.lemmas.Map.Entries.{lookup_head, lookup_tail}
-use Rattle.std.proofs.lemmas.Map.Keys.{IsDistinct-head, IsDistinct-tail, IsDistinct-cons, IsDistinct-from_sorted, IsDistinct-from_apart, IsDistinct-IsPermutation, apart_from_distinct, sorted_from_all_adjacent}
+use Rattle.std.proofs.lemmas.Map.Keys.{IsDistinct-from_sorted, IsDistinct-from_apart, IsDistinct-IsPermutation, apart_from_distinct, sorted_from_all_adjacent}
 use Rattle.filter_tree.specs.Datum.{Datum}
 use Rattle.filter_tree.specs.Order.{row_cmp}
 use Rattle.filter_tree.specs.Same.{same_row}
-use Rattle.filter_tree.proofs.OrderLemmas.{row_total, ties_same_rows}
+use Rattle.filter_tree.proofs.OrderLemmas.{row_total, row_tie, ties_same_rows}
 use Rattle.filter_tree.proofs.SameLemmas.{equal_from_same_row, same_row_of_equal}
 use Rattle.tables_log.specs.Layers.{flat, filled, below}
 use Rattle.tables_log.specs.Listing.{there, ListsFound, AreRowsOf}
+use Rattle.tables_log.specs.NumberKeys.{number_in, number_key, by_number, HasNoNumber}
 use Rattle.tables_log.specs.Places.{IsInOrder, kept_at, kept_in, maps_of, first_values, listed_in}
 use Rattle.tables_log.specs.Staging.{kept, kept_values}
+use Rattle.tables_log.proofs.NumberLemmas.{key_of_number, numbers_tie, not_true, number_apart, found_number, found_row, not_number}
 use Rattle.tables_log.specs.declared.staged.Staged.{Staged}
 use Rattle.tables_log.specs.declared.table_rows.TableRows.{TableRows}
 
 -- ---- in the entries of a map
 
 -- the keys of the places that are not empty
-filled_keys : {V : Type 0} → List (List Datum × Option V) → List (List Datum)
+filled_keys : {K V : Type 0} → List (K × Option V) → List K
 filled_keys [] = []
 filled_keys ((key, None) ∷ entries) = filled_keys entries
 filled_keys ((key, Some value) ∷ entries) = key ∷ filled_keys entries
 
-abbrev found_in : {V : Type 0} → List (List Datum × Option V) → List Datum → Option V
-found_in entries key = flat (lookup (is_at (row_cmp key)) entries)
-
-apart_filled : {V : Type 0} (key : List Datum) (entries : List (List Datum × Option V)) → AllByRecursion (λ other. eq_by_cmp row_cmp key other ≡ false) (keys_of entries)
-    → AllByRecursion (λ other. eq_by_cmp row_cmp key other ≡ false) (filled_keys entries)
-unfolding filled_keys
-apart_filled key [] h = tt
-apart_filled key ((other, None) ∷ entries) h = apart_filled key entries h.1
-apart_filled key ((other, Some value) ∷ entries) h = (h.0, apart_filled key entries h.1)
-
-once_filled : {V : Type 0} (entries : List (List Datum × Option V)) → IsDistinct (eq_by_cmp row_cmp) (keys_of entries) → IsDistinct (eq_by_cmp row_cmp) (filled_keys entries)
-unfolding filled_keys IsDistinct
-once_filled [] h = tt
-once_filled ((key, None) ∷ entries) h = once_filled entries h.1
-once_filled ((key, Some value) ∷ entries) h = (apart_filled key entries h.0, once_filled entries h.1)
-
--- what is found by another key than the first
-found_past : {V : Type 0} (key : List Datum) (place : Option V) (entries : List (List Datum × Option V)) (other : List Datum) → eq_by_cmp row_cmp key other ≡ false
-    → found_in ((key, place) ∷ entries) other ≡ found_in entries other
-found_past key place entries other apart =
-    ap flat (lookup_tail (is_at (row_cmp other)) (key, place) entries ((eq_by_cmp_equiv row_total).symm other key ∙ apart))
-
-each_past : {V : Type 0} (key : List Datum) (place : Option V) (entries : List (List Datum × Option V)) (others : List (List Datum))
-    → AllByRecursion (λ other. eq_by_cmp row_cmp key other ≡ false) others → map (found_in ((key, place) ∷ entries)) others ≡ map (found_in entries) others
-each_past key place entries [] h = refl
-each_past {V} key place entries (other ∷ others) h =
-    ap (λ (first : Option V). first ∷ map (found_in ((key, place) ∷ entries)) others) (found_past key place entries other h.0)
-    ∙ ap (λ (rest : List (Option V)). found_in entries other ∷ rest) (each_past key place entries others h.1)
-
-found_first : {V : Type 0} (key : List Datum) (place : Option V) (entries : List (List Datum × Option V)) → found_in ((key, place) ∷ entries) key ≡ place
-found_first {V} key place entries =
-    ap (λ (found : Option (Option V)). flat found) (lookup_head (is_at (row_cmp key)) (key, place) entries ((eq_by_cmp_equiv row_total).refl key))
-
-each_filled : {V : Type 0} (entries : List (List Datum × Option V)) → IsDistinct (eq_by_cmp row_cmp) (keys_of entries)
-    → map (found_in entries) (filled_keys entries) ≡ map there (filled (values_of entries))
-unfolding filled_keys IsDistinct
-each_filled [] h = refl
-each_filled ((key, None) ∷ entries) h = each_past key None entries (filled_keys entries) (apart_filled key entries h.0) ∙ each_filled entries h.1
-each_filled {V} ((key, Some value) ∷ entries) h =
-    ap (λ (first : Option V). first ∷ map (found_in ((key, Some value) ∷ entries)) (filled_keys entries)) (found_first key (Some value) entries)
-    ∙ ap (λ (rest : List (Option V)). Some value ∷ rest)
-    (each_past key (Some value) entries (filled_keys entries) (apart_filled key entries h.0) ∙ each_filled entries h.1)
-
 contains_more : {A : Type 0} (first : A) (xs : List A) (x : A) → Contains xs x → Contains (first ∷ xs) x
 contains_more first xs x has = (suc has.0, omega (arith, has.1), has.2)
 
-equal_keys : (key other : List Datum) → eq_by_cmp row_cmp key other ≡ true → key ≡ other
-equal_keys key other same = equal_from_same_row key other (sym (ties_same_rows key other) ∙ same)
+-- all that is found by keys, of which no two tie
+record Lists {K V : Type 0} (cmp : K → K → Ordering) (found : K → Option V) (listed : List V) : Type 0 where
+  keys : List K
+  once : IsDistinct (eq_by_cmp cmp) keys
+  each : map found keys ≡ map there listed
+  all : (key : K) (value : V) → found key ≡ Some value → Contains keys key
 
-all_step : {V : Type 0} (key other : List Datum) (place : Option V) (entries : List (List Datum × Option V)) (value : V) (same : Bool) → eq_by_cmp row_cmp key other ≡ same
-    → (found_in entries key ≡ Some value → Contains (filled_keys entries) key) → found_in ((other, place) ∷ entries) key ≡ Some value
-    → Contains (filled_keys ((other, place) ∷ entries)) key
-unfolding filled_keys
-all_step {V} key other None entries value true same later found =
-    let none = ap (λ (x : Option (Option V)). flat x) (lookup_head (is_at (row_cmp key)) (other, None) entries same) in
-    absurd cc
-all_step key other (Some kept) entries value true same later found = (0, omega arith, sym (equal_keys key other same))
-all_step {V} key other None entries value false apart later found =
-    later (sym (ap (λ (x : Option (Option V)). flat x) (lookup_tail (is_at (row_cmp key)) (other, None) entries apart)) ∙ found)
-all_step {V} key other (Some kept) entries value false apart later found =
-    contains_more other (filled_keys entries) key
-    (later (sym (ap (λ (x : Option (Option V)). flat x) (lookup_tail (is_at (row_cmp key)) (other, Some kept) entries apart)) ∙ found))
+module _ {K : Type 0} (cmp : K → K → Ordering) (total : IsTotalOrder cmp) (exact : IsAntisymmetric cmp) where
+  abbrev found_in : {V : Type 0} → List (K × Option V) → K → Option V
+  found_in entries key = flat (lookup (is_at (cmp key)) entries)
 
-all_filled : {V : Type 0} (entries : List (List Datum × Option V)) (key : List Datum) (value : V) → found_in entries key ≡ Some value → Contains (filled_keys entries) key
-all_filled [] key value found = absurd cc
-all_filled ((other, place) ∷ entries) key value found =
-    all_step key other place entries value (eq_by_cmp row_cmp key other) refl (all_filled entries key value) found
+  apart_filled : {V : Type 0} (key : K) (entries : List (K × Option V)) → AllByRecursion (λ other. eq_by_cmp cmp key other ≡ false) (keys_of entries)
+      → AllByRecursion (λ other. eq_by_cmp cmp key other ≡ false) (filled_keys entries)
+  unfolding filled_keys
+  apart_filled key [] h = tt
+  apart_filled key ((other, None) ∷ entries) h = apart_filled key entries h.1
+  apart_filled key ((other, Some value) ∷ entries) h = (h.0, apart_filled key entries h.1)
+
+  once_filled : {V : Type 0} (entries : List (K × Option V)) → IsDistinct (eq_by_cmp cmp) (keys_of entries) → IsDistinct (eq_by_cmp cmp) (filled_keys entries)
+  unfolding filled_keys IsDistinct
+  once_filled [] h = tt
+  once_filled ((key, None) ∷ entries) h = once_filled entries h.1
+  once_filled ((key, Some value) ∷ entries) h = (apart_filled key entries h.0, once_filled entries h.1)
+
+  -- what is found by another key than the first
+  found_past : {V : Type 0} (key : K) (place : Option V) (entries : List (K × Option V)) (other : K) → eq_by_cmp cmp key other ≡ false
+      → found_in ((key, place) ∷ entries) other ≡ found_in entries other
+  found_past key place entries other apart =
+      ap flat (lookup_tail (is_at (cmp other)) (key, place) entries ((eq_by_cmp_equiv total).symm other key ∙ apart))
+
+  each_past : {V : Type 0} (key : K) (place : Option V) (entries : List (K × Option V)) (others : List K)
+      → AllByRecursion (λ other. eq_by_cmp cmp key other ≡ false) others → map (found_in ((key, place) ∷ entries)) others ≡ map (found_in entries) others
+  each_past key place entries [] h = refl
+  each_past {V} key place entries (other ∷ others) h =
+      ap (λ (first : Option V). first ∷ map (found_in ((key, place) ∷ entries)) others) (found_past key place entries other h.0)
+      ∙ ap (λ (rest : List (Option V)). found_in entries other ∷ rest) (each_past key place entries others h.1)
+
+  found_first : {V : Type 0} (key : K) (place : Option V) (entries : List (K × Option V)) → found_in ((key, place) ∷ entries) key ≡ place
+  found_first {V} key place entries =
+      ap (λ (found : Option (Option V)). flat found) (lookup_head (is_at (cmp key)) (key, place) entries ((eq_by_cmp_equiv total).refl key))
+
+  each_filled : {V : Type 0} (entries : List (K × Option V)) → IsDistinct (eq_by_cmp cmp) (keys_of entries)
+      → map (found_in entries) (filled_keys entries) ≡ map there (filled (values_of entries))
+  unfolding filled_keys IsDistinct
+  each_filled [] h = refl
+  each_filled ((key, None) ∷ entries) h = each_past key None entries (filled_keys entries) (apart_filled key entries h.0) ∙ each_filled entries h.1
+  each_filled {V} ((key, Some value) ∷ entries) h =
+      ap (λ (first : Option V). first ∷ map (found_in ((key, Some value) ∷ entries)) (filled_keys entries)) (found_first key (Some value) entries)
+      ∙ ap (λ (rest : List (Option V)). Some value ∷ rest)
+      (each_past key (Some value) entries (filled_keys entries) (apart_filled key entries h.0) ∙ each_filled entries h.1)
+
+  all_step : {V : Type 0} (key other : K) (place : Option V) (entries : List (K × Option V)) (value : V) (same : Bool) → eq_by_cmp cmp key other ≡ same
+      → (found_in entries key ≡ Some value → Contains (filled_keys entries) key) → found_in ((other, place) ∷ entries) key ≡ Some value
+      → Contains (filled_keys ((other, place) ∷ entries)) key
+  unfolding filled_keys
+  all_step {V} key other None entries value true same later found =
+      let none = ap (λ (x : Option (Option V)). flat x) (lookup_head (is_at (cmp key)) (other, None) entries same) in
+      absurd cc
+  all_step key other (Some kept) entries value true same later found = (0, omega arith, sym (exact key other ((Equal-is (cmp key other)).0 same)))
+  all_step {V} key other None entries value false apart later found =
+      later (sym (ap (λ (x : Option (Option V)). flat x) (lookup_tail (is_at (cmp key)) (other, None) entries apart)) ∙ found)
+  all_step {V} key other (Some kept) entries value false apart later found =
+      contains_more other (filled_keys entries) key
+      (later (sym (ap (λ (x : Option (Option V)). flat x) (lookup_tail (is_at (cmp key)) (other, Some kept) entries apart)) ∙ found))
+
+  all_filled : {V : Type 0} (entries : List (K × Option V)) (key : K) (value : V) → found_in entries key ≡ Some value → Contains (filled_keys entries) key
+  all_filled [] key value found = absurd cc
+  all_filled ((other, place) ∷ entries) key value found =
+      all_step key other place entries value (eq_by_cmp cmp key other) refl (all_filled entries key value) found
+
+  lists_map : {V : Type 0} (base : BTreeMap K (Option V)) → IsOrdered cmp base → Lists cmp (below cmp base) (filled (values base))
+  lists_map base ordered =
+      let apart = IsDistinct-from_sorted cmp (keys_of base.entries) ordered in
+      record {
+        keys = filled_keys base.entries;
+        once = once_filled base.entries apart;
+        each = each_filled base.entries apart;
+        all = all_filled base.entries;
+      }
+
+-- ---- in two maps, one of which has the keys that are one number
+
+all_append : {X : Type 0} (P : X → Type 0) (xs ys : List X) → AllByRecursion P xs → AllByRecursion P ys → AllByRecursion P (xs ++ ys)
+all_append P [] ys h k = k
+all_append P (x ∷ xs) ys h k = (h.0, all_append P xs ys h.1 k)
+
+once_append : {X : Type 0} (same : X → X → Bool) (xs ys : List X) → IsDistinct same xs → IsDistinct same ys
+    → AllByRecursion (λ x. AllByRecursion (λ y. same x y ≡ false) ys) xs → IsDistinct same (xs ++ ys)
+unfolding IsDistinct
+once_append same [] ys h k apart = k
+once_append same (x ∷ xs) ys h k apart =
+    (all_append (λ y. same x y ≡ false) xs ys h.0 apart.0, once_append same xs ys h.1 k apart.1)
 
 same_from_ties : (keys : List (List Datum)) → IsDistinct (eq_by_cmp row_cmp) keys → IsDistinct same_row keys
 same_from_ties keys h =
     IsDistinct-from_apart same_row keys (λ i j d before within.
     sym (ties_same_rows (get_or keys i d) (get_or keys j d)) ∙ apart_from_distinct (eq_by_cmp row_cmp) keys i j d h before within)
 
-pub lists_map : {V : Type 0} (base : BTreeMap (List Datum) (Option V)) → IsOrdered row_cmp base → ListsFound (below base) (filled (values base))
-lists_map base ordered =
-    let apart = IsDistinct-from_sorted row_cmp (keys_of base.entries) ordered in
-    record {
-      keys = filled_keys base.entries;
-      once = same_from_ties (filled_keys base.entries) (once_filled base.entries apart);
-      each = each_filled base.entries apart;
-      all = all_filled base.entries;
+numbers_apart : (number : ℤ) (others : List ℤ) → AllByRecursion (λ other. eq_by_cmp int_cmp number other ≡ false) others
+    → AllByRecursion (λ other. same_row (number_key number) other ≡ false) (map number_key others)
+numbers_apart number [] h = tt
+numbers_apart number (other ∷ others) h = (sym (numbers_tie number other) ∙ h.0, numbers_apart number others h.1)
+
+numbers_once : (numbers : List ℤ) → IsDistinct (eq_by_cmp int_cmp) numbers → IsDistinct same_row (map number_key numbers)
+unfolding IsDistinct
+numbers_once [] h = tt
+numbers_once (number ∷ numbers) h = (numbers_apart number numbers h.0, numbers_once numbers h.1)
+
+rows_apart : (number : ℤ) (keys : List (List Datum)) → AllByRecursion (λ key. number_in key ≡ None) keys → AllByRecursion (λ key. same_row (number_key number) key ≡ false) keys
+rows_apart number [] h = tt
+rows_apart number (key ∷ keys) h = (number_apart number key h.0, rows_apart number keys h.1)
+
+all_apart : (numbers : List ℤ) (keys : List (List Datum)) → AllByRecursion (λ key. number_in key ≡ None) keys
+    → AllByRecursion (λ one. AllByRecursion (λ key. same_row one key ≡ false) keys) (map number_key numbers)
+all_apart [] keys h = tt
+all_apart (number ∷ numbers) keys h = (rows_apart number keys h, all_apart numbers keys h)
+
+not_numbers : {V : Type 0} (found : List Datum → Option V) (keys : List (List Datum)) (listed : List V) → HasNoNumber found → map found keys ≡ map there listed
+    → AllByRecursion (λ key. number_in key ≡ None) keys
+not_numbers found [] listed none each = tt
+not_numbers found (key ∷ keys) [] none each = absurd cc
+not_numbers found (key ∷ keys) (value ∷ listed) none each =
+    let first : found key ≡ Some value = cc in
+    let rest : map found keys ≡ map there listed = cc in
+    (not_number found key value none first, not_numbers found keys listed none rest)
+
+contains_number : (numbers : List ℤ) (number : ℤ) → Contains numbers number → Contains (map number_key numbers) (number_key number)
+contains_number numbers number has =
+    (has.0, omega (arith, length-map numbers number_key, has.1), get_or-map number_key numbers has.0 number (number_key number) has.1 ∙ ap number_key has.2)
+
+module _ {V : Type 0} (of_number : ℤ → Option V) (of_row : List Datum → Option V) where
+  each_number : (numbers : List ℤ) → map (by_number of_number of_row) (map number_key numbers) ≡ map of_number numbers
+  each_number [] = refl
+  each_number (number ∷ numbers) = ap (λ (rest : List (Option V)). of_number number ∷ rest) (each_number numbers)
+
+  each_row : (keys : List (List Datum)) → AllByRecursion (λ key. number_in key ≡ None) keys → map (by_number of_number of_row) keys ≡ map of_row keys
+  each_row [] h = refl
+  each_row (key ∷ keys) h =
+      ap (λ (first : Option V). first ∷ map (by_number of_number of_row) keys) (found_row of_number of_row key h.0)
+      ∙ ap (λ (rest : List (Option V)). of_row key ∷ rest) (each_row keys h.1)
+
+  module _ (some_listed others : List V) (some : Lists int_cmp of_number some_listed) (rest : Lists row_cmp of_row others) (none : HasNoNumber of_row) where
+    none_of_rest : AllByRecursion (λ key. number_in key ≡ None) rest.keys
+    none_of_rest = not_numbers of_row rest.keys others none rest.each
+
+    contains_key : (key : List Datum) (value : V) (found : Option ℤ) → number_in key ≡ found → by_number of_number of_row key ≡ Some value
+        → Contains (map number_key some.keys ++ rest.keys) key
+    contains_key key value None is finds =
+        Contains-append_right (map number_key some.keys) rest.keys key (rest.all key value (sym (found_row of_number of_row key is) ∙ finds))
+    contains_key key value (Some number) is finds =
+        Contains-append_left (map number_key some.keys) rest.keys key
+        (subst (λ (one : List Datum). Contains (map number_key some.keys) one) (sym (key_of_number key number is))
+        (contains_number some.keys number (some.all number value (sym (found_number of_number of_row key number is) ∙ finds))))
+
+    lists_two : ListsFound (by_number of_number of_row) (some_listed ++ others)
+    lists_two = record {
+      keys = map number_key some.keys ++ rest.keys;
+      once = once_append same_row (map number_key some.keys) rest.keys (numbers_once some.keys some.once) (same_from_ties rest.keys rest.once)
+          (all_apart some.keys rest.keys none_of_rest);
+      each = map-append (by_number of_number of_row) (map number_key some.keys) rest.keys
+          ∙ ap (λ (first : List (Option V)). first ++ map (by_number of_number of_row) rest.keys) (each_number some.keys ∙ some.each)
+          ∙ ap (λ (last : List (Option V)). map there some_listed ++ last) (each_row rest.keys none_of_rest ∙ rest.each)
+          ∙ sym (map-append there some_listed others);
+      all = λ key value finds. contains_key key value (number_in key) refl finds;
     }
+
+pub lists_maps : {V : Type 0} (numbers : BTreeMap ℤ (Option V)) (rows : BTreeMap (List Datum) (Option V)) → IsOrdered int_cmp numbers → IsOrdered row_cmp rows
+    → HasNoNumber (below row_cmp rows) → ListsFound (by_number (below int_cmp numbers) (below row_cmp rows)) (filled (values numbers) ++ filled (values rows))
+lists_maps numbers rows numbers_ordered rows_ordered none =
+    lists_two (below int_cmp numbers) (below row_cmp rows) (filled (values numbers)) (filled (values rows))
+    (lists_map int_cmp int_cmp_total int_cmp-IsAntisymmetric numbers numbers_ordered) (lists_map row_cmp row_total row_tie rows rows_ordered) none
 
 -- ---- in the maps of a table, of which the first is that of the primary key
 
@@ -144,10 +240,6 @@ lists_table tables table rows is lists =
     subst (λ (found : Option TableRows). ListsFound (kept_at (maps_of found) 0) (first_values (maps_of found))) (sym is) lists
 
 -- ---- the rows of a table, where each row is found by one key at most
-
-not_true : (b : Bool) → (b ≡ true → ⊥) → b ≡ false
-not_true true never = absurd (never refl)
-not_true false never = refl
 
 module _ (found : List Datum → Option (List Datum)) (listed : List (List Datum)) (lists : ListsFound found listed) where
   long : length lists.keys ≡ length listed

@@ -178,6 +178,20 @@ pub record Making (maps : List (Staged (List Datum))) (count : ℕ) : Type 0 whe
   pub width : length maps ≡ count + 1
   pub none : (number : ℕ) (value : List Datum) → kept_at maps number value ≡ None
 
+none_more : (maps : List (Staged (List Datum))) (map : Staged (List Datum)) → ((number : ℕ) (value : List Datum) → kept_at maps number value ≡ None)
+    → ((value : List Datum) → kept map value ≡ None) → (number : ℕ) (value : List Datum) → kept_at (maps ++ map ∷ []) number value ≡ None
+none_more [] map none bare zero value = bare value
+none_more [] map none bare (suc number) value = refl
+none_more (first ∷ maps) map none bare zero value = none zero value
+none_more (first ∷ maps) map none bare (suc number) value = none_more maps map (λ n. none (suc n)) bare number value
+
+pub making_more : (maps new : List (Staged (List Datum))) (map : Staged (List Datum)) (count : ℕ) → new ≡ maps ++ map ∷ [] → ((value : List Datum) → kept map value ≡ None)
+    → Making maps count → Making new (count + 1)
+making_more maps new map count is bare making = record {
+  width = ap length is ∙ length-append maps (map ∷ []) ∙ ap (λ n. n + 1) making.width;
+  none = λ number value. ap (λ all. kept_at all number value) is ∙ none_more maps map making.none bare number value;
+}
+
 -- so far: what the values that are left put is what all put, and what is kept stays
 pub record Putting (maps : List (Staged (List Datum))) (values : List (Option (List Datum))) (first_maps : List (Staged (List Datum))) (first_values : List (Option (List Datum))) (row : Option (List Datum)) : Type 0 where
   pub sees : (number : ℕ) (found : List Datum) → put_at (seen_at maps) values row number found ≡ put_at (seen_at first_maps) first_values row number found

@@ -1,13 +1,11 @@
 -- Rows that fit their tables can be sent, and what is recorded of them too.
-use Rattle.std.proofs.Common.{◌≡◌, ℕ, zero, suc, ◌+◌, ◌<◌, ◌≤◌, ℤ, pos, negsuc, Bool, true, false, List, [], ◌∷◌, ◌++◌, length, map, refl, sym, ◌∙◌, ap, subst, arith}
+use Rattle.std.proofs.Common.{◌≡◌, ℕ, suc, ◌+◌, ◌≤◌, ℤ, Bool, true, false, List, [], ◌∷◌, length, refl, ap, arith}
 use Rattle.std.proofs.lemmas.Int.{ints}
-use Rattle.std.specs.Prelude.{Option, Some, None, Result, Ok, Err, All, IfSome, nat_eq, ◌==◌, slice_get, slice_index_or, unwrap_or, fold, if◌then◌else◌}
-use Rattle.std.specs.List.{list_any, IsDistinct}
+use Rattle.std.specs.Prelude.{Option, Some, None, Ok, All, IfSome, ◌==◌, slice_get, if◌then◌else◌}
+use Rattle.std.specs.List.{list_any}
 use Rattle.std.proofs.lemmas.List.Elements.{All-nil, All-cons, All-head, All-tail}
-use Rattle.std.proofs.lemmas.Option.{get_or_from_slice_get}
 use Rattle.filter_tree.specs.Datum.{Number, Truth, Bytes, Datum, Missing, Known, value_at}
-use Rattle.filter_tree.specs.Range.{least_of, greatest_of}
-use Rattle.filter_tree.specs.Valid.{IsWithin, IsText, IsOf, Fits, IsValid, row_fault, verdict_of}
+use Rattle.filter_tree.specs.Valid.{IsWithin, IsOf, Fits, IsValid, row_fault, verdict_of}
 use Rattle.filter_tree.specs.declared.table.ColType.{ColType}
 use Rattle.filter_tree.specs.declared.table.ColType.TheVariants.{SmallInt, Integer, BigInt, Boolean, Text}
 use Rattle.filter_tree.specs.declared.table.Column.{Column}
@@ -18,10 +16,9 @@ use Rattle.replica_identity.specs.Identities.{identity_columns}
 use Rattle.replica_identity.specs.Parts.{part_in}
 use Rattle.replica_identity.specs.Setting.{recorded_as, identity_in, blanked_by, blanked_in}
 use Rattle.table_changes.specs.Columns.{blanked_from}
-use Rattle.table_changes.specs.Records.{PartOf, Key, Full, is_kept, part_by}
+use Rattle.table_changes.specs.Records.{Key, is_kept, part_by}
 use Rattle.table_changes.specs.Setting.{Recorded, Columns, Whole, Nowhere}
 use Rattle.tables_log.specs.Sendable.{IsSendableValue, IsSendableRow, IsSendablePart}
-use Rattle.tables_log.proofs.PlaceLemmas.{within}
 
 -- ---- values
 

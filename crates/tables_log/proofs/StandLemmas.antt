@@ -1,11 +1,9 @@
 -- Books stand for the lists of transactions that they accepted.
-use Rattle.std.proofs.Common.{◌≡◌, ℕ, zero, suc, ◌+◌, List, [], ◌∷◌, ◌++◌, length, refl, sym, ◌∙◌, ap, subst, arith, length-append}
-use Rattle.std.specs.Prelude.{Some, None, fold, true}
-use Rattle.filter_tree.specs.Datum.{Datum}
+use Rattle.std.proofs.Common.{◌≡◌, ℕ, suc, ◌+◌, List, [], ◌∷◌, ◌++◌, length, refl, sym, ◌∙◌, ap, subst, arith}
+use Rattle.std.specs.Prelude.{fold}
 use Rattle.replica_identity.proofs.SettingLemmas.{has_primary_keys}
-use Rattle.shard_checker.specs.CheckedView.{CheckedOf, setting_in}
+use Rattle.shard_checker.specs.CheckedView.{setting_in}
 use Rattle.table_changes.specs.Changes.{BeginsWell}
-use Rattle.table_changes.specs.Commands.{Command, first_fault, all_applied}
 use Rattle.table_changes.specs.Growing.{AreAlike}
 use Rattle.table_changes.specs.Keys.{HasPrimaryKeys, key_at}
 use Rattle.table_changes.specs.Records.{record_of}
@@ -15,11 +13,9 @@ use Rattle.table_changes.specs.Tables.{Tables, SameTables, no_rows, Stands}
 use Rattle.table_changes.proofs.ChangeLemmas.{stay_keyed, stay_fit, stay_apart, begins_well}
 use Rattle.table_changes.proofs.GrowingLemmas.{are_alike}
 use Rattle.tables_log.specs.BookView.{book_checked, book_setting, book_rows, book_listed, book_log}
-use Rattle.tables_log.specs.Commits.{CommitOf, commit_of}
-use Rattle.tables_log.specs.Committing.{IsNew, ChangesSlots, Commits}
-use Rattle.tables_log.specs.StandsFor.{Transaction, left_by, after, IsAccepted, AreAccepted, entries_from, StandsFor, NewStands, CommitsAddOne, SlotsKeepIt, EachIsLogged, RowsAreRight, BooksAreRight, ListedAreRows}
+use Rattle.tables_log.specs.Commits.{commit_of}
+use Rattle.tables_log.specs.StandsFor.{Transaction, left_by, after, IsAccepted, AreAccepted, entries_from, StandsFor, NewStands, CommitsAddOne, SlotsKeepIt, EachIsLogged, BooksAreRight, ListedAreRows}
 use Rattle.tables_log.specs.declared.book.Book.{Book}
-use Rattle.tables_log.specs.declared.slots.Slot.{Slot}
 use Rattle.tables_log.proofs.ListingLemmas.{rows_in_order}
 
 same_back : (one other : Tables) → SameTables one other → SameTables other one

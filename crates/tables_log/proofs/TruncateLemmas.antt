@@ -1,6 +1,6 @@
 -- TRUNCATE of tables that are there: which are emptied, and that the list of them can be sent.
-use Rattle.std.proofs.Common.{◌≡◌, ℕ, zero, suc, ◌+◌, ◌<◌, ◌≤◌, Bool, true, false, ◌&&◌, ◌||◌, List, [], ◌∷◌, ◌++◌, length, drop, refl, sym, ◌∙◌, ap, subst, arith}
-use Rattle.std.specs.Prelude.{Option, Some, None, ◌==◌, All, nat_eq, nat_lt, slice_get, slice_set, fold, if◌then◌else◌}
+use Rattle.std.proofs.Common.{◌≡◌, ℕ, ◌<◌, ◌≤◌, Bool, true, false, ◌&&◌, ◌||◌, List, [], ◌∷◌, ◌++◌, length, refl, sym, ◌∙◌, ap, subst, arith}
+use Rattle.std.specs.Prelude.{Option, Some, None, ◌==◌, All, nat_eq, slice_get, slice_set, fold, if◌then◌else◌}
 use Rattle.std.specs.Cmp.{nat_eq_equiv}
 use Rattle.std.specs.List.{list_any, list_all, IsDistinct}
 use Rattle.std.proofs.lemmas.Bool.{ltb-true}
@@ -21,11 +21,11 @@ use Rattle.table_changes.specs.Setting.{Setting}
 use Rattle.table_changes.specs.Tables.{Tables, SameTables, emptied}
 use Rattle.table_changes.proofs.TableLemmas.{by_test, or_false}
 use Rattle.tables_log.specs.Applying.{IsNarrow, Applies}
-use Rattle.tables_log.specs.Places.{maps_of, seen_at, seen_in, KeepsRows, EmptiesRows, EmptiesTable, KeepsTables}
+use Rattle.tables_log.specs.Places.{maps_of, seen_at, seen_in, EmptiesRows, EmptiesTable, KeepsTables}
 use Rattle.tables_log.specs.Sendable.{IsTableNumber}
 use Rattle.tables_log.specs.declared.table_rows.TableRows.{TableRows}
 use Rattle.tables_log.proofs.ListLemmas.{keeps_both}
-use Rattle.tables_log.proofs.PlaceLemmas.{number_is, number_itself, sees_tables, keeps_tables}
+use Rattle.tables_log.proofs.PlaceLemmas.{number_is, number_itself, sees_tables}
 
 -- ---- numbers, each once
 

@@ -7,6 +7,7 @@ pub mod Faults
 pub mod Layers
 pub mod Listing
 pub mod Logs
+pub mod NumberKeys
 pub mod Places
 pub mod Sendable
 pub mod Slots

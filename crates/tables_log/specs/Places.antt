@@ -3,7 +3,7 @@ use Rattle.std.specs.Prelude.{◌≡◌, ℕ, ◌+◌, ◌==◌, Bool, true, ◌
 use Rattle.filter_tree.specs.Datum.{Datum}
 use Rattle.filter_tree.specs.Order.{row_cmp}
 use Rattle.std.specs.List.Sorted.{IsPermutation, IsSorted}
-use Rattle.table_changes.specs.Keys.{UniqueKey, value_in}
+use Rattle.table_changes.specs.Keys.{UniqueKey}
 use Rattle.table_changes.specs.Tables.{Tables, SameTables, is_row, found_at}
 use Rattle.tables_log.specs.Layers.{flat}
 use Rattle.tables_log.specs.Staging.{kept, seen, kept_values}

@@ -1,5 +1,5 @@
 -- Slots and the positions up to which they are confirmed: PostgreSQL 15, "Logical Replication", 31.2.1 Replication Slot Management, and 27.2.6 Replication Slots. Commit n, from 1, is at position 64 * n, and ends at 64 * n + 64 (the project's own).
-use Rattle.std.specs.Prelude.{◌≡◌, ℕ, ◌+◌, ◌*◌, ◌≤◌, max, nat_lt, Bool, true, false, List, slice_get, slice_set, Option, Some, None, if◌then◌else◌}
+use Rattle.std.specs.Prelude.{ℕ, ◌+◌, ◌*◌, ◌≤◌, max, nat_lt, Bool, true, false, List, slice_get, slice_set, Option, Some, None, if◌then◌else◌}
 use Rattle.tables_log.specs.declared.error.StartError.{StartError}
 use Rattle.tables_log.specs.declared.error.StartError.TheVariants.{NoSlot, Ahead, InUse}
 use Rattle.tables_log.specs.declared.slots.Slot.{Slot}

@@ -1,5 +1,5 @@
 -- What a book stands for: a list of transactions, each of which is accepted on what the earlier ones leave of tables without rows: PostgreSQL 15, 3.4. Transactions, and "Logical Replication", 31.1 Publication.
-use Rattle.std.specs.Prelude.{◌≡◌, ℕ, ◌+◌, ◌≤◌, ◌++◌, List, [], ◌∷◌, fold, length, None}
+use Rattle.std.specs.Prelude.{◌≡◌, ℕ, ◌+◌, ◌++◌, List, [], ◌∷◌, fold, length, None}
 use Rattle.filter_tree.specs.Datum.{Datum}
 use Rattle.table_changes.specs.Commands.{Command, first_fault, all_applied}
 use Rattle.table_changes.specs.Records.{record_of}
@@ -7,7 +7,7 @@ use Rattle.table_changes.specs.Setting.{Setting}
 use Rattle.table_changes.specs.Standing.{Apart, AllFit, KeepsApart}
 use Rattle.table_changes.specs.Tables.{Tables, SameTables, no_rows, Stands}
 use Rattle.shard_checker.specs.CheckedView.{CheckedOf}
-use Rattle.tables_log.specs.BookView.{book_setting, book_limit, book_rows, book_listed, book_log}
+use Rattle.tables_log.specs.BookView.{book_setting, book_rows, book_listed, book_log}
 use Rattle.tables_log.specs.Commits.{CommitOf, commit_of}
 use Rattle.tables_log.specs.Committing.{IsNew, ChangesSlots, Commits, IsTransaction}
 use Rattle.tables_log.specs.Listing.{ListsFound, AreRowsOf}

@@ -8,6 +8,7 @@ mod committing;
 mod error;
 mod keys;
 mod laws;
+mod layers;
 mod shared_row;
 mod slots;
 mod staged;

@@ -1,11 +1,10 @@
-use Rattle.std.proofs.Common.{◌≡◌, List}
+use Rattle.std.proofs.Common.{◌≡◌}
 use Rattle.std.specs.BTreeMap.{btree_map_len}
-use Rattle.filter_tree.specs.Datum.{Datum}
 use Rattle.tables_log.specs.Layers.{below}
-use Rattle.tables_log.proofs.staged.sweep.Given as goal
+use Rattle.tables_log.proofs.layers.sweep.Given as goal
 
 abbrev pub invariant-loop-key : goal.invariant-loop-key
-invariant-loop-key g l = (key : List Datum) → below l.base key ≡ below l.initial.base key
+invariant-loop-key g l = (key : _) → below g.K.Ord.cmp l.base key ≡ below g.K.Ord.cmp l.initial.base key
 
 abbrev pub decreases-loop-key : goal.decreases-loop-key
 decreases-loop-key g l = btree_map_len l.overlay
