@@ -41,7 +41,7 @@ pub struct Book {
 }
 
 impl Book {
-    ghost use Rattle.std.specs.Prelude.{◌≡◌, ◌+◌, ◌*◌, ◌<◌, ◌≤◌, max, length, map, slice_get, IfOk, IfErr, IfSome, OnOk, OnErr};
+    ghost use Rattle.std.specs.Prelude.{◌≡◌, ◌+◌, ◌*◌, ◌<◌, ◌≤◌, max, length, map, slice_get, IfOk, IfErr, IfSome, IsSome, OnOk, OnErr};
     ghost use Rattle.std.specs.Arc.{arc_value};
     ghost use Rattle.std.specs.Option.{option_map, option_copied};
     ghost use Rattle.shard_checker.specs.CheckedView.{checked_view};
@@ -137,12 +137,14 @@ impl Book {
         }
     }
 
-    /// The commit of this number once more: `Some` for 1 to `log_len()`. The only error is that it is shared too often.
+    /// The commit of this number once more: `Some` for 1 to `log_len()`. The only error is that a commit that is there is
+    /// shared too often.
     #[tactic(auto, using(crate::proofs::BookLemmas::found_numbered))]
     pub fn shared(&self, number: u32) -> Result<Option<Arc<Commit, Global>>, AllocError>
         ensures shows { IfOk result (λ found. option_map (λ commit. arc_value commit) found ≡ entry_at
             (book_log self.now) number) }
         ensures numbered { IfOk result (λ found. IfSome found (λ commit. (arc_value commit).number ≡ number)) }
+        ensures logged { OnErr result (IsSome (entry_at (book_log self.now) number)) }
     {
         let Some(commit) = self.place(number) else {
             return Ok(None);
