@@ -30,10 +30,6 @@ over_if : {V : Type 0} (b : Bool) (value : Option V) (place : Option (Option V))
 over_if true value place under = refl
 over_if false value place under = refl
 
-over_none : {V : Type 0} (place : Option (Option V)) → over place None ≡ flat place
-over_none None = refl
-over_none (Some place) = refl
-
 -- a call that may fail did not, where what its failure says can't be
 pub did_not_fail : {A E : Type 0} (result : Result A E) (P Q : Type 0) → OnOk result P → OnErr result Q → (Q → ⊥) → P
 did_not_fail (Ok value) P Q ok err never = ok
@@ -80,11 +76,6 @@ module _ {K : Type 0} (cmp : K → K → Ordering) where
 
   -- ---- both
 
-  pub layered_bare : {V : Type 0} (base overlay : BTreeMap K (Option V)) (emptied : Bool) → IsEmpty overlay
-      → (key : K) → layered cmp base overlay emptied key ≡ (if emptied then None else below cmp base key)
-  layered_bare base overlay emptied empty key =
-      ap (λ entries. over (lookup (is_at (cmp key)) entries) (if emptied then None else below cmp base key)) empty
-
   pub layered_after : {V : Type 0} (base new_base overlay new_overlay : BTreeMap K (Option V)) (emptied : Bool) (key : K) (value : Option V)
       → ((other : K) → below cmp new_base other ≡ below cmp base other) → Updates cmp overlay new_overlay key (Some value)
       → (other : K) → layered cmp new_base new_overlay emptied other ≡ (if eq_by_cmp cmp key other then value else layered cmp base overlay emptied other)
@@ -100,10 +91,6 @@ module _ {K : Type 0} (cmp : K → K → Ordering) where
   layered_same base new_base overlay new_overlay emptied same unchanged other =
       ap (λ place. over place (if emptied then None else below cmp new_base other)) (get_unchanged overlay new_overlay unchanged other)
       ∙ ap (λ under. over (get cmp overlay other) (if emptied then None else under)) (same other)
-
-  -- a map that is laid over nothing shows what it has below nothing
-  pub layered_alone : {V : Type 0} (base overlay : BTreeMap K (Option V)) (key : K) → layered cmp base overlay true key ≡ below cmp overlay key
-  layered_alone base overlay key = over_none (get cmp overlay key)
 
   -- ---- what the overlay has goes to the places of its keys
 

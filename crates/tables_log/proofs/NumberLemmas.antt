@@ -54,19 +54,6 @@ by_kind key P of_number of_row = by (number_in key) refl
     by None is = of_row is
     by (Some number) is = of_number number is
 
-pub found_same : {X : Type 0} (numbers new_numbers : ℤ → X) (rows new_rows : List Datum → X)
-    → ((number : ℤ) → new_numbers number ≡ numbers number) → ((key : List Datum) → new_rows key ≡ rows key)
-    → (key : List Datum) → by_number new_numbers new_rows key ≡ by_number numbers rows key
-found_same numbers new_numbers rows new_rows same_numbers same_rows key = by_kind key _
-    (λ number is. found_number new_numbers new_rows key number is ∙ same_numbers number ∙ sym (found_number numbers rows key number is))
-    (λ none. found_row new_numbers new_rows key none ∙ same_rows key ∙ sym (found_row numbers rows key none))
-
-pub found_none : {V : Type 0} (numbers : ℤ → Option V) (rows : List Datum → Option V) → ((number : ℤ) → numbers number ≡ None) → ((key : List Datum) → rows key ≡ None)
-    → (key : List Datum) → by_number numbers rows key ≡ None
-found_none numbers rows no_numbers no_rows key = by_kind key _
-    (λ number is. found_number numbers rows key number is ∙ no_numbers number)
-    (λ none. found_row numbers rows key none ∙ no_rows key)
-
 pub puts_number : {V : Type 0} (old new : ℤ → Option V) (rows : List Datum → Option V) (key : List Datum) (number : ℤ) (value : Option V) → number_in key ≡ Some number
     → ((other : ℤ) → new other ≡ (if eq_by_cmp int_cmp number other then value else old other))
     → (other : List Datum) → by_number new rows other ≡ (if same_row key other then value else by_number old rows other)
@@ -91,18 +78,6 @@ puts_row numbers old new key value none puts other = by_kind other _
     ∙ sym (ap (λ found. if same_row key other then value else found) (found_row numbers old other no_number)))
 
 -- ---- no key that is one number
-
-pub no_number_same : {V : Type 0} (old new : List Datum → Option V) → HasNoNumber old → ((key : List Datum) → new key ≡ old key) → HasNoNumber new
-no_number_same old new none same number = ap is_some (same (number_key number)) ∙ none number
-
-pub no_number_none : {V : Type 0} (found : List Datum → Option V) → ((key : List Datum) → found key ≡ None) → HasNoNumber found
-no_number_none found none number = ap is_some (none (number_key number))
-
-pub no_number_put : {V : Type 0} (old new : List Datum → Option V) (key : List Datum) (value : Option V) → HasNoNumber old → number_in key ≡ None
-    → ((other : List Datum) → new other ≡ (if eq_by_cmp row_cmp key other then value else old other)) → HasNoNumber new
-no_number_put old new key value none no_number puts number =
-    let apart : eq_by_cmp row_cmp key (number_key number) ≡ false = ties_same_rows key (number_key number) ∙ row_apart key number no_number in
-    ap is_some (puts (number_key number) ∙ ap (λ b. if b then value else old (number_key number)) apart) ∙ none number
 
 pub not_number : {V : Type 0} (found : List Datum → Option V) (key : List Datum) (value : V) → HasNoNumber found → found key ≡ Some value → number_in key ≡ None
 not_number found key value none is = by_kind key _
