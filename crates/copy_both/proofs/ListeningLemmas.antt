@@ -1,17 +1,16 @@
 -- The frames that are held are heard one after another.
-use Rattle.std.proofs.Common.{◌≡◌, ℕ, zero, suc, Bool, true, false, List, [], ◌∷◌, length, refl, sym, ap, ◌∙◌, subst, append-nil}
+use Rattle.std.proofs.Common.{◌≡◌, ℕ, Bool, true, false, List, [], ◌∷◌, length, refl, sym, ap, ◌∙◌, subst, append-nil}
 use Rattle.std.specs.Prelude.{Option, Some, None, Err, not, is_some}
 use Rattle.shard_checker.specs.CheckedView.{CheckedOf}
 use Rattle.tables_log.specs.BookView.{book_log, book_slots}
 use Rattle.tables_log.specs.Commits.{CommitOf}
 use Rattle.tables_log.specs.Committing.{ChangesSlots}
 use Rattle.tables_log.specs.declared.book.Book.{Book}
-use Rattle.copy_frames.specs.Frames.{Cut, Rest, Bad, Then, cut, cut_some, cut_after, front, frames_of, rest_of}
+use Rattle.copy_frames.specs.Frames.{Cut, Rest, Bad, Then, cut, frames_of, rest_of}
 use Rattle.copy_frames.specs.Inboxes.{Inbox, Gives, GivesFrame, has_frame}
 use Rattle.copy_frames.specs.declared.fault.FrameFault.{FrameFault}
 use Rattle.copy_frames.specs.declared.frame.Frame.{Frame}
-use Rattle.copy_frames.specs.declared.front.Front.{Front}
-use Rattle.copy_frames.specs.declared.front.Front.TheVariants.{Part, Faulty, Whole}
+use Rattle.copy_frames.proofs.InboxLemmas.{rest_left, gives_none}
 use Rattle.copy_both.specs.Hearing.{HearingOf, Served, is_over, is_over_by, unless_over, with_fault, next_heard, frames_heard}
 use Rattle.copy_both.specs.Listening.{silence, held_frames, FramesHeard, resting, part_heard, Leaves}
 use Rattle.copy_both.specs.Sessions.{session_checked, served_by, hearing_view, FailsBy, KeepsRest}
@@ -21,20 +20,6 @@ use Rattle.copy_both.specs.declared.session.Session.{Session}
 use Rattle.copy_both.proofs.HearingLemmas.{over_stays, heard_none, HeardSome, heard_on, all_heard, fails_all}
 
 -- ---- what is cut
-
-rest_after : (f : Front) (bytes : List ℕ) (more : List ℕ → Cut) → has_frame (cut_after f bytes more) ≡ false → rest_of (cut_after f bytes more) ≡ bytes
-rest_after Part bytes more none = refl
-rest_after (Faulty fault) bytes more none = refl
-rest_after (Whole size) bytes more none = absurd (let clash : true ≡ false = none in cc)
-
-rest_some : (limit n : ℕ) (bytes : List ℕ) → has_frame (cut_some limit n bytes) ≡ false → rest_of (cut_some limit n bytes) ≡ bytes
-rest_some limit zero bytes none = refl
-rest_some limit (suc n) bytes none = rest_after (front limit bytes) bytes (cut_some limit n) none
-
--- where no frame is whole, what is held is the rest
-pub cut_rest : (limit : ℕ) (bytes : List ℕ) → has_frame (cut limit bytes) ≡ false → rest_of (cut limit bytes) ≡ bytes
-unfolding cut
-cut_rest limit bytes none = rest_some limit (length bytes) bytes none
 
 no_frames : (c : Cut) → has_frame c ≡ false → frames_of c ≡ []
 no_frames (Rest bytes) none = refl
@@ -114,7 +99,7 @@ heard_whole served start now first held listens none =
 pub rests : (served : Served) (start now : HearingOf) (first held : Inbox) → IsListening served start now first held
     → has_frame (cut held.limit held.bytes) ≡ false → held ≡ resting first
 rests served start now first held listens none =
-    let bytes_are : held.bytes ≡ rest_of (cut first.limit first.bytes) = sym (cut_rest held.limit held.bytes none) ∙ listens.rest in
+    let bytes_are : held.bytes ≡ rest_of (cut first.limit first.bytes) = sym (rest_left held.limit held.bytes none) ∙ listens.rest in
     ap (λ (bytes : List ℕ). record { limit = held.limit; bytes = bytes; fault = held.fault }) bytes_are
     ∙ ap (λ (limit : ℕ). record { limit = limit; bytes = rest_of (cut first.limit first.bytes); fault = held.fault }) listens.limit
     ∙ ap (λ (fault : Option FrameFault). record { limit = first.limit; bytes = rest_of (cut first.limit first.bytes); fault = fault }) listens.fault
@@ -158,11 +143,6 @@ heard_fault fault.Closed served start now new first held next frame listens goin
     failed_by served start now new first held next frame fault.Closed listens going gives is
 
 -- ---- what next gives
-
-gives_none : (old : Inbox) (found : Option Frame) (new : Inbox) → ((frame : Frame) → found ≡ Some frame → ⊥) → Gives old found new
-    → (new ≡ old) × (has_frame (cut old.limit old.bytes) ≡ false)
-gives_none old None new never gives = gives
-gives_none old (Some frame) new never gives = absurd (never frame refl)
 
 pub no_more : (served : Served) (start now : HearingOf) (first held : Inbox) (found : Option Frame) (next : Inbox) → IsListening served start now first held
     → ((frame : Frame) → found ≡ Some frame → ⊥) → Gives held found next → now ≡ frames_heard served start (held_frames first)

@@ -2,4 +2,5 @@ pub mod ContentLemmas
 pub mod CutLemmas
 pub mod FrontLemmas
 pub mod HistoryLemmas
+pub mod InboxLemmas
 pub mod PieceLemmas

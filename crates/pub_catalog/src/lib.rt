@@ -3,5 +3,7 @@
 #![tactic(auto)]
 
 mod catalog;
+mod index_identity;
 
 pub use catalog::{Catalog, Entry, Operations, Publication, Subscription};
+pub use index_identity::identifies;

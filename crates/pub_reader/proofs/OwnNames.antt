@@ -1,6 +1,6 @@
 -- CREATE PUBLICATION and CREATE SUBSCRIPTION keep that each has a name of its own, and that a subscription's publications are there.
-use Rattle.std.proofs.Common.{◌≡◌, ℕ, ◌<◌, ◌≤◌, Bool, true, false, ◌||◌, ◌==◌, List, [], ◌∷◌, ◌++◌, All, length, map, refl, sym, ap, subst, ◌∙◌, arith}
-use Rattle.std.specs.Prelude.{nat_eq, nat_le, if◌then◌else◌, position, Option, Some, None, Ok, Err}
+use Rattle.std.proofs.Common.{◌≡◌, ℕ, ◌<◌, ◌≤◌, Bool, true, false, ◌==◌, List, [], ◌∷◌, ◌++◌, All, length, map, refl, sym, ap, subst, ◌∙◌, arith}
+use Rattle.std.specs.Prelude.{nat_eq, nat_le, position, Option, Some, None, Ok, Err}
 use Rattle.std.specs.Cmp.{IsEquivalence, decided, nat_eq_equiv}
 use Rattle.std.specs.List.{IsDistinct, list_any}
 use Rattle.std.specs.Str.{bytes_eq}
@@ -20,7 +20,7 @@ use Rattle.sql_reader.specs.declared.word.Keyword.TheVariants as k
 use Rattle.sql_reader.specs.Expressions.{Forms}
 use Rattle.sql_reader.specs.Items.{Items}
 use Rattle.sql_reader.specs.Names.{name}
-use Rattle.sql_reader.specs.Reading.{Outcome, Verdict, with_rest, expect}
+use Rattle.sql_reader.specs.Reading.{Outcome, with_rest, expect}
 use Rattle.sql_reader.specs.Turns.{link}
 use Rattle.sql_reader.proofs.Keeping.{Gives, any-gives, then-gives, repeat-gives, link-gives}
 use Rattle.sql_reader.proofs.Leaving.{Leaves, then-leaves}

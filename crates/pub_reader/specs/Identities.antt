@@ -1,18 +1,14 @@
 -- ALTER TABLE .. REPLICA IDENTITY: PostgreSQL 15, SQL Commands, ALTER TABLE.
-use Rattle.std.specs.Prelude.{ℕ, Bool, false, if◌then◌else◌, List, Option, Some, None, Ok, Err, slice_get}
-use Rattle.std.specs.List.{list_all}
+use Rattle.std.specs.Prelude.{ℕ, if◌then◌else◌, List, Option, Some, None, Ok, Err, slice_get}
 use Rattle.filter_tree.specs.declared.table.Column.{Column}
 use Rattle.filter_tree.specs.declared.table.Identity.{Identity}
 use Rattle.filter_tree.specs.declared.table.Identity.TheVariants.{Default, Index, Full, Nothing}
 use Rattle.filter_tree.specs.declared.table.UniqueIndex.{UniqueIndex}
-use Rattle.sql_reader.specs.declared.word.Keyword.TheVariants as k
-use Rattle.sql_reader.specs.declared.item.Item.{Item}
-use Rattle.sql_reader.specs.declared.item.Item.TheVariants as i
-use Rattle.sql_reader.specs.declared.name.PlacedName.{PlacedName}
+use Rattle.pub_reader.specs.Grammar.k
+use Rattle.pub_reader.specs.Grammar.i
+use Rattle.pub_reader.specs.Grammar.w
+use Rattle.pub_reader.specs.Grammar.{Item, PlacedName, Rule, Verdict, fault, ◌>>=◌, ◌>>◌, pure, check, refuse, refuse_as, advance, eat, expect, item_ahead, name}
 use Rattle.sql_reader.specs.declared.error.Omitted.TheVariants.{Clause}
-use Rattle.sql_reader.specs.Wrong as w
-use Rattle.sql_reader.specs.Names.{name}
-use Rattle.sql_reader.specs.Reading.{Rule, Verdict, fault, ◌>>=◌, ◌>>◌, pure, check, refuse, refuse_as, advance, eat, expect, item_ahead}
 use Rattle.pub_catalog.specs.Catalogs.{columns_at, indexes_at, identified}
 use Rattle.pub_catalog.specs.IndexIdentities.{identifies}
 use Rattle.pub_reader.specs.Drafts.{DraftOf, find_index}

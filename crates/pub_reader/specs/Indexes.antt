@@ -4,18 +4,14 @@ use Rattle.std.specs.List.{list_any}
 use Rattle.std.specs.Str.{bytes_eq}
 use Rattle.filter_tree.specs.declared.table.Column.{Column}
 use Rattle.filter_tree.specs.declared.table.Table.{Table}
-use Rattle.sql_reader.specs.declared.word.Keyword.TheVariants as k
-use Rattle.sql_reader.specs.declared.item.Item.{Item}
-use Rattle.sql_reader.specs.declared.item.Item.TheVariants as i
-use Rattle.sql_reader.specs.declared.name.PlacedName.{PlacedName}
+use Rattle.pub_reader.specs.Grammar.k
+use Rattle.pub_reader.specs.Grammar.i
+use Rattle.pub_reader.specs.Grammar.w
+use Rattle.pub_reader.specs.Grammar.{Item, PlacedName, Rule, Verdict, fault, ◌>>=◌, ◌>>◌, pure, check, refuse_as, eat, expect, item_ahead, link, repeat, name}
 use Rattle.sql_reader.specs.declared.column.FoundColumn.{FoundColumn}
 use Rattle.sql_reader.specs.declared.error.Omitted.TheVariants.{Clause}
 use Rattle.sql_reader.specs.declared.error.Limit.TheVariants.{Indexes}
-use Rattle.sql_reader.specs.Wrong as w
 use Rattle.sql_reader.specs.Expressions.{known_column}
-use Rattle.sql_reader.specs.Names.{name}
-use Rattle.sql_reader.specs.Reading.{Rule, Verdict, fault, ◌>>=◌, ◌>>◌, pure, check, refuse_as, eat, expect, item_ahead}
-use Rattle.sql_reader.specs.Turns.{link, repeat}
 use Rattle.pub_catalog.specs.Catalogs.{schema_at, columns_at, indexes_at, indexed}
 use Rattle.pub_reader.specs.Drafts.{DraftOf, find_relation}
 use Rattle.pub_reader.specs.Schemas.{fresh}

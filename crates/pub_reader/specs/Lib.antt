@@ -2,6 +2,7 @@ pub mod CatalogMeaning
 pub mod DraftNames
 pub mod DraftView
 pub mod Drafts
+pub mod Grammar
 pub mod Identities
 pub mod Indexes
 pub mod Objects

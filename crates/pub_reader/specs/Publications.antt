@@ -1,13 +1,10 @@
 -- CREATE PUBLICATION: PostgreSQL 15, SQL Commands, CREATE PUBLICATION.
 use Rattle.std.specs.Prelude.{true, nat_le, [], ◌∷◌, ◌++◌, length, Option, Some, None}
-use Rattle.sql_reader.specs.declared.word.Keyword.TheVariants as k
-use Rattle.sql_reader.specs.declared.item.Item.{Item}
-use Rattle.sql_reader.specs.declared.item.Item.TheVariants as i
-use Rattle.sql_reader.specs.declared.name.PlacedName.{PlacedName}
+use Rattle.pub_reader.specs.Grammar.k
+use Rattle.pub_reader.specs.Grammar.i
+use Rattle.pub_reader.specs.Grammar.{Item, PlacedName, Rule, Verdict, ◌>>=◌, ◌>>◌, pure, check, advance, expect, item_ahead, name}
 use Rattle.sql_reader.specs.declared.error.Limit.TheVariants.{Publications}
 use Rattle.sql_reader.specs.Expressions.{Forms}
-use Rattle.sql_reader.specs.Names.{name}
-use Rattle.sql_reader.specs.Reading.{Rule, Verdict, ◌>>=◌, ◌>>◌, pure, check, advance, expect, item_ahead}
 use Rattle.pub_catalog.specs.declared.catalog.Operations.{Operations}
 use Rattle.pub_reader.specs.declared.parameter.Given.{Given}
 use Rattle.pub_catalog.specs.Catalogs.{every_operation}

@@ -3,13 +3,10 @@ use Rattle.std.specs.Prelude.{ℕ, Bool, true, false, ◌||◌, ◌==◌, if◌t
 use Rattle.std.specs.Option.{is_some}
 use Rattle.std.specs.Str.{str_eq_ignore_ascii_case}
 use Rattle.sql_tokens.specs.declared.kinds.Operator.TheVariants.{Equal}
-use Rattle.sql_reader.specs.declared.word.Keyword.TheVariants as k
-use Rattle.sql_reader.specs.declared.item.Item.{Item}
-use Rattle.sql_reader.specs.declared.item.Item.TheVariants as i
-use Rattle.sql_reader.specs.Wrong as w
-use Rattle.sql_reader.specs.Names.{name_ahead}
-use Rattle.sql_reader.specs.Reading.{Rule, ◌>>=◌, ◌>>◌, pure, refuse, refuse_as, advance, look, expect, is_ahead, item_ahead, written_ahead, rest_of}
-use Rattle.sql_reader.specs.Turns.{link, repeat}
+use Rattle.pub_reader.specs.Grammar.k
+use Rattle.pub_reader.specs.Grammar.i
+use Rattle.pub_reader.specs.Grammar.w
+use Rattle.pub_reader.specs.Grammar.{Item, Rule, ◌>>=◌, ◌>>◌, pure, refuse, refuse_as, advance, look, expect, is_ahead, item_ahead, written_ahead, rest_of, link, repeat, name_ahead}
 use Rattle.pub_catalog.specs.declared.catalog.Operations.{Operations}
 use Rattle.pub_reader.specs.declared.parameter.Parameter.{Parameter}
 use Rattle.pub_reader.specs.declared.parameter.Parameter.TheVariants as p

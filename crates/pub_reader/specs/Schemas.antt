@@ -1,11 +1,9 @@
 -- Schemas: PostgreSQL 15, SQL Commands, CREATE SCHEMA, and "Data Definition", 5.9 Schemas.
 use Rattle.std.specs.Prelude.{ℕ, Bool, if◌then◌else◌, List, Option, Some, None, Ok, Err}
 use Rattle.std.specs.Option.{is_some}
-use Rattle.sql_reader.specs.declared.name.PlacedName.{PlacedName}
+use Rattle.pub_reader.specs.Grammar.w
+use Rattle.pub_reader.specs.Grammar.{PlacedName, Rule, Verdict, fault, ◌>>=◌, ◌>>◌, pure, check, name}
 use Rattle.sql_reader.specs.declared.error.Limit.{Limit}
-use Rattle.sql_reader.specs.Wrong as w
-use Rattle.sql_reader.specs.Names.{name}
-use Rattle.sql_reader.specs.Reading.{Rule, Verdict, fault, ◌>>=◌, ◌>>◌, pure, check}
 use Rattle.pub_reader.specs.Drafts.{DraftOf, find_schema, with_name}
 
 -- the position of what has a name, which has to be there

@@ -3,12 +3,10 @@ use Rattle.std.specs.Prelude.{ℕ, List, [], ◌∷◌, ◌++◌, Option, Some, 
 use Rattle.std.specs.Str.{str_eq_ignore_ascii_case}
 use Rattle.filter_tree.specs.declared.table.Table.{Table}
 use Rattle.table_changes.specs.Commands.{Command, Insert, Update, Delete, Truncate}
-use Rattle.sql_reader.specs.declared.item.Item.{Item}
-use Rattle.sql_reader.specs.declared.item.Item.TheVariants as i
+use Rattle.pub_reader.specs.Grammar.i
+use Rattle.pub_reader.specs.Grammar.{Item, Rule, ◌>>=◌, ◌>>◌, pure, refuse, advance, expect, next_is, item_ahead, written_ahead, link, repeat}
 use Rattle.sql_reader.specs.Items.{Items}
-use Rattle.sql_reader.specs.Reading.{Rule, ◌>>=◌, ◌>>◌, pure, refuse, advance, expect, next_is, item_ahead, written_ahead}
 use Rattle.sql_reader.specs.Rows.{in_parentheses}
-use Rattle.sql_reader.specs.Turns.{link, repeat}
 use Rattle.pub_reader.specs.declared.script_command.CommandWord.{CommandWord}
 use Rattle.pub_reader.specs.declared.script_command.CommandWord.TheVariants as c
 use Rattle.pub_reader.specs.ScriptTables.{script_table}

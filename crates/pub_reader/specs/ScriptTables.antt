@@ -3,11 +3,9 @@ use Rattle.std.specs.Prelude.{ℕ, Bool, ◌||◌, if◌then◌else◌, List, Ok
 use Rattle.std.specs.List.{list_any}
 use Rattle.std.specs.Str.{bytes_eq}
 use Rattle.filter_tree.specs.declared.table.Table.{Table}
-use Rattle.sql_reader.specs.declared.item.Item.TheVariants as i
-use Rattle.sql_reader.specs.declared.name.PlacedName.{PlacedName}
-use Rattle.sql_reader.specs.Wrong as w
-use Rattle.sql_reader.specs.Names.{name}
-use Rattle.sql_reader.specs.Reading.{Rule, Verdict, fault, ◌>>=◌, ◌>>◌, check, look, expect, is_ahead}
+use Rattle.pub_reader.specs.Grammar.i
+use Rattle.pub_reader.specs.Grammar.w
+use Rattle.pub_reader.specs.Grammar.{PlacedName, Rule, Verdict, fault, ◌>>=◌, ◌>>◌, check, look, expect, is_ahead, name}
 use Rattle.pub_reader.specs.Drafts.{public_schema}
 use Rattle.pub_reader.specs.TableNames.{known_table}
 

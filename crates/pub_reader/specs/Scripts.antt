@@ -1,11 +1,10 @@
 -- Scripts: steps to the end of a text, each ended by a semicolon. There is no empty one.
 use Rattle.std.specs.Prelude.{ℕ, List, [], ◌∷◌, ◌++◌, length}
 use Rattle.filter_tree.specs.declared.table.Table.{Table}
-use Rattle.sql_reader.specs.declared.item.Item.TheVariants as i
+use Rattle.pub_reader.specs.Grammar.i
+use Rattle.pub_reader.specs.Grammar.{Rule, Verdict, ◌>>=◌, ◌>>◌, pure, here, expect, more_ahead, each, repeat}
 use Rattle.sql_reader.specs.Items.{items_of}
-use Rattle.sql_reader.specs.Reading.{Rule, Verdict, ◌>>=◌, ◌>>◌, pure, here, expect, more_ahead}
 use Rattle.sql_reader.specs.Rows.{without_rest}
-use Rattle.sql_reader.specs.Turns.{each, repeat}
 use Rattle.pub_reader.specs.Steps.{StepOf, counted_word, step_body}
 
 -- a step, and the place of its first word

@@ -1,12 +1,10 @@
 -- The statements of a catalog: PostgreSQL 15, "SQL Commands".
 use Rattle.std.specs.Prelude.{ℕ, List, Option, Some, Ok, Err}
-use Rattle.sql_reader.specs.declared.word.Keyword.TheVariants as k
-use Rattle.sql_reader.specs.declared.item.Item.{Item}
-use Rattle.sql_reader.specs.declared.item.Item.TheVariants as i
+use Rattle.pub_reader.specs.Grammar.k
+use Rattle.pub_reader.specs.Grammar.i
+use Rattle.pub_reader.specs.Grammar.{Item, Outcome, Rule, Verdict, ◌>>=◌, ◌>>◌, pure, refuse, advance, expect, item_ahead, more_ahead, each, repeat}
 use Rattle.sql_reader.specs.Expressions.{Forms}
 use Rattle.sql_reader.specs.Items.{items_of}
-use Rattle.sql_reader.specs.Reading.{Outcome, Rule, Verdict, ◌>>=◌, ◌>>◌, pure, refuse, advance, expect, item_ahead, more_ahead}
-use Rattle.sql_reader.specs.Turns.{each, repeat}
 use Rattle.pub_catalog.specs.Catalogs.{CatalogOf}
 use Rattle.pub_reader.specs.Drafts.{DraftOf, no_draft, resolved}
 use Rattle.pub_reader.specs.Identities.{alter_table}

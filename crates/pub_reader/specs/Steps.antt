@@ -4,12 +4,11 @@ use Rattle.std.specs.Str.{str_eq_ignore_ascii_case}
 use Rattle.filter_tree.specs.declared.table.Table.{Table}
 use Rattle.table_changes.specs.Commands.{Command}
 use Rattle.sql_reader.specs.declared.error.Limit.TheVariants.{Steps}
-use Rattle.sql_reader.specs.declared.item.Item.{Item}
-use Rattle.sql_reader.specs.declared.item.Item.TheVariants as i
-use Rattle.sql_reader.specs.declared.word.Keyword.TheVariants as k
-use Rattle.sql_reader.specs.Wrong as w
+use Rattle.pub_reader.specs.Grammar.k
+use Rattle.pub_reader.specs.Grammar.i
+use Rattle.pub_reader.specs.Grammar.w
+use Rattle.pub_reader.specs.Grammar.{Item, Rule, ◌>>=◌, ◌>>◌, pure, refuse, refuse_as, advance, item_ahead, written_ahead}
 use Rattle.sql_reader.specs.Items.{Items}
-use Rattle.sql_reader.specs.Reading.{Rule, ◌>>=◌, ◌>>◌, pure, refuse, refuse_as, advance, item_ahead, written_ahead}
 use Rattle.pub_reader.specs.declared.step_word.StepWord.{StepWord}
 use Rattle.pub_reader.specs.declared.step_word.StepWord.TheVariants as s
 use Rattle.pub_reader.specs.ScriptCommands.{commands_or_none}

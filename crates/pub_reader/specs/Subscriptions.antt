@@ -1,16 +1,12 @@
 -- CREATE SUBSCRIPTION: PostgreSQL 15, SQL Commands, CREATE SUBSCRIPTION. The connection text is not used, and WITH is left out.
 use Rattle.std.specs.Prelude.{ℕ, ◌==◌, nat_le, if◌then◌else◌, List, [], ◌∷◌, ◌++◌, length, Option, Some, None, Ok, Err}
 use Rattle.std.specs.List.{list_any}
-use Rattle.sql_reader.specs.declared.word.Keyword.TheVariants as k
-use Rattle.sql_reader.specs.declared.item.Item.{Item}
-use Rattle.sql_reader.specs.declared.item.Item.TheVariants as i
-use Rattle.sql_reader.specs.declared.name.PlacedName.{PlacedName}
+use Rattle.pub_reader.specs.Grammar.k
+use Rattle.pub_reader.specs.Grammar.i
+use Rattle.pub_reader.specs.Grammar.w
+use Rattle.pub_reader.specs.Grammar.{Item, PlacedName, Rule, Verdict, fault, ◌>>=◌, ◌>>◌, pure, check, refuse_as, expect, item_ahead, link, repeat, name}
 use Rattle.sql_reader.specs.declared.error.Omitted.TheVariants.{Clause}
 use Rattle.sql_reader.specs.declared.error.Limit.TheVariants.{Subscriptions}
-use Rattle.sql_reader.specs.Wrong as w
-use Rattle.sql_reader.specs.Names.{name}
-use Rattle.sql_reader.specs.Reading.{Rule, Verdict, fault, ◌>>=◌, ◌>>◌, pure, check, refuse_as, expect, item_ahead}
-use Rattle.sql_reader.specs.Turns.{link, repeat}
 use Rattle.pub_reader.specs.Drafts.{DraftOf, find_publication, find_subscription}
 use Rattle.pub_reader.specs.Schemas.{fresh}
 

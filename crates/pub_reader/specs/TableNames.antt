@@ -1,15 +1,12 @@
 -- The names of tables, with their schemas: PostgreSQL 15, "Data Definition", 5.9 Schemas. A name without a schema is one of the schema "public".
 use Rattle.std.specs.Prelude.{ℕ, Bool, true, nat_le, if◌then◌else◌, List, length, Option, Some, Err}
 use Rattle.filter_tree.specs.declared.table.Table.{Table}
-use Rattle.sql_reader.specs.declared.word.Keyword.TheVariants as k
-use Rattle.sql_reader.specs.declared.item.Item.{Item}
-use Rattle.sql_reader.specs.declared.item.Item.TheVariants as i
-use Rattle.sql_reader.specs.declared.name.PlacedName.{PlacedName}
+use Rattle.pub_reader.specs.Grammar.k
+use Rattle.pub_reader.specs.Grammar.i
+use Rattle.pub_reader.specs.Grammar.w
+use Rattle.pub_reader.specs.Grammar.{Item, PlacedName, Rule, Verdict, fault, ◌>>=◌, ◌>>◌, pure, check, look, expect, is_ahead, item_ahead, name}
 use Rattle.sql_reader.specs.declared.error.Omitted.TheVariants.{Constraint}
 use Rattle.sql_reader.specs.declared.error.Limit.TheVariants.{Tables}
-use Rattle.sql_reader.specs.Wrong as w
-use Rattle.sql_reader.specs.Names.{name}
-use Rattle.sql_reader.specs.Reading.{Rule, Verdict, fault, ◌>>=◌, ◌>>◌, pure, check, look, expect, is_ahead, item_ahead}
 use Rattle.sql_reader.specs.Columns.{left_out}
 use Rattle.pub_reader.specs.declared.table_name.NewName.{NewName}
 use Rattle.pub_reader.specs.Drafts.{DraftOf, public_schema, find_table, find_relation}

@@ -1,16 +1,14 @@
 //! ALTER TABLE .. REPLICA IDENTITY.
 
-ghost use Rattle.std.specs.Prelude.{◌≡◌, ◌<◌, slice_get};
-ghost use Rattle.sql_reader.specs.Reading.{Answers};
 ghost use Rattle.pub_reader.specs.DraftView.{draft_view};
-ghost use Rattle.pub_catalog.specs.IndexIdentities as identities;
 ghost use Rattle.pub_reader.specs.Identities as spec;
-ghost use Rattle.sql_reader.specs.Taking.{Takes, TakesSome};
+ghost use Rattle.sql_reader.specs.Taking.{Takes, TakesSome, Answers};
 
 use crate::draft::{Draft, find_index};
 use crate::names::known_number;
 use crate::table_name::table_number;
 use filter_tree::{Column, Identity, UniqueIndex};
+use pub_catalog::identifies;
 use sql_reader::{ErrorKind, Item, Keyword, Omitted, PlacedName, ReadError, Reader, read_name};
 use std::alloc::Global;
 
@@ -27,33 +25,6 @@ fn action(r: &mut Reader<'_>) -> Result<(), ReadError>
         Some(Item::Keyword(_)) => Err(r.refused(ErrorKind::LeftOut(Omitted::Clause))),
         Some(Item::Word) => Err(r.refused(ErrorKind::LeftOut(Omitted::Clause))),
         _ => Err(r.refusal("REPLICA IDENTITY")),
-    }
-}
-
-/// Whether a column is there and takes no null.
-fn takes_no_null(columns: &[Column], number: usize) -> bool
-    ensures { result ≡ identities.takes_no_null (slice_get columns.now number) }
-{
-    match columns.get(number) {
-        Some(column) => column.not_null,
-        None => false,
-    }
-}
-
-/// Whether each of these columns is there and takes no null.
-fn take_no_null(columns: &[Column], numbers: &[usize]) -> bool
-    ensures { result ≡ identities.take_no_null columns.now numbers.now }
-{
-    numbers.iter().all(|number| takes_no_null(columns, *number))
-}
-
-/// Whether the index of this number is there, and none of its columns takes a null.
-fn identifies(columns: &[Column], indexes: &[UniqueIndex], number: usize) -> bool
-    ensures { result ≡ identities.identifies columns.now (slice_get indexes.now number) }
-{
-    match indexes.get(number) {
-        None => false,
-        Some(index) => take_no_null(columns, index.columns.as_slice()),
     }
 }
 

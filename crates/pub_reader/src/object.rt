@@ -1,9 +1,7 @@
 //! What a publication is made for: tables, with the filters of their rows, and schemas.
 
-ghost use Rattle.std.specs.Prelude.{◌≡◌, ◌<◌};
-ghost use Rattle.sql_reader.specs.Ahead.{to_read};
-ghost use Rattle.sql_reader.specs.Reading.{Reads, Answers};
-ghost use Rattle.sql_reader.specs.Taking.{Takes, TakesSome};
+ghost use Rattle.std.specs.Prelude.{◌≡◌};
+ghost use Rattle.sql_reader.specs.Taking.{Takes, TakesSome, to_read, Reads, Answers};
 ghost use Rattle.sql_reader.specs.Written.{as_filter};
 ghost use Rattle.pub_reader.specs.Drafts.{nothing_covered};
 ghost use Rattle.pub_reader.specs.DraftView.{coverage_view, draft_view, objects_view};

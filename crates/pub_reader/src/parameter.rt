@@ -1,11 +1,9 @@
 //! The parameters of a publication.
 
-ghost use Rattle.std.specs.Prelude.{◌≡◌, ◌<◌, IsSome};
-ghost use Rattle.sql_reader.specs.Ahead.{to_read};
-ghost use Rattle.sql_reader.specs.Reading.{item_ahead, written_ahead};
+ghost use Rattle.std.specs.Prelude.{◌≡◌, IsSome};
 ghost use Rattle.pub_reader.specs.Operations.{operations as operations_of};
 ghost use Rattle.pub_reader.specs.Publishing as spec;
-ghost use Rattle.sql_reader.specs.Taking.{Takes, TakesSome};
+ghost use Rattle.sql_reader.specs.Taking.{Takes, TakesSome, to_read, item_ahead, written_ahead};
 
 use crate::publish::operations;
 use pub_catalog::Operations;

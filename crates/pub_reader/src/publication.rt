@@ -1,6 +1,6 @@
 //! CREATE PUBLICATION.
 
-ghost use Rattle.std.specs.Prelude.{◌≡◌, ◌<◌, IfOk, None, OnOk};
+ghost use Rattle.std.specs.Prelude.{◌≡◌, IfOk, None, OnOk};
 ghost use Rattle.sql_reader.specs.Taking.{Takes, TakesSome};
 ghost use Rattle.sql_reader.specs.Written.{as_filter};
 ghost use Rattle.pub_reader.specs.Drafts.{find_publication};

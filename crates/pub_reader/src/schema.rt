@@ -1,9 +1,8 @@
 //! CREATE SCHEMA.
 
-ghost use Rattle.std.specs.Prelude.{◌<◌};
 ghost use Rattle.pub_reader.specs.DraftView.{draft_view};
 ghost use Rattle.pub_reader.specs.Schemas as spec;
-ghost use Rattle.sql_reader.specs.Taking.{Takes, TakesSome};
+ghost use Rattle.sql_reader.specs.Taking.{TakesSome};
 
 use crate::draft::Draft;
 use sql_reader::{ReadError, Reader, read_name};

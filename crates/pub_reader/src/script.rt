@@ -1,10 +1,8 @@
 //! Scripts.
 
 ghost use Rattle.std.specs.Prelude.{◌<◌, OnOk, map};
-ghost use Rattle.sql_reader.specs.Ahead.{to_read};
 ghost use Rattle.sql_reader.specs.Items.{size};
-ghost use Rattle.sql_reader.specs.Reading.{Reads, Answers};
-ghost use Rattle.sql_reader.specs.Taking.{TakesSome};
+ghost use Rattle.sql_reader.specs.Taking.{TakesSome, to_read, Reads, Answers};
 ghost use Rattle.pub_reader.specs.Scripts as spec;
 ghost use Rattle.pub_reader.specs.ScriptView.{line_view};
 

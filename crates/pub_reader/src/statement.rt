@@ -1,9 +1,7 @@
 //! The statements of a catalog.
 
-ghost use Rattle.std.specs.Prelude.{◌<◌, IfOk, OnOk};
-ghost use Rattle.sql_reader.specs.Ahead.{to_read};
-ghost use Rattle.sql_reader.specs.Reading.{Reads, Answers};
-ghost use Rattle.sql_reader.specs.Taking.{Takes, TakesSome};
+ghost use Rattle.std.specs.Prelude.{IfOk, OnOk};
+ghost use Rattle.sql_reader.specs.Taking.{Takes, TakesSome, to_read, Reads, Answers};
 ghost use Rattle.sql_reader.specs.Written.{as_filter, as_written};
 ghost use Rattle.pub_catalog.specs.CatalogLimits.{IsLimited};
 ghost use Rattle.pub_reader.specs.CatalogMeaning.{MeansAsWritten};

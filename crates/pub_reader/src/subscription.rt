@@ -1,12 +1,10 @@
 //! CREATE SUBSCRIPTION.
 
-ghost use Rattle.std.specs.Prelude.{◌≡◌, ◌<◌, IfOk, None};
-ghost use Rattle.sql_reader.specs.Ahead.{to_read};
-ghost use Rattle.sql_reader.specs.Reading.{Reads, Answers};
+ghost use Rattle.std.specs.Prelude.{◌≡◌, IfOk, None};
 ghost use Rattle.pub_reader.specs.Drafts.{find_subscription};
 ghost use Rattle.pub_reader.specs.DraftView.{draft_view};
 ghost use Rattle.pub_reader.specs.Subscriptions as spec;
-ghost use Rattle.sql_reader.specs.Taking.{Takes, TakesSome};
+ghost use Rattle.sql_reader.specs.Taking.{TakesSome, to_read, Reads, Answers};
 
 use crate::draft::Draft;
 use filter_tree::Items;

@@ -1,11 +1,9 @@
 //! The names of tables, with their schemas.
 
 ghost use Rattle.std.specs.Prelude.{◌<◌, IfOk, length};
-ghost use Rattle.sql_reader.specs.Ahead.{to_read};
-ghost use Rattle.sql_reader.specs.Reading.{Reads};
 ghost use Rattle.pub_reader.specs.DraftView.{draft_view};
 ghost use Rattle.pub_reader.specs.TableNames as spec;
-ghost use Rattle.sql_reader.specs.Taking.{Takes, TakesSome};
+ghost use Rattle.sql_reader.specs.Taking.{Takes, TakesSome, to_read, Reads};
 
 use crate::draft::{Draft, PUBLIC};
 use filter_tree::Text;

@@ -1,11 +1,11 @@
 -- The columns of a table's replica identity, whose old values an UPDATE or DELETE records, and whether they tell which row it was: PostgreSQL 15, "Logical Replication", 31.1 Publication, and ALTER TABLE (REPLICA IDENTITY).
 use Rattle.std.specs.Prelude.{ℕ, zero, suc, ◌==◌, Bool, true, false, List, [], ◌∷◌, ◌++◌, length, Option, Some, None, slice_get}
-use Rattle.std.specs.List.{list_any, list_all}
-use Rattle.filter_tree.specs.declared.table.Column.{Column}
+use Rattle.std.specs.List.{list_any}
 use Rattle.filter_tree.specs.declared.table.Identity.{Identity}
 use Rattle.filter_tree.specs.declared.table.Identity.TheVariants.{Default, Index, Full, Nothing}
 use Rattle.filter_tree.specs.declared.table.Table.{Table}
 use Rattle.filter_tree.specs.declared.table.UniqueIndex.{UniqueIndex}
+use Rattle.pub_catalog.specs.IndexIdentities.{identifies}
 
 -- 0, 1 and so on, so many
 abbrev pub numbers_to : ℕ → List ℕ
@@ -33,23 +33,10 @@ is_covered table column = list_any (λ number. number == column) (identity_colum
 
 -- ---- rows told apart
 
--- the column is there, and takes no null
-abbrev pub takes_no_null : Option Column → Bool
-takes_no_null None = false
-takes_no_null (Some column) = column.not_null
-
--- the columns of these numbers
-abbrev pub take_no_null : List Column → List ℕ → Bool
-take_no_null columns numbers = list_all (λ number. takes_no_null (slice_get columns number)) numbers
-
--- the index is there, and its columns take no null: any other is no replica identity, and one that was dropped is as NOTHING
-abbrev pub index_tells : List Column → Option UniqueIndex → Bool
-index_tells columns None = false
-index_tells columns (Some index) = take_no_null columns index.columns
-
+-- An index that is not there, or one of whose columns takes a null, is no replica identity: one that was dropped is as NOTHING.
 abbrev pub identity_tells : Identity → Table → Bool
 identity_tells Default table = true
-identity_tells (Index number) table = index_tells table.columns (slice_get table.indexes number)
+identity_tells (Index number) table = identifies table.columns (slice_get table.indexes number)
 identity_tells Full table = true
 identity_tells Nothing table = false
 

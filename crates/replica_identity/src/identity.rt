@@ -3,7 +3,8 @@
 ghost use Rattle.std.specs.Prelude.{◌≡◌, IfOk, slice_get};
 ghost use Rattle.replica_identity.specs.Identities as spec;
 
-use filter_tree::{Column, Identity, Table};
+use filter_tree::{Identity, Table};
+use pub_catalog::identifies;
 use std::alloc::{AllocError, Global};
 
 /// The numbers from 0 up to a length.
@@ -67,37 +68,6 @@ pub fn covered(table: &Table, column: usize) -> bool
     }
 }
 
-/// Whether the column of this number is there and takes no null.
-fn takes_no_null(columns: &[Column], number: usize) -> bool
-    ensures { result ≡ spec.takes_no_null (slice_get columns.now number) }
-{
-    match columns.get(number) {
-        Some(column) => column.not_null,
-        None => false,
-    }
-}
-
-fn take_no_null(columns: &[Column], numbers: &[usize]) -> bool
-    ensures { result ≡ spec.take_no_null columns.now numbers.now }
-{
-    for number in numbers {
-        if !takes_no_null(columns, *number) {
-            return false;
-        }
-    }
-    true
-}
-
-/// Whether the table has a unique index of this number, and its columns take no null.
-fn index_tells(table: &Table, number: usize) -> bool
-    ensures { result ≡ spec.index_tells table.now.columns (slice_get table.now.indexes number) }
-{
-    match table.indexes.get(number) {
-        Some(index) => take_no_null(table.columns.as_slice(), index.columns.as_slice()),
-        None => false,
-    }
-}
-
 /// Whether what a table's replica identity records of an old row tells which row of the table it was. `Nothing`
 /// doesn't, nor does an `Index` that the table doesn't have or that has a column which may be null. No `Catalog` has
 /// such an identity.
@@ -108,7 +78,11 @@ pub fn tells_rows_apart(table: &Table) -> bool
 {
     match table.identity {
         Identity::Default | Identity::Full => true,
-        Identity::Index(number) => index_tells(table, number),
+        Identity::Index(number) => identifies(
+            table.columns.as_slice(),
+            table.indexes.as_slice(),
+            number,
+        ),
         Identity::Nothing => false,
     }
 }

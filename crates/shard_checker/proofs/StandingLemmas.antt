@@ -17,8 +17,9 @@ use Rattle.filter_tree.proofs.ListsLemmas.{determined_by_columns}
 use Rattle.filter_tree.proofs.SameLemmas.{both_true}
 use Rattle.filter_tree.proofs.ValidLemmas.{valid_from_no_fault}
 use Rattle.pub_catalog.specs.Catalogs.{CatalogOf, PublicationOf, EntryOf}
+use Rattle.pub_catalog.specs.IndexIdentities.{takes_no_null, take_no_null, identifies}
 use Rattle.pub_catalog.specs.declared.catalog.Subscription.{Subscription}
-use Rattle.replica_identity.specs.Identities.{index_columns, columns_by, identity_columns, takes_no_null, take_no_null, index_tells, identity_tells, tells_rows_apart}
+use Rattle.replica_identity.specs.Identities.{index_columns, columns_by, identity_columns, identity_tells, tells_rows_apart}
 use Rattle.replica_identity.specs.Passes.{listed_by, lets, entry_carries, carries}
 use Rattle.replica_identity.specs.Plans.{PlanOf, TakesWhatPasses, share_at, plan_of}
 use Rattle.replica_identity.specs.Setting.{recorded_as, fault_in, recorded_in, identity_by, identity_in, blanked_by, blanked_in, setting_of}
@@ -276,7 +277,7 @@ apart_by_key catalog plan tables command leaves number table there one other bot
     number 0 one other (values_at table.key one) both.first both.second (keys one) (keys other ∙ ap Some (sym same))
 
 -- by an index that was looked for
-by_found : {P : Type 0} (table : Table) (one other : List Datum) (found : Option UniqueIndex) → index_tells table.columns found ≡ true
+by_found : {P : Type 0} (table : Table) (one other : List Datum) (found : Option UniqueIndex) → identifies table.columns found ≡ true
     → values_at (index_columns found) one ≡ values_at (index_columns found) other
     → ((index : UniqueIndex) → found ≡ Some index → take_no_null table.columns index.columns ≡ true → values_at index.columns one ≡ values_at index.columns other → P) → P
 by_found table one other None tells same next = absurd cc

@@ -1,8 +1,7 @@
 //! Certificates as they are read, node by node.
 
-ghost use Rattle.std.specs.Prelude.{◌≡◌, ◌<◌, ◌&&◌, ◌==◌, [], Some, None, Ok, Err, IfErr, IfOk, false};
+ghost use Rattle.std.specs.Prelude.{◌≡◌, ◌<◌, ◌&&◌, ◌==◌, [], Some, IfErr, IfOk, false};
 ghost use Rattle.filter_tree.specs.Memory.{Answers};
-ghost use Rattle.split_cert.specs.declared.error.CertError.{CertError};
 ghost use Rattle.split_cert.specs.declared.head.Kind.TheVariants.{Split};
 ghost use Rattle.split_cert.specs.Nodes as spec;
 ghost use Rattle.split_cert.specs.Where.{here_view};

@@ -1,10 +1,11 @@
--- What a function that reads by a rule of the grammar does: it takes tokens from the front of what its reader has still to read.
+-- What a function that reads by a rule of the grammar does: it takes tokens from the front of what its reader has still to read. The other words of such contracts are passed on.
 use Rattle.std.specs.Prelude.{◌≡◌, ◌<◌, ◌≤◌, Result, Ok, Err}
-use Rattle.sql_reader.specs.Ahead.{to_read}
+pub use Rattle.sql_reader.specs.Ahead.{to_read}
 use Rattle.sql_reader.specs.declared.error.ReadError.{ReadError}
 use Rattle.sql_reader.specs.declared.reader.Reader.{Reader}
 use Rattle.sql_reader.specs.Items.{size}
 use Rattle.sql_reader.specs.Reading.{Rule, Tells}
+pub use Rattle.sql_reader.specs.Reading.{Reads, Answers, IsFault, item_ahead, written_ahead}
 
 -- The answer is the rule's, or want of memory, and what the rule leaves is what is left, no more than there was. `view` is what the value read stands for.
 abbrev pub Takes : {A B : Type 0} → (A → B) → Rule B → Reader → Result A ReadError → Reader → Type 0

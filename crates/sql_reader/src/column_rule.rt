@@ -1,11 +1,9 @@
 //! The type and the constraints of a column.
 
-ghost use Rattle.std.specs.Prelude.{◌≡◌, ◌<◌, IsSome};
-ghost use Rattle.sql_reader.specs.Ahead.{to_read};
-ghost use Rattle.sql_reader.specs.Reading.{Answers, IsFault, item_ahead, written_ahead};
+ghost use Rattle.std.specs.Prelude.{◌≡◌, IsSome};
 ghost use Rattle.sql_reader.specs.Columns as spec;
 ghost use Rattle.sql_reader.specs.Columns.{left_out_at};
-ghost use Rattle.sql_reader.specs.Taking.{Takes, TakesSome};
+ghost use Rattle.sql_reader.specs.Taking.{Takes, TakesSome, to_read, Answers, IsFault, item_ahead, written_ahead};
 
 use crate::error::{ErrorKind, Omitted, ReadError};
 use crate::item::Item;

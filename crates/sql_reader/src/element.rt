@@ -1,10 +1,9 @@
 //! The columns and the primary key of CREATE TABLE.
 
-ghost use Rattle.std.specs.Prelude.{◌≡◌, ◌<◌, OnOk};
-ghost use Rattle.sql_reader.specs.Reading.{Answers};
+ghost use Rattle.std.specs.Prelude.{◌≡◌, OnOk};
 ghost use Rattle.sql_reader.specs.Columns as spec;
 ghost use Rattle.sql_reader.specs.PartsView.{parts_view};
-ghost use Rattle.sql_reader.specs.Taking.{Takes, TakesSome};
+ghost use Rattle.sql_reader.specs.Taking.{TakesSome, Answers};
 
 use crate::column::{FoundColumn, find_column, known_column};
 use crate::column_rule::{Constraints, column_constraints, column_type, left_out_clause};

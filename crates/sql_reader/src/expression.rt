@@ -1,6 +1,6 @@
 //! The filters of WHERE clauses.
 
-ghost use Rattle.std.specs.Prelude.{◌<◌, map};
+ghost use Rattle.std.specs.Prelude.{map};
 ghost use Rattle.filter_tree.specs.Shape.{expr_view};
 ghost use Rattle.sql_reader.specs.Expressions as spec;
 ghost use Rattle.sql_reader.specs.Expressions.{AfterNot, InParentheses, InList};

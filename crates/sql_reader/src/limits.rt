@@ -1,10 +1,7 @@
 //! The limits on the filters of a table.
 
 ghost use Rattle.std.specs.Prelude.{◌≡◌, IfOk, OnOk, fold, length, nat_lt};
-ghost use Rattle.std.specs.List.{list_any};
-ghost use Rattle.filter_tree.specs.Shape.{atom_view, atoms_view, expr_view};
-ghost use Rattle.filter_tree.specs.Lists.{with_item};
-ghost use Rattle.filter_tree.specs.Same.{same_atom};
+ghost use Rattle.filter_tree.specs.Shape.{atoms_view, expr_view};
 ghost use Rattle.sql_reader.specs.Limits.{nodes, all_nodes, distinct_count, exprs_view};
 ghost use Rattle.sql_reader.specs.Limits.{exceeded as exceeded_of};
 ghost use Rattle.sql_reader.specs.Counting.{atoms_backwards, gathered, left_after};

@@ -1,15 +1,14 @@
 //! IN and its list of literals.
 
-ghost use Rattle.std.specs.Prelude.{◌≡◌, ◌∷◌, ◌≤◌, IfOk, MatchOption, OnOk, length, map};
+ghost use Rattle.std.specs.Prelude.{◌≡◌, ◌∷◌, ◌≤◌, MatchOption, OnOk, length, map};
 ghost use Rattle.std.specs.List.{insert};
 ghost use Rattle.filter_tree.specs.Shape.{expr_view};
 ghost use Rattle.filter_tree.specs.Values.{constant_view};
-ghost use Rattle.sql_reader.specs.Ahead.{to_read};
+ghost use Rattle.sql_reader.specs.Taking.{to_read, Answers, Reads};
 ghost use Rattle.sql_reader.specs.Ascending.{ascending, constant_cmp, constant_rank, placed, ListsAscend};
 ghost use Rattle.sql_reader.specs.Memberships as spec;
 ghost use Rattle.sql_reader.specs.Operands.{verdict_map};
 ghost use Rattle.sql_reader.specs.OperandView.{operand_view, part_view};
-ghost use Rattle.sql_reader.specs.Reading.{Answers, Reads, item_ahead};
 ghost use Rattle.sql_reader.specs.Written.{as_filter};
 
 use crate::error::{ErrorKind, Limit, ReadError};

@@ -1,10 +1,8 @@
 //! Names and strings, as they are meant.
 
-ghost use Rattle.std.specs.Prelude.{◌≡◌, ◌<◌, IfOk, IsSome, IsTrue};
-ghost use Rattle.sql_reader.specs.Ahead.{to_read};
+ghost use Rattle.std.specs.Prelude.{◌≡◌, IfOk, IsSome, IsTrue};
 ghost use Rattle.sql_reader.specs.Names as spec;
-ghost use Rattle.sql_reader.specs.Reading.{item_ahead, written_ahead};
-ghost use Rattle.sql_reader.specs.Taking.{Takes, TakesSome};
+ghost use Rattle.sql_reader.specs.Taking.{TakesSome, to_read, item_ahead, written_ahead};
 
 use crate::error::ReadError;
 use crate::item::Item;

@@ -1,8 +1,7 @@
 //! Numbers with a sign.
 
-ghost use Rattle.std.specs.Prelude.{◌<◌};
 ghost use Rattle.sql_reader.specs.Numbers as spec;
-ghost use Rattle.sql_reader.specs.Taking.{Takes, TakesSome};
+ghost use Rattle.sql_reader.specs.Taking.{TakesSome};
 
 use crate::error::ReadError;
 use crate::item::Item;

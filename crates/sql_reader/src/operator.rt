@@ -1,8 +1,7 @@
 //! Operators after an operand that are not read.
 
-ghost use Rattle.sql_reader.specs.Ahead.{to_read};
+ghost use Rattle.sql_reader.specs.Taking.{to_read, Reads};
 ghost use Rattle.sql_reader.specs.Expressions as spec;
-ghost use Rattle.sql_reader.specs.Reading.{Reads};
 
 use crate::error::{ErrorKind, Omitted, ReadError};
 use crate::item::Item;

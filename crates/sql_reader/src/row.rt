@@ -1,11 +1,9 @@
 //! Rows as they are written.
 
-ghost use Rattle.std.specs.Prelude.{◌<◌, IsSome, map};
+ghost use Rattle.std.specs.Prelude.{IsSome, map};
 ghost use Rattle.filter_tree.specs.Values.{datum_view};
-ghost use Rattle.sql_reader.specs.Ahead.{to_read};
-ghost use Rattle.sql_reader.specs.Reading.{Reads, Answers, item_ahead};
 ghost use Rattle.sql_reader.specs.Rows as spec;
-ghost use Rattle.sql_reader.specs.Taking.{Takes, TakesSome};
+ghost use Rattle.sql_reader.specs.Taking.{Takes, TakesSome, to_read, Reads, Answers, item_ahead};
 
 use crate::error::ReadError;
 use crate::item::Item;

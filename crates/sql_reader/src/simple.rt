@@ -1,11 +1,9 @@
 //! Operands of an expression that are no parentheses: literals and columns.
 
-ghost use Rattle.std.specs.Prelude.{◌<◌, IsSome};
-ghost use Rattle.sql_reader.specs.Ahead.{to_read};
+ghost use Rattle.std.specs.Prelude.{IsSome};
 ghost use Rattle.sql_reader.specs.Expressions as spec;
 ghost use Rattle.sql_reader.specs.OperandView.{part_view};
-ghost use Rattle.sql_reader.specs.Reading.{Reads, item_ahead};
-ghost use Rattle.sql_reader.specs.Taking.{Takes, TakesSome};
+ghost use Rattle.sql_reader.specs.Taking.{Takes, TakesSome, to_read, Reads, item_ahead};
 
 use crate::column::{FoundColumn, known_column};
 use crate::error::{ErrorKind, Omitted, ReadError};

@@ -1,15 +1,14 @@
 //! The tests IS NULL, IS TRUE, IS FALSE and IS UNKNOWN, and the words IS DISTINCT FROM.
 
-ghost use Rattle.std.specs.Prelude.{◌≡◌, ◌<◌, IfOk};
+ghost use Rattle.std.specs.Prelude.{◌≡◌, IfOk};
 ghost use Rattle.std.specs.Option.{option_map};
 ghost use Rattle.filter_tree.specs.Shape.{expr_view};
 ghost use Rattle.sql_reader.specs.Expressions as grammar;
 ghost use Rattle.sql_reader.specs.Operands as spec;
 ghost use Rattle.sql_reader.specs.OperandView.{operand_view, part_view};
-ghost use Rattle.sql_reader.specs.Reading.{Answers};
-ghost use Rattle.sql_reader.specs.Taking.{Takes, TakesSome};
+ghost use Rattle.sql_reader.specs.Taking.{Takes, TakesSome, Answers};
 ghost use Rattle.sql_reader.specs.Written.{as_filter};
-ghost use Rattle.sql_reader.specs.declared.truth_test.Asked.TheVariants.{Null, Truth};
+ghost use Rattle.sql_reader.specs.declared.truth_test.Asked.TheVariants.{Truth};
 
 use crate::error::{ErrorKind, Omitted, ReadError};
 use crate::item::Item;
@@ -171,41 +170,20 @@ fn asking(
     }
 }
 
-/// IS NULL of an operand.
-fn is_null(alloc: Global, place: usize, operand: Operand) -> Result<Filter, ReadError>
-    ensures { Answers expr_view (spec.answered as_filter place Null (operand_view operand)) result }
-{
-    match operand {
-        Operand::Term(term, _) => Ok(Filter::Atom(Atom::IsNull(term.column()))),
-        Operand::Literal(_, Literal::Bool(known)) => {
-            asking(alloc, place, Test::Unknown, Some(Filter::Const(known)))
-        }
-        Operand::Literal(_, _) => Err(ReadError {
-            place,
-            kind: ErrorKind::LeftOut(Omitted::Constant),
-        }),
-        Operand::Formula(filter) => asking(alloc, place, Test::Unknown, Some(filter)),
-    }
-}
-
 /// IS TRUE, IS FALSE or IS UNKNOWN of an operand.
 fn is_truth(alloc: Global, place: usize, test: Test, operand: Operand) -> Result<Filter, ReadError>
     ensures { Answers expr_view (spec.answered as_filter place (Truth test) (operand_view operand)) result }
 {
     match operand {
-        Operand::Term(term, kind) => asking(alloc, place, test, truth(Operand::Term(term, kind))),
-        Operand::Literal(_, Literal::Bool(known)) => {
-            asking(alloc, place, test, Some(Filter::Const(known)))
-        }
-        Operand::Literal(_, _) => Err(ReadError {
+        Operand::Literal(_, Literal::Int(_) | Literal::Text(_)) => Err(ReadError {
             place,
             kind: ErrorKind::LeftOut(Omitted::Constant),
         }),
-        Operand::Formula(filter) => asking(alloc, place, test, Some(filter)),
+        operand => asking(alloc, place, test, truth(operand)),
     }
 }
 
-/// The test of an operand.
+/// The test of an operand: IS NULL of a boolean expression is IS UNKNOWN.
 fn answered(
     alloc: Global,
     place: usize,
@@ -214,9 +192,10 @@ fn answered(
 ) -> Result<Filter, ReadError>
     ensures { Answers expr_view (spec.answered as_filter place asked (operand_view operand)) result }
 {
-    match asked {
-        Asked::Null => is_null(alloc, place, operand),
-        Asked::Truth(test) => is_truth(alloc, place, test, operand),
+    match (asked, operand) {
+        (Asked::Null, Operand::Term(term, _)) => Ok(Filter::Atom(Atom::IsNull(term.column()))),
+        (Asked::Null, operand) => is_truth(alloc, place, Test::Unknown, operand),
+        (Asked::Truth(test), operand) => is_truth(alloc, place, test, operand),
     }
 }
 

@@ -1,12 +1,11 @@
 -- What is heard of frames one after another is what is heard of all.
 use Rattle.std.proofs.Common.{◌≡◌, ℕ, ◌<◌, false, List, [], ◌∷◌, ◌++◌, length, refl, sym, ap, subst, ◌∙◌, append-nil, arith, length-append}
 use Rattle.std.specs.Prelude.{Option, Some, None, Ok, Err}
-use Rattle.copy_frames.specs.Frames.{framed, front, Cut, Rest, Bad, Then, cut, cut_after, after_frames, rest_of}
+use Rattle.copy_frames.specs.Frames.{framed, Cut, Rest, Bad, Then, cut, after_frames}
 use Rattle.copy_frames.specs.Inboxes.{Inbox, GivesFrame, Gives, has_frame}
 use Rattle.copy_frames.specs.declared.frame.Frame.{Frame}
-use Rattle.copy_frames.specs.declared.front.Front.{Front}
-use Rattle.copy_frames.specs.declared.front.Front.TheVariants.{Part, Faulty, Whole}
-use Rattle.copy_frames.proofs.CutLemmas.{cut_by_front}
+use Rattle.copy_frames.proofs.InboxLemmas.{rest_left, gives_none}
+use Rattle.copy_frames.proofs.PieceLemmas.{rest_after}
 use Rattle.filter_tree.specs.Memory.{TellsFault}
 use Rattle.test_subscriber.specs.Answers.{Reaches, Stays, SameOutcome}
 use Rattle.test_subscriber.specs.Copies.{told, RefusedBy}
@@ -118,26 +117,6 @@ heard_all (first ∷ frames) left old new none reaches =
       | Ok reached ↦ (λ reaches. heard_all frames left reached new none reaches)
       | Err fault ↦ (λ reaches. absurd reaches)
     ] reaches
-
-rest_by_front : (limit : ℕ) (bytes : List ℕ) (found : Front) → has_frame (cut_after found bytes (cut limit)) ≡ false
-    → rest_of (cut_after found bytes (cut limit)) ≡ bytes
-rest_by_front limit bytes Part none = refl
-rest_by_front limit bytes (Faulty fault) none = refl
-rest_by_front limit bytes (Whole size) none = absurd cc
-
-rest_left : (limit : ℕ) (bytes : List ℕ) → has_frame (cut limit bytes) ≡ false → rest_of (cut limit bytes) ≡ bytes
-rest_left limit bytes none =
-    ap rest_of (cut_by_front limit bytes)
-    ∙ rest_by_front limit bytes (front limit bytes) (sym (ap has_frame (cut_by_front limit bytes)) ∙ none)
-
-rest_after : (frames : List Frame) (left : Cut) → rest_of (after_frames frames left) ≡ rest_of left
-rest_after [] left = refl
-rest_after (frame ∷ frames) left = rest_after frames left
-
-gives_none : (before : Inbox) (found : Option Frame) (after : Inbox) → ((frame : Frame) → found ≡ Some frame → ⊥) → Gives before found after
-    → (after ≡ before) × (has_frame (cut before.limit before.bytes) ≡ false)
-gives_none before None after never gives = gives
-gives_none before (Some frame) after never gives = absurd (never frame refl)
 
 pub hears_held : (start before : Inbox) (found : Option Frame) (after : Inbox) (old new : Machine) → IsAt start before old new
     → ((frame : Frame) → found ≡ Some frame → ⊥) → Gives before found after

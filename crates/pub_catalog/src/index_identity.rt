@@ -1,0 +1,35 @@
+//! Which unique indexes may be a replica identity.
+
+ghost use Rattle.std.specs.Prelude.{◌≡◌, slice_get};
+ghost use Rattle.pub_catalog.specs.IndexIdentities as spec;
+
+use filter_tree::{Column, UniqueIndex};
+
+/// Whether the column of this number is there and takes no null.
+fn takes_no_null(columns: &[Column], number: usize) -> bool
+    ensures { result ≡ spec.takes_no_null (slice_get columns.now number) }
+{
+    match columns.get(number) {
+        Some(column) => column.not_null,
+        None => false,
+    }
+}
+
+/// Whether the columns of these numbers are there and take no null.
+fn take_no_null(columns: &[Column], numbers: &[usize]) -> bool
+    ensures { result ≡ spec.take_no_null columns.now numbers.now }
+{
+    numbers.iter().all(|number| takes_no_null(columns, *number))
+}
+
+/// Whether the unique index of this number is there, and none of its columns takes a null.
+///
+/// PostgreSQL 15, SQL Commands, ALTER TABLE (REPLICA IDENTITY USING INDEX).
+pub fn identifies(columns: &[Column], indexes: &[UniqueIndex], number: usize) -> bool
+    ensures { result ≡ spec.identifies columns.now (slice_get indexes.now number) }
+{
+    match indexes.get(number) {
+        Some(index) => take_no_null(columns, index.columns.as_slice()),
+        None => false,
+    }
+}
