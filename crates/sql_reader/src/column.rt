@@ -1,8 +1,8 @@
 //! Columns by their names.
 
-ghost use Rattle.std.specs.Prelude.{◌≡◌};
+ghost use Rattle.std.specs.Prelude.{◌≡◌, IfErr, IsSome};
 ghost use Rattle.sql_reader.specs.Expressions as spec;
-ghost use Rattle.sql_reader.specs.Reading.{Answers};
+ghost use Rattle.sql_reader.specs.Reading.{told, Answers};
 
 use crate::error::{ErrorKind, ReadError};
 use crate::name::PlacedName;
@@ -38,7 +38,8 @@ pub fn find_column(columns: &[Column], name: &str) -> Option<FoundColumn>
 /// `UnknownName` at the name, where there is no such column.
 #[tactic(auto, unfolding(crate::specs::Expressions::known_column))]
 pub fn known_column(columns: &[Column], name: &PlacedName) -> Result<FoundColumn, ReadError>
-    ensures { Answers (λ column. column) (spec.known_column columns.now name.now) result }
+    ensures answers { Answers (λ column. column) (spec.known_column columns.now name.now) result }
+    ensures err { IfErr result (λ error. IsSome (told error)) }
 {
     match find_column(columns, name.text.as_str()) {
         Some(column) => Ok(column),
