@@ -79,6 +79,7 @@ module _ (before after : World) (now : ℕ) (step : StepOf) (text : List ℕ) wh
               takes = pumps.takes;
               answers = pumps.all.answers;
               position = position;
+              go_on = pumps.all.go_on;
               runs = into.runs;
               position_is = λ there.
                   subst (λ (c : CheckedOf). position ≡ w.position_now c into.next.transactions subscriber (into.next.peers subscriber)) into.checked
@@ -111,6 +112,8 @@ module _ (before after : World) (now : ℕ) (step : StepOf) (text : List ℕ) wh
               split = part.are;
               earlier = part.answers;
               answer = answer;
+              go_on = part.go_on;
+              ends = part.ends;
               runs = into.runs;
               refused = λ there c connected. refused there most events world stands (omega (arith, few)) c connected;
               are = refl;

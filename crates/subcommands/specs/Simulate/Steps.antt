@@ -1,10 +1,10 @@
 -- What the steps of a script do in the world of a publisher and its subscribers, and the lines that tell of each. The clock of a step, in microseconds since 2000-01-01, is its number from 1. The steps are this project's own.
-use Rattle.std.specs.Prelude.{◌≡◌, ◌<◌, ℕ, ◌+◌, ◌⊎◌, List, [], ◌∷◌, ◌++◌, length, map, Some}
+use Rattle.std.specs.Prelude.{◌≡◌, ◌<◌, ℕ, ◌+◌, ◌⊎◌, List, [], ◌∷◌, ◌++◌, All, length, map, Some}
 use Rattle.pub_reader.specs.Scripts.{LineOf}
 use Rattle.pub_reader.specs.Steps.{StepOf}
 use Rattle.shard_checker.specs.CheckedView.{CheckedOf}
 use Rattle.copy_both.specs.Streams.{end_of}
-use Rattle.shard_world.specs.Pumping.{on_clock, pump_events}
+use Rattle.shard_world.specs.Pumping.{EndsWalk, GoesOn, on_clock, pump_events}
 use Rattle.shard_world.specs.Viewing.{ShowsWorld}
 use Rattle.shard_world.specs.World as w
 use Rattle.shard_world.specs.WorldCalls.{Runs}
@@ -26,17 +26,18 @@ module _ (checked : CheckedOf) (most : ℕ) where
     pub steps : w.Steps checked most world now event answer next
     pub are : lines ≡ answer_line answer ∷ []
 
-  -- All that a pump makes happen happens, and the line tells where the subscriber is then: at the end of the log.
+  -- All that a pump makes happen happens, by a connection that stays, and the line tells where the subscriber is then: at the end of the log.
   pub record IsPumped (now subscriber : ℕ) (world : w.World) (lines : List (List ℕ)) (next : w.World) : Type 0 where
     pub takes : ℕ
     pub answers : List Answer
     pub position : ℕ
+    pub go_on : All GoesOn answers
     pub runs : Runs checked most (map (on_clock now subscriber) (pump_events takes)) answers world next
     pub position_is : subscriber < length checked.plan → position ≡ w.position_now checked next.transactions subscriber (next.peers subscriber)
     pub at_end : subscriber < length checked.plan → position ≡ end_of (length world.transactions)
     pub are : lines ≡ answer_line (At position) ∷ []
 
-  -- The first of it happens, and the line is the answer of the last that does. Where there is a connection, memory was refused.
+  -- The first of it happens, up to an answer after which there is no connection, and the line is that answer's. Where there was a connection, memory was refused.
   pub record IsPumpEnded (now subscriber : ℕ) (world : w.World) (lines : List (List ℕ)) (next : w.World) : Type 0 where
     pub takes : ℕ
     pub done : List PeerEvent
@@ -44,6 +45,8 @@ module _ (checked : CheckedOf) (most : ℕ) where
     pub split : done ++ others ≡ pump_events takes
     pub earlier : List Answer
     pub answer : Answer
+    pub go_on : All GoesOn earlier
+    pub ends : EndsWalk answer
     pub runs : Runs checked most (map (on_clock now subscriber) done) (earlier ++ answer ∷ []) world next
     pub refused : subscriber < length checked.plan → (c : w.Connection) → (world.peers subscriber).connection ≡ Some c → answer ≡ OutOfMemory
     pub are : lines ≡ answer_line answer ∷ []
