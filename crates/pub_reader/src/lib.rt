@@ -28,7 +28,7 @@ mod table_name;
 
 pub use pub_catalog::{Catalog, Entry, Operations, Publication, Subscription};
 pub use script::{Line, read_script};
-pub use sql_reader::{ErrorKind, Limit, Omitted, ReadError, read_row};
+pub use sql_reader::{ErrorKind, Limit, Omitted, ReadError, read_row, write_row};
 pub use statement::read_catalog;
 pub use step::Step;
 pub use table_changes::Command;
