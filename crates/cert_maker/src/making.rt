@@ -2,7 +2,7 @@
 
 ghost use Rattle.std.specs.Prelude.{◌≡◌, ◌≤◌, IfOk, length};
 ghost use Rattle.pub_catalog.specs.CatalogView.{catalog_view};
-ghost use Rattle.replica_identity.specs.PlanView.{plan_view};
+ghost use Rattle.replica_identity.specs.Plans.{plan_view};
 ghost use Rattle.shard_checker.specs.CatalogRefusal.{table_shares};
 ghost use Rattle.shard_checker.specs.Owners.{shares_view};
 ghost use Rattle.cert_maker.specs.Answers.{IfCert, IfCounter, IsAccepted, IsCounter};

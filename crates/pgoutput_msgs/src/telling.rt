@@ -2,7 +2,7 @@
 
 ghost use Rattle.std.specs.Prelude.{◌≡◌, ◌++◌, All, IfOk, OnOk, OnErr, filter, map};
 ghost use Rattle.replica_identity.specs.ChangeView.{change_view};
-ghost use Rattle.replica_identity.specs.PlanView.{plan_view};
+ghost use Rattle.replica_identity.specs.Plans.{plan_view};
 ghost use Rattle.replica_identity.specs.Transforms.{takes_any};
 ghost use Rattle.shard_checker.specs.CheckedView.{checked_view, setting_in};
 ghost use Rattle.table_changes.specs.Outs as outs;

@@ -12,10 +12,9 @@ use Rattle.sql_reader.specs.declared.item.Item.TheVariants as i
 use Rattle.sql_reader.specs.declared.name.PlacedName.{PlacedName}
 use Rattle.sql_reader.specs.declared.reader.Reader.{Reader}
 use Rattle.sql_reader.specs.declared.word.Keyword.TheVariants as k
-use Rattle.sql_reader.specs.Ahead.{to_read}
+use Rattle.sql_reader.specs.Items.{to_read, Items}
 use Rattle.sql_reader.specs.Columns.{elements}
 use Rattle.sql_reader.specs.Expressions.{Forms}
-use Rattle.sql_reader.specs.Items.{Items}
 use Rattle.sql_reader.specs.Names.{name}
 use Rattle.sql_reader.specs.Reading.{Outcome, with_rest, look, eat, expect, is_ahead, item_ahead, rest_of}
 use Rattle.sql_reader.proofs.Keeping.{Gives, any-gives, then-gives}

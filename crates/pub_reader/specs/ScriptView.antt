@@ -1,6 +1,6 @@
 -- What a script that was read stands for.
 use Rattle.std.specs.Prelude.{map}
-use Rattle.table_changes.specs.CommandView.{command_view}
+use Rattle.table_changes.specs.Commands.{command_view}
 use Rattle.pub_reader.specs.declared.script.Line.{Line}
 use Rattle.pub_reader.specs.declared.step.Step.{Step}
 use Rattle.pub_reader.specs.declared.step.Step.TheVariants as v

@@ -1,7 +1,7 @@
 //! The commands of a script.
 
 ghost use Rattle.std.specs.Prelude.{◌≡◌, map};
-ghost use Rattle.table_changes.specs.CommandView.{command_view};
+ghost use Rattle.table_changes.specs.Commands.{command_view};
 ghost use Rattle.sql_reader.specs.Taking.{Takes, TakesSome, to_read};
 ghost use Rattle.pub_reader.specs.ScriptCommands as spec;
 

@@ -1,7 +1,7 @@
 //! CREATE TABLE.
 
 ghost use Rattle.std.specs.Prelude.{◌≡◌};
-ghost use Rattle.sql_reader.specs.PartsView.{parts_view};
+ghost use Rattle.sql_reader.specs.Columns.{parts_view};
 ghost use Rattle.pub_reader.specs.DraftView.{draft_view};
 ghost use Rattle.pub_reader.specs.Tables as spec;
 ghost use Rattle.sql_reader.specs.Taking.{TakesSome, to_read, Reads, Answers};

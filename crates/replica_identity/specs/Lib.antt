@@ -3,7 +3,6 @@ pub mod Identities
 pub mod Joining
 pub mod Parts
 pub mod Passes
-pub mod PlanView
 pub mod Plans
 pub mod Setting
 pub mod SettingLaws

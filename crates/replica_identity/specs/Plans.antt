@@ -6,7 +6,8 @@ use Rattle.filter_tree.specs.declared.table.Table.{Table}
 use Rattle.pub_catalog.specs.Catalogs.{CatalogOf, PublicationOf, EntryOf}
 use Rattle.pub_catalog.specs.declared.catalog.Subscription.{Subscription}
 use Rattle.replica_identity.specs.Passes.{passes}
-use Rattle.replica_identity.specs.Shares.{ShareOf, Nothing, share_by, takes}
+use Rattle.replica_identity.specs.Shares.{ShareOf, Nothing, share_by, takes, share_view}
+use Rattle.replica_identity.specs.declared.shares.Plan.{Plan}
 
 -- what the entries for a table carry of it
 abbrev pub filters_for : ℕ → List (EntryOf Expr) → List (Option Expr)
@@ -39,6 +40,10 @@ shares_for catalog subscription = shares_from (entries_listed catalog.publicatio
 -- of each subscriber the share of each table
 abbrev pub PlanOf : Type 0
 PlanOf = List (List ShareOf)
+
+-- a plan of the code
+abbrev pub plan_view : Plan → PlanOf
+plan_view plan = map (λ shares. map share_view shares.items) plan.shares.items
 
 abbrev pub plan_of : CatalogOf Expr → PlanOf
 plan_of catalog = map (shares_for catalog) catalog.subscriptions

@@ -4,7 +4,7 @@ ghost use Rattle.std.specs.Prelude.{◌≡◌, IfOk, OnOk, fold, map, replicate}
 ghost use Rattle.pub_catalog.specs.CatalogView.{catalog_view, entry_view, publication_view};
 ghost use Rattle.replica_identity.specs.Joining.{joined as joined_of, joined_at};
 ghost use Rattle.replica_identity.specs.Plans as spec;
-ghost use Rattle.replica_identity.specs.PlanView.{plan_view};
+ghost use Rattle.replica_identity.specs.Plans.{plan_view};
 ghost use Rattle.replica_identity.specs.Shares.{share_view, Nothing};
 
 use crate::share::{Share, joined};

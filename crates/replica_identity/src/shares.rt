@@ -15,8 +15,7 @@ pub struct Plan {
 
 impl Plan {
     ghost use Rattle.std.specs.Prelude.{◌≡◌, map};
-    ghost use Rattle.replica_identity.specs.Plans.{share_at};
-    ghost use Rattle.replica_identity.specs.PlanView.{plan_view};
+    ghost use Rattle.replica_identity.specs.Plans.{share_at, plan_view};
     ghost use Rattle.replica_identity.specs.Shares.{share_view};
 
     /// A plan of these shares: a list for each subscriber, with its share of each table.

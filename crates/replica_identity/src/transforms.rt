@@ -5,7 +5,7 @@ ghost use Rattle.std.specs.List.{list_any};
 ghost use Rattle.std.specs.Option.{option_map};
 ghost use Rattle.table_changes.specs.Outs as spec;
 ghost use Rattle.replica_identity.specs.ChangeView.{part_view, change_view, out_view};
-ghost use Rattle.replica_identity.specs.PlanView.{plan_view};
+ghost use Rattle.replica_identity.specs.Plans.{plan_view};
 ghost use Rattle.replica_identity.specs.Transforms.{takes_any, out_for};
 
 use crate::change::{Change, OldPart};

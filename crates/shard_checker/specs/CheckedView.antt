@@ -3,8 +3,7 @@ use Rattle.filter_tree.specs.Expr.{Expr}
 use Rattle.pub_catalog.specs.CatalogView.{catalog_view}
 use Rattle.pub_catalog.specs.Catalogs.{CatalogOf}
 use Rattle.pub_catalog.specs.declared.catalog.Catalog.{Catalog}
-use Rattle.replica_identity.specs.Plans.{PlanOf}
-use Rattle.replica_identity.specs.PlanView.{plan_view}
+use Rattle.replica_identity.specs.Plans.{PlanOf, plan_view}
 use Rattle.replica_identity.specs.Setting.{setting_of}
 use Rattle.table_changes.specs.Setting.{Setting}
 use Rattle.replica_identity.specs.declared.shares.Plan.{Plan}

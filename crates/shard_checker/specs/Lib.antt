@@ -14,7 +14,6 @@ pub mod Refusal
 pub mod Rows
 pub mod Sound
 pub mod Steps
-pub mod SubjectView
 pub mod Texts
 pub mod Truth
 pub mod Walking

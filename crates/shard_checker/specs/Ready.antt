@@ -7,7 +7,7 @@ use Rattle.shard_checker.specs.Blocks.{AreUsers, IsSettledBut}
 use Rattle.shard_checker.specs.Knowing.{Differ, IsKnown}
 use Rattle.shard_checker.specs.Refusal as r
 use Rattle.shard_checker.specs.Steps.{IsCompiled}
-use Rattle.shard_checker.specs.SubjectView.{subject_view}
+use Rattle.shard_checker.specs.Refusal.{subject_view}
 use Rattle.shard_checker.specs.declared.formulas.Formulas.{Formulas}
 use Rattle.shard_checker.specs.declared.known.Known.{Known}
 use Rattle.shard_checker.specs.declared.masks.Masks.{Masks}

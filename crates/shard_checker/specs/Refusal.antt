@@ -12,10 +12,12 @@ use Rattle.split_cert.specs.Tree.{Tree, Split, Owner, Empty, NeverNull, nodes}
 use Rattle.shard_checker.specs.Emptiness.{Test}
 use Rattle.shard_checker.specs.Facts.{is_never_null}
 use Rattle.shard_checker.specs.Numbering.{numbered_atoms, numbered_terms}
-use Rattle.shard_checker.specs.Owners.{HasOneOwner, must_take, second_owner}
+use Rattle.shard_checker.specs.Owners.{HasOneOwner, must_take, second_owner, shares_view}
 use Rattle.shard_checker.specs.Rows.{IsTyped}
 use Rattle.shard_checker.specs.declared.error.CheckError.{CheckError}
 use Rattle.shard_checker.specs.declared.error.CheckError.TheVariants.{BadIndex, NotEmpty, MayBeNull, NotOwner, SecondOwner}
+use Rattle.filter_tree.specs.Shape.{atoms_view}
+use Rattle.shard_checker.specs.declared.subject.Subject as d
 
 -- what a certificate speaks of: a table, by its number, its columns, the share of each subscriber, and the atoms and terms that the certificate names by their numbers
 pub record Subject : Type 0 where
@@ -30,6 +32,11 @@ numbered_subject table columns shares atoms terms = record { table = table; colu
 
 abbrev pub subject_of : ℕ → List Column → List ShareOf → Subject
 subject_of table columns shares = numbered_subject table columns shares (numbered_atoms shares) (numbered_terms shares)
+
+-- a subject of the code
+abbrev pub subject_view : {A : _} → d.Subject A → Subject
+subject_view subject =
+    record { table = subject.table; columns = subject.columns.now; shares = shares_view subject.shares.now; atoms = atoms_view subject.atoms.now; terms = subject.terms.now }
 
 -- the number of a node that comes so many nodes later; the numbers end at the greatest of 64 bits, which all later nodes have
 abbrev pub later : ℕ → ℕ → ℕ

@@ -2,8 +2,7 @@
 
 ghost use Rattle.std.specs.Prelude.{◌≡◌};
 ghost use Rattle.pub_catalog.specs.CatalogView.{catalog_view};
-ghost use Rattle.replica_identity.specs.Plans.{plan_of};
-ghost use Rattle.replica_identity.specs.PlanView.{plan_view};
+ghost use Rattle.replica_identity.specs.Plans.{plan_of, plan_view};
 ghost use Rattle.shard_checker.specs.Sound.{IsSound};
 
 use pub_catalog::Catalog;
@@ -29,8 +28,7 @@ impl Checked {
     ghost use Rattle.pub_catalog.specs.CatalogLimits.{IsLimited};
     ghost use Rattle.pub_catalog.specs.CatalogNames.{IsNamedCatalog};
     ghost use Rattle.pub_catalog.specs.CatalogView.{catalog_view};
-    ghost use Rattle.replica_identity.specs.Plans.{TakesWhatPasses, plan_of};
-    ghost use Rattle.replica_identity.specs.PlanView.{plan_view};
+    ghost use Rattle.replica_identity.specs.Plans.{TakesWhatPasses, plan_of, plan_view};
     ghost use Rattle.table_changes.specs.Standing.{Covered, KeepsApart, Sound};
     ghost use Rattle.shard_checker.specs.CheckedView.{checked_of, checked_view, setting_in};
     ghost use Rattle.shard_checker.specs.Sound.{IsSound};

@@ -4,9 +4,8 @@ ghost use Rattle.std.specs.Prelude.{◌≡◌, map, slice_get};
 ghost use Rattle.filter_tree.specs.Paths.{path_view};
 ghost use Rattle.shard_checker.specs.Checks.{Finds};
 ghost use Rattle.shard_checker.specs.Ready.{Ready};
-ghost use Rattle.shard_checker.specs.Refusal.{second_refusal};
+ghost use Rattle.shard_checker.specs.Refusal.{second_refusal, subject_view};
 ghost use Rattle.shard_checker.specs.Steps.{IsSettled, mask_in, second_among};
-ghost use Rattle.shard_checker.specs.SubjectView.{subject_view};
 ghost use Rattle.shard_checker.specs.Trying as trying;
 ghost use Rattle.shard_checker.specs.Walking as spec;
 

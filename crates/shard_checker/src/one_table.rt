@@ -9,7 +9,7 @@ ghost use Rattle.shard_checker.specs.Owners.{shares_view, HasOneOwner};
 ghost use Rattle.shard_checker.specs.Ready.{Prepared};
 ghost use Rattle.shard_checker.specs.Refusal as spec;
 ghost use Rattle.shard_checker.specs.Rows.{IsTyped};
-ghost use Rattle.shard_checker.specs.SubjectView.{subject_view};
+ghost use Rattle.shard_checker.specs.Refusal.{subject_view};
 ghost use Rattle.shard_checker.specs.Trying.{is_empty};
 ghost use Rattle.shard_checker.specs.Truth.{CertificateIsWrong};
 ghost use Rattle.shard_checker.specs.Walking.{walk, nodes_refusal};

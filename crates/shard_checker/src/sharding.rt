@@ -2,8 +2,7 @@
 
 ghost use Rattle.std.specs.Prelude.{◌≡◌, OnOk, IfOk, None, map, length};
 ghost use Rattle.pub_catalog.specs.CatalogView.{catalog_view};
-ghost use Rattle.replica_identity.specs.Plans.{plan_of};
-ghost use Rattle.replica_identity.specs.PlanView.{plan_view};
+ghost use Rattle.replica_identity.specs.Plans.{plan_of, plan_view};
 ghost use Rattle.replica_identity.specs.Setting.{setting_of};
 ghost use Rattle.table_changes.specs.Standing.{Covered, KeepsApart, Sound};
 ghost use Rattle.split_cert.specs.Where.{tree_view};

@@ -12,7 +12,7 @@ use std::alloc::Allocator;
 /// A certificate, which gives its nodes in the order in which it is written.
 pub trait Source {
     ghost use Rattle.shard_checker.specs.Ready.{Ready};
-    ghost use Rattle.shard_checker.specs.SubjectView.{subject_view};
+    ghost use Rattle.shard_checker.specs.Refusal.{subject_view};
     ghost use Rattle.shard_checker.specs.Trying.{is_empty};
     ghost use Rattle.shard_checker.specs.Walking.{Walks, place_of};
 

@@ -9,7 +9,7 @@ ghost use Rattle.shard_checker.specs.Checks.{Finds};
 ghost use Rattle.shard_checker.specs.Ready.{GoesBack, Prepared, Ready};
 ghost use Rattle.shard_checker.specs.Refusal as refusal;
 ghost use Rattle.shard_checker.specs.Steps.{IsSettled};
-ghost use Rattle.shard_checker.specs.SubjectView.{subject_view};
+ghost use Rattle.shard_checker.specs.Refusal.{subject_view};
 ghost use Rattle.shard_checker.specs.Trying.{is_empty};
 ghost use Rattle.shard_checker.specs.Walking as spec;
 

@@ -1,6 +1,6 @@
 -- A catalog that was checked, with its own plan, is a publisher, as the laws of the world ask.
 use Rattle.pub_catalog.specs.CatalogView.{catalog_view}
-use Rattle.replica_identity.specs.PlanView.{plan_view}
+use Rattle.replica_identity.specs.Plans.{plan_view}
 use Rattle.shard_checker.proofs.LimitFacts.{checked_limited, checked_named}
 use Rattle.shard_checker.proofs.PlanFacts.{kept_own}
 use Rattle.shard_checker.proofs.SoundFacts.{kept_sound}

@@ -2,7 +2,6 @@ pub mod Asking
 pub mod CatchingUp
 pub mod Connections
 pub mod Cutting
-pub mod EventView
 pub mod Finding
 pub mod Following
 pub mod FollowingBytes

@@ -14,7 +14,7 @@ use Rattle.pub_catalog.specs.Catalogs.{CatalogOf, PublicationOf}
 use Rattle.filter_tree.specs.Expr.{Expr}
 use Rattle.pub_catalog.specs.declared.catalog.Subscription.{Subscription}
 use Rattle.shard_checker.specs.CheckedView.{CheckedOf, setting_in}
-use Rattle.table_changes.specs.Commands.{Command, first_fault}
+use Rattle.table_changes.specs.Commands.{Command, first_fault, command_view}
 use Rattle.tables_log.specs.Commits.{CommitOf}
 use Rattle.tables_log.specs.Committing.{IsTransaction}
 use Rattle.tables_log.specs.Faults.{fault_view}
@@ -34,6 +34,8 @@ pub use Rattle.shard_world.specs.declared.answer.Answer.{Answer}
 pub use Rattle.shard_world.specs.declared.answer.Answer.TheVariants.{Committed, Refused, NoSubscriber, NotOpen, AlreadyOpen, Opened, Heard, NotStarted, Idle, Skipped, Sent, Kept, Delivered, Reported, Lost, At, OutOfMemory}
 pub use Rattle.shard_world.specs.declared.event.PeerEvent.{PeerEvent}
 pub use Rattle.shard_world.specs.declared.event.PeerEvent.TheVariants.{Open, Hear, Take, Keep, Deliver, Report, Lose}
+use Rattle.shard_world.specs.declared.event.Event as d
+use Rattle.shard_world.specs.declared.event.Event.TheVariants as v
 
 -- ---- what a subscriber sends
 
@@ -131,6 +133,15 @@ machine_now checked transactions subscriber peer = machine_in checked transactio
 pub data Event : Type 0 where
   Commit : List Command → ℕ → Event
   On : ℕ → PeerEvent → Event
+
+-- an event of the code
+abbrev pub event_view : d.Event → Event
+event_view (v.Commit commands time) = Commit (map command_view commands.items) time
+event_view (v.On subscriber event) = On subscriber event
+
+-- at its clock
+abbrev pub timed_view : ℕ × d.Event → ℕ × Event
+timed_view event = (event.0, event_view event.1)
 
 -- how many statuses were said, after so many and this event
 abbrev pub said_after : PeerEvent → ℕ → ℕ

@@ -2,7 +2,7 @@
 
 ghost use Rattle.std.specs.Prelude.{All, map};
 ghost use Rattle.filter_tree.specs.Values.{datum_view};
-ghost use Rattle.table_changes.specs.CommandView.{command_view};
+ghost use Rattle.table_changes.specs.Commands.{command_view};
 ghost use Rattle.shard_world.specs.Sayable.{IsTextCommand, IsTextRow, IsTextValue};
 
 use filter_tree::{Row, Value};

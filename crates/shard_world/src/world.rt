@@ -39,8 +39,8 @@ impl World {
     ghost use Rattle.std.specs.Prelude.{◌≡◌, ◌<◌, ◌≤◌, ◌^◌, ℕ, List, [], IfErr, IfOk, OnErr, map};
     ghost use Rattle.std.specs.Arc.{arc_value};
     ghost use Rattle.shard_checker.specs.CheckedView.{checked_view};
-    ghost use Rattle.table_changes.specs.CommandView.{command_view};
-    ghost use Rattle.shard_world.specs.EventView.{event_view, timed_view};
+    ghost use Rattle.table_changes.specs.Commands.{command_view};
+    ghost use Rattle.shard_world.specs.World.{event_view, timed_view};
     ghost use Rattle.shard_world.specs.World as w;
     ghost use Rattle.shard_world.specs.PeerCalls.{IsCounted};
     ghost use Rattle.shard_world.specs.Pumping.{EndsWalk, GoesOn, IsPosition, PumpsOn, PumpsThrough, Takes, Walks};

@@ -20,10 +20,9 @@ use Rattle.sql_reader.specs.declared.reader.Ahead.TheVariants as a
 use Rattle.sql_reader.specs.declared.reader.Reader.{Reader}
 use Rattle.sql_reader.specs.declared.word.Keyword.{Keyword}
 use Rattle.sql_reader.specs.declared.word.Keyword.TheVariants as k
-use Rattle.sql_reader.specs.Ahead.{ahead_of, to_read}
+use Rattle.sql_reader.specs.Items.{ahead_of, to_read, Items, Stop, Broken, Then, Seen, word_or_keyword, is_name, item_of, within_quotes, items}
 use Rattle.sql_reader.specs.Columns.{Parts, no_parts, new_column, required, type_taken, column_type, given_by, constraint_by, constraint, constraint_ahead, no_constraints, constraints, has_key, column_element, once_in_key, key_column, key_columns, first_key, key_element, element_by, element, elements}
 use Rattle.sql_reader.specs.Expressions.{known_column}
-use Rattle.sql_reader.specs.Items.{Items, Stop, Broken, Then, Seen, word_or_keyword, is_name, item_of, within_quotes, items}
 use Rattle.sql_reader.specs.Keywords.{keyword_of}
 use Rattle.sql_reader.specs.Names.{name_ahead, name_meant, name}
 use Rattle.sql_reader.specs.Reading.{Fault, Outcome, Rule, and_then, Verdict, with_rest, look, next_is, expect, item_ahead, is_ahead, rest_of, refuse}

@@ -21,11 +21,16 @@ use Rattle.sql_reader.specs.Names.{name, name_ahead}
 use Rattle.sql_reader.specs.Reading.{Fault, Rule, Verdict, fault, place_ahead, ◌>>=◌, ◌>>◌, pure, check, refuse, refuse_as, refusal, advance, expect, item_ahead, written_ahead, rest_of}
 use Rattle.sql_reader.specs.Turns.{link, each, repeat}
 use Rattle.sql_reader.specs.declared.column_rule.Constraints.{Constraints}
+use Rattle.sql_reader.specs.declared.element.TableParts.{TableParts}
 
 -- the elements read so far: the columns, and the numbers of the key's columns once there is a key
 pub record Parts : Type 0 where
   pub columns : List Column
   pub key : List ℕ
+
+-- the elements of the code
+abbrev pub parts_view : TableParts → Parts
+parts_view parts = record { columns = parts.columns.items; key = parts.key.items }
 
 -- a clause that is left out, at the token ahead
 abbrev pub left_out_at : Items → Fault

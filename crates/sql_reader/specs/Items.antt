@@ -12,6 +12,10 @@ use Rattle.sql_reader.specs.declared.word.Keyword.{Keyword}
 use Rattle.sql_reader.specs.declared.item.Item.{Item}
 use Rattle.sql_reader.specs.declared.item.Item.TheVariants as i
 use Rattle.sql_reader.specs.Keywords.{keyword_of, same_keyword, is_reserved}
+use Rattle.sql_tokens.specs.Left.{left}
+use Rattle.sql_reader.specs.declared.reader.Ahead.{Ahead}
+use Rattle.sql_reader.specs.declared.reader.Ahead.TheVariants as a
+use Rattle.sql_reader.specs.declared.reader.Reader.{Reader}
 
 abbrev pub word_or_keyword : Option Keyword → Item
 word_or_keyword (Some keyword) = i.Keyword keyword
@@ -91,3 +95,14 @@ abbrev pub size : Items → ℕ
 size (Stop place) = 0
 size (Broken place fault) = 0
 size (Then token rest) = suc (size rest)
+
+-- ---- what a reader has still to read
+
+abbrev pub ahead_of : Ahead → ℕ → List ℕ → Items → Items
+ahead_of a.End place written rest = Stop place
+ahead_of (a.Fault kind) place written rest = Broken place kind
+ahead_of (a.Item item) place written rest = Then (record { item = item; place = place; written = written }) rest
+
+-- the tokens from the one ahead on
+unfoldable pub to_read : Reader → Items
+to_read r = ahead_of r.ahead r.place r.written.now (items (left r.tokens))

@@ -1,4 +1,3 @@
-pub mod Ahead
 pub mod Ascending
 pub mod Columns
 pub mod Counting
@@ -12,9 +11,7 @@ pub mod Magnitude
 pub mod Memberships
 pub mod Names
 pub mod Numbers
-pub mod OperandView
 pub mod Operands
-pub mod PartsView
 pub mod Reading
 pub mod Rows
 pub mod Taking

@@ -21,6 +21,11 @@ use Rattle.sql_reader.specs.declared.truth_test.TruthTest.{TruthTest}
 use Rattle.sql_reader.specs.declared.error.Omitted.TheVariants as l
 use Rattle.sql_reader.specs.Reading.{Verdict, fault}
 use Rattle.sql_reader.specs.Wrong as w
+use Rattle.filter_tree.specs.Shape.{expr_view}
+use Rattle.filter_tree.specs.Values.{constant_view}
+use Rattle.sql_reader.specs.declared.operand.Operand.{Operand}
+use Rattle.sql_reader.specs.declared.operand.Operand.TheVariants as p
+use Rattle.sql_reader.specs.declared.operand.Part.{Part}
 
 -- What the forms of an expression make: trees, or what they mean.
 pub record Forms (S : Type 0) : Type 0 where
@@ -179,3 +184,12 @@ negated_if forms false s = s
 unfoldable pub tested : {S : Type 0} → Forms S → TruthTest → PartOf S → Verdict (PartOf S)
 tested forms truth_test asked_part =
     verdict_map (λ s. part asked_part.place (OfFormula (negated_if forms truth_test.is_negated s))) (answered forms truth_test.place truth_test.asked asked_part.operand)
+
+-- ---- parts of the code
+abbrev pub operand_view : Operand → OperandOf Expr
+operand_view (p.Term term kind) = OfTerm term kind
+operand_view (p.Literal place literal) = OfLiteral place (constant_view literal)
+operand_view (p.Formula filter) = OfFormula (expr_view filter)
+
+abbrev pub part_view : Part → PartOf Expr
+part_view part = record { place = part.place; operand = operand_view part.operand }

@@ -1,6 +1,6 @@
 -- What a function that reads by a rule of the grammar does: it takes tokens from the front of what its reader has still to read. The other words of such contracts are passed on.
 use Rattle.std.specs.Prelude.{◌≡◌, ◌<◌, ◌≤◌, Result, Ok, Err}
-pub use Rattle.sql_reader.specs.Ahead.{to_read}
+pub use Rattle.sql_reader.specs.Items.{to_read}
 use Rattle.sql_reader.specs.declared.error.ReadError.{ReadError}
 use Rattle.sql_reader.specs.declared.reader.Reader.{Reader}
 use Rattle.sql_reader.specs.Items.{size}

@@ -5,7 +5,7 @@ ghost use Rattle.filter_tree.specs.Expr as expr;
 ghost use Rattle.filter_tree.specs.Shape.{expr_view};
 ghost use Rattle.filter_tree.specs.Values.{constant_view};
 ghost use Rattle.sql_reader.specs.Operands as spec;
-ghost use Rattle.sql_reader.specs.OperandView.{operand_view, part_view};
+ghost use Rattle.sql_reader.specs.Operands.{operand_view, part_view};
 ghost use Rattle.sql_reader.specs.Reading.{Answers};
 ghost use Rattle.sql_reader.specs.Written as written;
 ghost use Rattle.sql_reader.specs.Written.{as_filter};

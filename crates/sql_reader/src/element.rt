@@ -2,7 +2,7 @@
 
 ghost use Rattle.std.specs.Prelude.{◌≡◌, OnOk};
 ghost use Rattle.sql_reader.specs.Columns as spec;
-ghost use Rattle.sql_reader.specs.PartsView.{parts_view};
+ghost use Rattle.sql_reader.specs.Columns.{parts_view};
 ghost use Rattle.sql_reader.specs.Taking.{TakesSome, Answers};
 
 use crate::column::{FoundColumn, find_column, known_column};

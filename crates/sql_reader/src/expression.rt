@@ -5,7 +5,7 @@ ghost use Rattle.filter_tree.specs.Shape.{expr_view};
 ghost use Rattle.sql_reader.specs.Expressions as spec;
 ghost use Rattle.sql_reader.specs.Expressions.{AfterNot, InParentheses, InList};
 ghost use Rattle.sql_reader.specs.Filters as filters;
-ghost use Rattle.sql_reader.specs.OperandView.{operand_view, part_view};
+ghost use Rattle.sql_reader.specs.Operands.{operand_view, part_view};
 ghost use Rattle.sql_reader.specs.Taking.{Takes, TakesSome};
 ghost use Rattle.sql_reader.specs.Written.{as_filter};
 

@@ -7,8 +7,7 @@ ghost use Rattle.filter_tree.specs.Values.{constant_view};
 ghost use Rattle.sql_reader.specs.Taking.{to_read, Answers, Reads};
 ghost use Rattle.sql_reader.specs.Ascending.{ascending, constant_cmp, constant_rank, placed, ListsAscend};
 ghost use Rattle.sql_reader.specs.Memberships as spec;
-ghost use Rattle.sql_reader.specs.Operands.{verdict_map};
-ghost use Rattle.sql_reader.specs.OperandView.{operand_view, part_view};
+ghost use Rattle.sql_reader.specs.Operands.{verdict_map, operand_view, part_view};
 ghost use Rattle.sql_reader.specs.Written.{as_filter};
 
 use crate::error::{ErrorKind, Limit, ReadError};

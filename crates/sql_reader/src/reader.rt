@@ -33,8 +33,7 @@ pub struct Reader<'a> {
 impl<'a> Reader<'a> {
     ghost use Rattle.std.specs.Prelude.{◌≡◌, ◌<◌, ◌≤◌, IfErr, Ok, OnErr, OnOk};
     ghost use Rattle.sql_tokens.specs.Left.{text_of, left};
-    ghost use Rattle.sql_reader.specs.Items.{items, items_of, size};
-    ghost use Rattle.sql_reader.specs.Ahead.{to_read};
+    ghost use Rattle.sql_reader.specs.Items.{items, items_of, size, to_read};
     ghost use Rattle.sql_reader.specs.Numbers.{number_ahead};
     ghost use Rattle.sql_reader.specs.Rows.{end};
     ghost use Rattle.sql_reader.specs.Reading as spec;

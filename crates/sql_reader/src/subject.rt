@@ -4,7 +4,7 @@ ghost use Rattle.filter_tree.specs.Shape.{expr_view};
 ghost use Rattle.filter_tree.specs.Values.{constant_view};
 ghost use Rattle.std.specs.Prelude.{Ok};
 ghost use Rattle.sql_reader.specs.Memberships as spec;
-ghost use Rattle.sql_reader.specs.OperandView.{operand_view, part_view};
+ghost use Rattle.sql_reader.specs.Operands.{operand_view, part_view};
 ghost use Rattle.sql_reader.specs.Reading.{Answers};
 ghost use Rattle.sql_reader.specs.Written.{as_filter};
 

@@ -2,8 +2,6 @@ pub mod Check
 pub mod CommandLine
 pub mod Eval
 pub mod Failures
-pub mod InputView
-pub mod LinesView
 pub mod Make
 pub mod Names
 pub mod Outcomes

@@ -1,2 +1,1 @@
-pub mod FindingView
 pub mod Making

@@ -3,6 +3,7 @@ use Rattle.std.specs.Prelude.{ℕ, ◌==◌, Bool, true, ◌&&◌, if◌then◌e
 use Rattle.std.specs.Option.{option_map}
 use Rattle.std.specs.List.{before_first, after_first}
 use Rattle.std.specs.Str.{bytes_eq}
+use Rattle.subcommands.specs.declared.parts.Lines.{Lines}
 
 abbrev pub is_newline : ℕ → Bool
 is_newline byte = byte == 10
@@ -24,6 +25,10 @@ onto_line byte (line ∷ lines) = (byte ∷ line) ∷ lines
 abbrev pub lines_of : List ℕ → List (List ℕ)
 lines_of [] = []
 lines_of (byte ∷ text) = if is_newline byte then [] ∷ lines_of text else onto_line byte (lines_of text)
+
+-- what an iterator over lines has left
+abbrev pub lines_left : Lines → List (List ℕ)
+lines_left lines = lines_of lines.rest.now
 
 -- a text cut in two: the part before a separator, and the text after it
 pub record Cut : Type 0 where

@@ -13,6 +13,7 @@ use Rattle.subcommands.specs.declared.failure.Failure.TheVariants as f
 use Rattle.subcommands.specs.declared.failure.InputFault.{InputFault}
 use Rattle.subcommands.specs.declared.failure.InputFault.TheVariants as i
 use Rattle.subcommands.specs.declared.failure.Status.{Status}
+use Rattle.subcommands.specs.declared.input.Input.{Input}
 
 -- ---- of a request and its input
 
@@ -84,3 +85,11 @@ abbrev pub IsOfReading : Failure → Type 0
 IsOfReading (f.Input i.Unread) = Unit {0}
 IsOfReading f.OutOfMemory = Unit {0}
 IsOfReading _ = ⊥
+
+-- ---- the reader of an input, and how many reads of it are left
+
+abbrev pub reader_of : {R : Type 0} → Input R → R
+reader_of input = input.reader
+
+abbrev pub reads_of : {R : Type 0} → Input R → ℕ
+reads_of input = input.reads_left

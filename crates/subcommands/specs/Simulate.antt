@@ -1,6 +1,5 @@
 pub mod Answers
 pub mod Asking
-pub mod AskingView
 pub mod Simulation
 pub mod Steps
 pub mod Views

@@ -19,7 +19,7 @@ pub struct Input<R> {
 
 impl<R: Read> Input<R> {
     ghost use Rattle.std.specs.Prelude.{◌≡◌};
-    ghost use Rattle.subcommands.specs.InputView.{reader_of, reads_of};
+    ghost use Rattle.subcommands.specs.Requests.{reader_of, reads_of};
 
     /// The input that the reader gives.
     pub fn new(reader: R) -> Input<R>
@@ -34,7 +34,6 @@ impl<R: Read> Input<R> {
 }
 
 impl<R: Read> Read for Input<R> {
-    ghost use Rattle.subcommands.specs.InputView.{reader_of, reads_of};
     ghost use Rattle.std.specs.Prelude.{◌≡◌, ◌-◌, IsErr};
     ghost use Rattle.std.specs.Io.{ReadsAtMost};
     ghost use Rattle.std.specs.Io.KnownBytes.{ReadConsumes};

@@ -5,8 +5,7 @@ ghost use Rattle.pub_catalog.specs.CatalogView.{catalog_view};
 ghost use Rattle.subcommands.specs.Make.Making as spec;
 ghost use Rattle.subcommands.specs.Requests.{EndsRequest};
 ghost use Rattle.subcommands.specs.declared.arguments.Request.TheVariants.{Make};
-ghost use Rattle.replica_identity.specs.Plans.{plan_of};
-ghost use Rattle.replica_identity.specs.PlanView.{plan_view};
+ghost use Rattle.replica_identity.specs.Plans.{plan_of, plan_view};
 
 pub mod findings;
 

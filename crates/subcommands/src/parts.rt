@@ -20,8 +20,7 @@ pub struct Lines<'a> {
 
 impl<'a> Lines<'a> {
     ghost use Rattle.std.specs.Prelude.{◌≡◌};
-    ghost use Rattle.subcommands.specs.LinesView.{lines_left};
-    ghost use Rattle.subcommands.specs.Parts.{lines_of};
+    ghost use Rattle.subcommands.specs.Parts.{lines_left, lines_of};
 
     /// The lines of this text.
     pub fn new(text: &'a str) -> Lines<'a>
@@ -35,7 +34,6 @@ impl<'a> Iterator for Lines<'a> {
     type Item = &'a str;
 
     ghost use Rattle.std.specs.Iterator.{YieldsFirstRef, item_count};
-    ghost use Rattle.subcommands.specs.LinesView.{lines_left};
 
     ghost next_gives = { YieldsFirstRef lines_left };
 

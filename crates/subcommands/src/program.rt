@@ -4,10 +4,9 @@ ghost use Rattle.std.specs.Prelude.{◌≡◌, IfOk, map};
 ghost use Rattle.std.specs.String.{string_bytes};
 ghost use Rattle.subcommands.specs.CommandLine.{CanDo};
 ghost use Rattle.subcommands.specs.Failures.{failure_lines};
-ghost use Rattle.subcommands.specs.InputView.{reader_of};
+ghost use Rattle.subcommands.specs.Requests.{reader_of, EndsRequest};
 ghost use Rattle.subcommands.specs.Outcomes.{IsEnding, IsOutcome, IsReport, IsRun, IsWritten};
 ghost use Rattle.subcommands.specs.Output.{text_of};
-ghost use Rattle.subcommands.specs.Requests.{EndsRequest};
 
 use crate::arguments::{Asked, Request, parse};
 use crate::check::check_input;

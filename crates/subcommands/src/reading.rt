@@ -2,8 +2,7 @@
 
 ghost use Rattle.std.specs.Prelude.{◌≤◌, length, IfErr, IfOk};
 ghost use Rattle.std.specs.String.{string_bytes};
-ghost use Rattle.subcommands.specs.InputView.{reader_of};
-ghost use Rattle.subcommands.specs.Requests.{IsInput, IsOfReading};
+ghost use Rattle.subcommands.specs.Requests.{reader_of, IsInput, IsOfReading};
 
 use crate::failure::{Failure, InputFault};
 use crate::input::{Input, MAX_INPUT};

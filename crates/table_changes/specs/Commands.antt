@@ -5,6 +5,8 @@ use Rattle.filter_tree.specs.Datum.{Datum}
 use Rattle.filter_tree.specs.declared.validity.RowFault.{RowFault}
 use Rattle.table_changes.specs.Setting.{Setting}
 use Rattle.table_changes.specs.Tables.{Tables, put_in, without, emptied, is_free}
+use Rattle.table_changes.specs.declared.command.Command as d
+use Rattle.table_changes.specs.declared.command.Command.TheVariants as v
 
 -- Tables and keys are named first; a key has its values in the order of the primary key's columns. TRUNCATE names the tables that it empties.
 pub data Command : Type 0 where
@@ -12,6 +14,13 @@ pub data Command : Type 0 where
   Update : ℕ → List Datum → List Datum → Command
   Delete : ℕ → List Datum → Command
   Truncate : List ℕ → Command
+
+-- a command of the code
+abbrev pub command_view : d.Command → Command
+command_view (v.Insert table row) = Insert table row
+command_view (v.Update table key row) = Update table key row
+command_view (v.Delete table key) = Delete table key
+command_view (v.Truncate tables) = Truncate tables.items
 
 -- ---- faults
 

@@ -1,6 +1,5 @@
 pub mod Changes
 pub mod Columns
-pub mod CommandView
 pub mod Commands
 pub mod Growing
 pub mod Keys

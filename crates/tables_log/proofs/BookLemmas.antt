@@ -8,8 +8,7 @@ use Rattle.pub_catalog.specs.CatalogLimits.{IsLimitedTable}
 use Rattle.replica_identity.specs.Setting.{keys_in}
 use Rattle.std.proofs.lemmas.List.{length-map}
 use Rattle.shard_checker.specs.CheckedView.{CheckedOf, setting_in}
-use Rattle.table_changes.specs.CommandView.{command_view}
-use Rattle.table_changes.specs.Commands.{Command}
+use Rattle.table_changes.specs.Commands.{command_view, Command}
 use Rattle.table_changes.specs.Growing.{AreAlike}
 use Rattle.table_changes.specs.Setting.{Setting}
 use Rattle.table_changes.specs.Tables.{SameTables, no_rows}

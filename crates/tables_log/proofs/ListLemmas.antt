@@ -4,9 +4,8 @@ use Rattle.std.specs.Prelude.{All}
 use Rattle.std.proofs.lemmas.List.Elements.{All-nil, All-push}
 use Rattle.replica_identity.specs.ChangeView.{change_view}
 use Rattle.replica_identity.specs.declared.change.Change.{Change}
-use Rattle.table_changes.specs.CommandView.{command_view}
+use Rattle.table_changes.specs.Commands.{command_view, Command, fault_of, applied, all_applied, numbered, first_fault}
 use Rattle.table_changes.specs.declared.command.Command as m
-use Rattle.table_changes.specs.Commands.{Command, fault_of, applied, all_applied, numbered, first_fault}
 use Rattle.table_changes.specs.Growing.{AreAlike}
 use Rattle.table_changes.specs.Records.{ChangeOf, change_of, record_of}
 use Rattle.table_changes.specs.Setting.{Setting}

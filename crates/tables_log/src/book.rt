@@ -45,7 +45,7 @@ impl Book {
     ghost use Rattle.std.specs.Arc.{arc_value};
     ghost use Rattle.std.specs.Option.{option_map, option_copied};
     ghost use Rattle.shard_checker.specs.CheckedView.{checked_view};
-    ghost use Rattle.table_changes.specs.CommandView.{command_view};
+    ghost use Rattle.table_changes.specs.Commands.{command_view};
     ghost use Rattle.tables_log.specs.BookView.{book_limit, book_log, book_rows, book_listed, book_slots};
     ghost use Rattle.tables_log.specs.Committing.{IsNew, Commits, IsKept, ChangesSlots, RefusedBy};
     ghost use Rattle.tables_log.specs.Listing.{ListsFound};

@@ -4,7 +4,7 @@ ghost use Rattle.std.specs.Prelude.{◌≡◌, ◌<◌, ◌≤◌, length, map, 
 ghost use Rattle.std.specs.Arc.{arc_value};
 ghost use Rattle.replica_identity.specs.ChangeView.{change_view};
 ghost use Rattle.shard_checker.specs.CheckedView.{checked_view, setting_in};
-ghost use Rattle.table_changes.specs.CommandView.{command_view};
+ghost use Rattle.table_changes.specs.Commands.{command_view};
 ghost use Rattle.table_changes.specs.Tables.{SameTables, no_rows};
 ghost use Rattle.tables_log.specs.Applying.{HasMaps, widths_of};
 ghost use Rattle.tables_log.specs.ApplyingAll.{RefusesCount, StopsAt, StagesCommit, CommitsTables};

@@ -3,8 +3,7 @@
 ghost use Rattle.std.specs.Prelude.{◌≡◌, ◌≤◌, length, map, IfOk, IfErr};
 ghost use Rattle.replica_identity.specs.ChangeView.{change_view};
 ghost use Rattle.shard_checker.specs.CheckedView.{checked_view, setting_in};
-ghost use Rattle.table_changes.specs.CommandView.{command_view};
-ghost use Rattle.table_changes.specs.Commands.{fault_of};
+ghost use Rattle.table_changes.specs.Commands.{command_view, fault_of};
 ghost use Rattle.tables_log.specs.Applying.{HasMaps, Applies};
 ghost use Rattle.tables_log.specs.Faults.{Finds};
 ghost use Rattle.tables_log.specs.Places.{seen_in, KeepsTables, SettlesTables, DiscardsTables};

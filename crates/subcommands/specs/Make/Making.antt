@@ -22,6 +22,9 @@ use Rattle.subcommands.specs.declared.failure.InputFault.{InputFault}
 use Rattle.subcommands.specs.declared.failure.InputFault.TheVariants as i
 use Rattle.subcommands.specs.declared.failure.Status.{Status}
 use Rattle.subcommands.specs.declared.failure.Status.TheVariants.{Done, Refused}
+use Rattle.cert_maker.specs.declared.made.Made.{Made}
+use Rattle.cert_maker.specs.declared.made.Made.TheVariants as m
+use Rattle.split_cert.specs.Where.{tree_view}
 
 -- ---- what is found of a table
 
@@ -31,6 +34,14 @@ pub data Finding : Type 0 where
   Shown : List Datum → List ℕ → Finding
   Undecided : Finding
   PastLimits : Finding
+
+-- what the maker's answer says of a table; where memory ran out it says nothing
+abbrev pub finding_view : Made → Finding
+finding_view (m.Cert cert) = Certified (tree_view cert)
+finding_view (m.Counter row owners) = Shown row owners.items
+finding_view m.Unknown = Undecided
+finding_view m.TooLarge = PastLimits
+finding_view m.OutOfMemory = Undecided
 
 -- The check accepts the certificate with the catalog's own plan; the row fits the table and passes to exactly these subscribers, which are none or several. The others say nothing of the table.
 abbrev pub IsTrueOf : CatalogOf Expr → ℕ → Finding → Type 0

@@ -4,11 +4,20 @@ use Rattle.pub_reader.specs.Steps.{StepOf}
 use Rattle.pub_reader.specs.Steps as s
 use Rattle.shard_world.specs.World as w
 use Rattle.shard_world.specs.declared.event.PeerEvent.TheVariants as p
+use Rattle.shard_world.specs.World.{event_view}
+use Rattle.subcommands.specs.declared.simulate.Asked.{Asked}
+use Rattle.subcommands.specs.declared.simulate.Asked.TheVariants as v
 
 pub data AskedOf : Type 0 where
   Event : w.Event → AskedOf
   Pump : ℕ → AskedOf
   View : AskedOf
+
+-- a request of the code
+abbrev pub asked_view : Asked → AskedOf
+asked_view (v.Event event) = Event (event_view event)
+asked_view (v.Pump subscriber) = Pump subscriber
+asked_view v.View = View
 
 -- at this clock
 abbrev pub asked_of : ℕ → StepOf → AskedOf

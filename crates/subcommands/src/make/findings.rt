@@ -3,7 +3,7 @@
 ghost use Rattle.std.specs.Prelude.{◌≡◌, ◌++◌, ◌∷◌, [], IfOk, OnOk, codes};
 ghost use Rattle.std.specs.String.{string_bytes};
 ghost use Rattle.pub_catalog.specs.CatalogView.{catalog_view};
-ghost use Rattle.subcommands.specs.Make.FindingView.{finding_view};
+ghost use Rattle.subcommands.specs.Make.Making.{finding_view};
 ghost use Rattle.subcommands.specs.Make.Making as spec;
 ghost use Rattle.subcommands.specs.Names.{spaced, table_name};
 

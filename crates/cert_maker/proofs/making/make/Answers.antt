@@ -2,7 +2,7 @@ use Rattle.std.proofs.Common.{◌≡◌, length, refl}
 use Rattle.std.specs.Prelude.{Some, slice_get}
 use Rattle.std.proofs.lemmas.Option.{slice_get_read}
 use Rattle.pub_catalog.specs.CatalogView.{catalog_view}
-use Rattle.replica_identity.specs.PlanView.{plan_view}
+use Rattle.replica_identity.specs.Plans.{plan_view}
 use Rattle.cert_maker.proofs.AnswerLemmas.{right_answer}
 use Rattle.cert_maker.proofs.making.make.Goals as goal
 

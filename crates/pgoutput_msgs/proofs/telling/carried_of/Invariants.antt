@@ -1,5 +1,5 @@
 use Rattle.std.proofs.Common.{drop}
-use Rattle.replica_identity.specs.PlanView.{plan_view}
+use Rattle.replica_identity.specs.Plans.{plan_view}
 use Rattle.replica_identity.specs.Transforms.{takes_any}
 use Rattle.pgoutput_msgs.proofs.TellingLemmas.{Keeps}
 use Rattle.pgoutput_msgs.proofs.telling.carried_of.Given as goal

@@ -1,7 +1,6 @@
 use Rattle.std.proofs.Common.{◌≡◌, ◌<◌}
 use Rattle.sql_reader.specs.declared.item.Item.TheVariants.{Comma}
-use Rattle.sql_reader.specs.Ahead.{to_read}
-use Rattle.sql_reader.specs.Items.{size}
+use Rattle.sql_reader.specs.Items.{to_read, size}
 use Rattle.sql_reader.specs.Turns.{link, repeat}
 use Rattle.pub_reader.specs.Publishing as spec
 use Rattle.pub_reader.proofs.parameter.parameters.Given as goal

@@ -1,9 +1,8 @@
 use Rattle.std.proofs.Common.{◌≡◌, ◌<◌, map}
 use Rattle.sql_reader.specs.declared.item.Item.TheVariants.{Comma}
-use Rattle.sql_reader.specs.Ahead.{to_read}
-use Rattle.sql_reader.specs.Items.{size}
+use Rattle.sql_reader.specs.Items.{to_read, size}
 use Rattle.sql_reader.specs.Turns.{link, repeat}
-use Rattle.table_changes.specs.CommandView.{command_view}
+use Rattle.table_changes.specs.Commands.{command_view}
 use Rattle.pub_reader.specs.ScriptCommands as spec
 use Rattle.pub_reader.proofs.script_command.command_list.Given as goal
 

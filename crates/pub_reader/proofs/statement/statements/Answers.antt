@@ -1,5 +1,5 @@
 use Rattle.std.proofs.Common.{arith}
-use Rattle.sql_reader.specs.Ahead.{to_read}
+use Rattle.sql_reader.specs.Items.{to_read}
 use Rattle.sql_reader.specs.Written.{as_filter}
 use Rattle.sql_reader.proofs.Turning.{turns}
 use Rattle.pub_reader.specs.DraftView.{draft_view}

@@ -1,6 +1,5 @@
 use Rattle.std.proofs.Common.{◌≡◌}
-use Rattle.sql_reader.specs.Ahead.{to_read}
-use Rattle.sql_reader.specs.Items.{size}
+use Rattle.sql_reader.specs.Items.{to_read, size}
 use Rattle.sql_reader.specs.Reading.{more_ahead}
 use Rattle.sql_reader.specs.Turns.{each, repeat}
 use Rattle.sql_reader.specs.Written.{as_filter}

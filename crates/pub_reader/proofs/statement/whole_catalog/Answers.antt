@@ -1,6 +1,5 @@
 use Rattle.std.proofs.Common.{rules, sym, subst}
-use Rattle.sql_reader.specs.Ahead.{to_read}
-use Rattle.sql_reader.specs.Items.{items_of}
+use Rattle.sql_reader.specs.Items.{to_read, items_of}
 use Rattle.sql_reader.specs.Written.{as_filter}
 use Rattle.pub_reader.specs.DraftNames.{IsNamedDraft}
 use Rattle.pub_reader.specs.DraftView.{draft_view}

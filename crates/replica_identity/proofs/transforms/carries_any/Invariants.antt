@@ -1,6 +1,6 @@
 use Rattle.std.proofs.Common.{◌≡◌, drop}
 use Rattle.std.specs.List.{list_any}
-use Rattle.replica_identity.specs.PlanView.{plan_view}
+use Rattle.replica_identity.specs.Plans.{plan_view}
 use Rattle.replica_identity.specs.Transforms.{takes_any}
 use Rattle.replica_identity.proofs.transforms.carries_any.Given as goal
 

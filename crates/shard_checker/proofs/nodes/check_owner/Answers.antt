@@ -3,7 +3,7 @@ use Rattle.std.specs.Prelude.{slice_get}
 use Rattle.filter_tree.specs.Paths.{path_view}
 use Rattle.shard_checker.specs.Owners.{is_surely_true}
 use Rattle.shard_checker.specs.Steps.{mask_in}
-use Rattle.shard_checker.specs.SubjectView.{subject_view}
+use Rattle.shard_checker.specs.Refusal.{subject_view}
 use Rattle.shard_checker.proofs.ReadyLemmas.{owner_unknown, owner_refused, owner_found}
 use Rattle.shard_checker.proofs.nodes.check_owner.Goals as goal
 

@@ -1,6 +1,6 @@
 use Rattle.std.proofs.Common.{rules, map, subst}
 use Rattle.pub_catalog.specs.CatalogView.{catalog_view}
-use Rattle.replica_identity.specs.PlanView.{plan_view}
+use Rattle.replica_identity.specs.Plans.{plan_view}
 use Rattle.split_cert.specs.Where.{tree_view}
 use Rattle.shard_checker.specs.Checks.{Checks}
 use Rattle.shard_checker.proofs.AnyTest.{sharding_by_any, none_by_any}

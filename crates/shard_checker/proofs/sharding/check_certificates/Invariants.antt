@@ -1,5 +1,5 @@
 use Rattle.std.proofs.Common.{◌≡◌, drop, map, length}
-use Rattle.replica_identity.specs.PlanView.{plan_view}
+use Rattle.replica_identity.specs.Plans.{plan_view}
 use Rattle.shard_checker.specs.Walking.{tables_refusal}
 use Rattle.shard_checker.specs.Trying.{is_empty}
 use Rattle.shard_checker.proofs.sharding.check_certificates.Given as goal

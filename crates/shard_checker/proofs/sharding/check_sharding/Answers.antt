@@ -1,6 +1,6 @@
 use Rattle.std.proofs.Common.{rules, sym, ◌∙◌, subst}
 use Rattle.pub_catalog.specs.CatalogView.{catalog_view}
-use Rattle.replica_identity.specs.PlanView.{plan_view}
+use Rattle.replica_identity.specs.Plans.{plan_view}
 use Rattle.shard_checker.specs.Checks.{Checks}
 use Rattle.shard_checker.specs.Trying.{is_empty}
 use Rattle.shard_checker.proofs.NodeLemmas.{certs_by_nodes}

@@ -1,5 +1,5 @@
 use Rattle.std.proofs.Common.{◌≡◌, ◌++◌, drop}
-use Rattle.replica_identity.specs.PlanView.{plan_view}
+use Rattle.replica_identity.specs.Plans.{plan_view}
 use Rattle.shard_checker.specs.CatalogRefusal.{table_shares}
 use Rattle.shard_checker.specs.Owners.{shares_view}
 use Rattle.shard_checker.proofs.sharding.shares_in.Given as goal

@@ -1,7 +1,7 @@
 use Rattle.std.proofs.Common.{◌≡◌, ◌≢◌, rules}
 use Rattle.std.specs.Prelude.{None}
 use Rattle.pub_catalog.specs.CatalogView.{catalog_view}
-use Rattle.replica_identity.specs.PlanView.{plan_view}
+use Rattle.replica_identity.specs.Plans.{plan_view}
 use Rattle.shard_checker.specs.CatalogRefusal.{declared_refusal}
 use Rattle.shard_checker.specs.CatalogTruth.{ShardingIsWrong}
 use Rattle.shard_checker.specs.declared.error.CheckError.TheVariants.{OutOfMemory}

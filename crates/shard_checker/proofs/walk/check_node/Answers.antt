@@ -3,7 +3,7 @@ use Rattle.filter_tree.specs.Paths.{Path, path_view}
 use Rattle.split_cert.specs.declared.node.Node.{Node}
 use Rattle.split_cert.specs.declared.node.Node.TheVariants.{Empty}
 use Rattle.shard_checker.specs.Checks.{Finds}
-use Rattle.shard_checker.specs.SubjectView.{subject_view}
+use Rattle.shard_checker.specs.Refusal.{subject_view}
 use Rattle.shard_checker.specs.Trying.{is_empty}
 use Rattle.shard_checker.specs.Walking.{node_refusal}
 use Rattle.shard_checker.proofs.walk.check_node.Goals as goal

@@ -1,6 +1,6 @@
 use Rattle.std.proofs.Common.{ap, subst, ◌∙◌}
 use Rattle.shard_checker.specs.Blocks.{Marks, blocks_in}
-use Rattle.shard_checker.specs.SubjectView.{subject_view}
+use Rattle.shard_checker.specs.Refusal.{subject_view}
 use Rattle.shard_checker.proofs.ReadyLemmas.{ready_entered}
 use Rattle.shard_checker.proofs.walk.enter.Goals as goal
 

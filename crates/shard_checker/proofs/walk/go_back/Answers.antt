@@ -1,6 +1,6 @@
 use Rattle.std.proofs.Common.{ap, subst, ◌∙◌}
 use Rattle.shard_checker.specs.Blocks.{Marks, blocks_in}
-use Rattle.shard_checker.specs.SubjectView.{subject_view}
+use Rattle.shard_checker.specs.Refusal.{subject_view}
 use Rattle.shard_checker.proofs.ReadyLemmas.{back_ready, goes_back}
 use Rattle.shard_checker.proofs.walk.go_back.Goals as goal
 

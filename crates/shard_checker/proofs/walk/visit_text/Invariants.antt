@@ -1,7 +1,7 @@
 use Rattle.std.proofs.Common.{length}
 use Rattle.split_cert.specs.Nodes.{nodes_in}
 use Rattle.shard_checker.specs.Ready.{Ready}
-use Rattle.shard_checker.specs.SubjectView.{subject_view}
+use Rattle.shard_checker.specs.Refusal.{subject_view}
 use Rattle.shard_checker.specs.Trying.{is_empty}
 use Rattle.shard_checker.specs.Walking.{Passes, place_of}
 use Rattle.shard_checker.proofs.walk.visit_text.Given as goal

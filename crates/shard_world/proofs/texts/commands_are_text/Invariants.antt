@@ -1,6 +1,6 @@
 use Rattle.std.proofs.Common.{map, take}
 use Rattle.std.specs.Prelude.{All}
-use Rattle.table_changes.specs.CommandView.{command_view}
+use Rattle.table_changes.specs.Commands.{command_view}
 use Rattle.shard_world.specs.Sayable.{IsTextCommand}
 use Rattle.shard_world.proofs.texts.commands_are_text.Given as goal
 

@@ -1,6 +1,5 @@
 use Rattle.std.proofs.Common.{◌≡◌, ◌≤◌}
-use Rattle.sql_reader.specs.Ahead.{to_read}
-use Rattle.sql_reader.specs.Items.{size}
+use Rattle.sql_reader.specs.Items.{to_read, size}
 use Rattle.sql_reader.specs.Turns.{each, repeat}
 use Rattle.sql_reader.specs.Columns as spec
 use Rattle.sql_reader.proofs.column_rule.column_constraints.Given as goal

@@ -1,10 +1,9 @@
 use Rattle.std.proofs.Common.{◌≡◌, ◌<◌}
 use Rattle.sql_reader.specs.declared.item.Item.TheVariants.{Comma}
-use Rattle.sql_reader.specs.Ahead.{to_read}
-use Rattle.sql_reader.specs.Items.{size}
+use Rattle.sql_reader.specs.Items.{to_read, size}
 use Rattle.sql_reader.specs.Turns.{link, repeat}
 use Rattle.sql_reader.specs.Columns as spec
-use Rattle.sql_reader.specs.PartsView.{parts_view}
+use Rattle.sql_reader.specs.Columns.{parts_view}
 use Rattle.sql_reader.proofs.element.read_elements.Given as goal
 
 abbrev pub invariant-loop-parts : goal.invariant-loop-parts

@@ -3,8 +3,7 @@ use Rattle.std.specs.Prelude.{fold}
 use Rattle.filter_tree.specs.Values.{constant_view}
 use Rattle.sql_reader.specs.Ascending.{placed}
 use Rattle.sql_reader.specs.Memberships.{all_beside}
-use Rattle.sql_reader.specs.OperandView.{operand_view}
-use Rattle.sql_reader.specs.Operands.{verdict_map}
+use Rattle.sql_reader.specs.Operands.{operand_view, verdict_map}
 use Rattle.sql_reader.proofs.Placing.{first_placed}
 use Rattle.sql_reader.proofs.list.literals_of.Goals as goal
 

@@ -3,8 +3,7 @@ use Rattle.std.specs.Prelude.{fold, length}
 use Rattle.filter_tree.specs.Values.{constant_view}
 use Rattle.sql_reader.specs.Ascending.{ascending, placed}
 use Rattle.sql_reader.specs.Memberships.{all_beside}
-use Rattle.sql_reader.specs.OperandView.{operand_view}
-use Rattle.sql_reader.specs.Operands.{verdict_map}
+use Rattle.sql_reader.specs.Operands.{operand_view, verdict_map}
 use Rattle.sql_reader.proofs.list.literals_of.Given as goal
 
 -- the literals so far, among which those that are left are placed

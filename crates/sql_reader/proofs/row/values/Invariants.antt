@@ -1,8 +1,7 @@
 use Rattle.std.proofs.Common.{◌≡◌, ◌<◌, map}
 use Rattle.filter_tree.specs.Values.{datum_view}
 use Rattle.sql_reader.specs.declared.item.Item.TheVariants.{Comma}
-use Rattle.sql_reader.specs.Ahead.{to_read}
-use Rattle.sql_reader.specs.Items.{size}
+use Rattle.sql_reader.specs.Items.{to_read, size}
 use Rattle.sql_reader.specs.Rows.{values, one_value}
 use Rattle.sql_reader.specs.Turns.{link, repeat}
 use Rattle.sql_reader.proofs.row.values.Given as goal

@@ -1,6 +1,6 @@
 use Rattle.std.proofs.Common.{◌≡◌, ◌++◌}
 use Rattle.shard_checker.specs.Texts.{texts_view}
-use Rattle.subcommands.specs.LinesView.{lines_left}
+use Rattle.subcommands.specs.Parts.{lines_left}
 use Rattle.subcommands.specs.Parts as parts
 use Rattle.subcommands.proofs.check.lines_of.Given as goal
 

@@ -1,8 +1,7 @@
 use Rattle.std.proofs.Common.{map}
 use Rattle.subcommands.proofs.RowLines.{IsSoFar}
 use Rattle.subcommands.specs.Eval.Carriers.{carrier_view}
-use Rattle.subcommands.specs.LinesView.{lines_left}
-use Rattle.subcommands.specs.Parts.{lines_of}
+use Rattle.subcommands.specs.Parts.{lines_left, lines_of}
 use Rattle.subcommands.proofs.eval.write_rows.Given as goal
 
 abbrev pub invariant-loop-row : goal.invariant-loop-row

@@ -1,7 +1,7 @@
 use Rattle.std.proofs.Common.{rules, ◌≡◌, ◌≤◌, length}
 use Rattle.std.specs.String.{string_bytes}
 use Rattle.subcommands.proofs.Limits.{all_read}
-use Rattle.subcommands.specs.InputView.{reader_of}
+use Rattle.subcommands.specs.Requests.{reader_of}
 use Rattle.subcommands.proofs.reading.read_input.Goals as goal
 
 pub returns-in-Ok-clause-bytes : goal.returns-in-Ok-clause-bytes

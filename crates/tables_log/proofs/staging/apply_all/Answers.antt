@@ -1,7 +1,7 @@
 use Rattle.std.proofs.Common.{◌+◌, ◌∷◌, drop, map, arith, ap, subst, sym, ◌∙◌}
 use Rattle.replica_identity.specs.ChangeView.{change_view}
 use Rattle.shard_checker.specs.CheckedView.{checked_view, setting_in}
-use Rattle.table_changes.specs.CommandView.{command_view}
+use Rattle.table_changes.specs.Commands.{command_view}
 use Rattle.tables_log.proofs.ListLemmas.{SoFar, applies_one, applied_to_end, keeps_both, map_more, stops_at}
 use Rattle.tables_log.specs.ApplyingAll.{StopsAt}
 use Rattle.tables_log.specs.Places.{seen_in}

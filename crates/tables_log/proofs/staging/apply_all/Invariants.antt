@@ -1,7 +1,7 @@
 use Rattle.std.proofs.Common.{◌+◌, drop, map}
 use Rattle.replica_identity.specs.ChangeView.{change_view}
 use Rattle.shard_checker.specs.CheckedView.{checked_view, setting_in}
-use Rattle.table_changes.specs.CommandView.{command_view}
+use Rattle.table_changes.specs.Commands.{command_view}
 use Rattle.tables_log.proofs.ListLemmas.{SoFar}
 use Rattle.tables_log.proofs.staging.apply_all.Given as goal
 

@@ -1,5 +1,5 @@
 use Rattle.pub_catalog.specs.CatalogView.{catalog_view}
-use Rattle.replica_identity.specs.PlanView.{plan_view}
+use Rattle.replica_identity.specs.Plans.{plan_view}
 use Rattle.shard_checker.proofs.PlanFacts.{kept_own}
 use Rattle.shard_checker.proofs.ShardingLemmas.{takes_own}
 use Rattle.shard_checker.proofs.checked.Checked.plan.Goals as goal

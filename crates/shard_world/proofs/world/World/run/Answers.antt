@@ -1,7 +1,7 @@
 use Rattle.std.proofs.Common.{◌≡◌, ◌+◌, ◌∷◌, [], ◌++◌, ap, arith, map, subst, sym, take, ◌∙◌}
 use mathlib.Core.List.{map-append}
 use Rattle.std.proofs.lemmas.List.{take_more}
-use Rattle.shard_world.specs.EventView.{timed_view}
+use Rattle.shard_world.specs.World.{timed_view}
 use Rattle.shard_world.specs.WorldCalls.{RunsOn}
 use Rattle.shard_world.proofs.RunLemmas.{runs_more}
 use Rattle.shard_world.proofs.world.World.run.Goals as goal

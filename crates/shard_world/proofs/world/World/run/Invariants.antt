@@ -1,5 +1,5 @@
 use Rattle.std.proofs.Common.{◌≡◌, ◌≤◌, length, map, take}
-use Rattle.shard_world.specs.EventView.{timed_view}
+use Rattle.shard_world.specs.World.{timed_view}
 use Rattle.shard_world.specs.WorldCalls.{RunsOn}
 use Rattle.shard_world.proofs.world.World.run.Given as goal
 
