@@ -1,5 +1,6 @@
 pub mod Asking
 pub mod BadLines
+pub mod Digits
 pub mod Evaluating
 pub mod Exits
 pub mod Faults

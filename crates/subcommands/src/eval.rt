@@ -20,7 +20,7 @@ use crate::arguments::RowOutput;
 use crate::eval::answers::push_answers;
 use crate::eval::bad_row::table_row;
 use crate::eval::carriers::carriers_of;
-use crate::eval::inserts::push_insert;
+use crate::eval::inserts::{Spelling, push_insert};
 use crate::eval::tables::{CatalogTable, find_table};
 use crate::failure::{Failure, InputFault, Status};
 use crate::output::write_line;
@@ -32,8 +32,8 @@ use std::io::Write;
 
 /// Writes what is wanted of a row on an empty line.
 fn push_told(
-    alloc: Global,
     line: &mut String,
+    spelling: &mut Spelling,
     carried: CatalogTable<'_>,
     wanted: RowOutput,
     row: &Row,
@@ -44,7 +44,7 @@ fn push_told(
 {
     match wanted {
         RowOutput::Answers => push_answers(line, carried.carriers, row),
-        RowOutput::Insert => push_insert(alloc, line, carried, row),
+        RowOutput::Insert => push_insert(line, spelling, carried, row),
     }
 }
 
@@ -53,6 +53,7 @@ fn push_told(
 fn push_line(
     alloc: Global,
     line: &mut String,
+    spelling: &mut Spelling,
     carried: CatalogTable<'_>,
     wanted: RowOutput,
     text: &str,
@@ -63,7 +64,7 @@ fn push_line(
 {
     match table_row(alloc, carried.table, text) {
         Ok(row) => {
-            push_told(alloc, line, carried, wanted, &row)?;
+            push_told(line, spelling, carried, wanted, &row)?;
             Ok(true)
         }
         Err(bad) => {
@@ -89,9 +90,10 @@ pub fn write_rows<'a, W: Write>(
 {
     let mut status = Status::Done;
     let mut line = String::new(alloc);
+    let mut spelling = Spelling::new(alloc);
     for row in Lines::new(rows) {
         line.clear();
-        if !push_line(alloc, &mut line, carried, wanted, row)? {
+        if !push_line(alloc, &mut line, &mut spelling, carried, wanted, row)? {
             status = Status::Refused;
         }
         write_line(&mut line, writer)?;

@@ -1,10 +1,8 @@
 //! The Insert message of a row that some publication carries.
 
-ghost use Rattle.std.specs.Prelude.{◌≡◌, ◌++◌, [], map, IfOk, OnOk};
+ghost use Rattle.std.specs.Prelude.{◌≡◌, ◌++◌, [], map, OnOk};
 ghost use Rattle.std.specs.String.{string_bytes};
 ghost use Rattle.filter_tree.specs.Valid.{IsValid};
-ghost use Rattle.pgoutput_msgs.specs.Ranges.{IsWithinRange};
-ghost use Rattle.pgoutput_msgs.specs.Spelling.{spelling_of};
 ghost use Rattle.subcommands.specs.Eval.Carriers.{carrier_view};
 ghost use Rattle.subcommands.specs.Eval.Inserts as spec;
 ghost use Rattle.subcommands.specs.Eval.Printing.{carriers_in};
@@ -14,8 +12,25 @@ use crate::eval::carriers::Carrier;
 use crate::eval::hexadecimal::push_hexadecimal;
 use crate::eval::tables::CatalogTable;
 use filter_tree::{Row, Tri};
-use pgoutput_msgs::{Msg, encode, oid_of, tuple_of};
+use pgoutput_msgs::{encode_insert, oid_of};
 use std::alloc::{AllocError, Global};
+
+/// The bytes of a message and the pairs of their digits, in memory that is kept from row to row.
+#[derive(Drop)]
+pub struct Spelling {
+    bytes: Vec<u8>,
+    pairs: Vec<[u8; 2]>,
+}
+
+impl Spelling {
+    /// No bytes, and no memory yet.
+    pub fn new(alloc: Global) -> Spelling {
+        Spelling {
+            bytes: Vec::new(alloc),
+            pairs: Vec::new(alloc),
+        }
+    }
+}
 
 fn carries(carrier: Carrier<'_>, row: &Row) -> bool
     ensures { result ≡ spec.carries row.now (carrier_view carrier.entry) }
@@ -37,32 +52,11 @@ fn is_carried(carriers: &[Carrier<'_>], row: &Row) -> bool
     false
 }
 
-/// The message that a row was inserted into the table.
-fn insert_of(alloc: Global, carried: CatalogTable<'_>, row: &Row) -> Result<Msg, AllocError>
-    requires fits { IsValid carried.table.now.columns row.now }
-    ensures exact { IfOk result (λ message. message ≡ spec.insert_of carried.entry.number row.now) }
-    ensures room { IfOk result IsWithinRange }
-{
-    let new = tuple_of(alloc, row)?;
-    let relation = oid_of(carried.number);
-    Ok(Msg::Insert { relation, new })
-}
-
-/// The bytes that spell it.
-fn spelled(alloc: Global, carried: CatalogTable<'_>, row: &Row) -> Result<Vec<u8>, AllocError>
-    requires fits { IsValid carried.table.now.columns row.now }
-    ensures { IfOk result (λ bytes. bytes.items ≡ spelling_of (spec.insert_of carried.entry.number row.now)) }
-{
-    let message = insert_of(alloc, carried, row)?;
-    let mut bytes = Vec::new(alloc);
-    encode(&message, &mut bytes)?;
-    Ok(bytes)
-}
-
 /// Writes the message of a row of the table after what is on the line.
+#[tactic(auto, using(pgoutput_msgs::proofs::RowLemmas::valid_row_fits))]
 fn push_message(
-    alloc: Global,
     line: &mut String,
+    spelling: &mut Spelling,
     carried: CatalogTable<'_>,
     row: &Row,
 ) -> Result<(), AllocError>
@@ -70,15 +64,16 @@ fn push_message(
     ensures { OnOk result (string_bytes line.new ≡ string_bytes line.old ++ spec.message_text carried.entry.number
         row.now) }
 {
-    let bytes = spelled(alloc, carried, row)?;
-    push_hexadecimal(line, bytes.as_slice())?;
+    spelling.bytes.clear();
+    encode_insert(oid_of(carried.number), row, &mut spelling.bytes)?;
+    push_hexadecimal(line, &mut spelling.pairs, spelling.bytes.as_slice())?;
     Ok(())
 }
 
 /// Writes the Insert message of a row on an empty line, or `none` where no publication carries the row.
 pub fn push_insert(
-    alloc: Global,
     line: &mut String,
+    spelling: &mut Spelling,
     carried: CatalogTable<'_>,
     row: &Row,
 ) -> Result<(), AllocError>
@@ -88,7 +83,7 @@ pub fn push_insert(
         (carriers_in carried.entry)) }
 {
     if is_carried(carried.carriers, row) {
-        return push_message(alloc, line, carried, row);
+        return push_message(line, spelling, carried, row);
     }
     line.push_str("none")
 }
