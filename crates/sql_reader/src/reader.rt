@@ -48,7 +48,7 @@ impl<'a> Reader<'a> {
     }
 
     /// A reader whose token ahead is the next of `tokens`.
-    #[tactic(auto, unfolding(crate::specs::Ahead::to_read, crate::specs::Items::items))]
+    #[tactic(auto, unfolding(crate::specs::Items::to_read, crate::specs::Items::items))]
     fn look_at(text: &'a str, mut tokens: Tokens<'a>) -> Reader<'a>
         requires { text_of tokens ≡ text.now }
         ensures { to_read result ≡ items (left tokens.entry) }
@@ -85,7 +85,7 @@ impl<'a> Reader<'a> {
     }
 
     /// Takes the token ahead, if there is one that is not faulty.
-    #[tactic(auto, unfolding(crate::specs::Ahead::to_read))]
+    #[tactic(auto, unfolding(crate::specs::Items::to_read))]
     pub fn advance(&mut self)
         ensures { to_read self.new ≡ spec.rest_of (to_read self.old) }
     {
@@ -95,7 +95,7 @@ impl<'a> Reader<'a> {
     }
 
     /// The token ahead; `None` at the end of the text and at a faulty token.
-    #[tactic(auto, unfolding(crate::specs::Ahead::to_read))]
+    #[tactic(auto, unfolding(crate::specs::Items::to_read))]
     pub fn item(&self) -> Option<Item>
         ensures { result ≡ spec.item_ahead (to_read self.now) }
     {
@@ -106,7 +106,7 @@ impl<'a> Reader<'a> {
     }
 
     /// The place of the token ahead, in bytes from the start of the text; at its end, the text's length.
-    #[tactic(auto, unfolding(crate::specs::Ahead::to_read))]
+    #[tactic(auto, unfolding(crate::specs::Items::to_read))]
     pub fn place(&self) -> usize
         ensures { result ≡ spec.place_ahead (to_read self.now) }
     {
@@ -115,7 +115,7 @@ impl<'a> Reader<'a> {
 
     /// The token ahead as it is written, without the quotes of a quoted name or a string; nothing at the end of the text and
     /// where the token is faulty.
-    #[tactic(auto, unfolding(crate::specs::Ahead::to_read))]
+    #[tactic(auto, unfolding(crate::specs::Items::to_read))]
     pub fn written(&self) -> &'a str
         ensures { result.now ≡ spec.written_ahead (to_read self.now) }
     {
@@ -126,7 +126,7 @@ impl<'a> Reader<'a> {
     }
 
     /// Why the token ahead is not taken: it is faulty, or it is not what was expected.
-    #[tactic(auto, unfolding(crate::specs::Ahead::to_read))]
+    #[tactic(auto, unfolding(crate::specs::Items::to_read))]
     pub fn refusal(&self, what: &'static str) -> ReadError
         ensures { IsFault result (spec.refusal (to_read self.now)) }
     {
@@ -166,7 +166,7 @@ impl<'a> Reader<'a> {
     /// # Errors
     ///
     /// The fault of that token, and nothing else.
-    #[tactic(auto, unfolding(crate::specs::Reading::look, crate::specs::Ahead::to_read))]
+    #[tactic(auto, unfolding(crate::specs::Reading::look, crate::specs::Items::to_read))]
     pub fn look(&self) -> Result<(), ReadError>
         ensures reads { Reads (λ u. u) (spec.look (to_read self.now)) result (to_read self.now) }
         ensures err { IfErr result (λ e. IsFault e (spec.refusal (to_read self.now))) }
@@ -228,7 +228,7 @@ impl<'a> Reader<'a> {
     }
 
     /// The number ahead, as the negative one where `negative` says so.
-    #[tactic(auto, unfolding(crate::specs::Ahead::to_read))]
+    #[tactic(auto, unfolding(crate::specs::Items::to_read))]
     pub(crate) fn number(&self, negative: bool) -> Option<i64>
         ensures { result ≡ number_ahead negative (spec.item_ahead (to_read self.now)) }
     {
@@ -242,7 +242,7 @@ impl<'a> Reader<'a> {
     }
 
     /// Refuses all but the end of the text.
-    #[tactic(auto, unfolding(crate::specs::Rows::end, crate::specs::Ahead::to_read))]
+    #[tactic(auto, unfolding(crate::specs::Rows::end, crate::specs::Items::to_read))]
     pub(crate) fn end(&self, what: &'static str) -> Result<(), ReadError>
         ensures { Reads (λ u. u) (end (to_read self.now)) result (to_read self.now) }
     {
@@ -257,7 +257,7 @@ impl<'a> Reader<'a> {
     /// # Errors
     ///
     /// The fault of that token, and nothing else.
-    #[tactic(auto, unfolding(crate::specs::Reading::more_ahead, crate::specs::Ahead::to_read))]
+    #[tactic(auto, unfolding(crate::specs::Reading::more_ahead, crate::specs::Items::to_read))]
     pub fn more_ahead(&self) -> Result<bool, ReadError>
         ensures answer { Answers (λ b. b) (spec.more_ahead (to_read self.now)) result }
         ensures err { IfErr result (λ e. IsFault e (spec.refusal (to_read self.now))) }
