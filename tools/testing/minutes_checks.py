@@ -47,6 +47,7 @@ def check_minutes(tally: Tally) -> None:
     if os.path.exists("/proc/self/stat"):
         check_runs_of_commands(tally)
         check_parts_seen(tally)
+        check_jobs(tally)
     else:
         print("skipped: runs of gate_minutes, since there is no /proc")
 
@@ -82,9 +83,20 @@ def check_parts_seen(tally: Tally) -> None:
     tally.check("the last line after them", last, "last\n")
 
 
-def gate_minutes(*words: str) -> tuple[int, list[str], str, str]:
+def check_jobs(tally: Tally) -> None:
+    """rt is told how many checks to make at once, unless a variable says that already."""
+    others = {name: value for name, value in os.environ.items() if name != "RT_JOBS"}
+    _, _, last, _ = gate_minutes("sh", "-c", "echo $RT_JOBS", environment=others)
+    tally.check("checks at once", int(last) in range(1, len(os.sched_getaffinity(0)) + 1), True)
+    _, _, last, _ = gate_minutes("sh", "-c", "echo $RT_JOBS", environment={**others, "RT_JOBS": "7"})
+    tally.check("checks at once, as a variable says", last, "7\n")
+
+
+def gate_minutes(*words: str, environment: dict[str, str] | None = None) -> tuple[int, list[str], str, str]:
     """A run: its status, the lines of its output but the last one, that one, and its errors."""
-    answer = subprocess.run([GATE_MINUTES, *words], stdout=subprocess.PIPE, stderr=subprocess.PIPE, encoding="utf-8")
+    answer = subprocess.run(
+        [GATE_MINUTES, *words], stdout=subprocess.PIPE, stderr=subprocess.PIPE, encoding="utf-8", env=environment
+    )
     lines = answer.stdout.splitlines(keepends=True)
     if not lines:
         return answer.returncode, [], "", answer.stderr
