@@ -1,4 +1,5 @@
-"""What a run of the gate costs: the processor minutes of each crate's proofs, must-fail edits and tests.
+"""What a run of the gate costs: the processor minutes of each crate's proofs, must-fail edits and tests, where a seed is
+the check of a crate that its edits begin with.
 
 They are added up from what /proc says of the prover's processes, twice a second. So what a process does in its last
 half second is left out.
@@ -17,7 +18,7 @@ from typing import NamedTuple
 # How long it is from one look at the processes to the next, in seconds.
 PAUSE = 0.5
 TICKS = os.sysconf("SC_CLK_TCK")
-PARTS = ["proofs", "edits", "tests"]
+PARTS = ["proofs", "seeds", "edits", "tests"]
 
 
 class Part(NamedTuple):
@@ -36,7 +37,8 @@ class Process(NamedTuple):
 
 
 def part_of(words: list[str], folder: str) -> Part | None:
-    """What the process with this command line works for in this folder. An edit is tried in a folder of its own."""
+    """What the process with this command line works for in this folder. An edit is tried in a folder of its own. So is
+    the crate as it is, once, and the edits are tried over what that check keeps, which is in a folder `seed`."""
     for at, word in enumerate(words):
         if os.path.basename(word) == "rattle" and words[at + 1:at + 2] in (["check"], ["build"]):
             options = words[at + 2:]
@@ -47,7 +49,8 @@ def part_of(words: list[str], folder: str) -> Part | None:
         return None
     crate = options[options.index("--crate-name") + 1]
     if os.path.basename(folder).startswith("rt-edit-"):
-        return Part(crate, "edits")
+        kept = options[options.index("--incremental") + 1] if "--incremental" in options[:-1] else ""
+        return Part(crate, "seeds" if os.path.basename(kept) == "seed" else "edits")
     return Part(crate, "tests" if "--test" in options else "proofs")
 
 
@@ -111,21 +114,31 @@ class Meter:
             totals[part] += self.seconds[key]
         return totals
 
+    def longest(self) -> dict[str, float]:
+        """Of each crate the seconds of the edit that took longest. Each is one process, but where memory is short."""
+        longest: dict[str, float] = {}
+        for key, part in self.parts.items():
+            if part.kind == "edits":
+                longest[part.crate] = max(longest.get(part.crate, 0.0), self.seconds[key])
+        return longest
+
 
 def row(name: str, cells: list[str]) -> str:
     """A line of the table."""
-    return f"{name:<20}" + "".join(f"{cell:>10}" for cell in cells)
+    return (f"{name:<20}" + "".join(f"{cell:>10}" for cell in cells)).rstrip()
 
 
-def table(totals: Counter[Part], wall: float, whole: float) -> str:
-    """The minutes of each part, and those of the whole run, in which programs are built and run too."""
+def table(totals: Counter[Part], longest: dict[str, float], wall: float, whole: float) -> str:
+    """The minutes of each part, the seconds of each crate's longest edit, and the minutes of the whole run, in which
+    programs are built and run too."""
     def cells(crates: list[str]) -> list[str]:
         each = [sum(totals[Part(crate, kind)] for crate in crates) for kind in PARTS]
-        return [f"{seconds / 60:.1f}" for seconds in [*each, sum(each)]]
+        most = max((longest[crate] for crate in crates if crate in longest), default=None)
+        return [*(f"{seconds / 60:.1f}" for seconds in [*each, sum(each)]), f"{most:.0f} s" if most is not None else ""]
 
     crates = list({part.crate for part in totals})
     crates.sort(key=lambda crate: (-sum(totals[Part(crate, kind)] for kind in PARTS), crate))
-    lines = [row("processor minutes", [*PARTS, "all"])]
+    lines = [row("processor minutes", [*PARTS, "all", "an edit"])]
     lines += [row(crate, cells([crate])) for crate in crates]
     lines.append(row("all crates", cells(crates)))
     lines.append(f"the whole: {wall / 60:.1f} minutes, {whole / 60:.1f} of processors")
@@ -174,7 +187,7 @@ def run(words: list[str]) -> int:
         last = pass_on(command, meter)
         status = command.wait()
     used = resource.getrusage(resource.RUSAGE_CHILDREN)
-    write(table(meter.totals(), time.monotonic() - started, used.ru_utime + used.ru_stime).encode())
+    write(table(meter.totals(), meter.longest(), time.monotonic() - started, used.ru_utime + used.ru_stime).encode())
     write(last)
     # A shell has the same status for a command that a signal ended.
     return status if status >= 0 else 128 - status
