@@ -6,6 +6,7 @@ half second is left out.
 """
 
 import os
+import pathlib
 import resource
 import select
 import signal
@@ -18,6 +19,8 @@ from typing import NamedTuple
 # How long it is from one look at the processes to the next, in seconds.
 PAUSE = 0.5
 TICKS = os.sysconf("SC_CLK_TCK")
+# How many processor seconds an edit may take.
+SLOW = 40
 PARTS = ["proofs", "seeds", "edits", "tests"]
 
 
@@ -26,6 +29,8 @@ class Part(NamedTuple):
 
     crate: str
     kind: str
+    # The number of an edit among those of its crate, if it has one.
+    edit: int | None = None
 
 
 class Process(NamedTuple):
@@ -50,7 +55,8 @@ def part_of(words: list[str], folder: str) -> Part | None:
     crate = options[options.index("--crate-name") + 1]
     if os.path.basename(folder).startswith("rt-edit-"):
         kept = options[options.index("--incremental") + 1] if "--incremental" in options[:-1] else ""
-        return Part(crate, "seeds" if os.path.basename(kept) == "seed" else "edits")
+        name = os.path.basename(kept)
+        return Part(crate, "seeds") if name == "seed" else Part(crate, "edits", int(name) if name.isdigit() else None)
     return Part(crate, "tests" if "--test" in options else "proofs")
 
 
@@ -111,36 +117,43 @@ class Meter:
         """The seconds of each part."""
         totals: Counter[Part] = Counter()
         for key, part in self.parts.items():
-            totals[part] += self.seconds[key]
+            totals[part._replace(edit=None)] += self.seconds[key]
         return totals
 
-    def longest(self) -> dict[str, float]:
-        """Of each crate the seconds of the edit that took longest. Each is one process, but where memory is short."""
-        longest: dict[str, float] = {}
+    def slow(self) -> list[tuple[str, float]]:
+        """The edits that took over 40 seconds, and how many."""
+        seconds: Counter[Part] = Counter()
         for key, part in self.parts.items():
             if part.kind == "edits":
-                longest[part.crate] = max(longest.get(part.crate, 0.0), self.seconds[key])
-        return longest
+                seconds[part] += self.seconds[key]
+        return [(name_of(part), each) for part, each in seconds.most_common() if each > SLOW]
+
+
+def name_of(part: Part) -> str:
+    """The name of an edit. rt numbers them from 0, in the order of their names; without a number it is the only one."""
+    edits = sorted(path.stem for path in pathlib.Path("crates", part.crate, "must-fail").glob("*.edit"))
+    number = part.edit or 0
+    return f"{part.crate}/{edits[number] if number < len(edits) else number}"
 
 
 def row(name: str, cells: list[str]) -> str:
     """A line of the table."""
-    return (f"{name:<20}" + "".join(f"{cell:>10}" for cell in cells)).rstrip()
+    return f"{name:<20}" + "".join(f"{cell:>10}" for cell in cells)
 
 
-def table(totals: Counter[Part], longest: dict[str, float], wall: float, whole: float) -> str:
-    """The minutes of each part, the seconds of each crate's longest edit, and the minutes of the whole run, in which
-    programs are built and run too."""
+def table(totals: Counter[Part], slow: list[tuple[str, float]], wall: float, whole: float) -> str:
+    """The minutes of each part, the edits that are slow, and the minutes of the whole run, in which programs are built
+    and run too."""
     def cells(crates: list[str]) -> list[str]:
         each = [sum(totals[Part(crate, kind)] for crate in crates) for kind in PARTS]
-        most = max((longest[crate] for crate in crates if crate in longest), default=None)
-        return [*(f"{seconds / 60:.1f}" for seconds in [*each, sum(each)]), f"{most:.0f} s" if most is not None else ""]
+        return [f"{seconds / 60:.1f}" for seconds in [*each, sum(each)]]
 
     crates = list({part.crate for part in totals})
     crates.sort(key=lambda crate: (-sum(totals[Part(crate, kind)] for kind in PARTS), crate))
-    lines = [row("processor minutes", [*PARTS, "all", "an edit"])]
+    lines = [row("processor minutes", [*PARTS, "all"])]
     lines += [row(crate, cells([crate])) for crate in crates]
     lines.append(row("all crates", cells(crates)))
+    lines += [f"over {SLOW} seconds: {name}, {seconds:.0f}" for name, seconds in slow]
     lines.append(f"the whole: {wall / 60:.1f} minutes, {whole / 60:.1f} of processors")
     return "".join(f"{line}\n" for line in lines)
 
@@ -187,7 +200,7 @@ def run(words: list[str]) -> int:
         last = pass_on(command, meter)
         status = command.wait()
     used = resource.getrusage(resource.RUSAGE_CHILDREN)
-    write(table(meter.totals(), meter.longest(), time.monotonic() - started, used.ru_utime + used.ru_stime).encode())
+    write(table(meter.totals(), meter.slow(), time.monotonic() - started, used.ru_utime + used.ru_stime).encode())
     write(last)
     # A shell has the same status for a command that a signal ended.
     return status if status >= 0 else 128 - status
