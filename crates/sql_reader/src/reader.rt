@@ -113,8 +113,8 @@ impl<'a> Reader<'a> {
         self.place
     }
 
-    /// The token ahead as it is written, without the quotes of a quoted name or a string; nothing at the end of the text and
-    /// where the token is faulty.
+    /// The token ahead as it is written, without the quotes of a quoted name or a string; nothing at the end of the
+    /// text and where the token is faulty.
     #[tactic(auto, unfolding(crate::specs::Items::to_read))]
     pub fn written(&self) -> &'a str
         ensures { result.now ≡ spec.written_ahead (to_read self.now) }
