@@ -31,13 +31,14 @@ pub struct Reader<'a> {
 }
 
 impl<'a> Reader<'a> {
-    ghost use Rattle.std.specs.Prelude.{◌≡◌, ◌<◌, ◌≤◌, IfErr, Ok, OnErr, OnOk};
+    ghost use Rattle.std.specs.Prelude.{◌≡◌, ◌≤◌, IfErr, Ok, OnErr};
     ghost use Rattle.sql_tokens.specs.Left.{text_of, left};
     ghost use Rattle.sql_reader.specs.Items.{items, items_of, size, to_read};
     ghost use Rattle.sql_reader.specs.Numbers.{number_ahead};
     ghost use Rattle.sql_reader.specs.Rows.{end};
     ghost use Rattle.sql_reader.specs.Reading as spec;
     ghost use Rattle.sql_reader.specs.Reading.{Reads, Answers, IsFault};
+    ghost use Rattle.sql_reader.specs.Taking.{TakesSome};
 
     /// A reader before the first token of a text.
     #[tactic(auto, unfolding(crate::specs::Items::items_of))]
@@ -113,8 +114,8 @@ impl<'a> Reader<'a> {
         self.place
     }
 
-    /// The token ahead as it is written, without the quotes of a quoted name or a string; nothing at the end of the text and
-    /// where the token is faulty.
+    /// The token ahead as it is written, without the quotes of a quoted name or a string; nothing at the end of the
+    /// text and where the token is faulty.
     #[tactic(auto, unfolding(crate::specs::Items::to_read))]
     pub fn written(&self) -> &'a str
         ensures { result.now ≡ spec.written_ahead (to_read self.now) }
@@ -214,8 +215,7 @@ impl<'a> Reader<'a> {
     /// The fault of the token ahead, or `Expected` where it is another token; then nothing is taken.
     #[tactic(auto, using(crate::proofs::Ahead::rest_is_fewer), unfolding(crate::specs::Reading::expect))]
     pub fn expect(&mut self, item: Item, what: &'static str) -> Result<usize, ReadError>
-        ensures reads { Reads (λ place. place) (spec.expect item (to_read self.old)) result (to_read self.new) }
-        ensures fewer { OnOk result (size (to_read self.new) < size (to_read self.old)) }
+        ensures takes { TakesSome (λ place. place) (spec.expect item) self.old result self.new }
         ensures err { IfErr result (λ e. IsFault e (spec.refusal (to_read self.old))) }
         ensures kept { OnErr result (to_read self.new ≡ to_read self.old) }
     {
