@@ -11,6 +11,7 @@ pub mod RecordedLemmas
 pub mod RelationRules
 pub mod RoomLemmas
 pub mod RowLemmas
+pub mod RowWriting
 pub mod SeenMessageLemmas
 pub mod SentLemmas
 pub mod SpellingLaws

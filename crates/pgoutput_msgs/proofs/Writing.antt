@@ -15,6 +15,13 @@ pub record Writes {A : Type 0} (spell : A → List ℕ) (old now : Vec ℕ) (all
   pub long : vec_len now + length (flat_map spell left) ≡ vec_len old + length (flat_map spell all)
   pub kept : vec_capacity old ≤ vec_capacity now
 
+pub puts_both : (old between later : Vec ℕ) (first second : List ℕ) → Puts old between first → Puts between later second → Puts old later (first ++ second)
+puts_both old between later first second one other = record {
+  appended = other.appended ∙ ap (λ (bytes : List ℕ). bytes ++ second) one.appended ∙ append_assoc old.items first second;
+  longer = omega (arith, length-append first second, one.longer, other.longer);
+  kept = omega (arith, one.kept, other.kept);
+}
+
 first_left : {A : Type 0} (spell : A → List ℕ) (all : List A) (i : ℕ) (a : A) → a ≡ get_or all i a → i < length all → flat_map spell (drop i all) ≡ spell a ++ flat_map spell (drop (i + 1) all)
 first_left {A = A} spell all i a is within =
     at_drop_more (flat_map spell) all i a within ∙ ap (λ (x : A). flat_map spell (x ∷ drop (i + 1) all)) (sym is) ∙ flat_map-cons spell a (drop (i + 1) all)
@@ -66,6 +73,24 @@ pub all_measured : {A : Type 0} (spell : A → List ℕ) (all : List A) (i : ℕ
 all_measured spell all i total over so_far =
     let none = ap length (at_drop_all (flat_map spell) all i over) in
     omega (arith, none, so_far.few, so_far.sum)
+
+-- ---- room for values, up to the greatest number
+
+-- what room was counted, and what is left to be written, are enough for this many bytes and all values
+pub record Covers {A : Type 0} (spell : A → List ℕ) (before : ℕ) (all left : List A) (total : ℕ) : Type 0 where
+  pub sum : capped (before + length (flat_map spell all)) ≤ capped (total + length (flat_map spell left))
+
+pub covers_on : {A : Type 0} (spell : A → List ℕ) (before : ℕ) (all : List A) (i : ℕ) (a : A) (total size later : ℕ) → a ≡ get_or all i a → i < length all
+    → capped (length (spell a)) ≤ size → later ≡ capped (total + size) → Covers spell before all (drop i all) total → Covers spell before all (drop (i + 1) all) later
+covers_on spell before all i a total size later is within one sum so_far =
+    let split = ap length (first_left spell all i a is within) ∙ length-append (spell a) (flat_map spell (drop (i + 1) all)) in
+    record { sum = omega (arith, split, one, sum, so_far.sum) }
+
+pub all_covered : {A : Type 0} (spell : A → List ℕ) (before : ℕ) (all : List A) (i : ℕ) (total : ℕ) → length all ≤ i → Covers spell before all (drop i all) total
+    → capped (before + length (flat_map spell all)) ≤ total
+all_covered spell before all i total over so_far =
+    let none = ap length (at_drop_all (flat_map spell) all i over) in
+    omega (arith, none, so_far.sum)
 
 pub length_fours : (numbers : List ℕ) → length (flat_map int32 numbers) ≡ 4 * length numbers
 length_fours [] = refl

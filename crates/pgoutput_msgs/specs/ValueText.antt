@@ -5,6 +5,9 @@ use Rattle.std.specs.List.{list_any}
 use Rattle.std.specs.Str.{bytes_eq}
 use Rattle.std.specs.Str.Parse.{signed_digits_value}
 use Rattle.filter_tree.specs.Datum.{Constant, Number, Truth, Bytes, Datum, Missing, Known}
+use Rattle.filter_tree.specs.Values.{datum_view}
+use Rattle.filter_tree.specs.declared.value.Value.{Value}
+use Rattle.pgoutput_msgs.specs.Spelling.{cell_spelling}
 use Rattle.filter_tree.specs.Range.{least_of, greatest_of}
 use Rattle.filter_tree.specs.declared.table.ColType.{ColType}
 use Rattle.filter_tree.specs.declared.table.ColType.TheVariants as k
@@ -22,6 +25,10 @@ cell_of (Known (Bytes text)) = Text text
 
 abbrev pub cells_of : List Datum → List Cell
 cells_of row = map cell_of row
+
+-- the bytes of a value in a message
+abbrev pub value_spelling : {A : _} → Value A → List ℕ
+value_spelling value = cell_spelling (cell_of (datum_view value))
 
 -- ---- the value of a text
 

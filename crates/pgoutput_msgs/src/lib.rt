@@ -13,6 +13,7 @@ mod message;
 mod reader;
 mod relation;
 mod room;
+mod row_insert;
 mod row_values;
 mod saying;
 mod spoken;
@@ -32,6 +33,7 @@ pub use laws::{
 };
 pub use message::Msg;
 pub use relation::{Relation, RelationColumn, ReplicaIdentity};
+pub use row_insert::encode_insert;
 pub use row_values::value_of;
 pub use tables::{oid_of, relation_of, type_oid};
 pub use telling::messages_of;

@@ -1,6 +1,6 @@
 //! The values of a row in a message ("TupleData").
 
-ghost use Rattle.std.specs.Prelude.{◌≡◌, ◌==◌, ◌^◌, ◌-◌, length, min, All};
+ghost use Rattle.std.specs.Prelude.{◌≡◌, ◌==◌, ◌<◌, ◌^◌, ◌-◌, length, min, All};
 ghost use Rattle.std.specs.List.{flat_map};
 ghost use Rattle.pgoutput_msgs.specs.Spelling.{cell_spelling, tuple_spelling, old_spelling, new_spelling};
 ghost use Rattle.pgoutput_msgs.specs.Ranges.{IsCellWithinRange, IsTupleWithinRange, IsOldWithinRange};
@@ -9,7 +9,7 @@ ghost use Rattle.pgoutput_msgs.specs.Reading.{Reads, cell_at, many, tuple_at, ol
 
 use crate::error::MsgError;
 use crate::reader::Reader;
-use crate::room::{put, put_byte, put_int16, put_int32};
+use crate::room::{put, put_byte, put_int16};
 use filter_tree::Text;
 use std::alloc::Global;
 use std::marker::Model;
@@ -133,12 +133,19 @@ fn put_cell(cell: &Cell, out: &mut Vec<u8>)
 {
     match cell {
         Cell::Null => put_byte(b'n', out),
-        Cell::Text(text) => {
-            put_byte(b't', out);
-            put_int32(text.len() as u32, out);
-            put(text.as_bytes(), out);
-        }
+        Cell::Text(text) => put_text(text.as_str(), out),
     }
+}
+
+/// Writes `t`, the length of a text, and the text.
+pub(crate) fn put_text(text: &str, out: &mut Vec<u8>)
+    requires fits { length text.now < 2 ^ 31 }
+    requires room { HasRoom out.old (cell_spelling (Cell.Text text.now)) }
+    ensures { Puts out.old out.new (cell_spelling (Cell.Text text.now)) }
+{
+    let [a, b, c, d] = (text.len() as u32).to_be_bytes();
+    put(&[b't', a, b, c, d], out);
+    put(text.as_bytes(), out);
 }
 
 #[tactic(auto, using(crate::proofs::Writing::room_left, crate::proofs::Writing::writes_on, crate::proofs::Writing::all_written))]

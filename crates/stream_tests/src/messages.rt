@@ -6,7 +6,8 @@ mod values;
 use crate::checks::{holds, same};
 use filter_tree::{Row, Text, Value};
 use pgoutput_msgs::{
-    Msg, decode, encode, fits, no_spelling_begins_another, spellings_are_decoded, tuple_of,
+    Msg, decode, encode, encode_insert, fits, no_spelling_begins_another, spellings_are_decoded,
+    tuple_of,
 };
 use std::alloc::{AllocError, Global};
 use std::process::Abort;
@@ -30,13 +31,17 @@ fn value(alloc: Global, datum: Datum) -> Result<Value, AllocError> {
     }
 }
 
-/// The Insert message of a row of the table with the OID 16384.
-fn insert_of(alloc: Global, row: &[Datum]) -> Result<Msg, AllocError> {
+fn row_of(alloc: Global, row: &[Datum]) -> Result<Row, AllocError> {
     let mut values = Vec::new(alloc);
     for datum in row {
         values.push(value(alloc, *datum)?)?;
     }
-    let new = tuple_of(alloc, &Row::from_values(values))?;
+    Ok(Row::from_values(values))
+}
+
+/// The Insert message of a row of the table with the OID 16384.
+fn insert_of(alloc: Global, row: &[Datum]) -> Result<Msg, AllocError> {
+    let new = tuple_of(alloc, &row_of(alloc, row)?)?;
     Ok(Msg::Insert {
         relation: 16384,
         new,
@@ -83,6 +88,16 @@ fn spelled(alloc: Global, message: &Msg) -> Result<Vec<u8>, AllocError> {
     let mut out = Vec::new(alloc);
     if fits(message) {
         encode(message, &mut out)?;
+    }
+    Ok(out)
+}
+
+/// The bytes that spell the Insert message of a row that there is room for, without a tuple.
+fn spelled_row(alloc: Global, relation: u32, row: &Row) -> Result<Vec<u8>, AllocError> {
+    let new = tuple_of(alloc, row)?;
+    let mut out = Vec::new(alloc);
+    if fits(&Msg::Insert { relation, new }) {
+        encode_insert(relation, row, &mut out)?;
     }
     Ok(out)
 }
@@ -147,6 +162,8 @@ fn expect_tuple(rt: &impl Abort, alloc: Global, row: &[Datum], tuple: &str) -> R
     let out = spelled(alloc, &message)?;
     let expected = format!(in alloc; "49000040004e{tuple}")?;
     same(rt, hexadecimal(alloc, out.as_slice())?, expected);
+    let again = spelled_row(alloc, 16_384, &row_of(alloc, row)?)?;
+    holds(rt, again.as_slice() == out.as_slice());
     Ok(())
 }
 
@@ -223,6 +240,8 @@ fn a_row_may_have_100_of_the_longest_texts(rt: HostRuntime) -> Result<(), Fail> 
     let begin = b"I\0\0\x40\x3fN\0\x64t\0\0\xff\xffa";
     holds(&rt, out.as_slice().starts_with(begin));
     let again = spelled(alloc, &decode(alloc, out.as_slice())?)?;
+    holds(&rt, again.as_slice() == out.as_slice());
+    let again = spelled_row(alloc, 16_447, &longest(alloc, "a")?)?;
     holds(&rt, again.as_slice() == out.as_slice());
     Ok(())
 }
