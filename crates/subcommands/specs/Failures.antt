@@ -5,7 +5,7 @@ use Rattle.split_cert.specs.ErrorNames.{error_name}
 use Rattle.sql_reader.specs.KindNames.{kind_name}
 use Rattle.sql_reader.specs.Reading.{told}
 use Rattle.sql_reader.specs.declared.error.ReadError.{ReadError}
-use Rattle.subcommands.specs.Eval.BadRows.{counted}
+use Rattle.subcommands.specs.Names.{counted}
 use Rattle.subcommands.specs.declared.failure.Failure.{Failure}
 use Rattle.subcommands.specs.declared.failure.Failure.TheVariants as f
 use Rattle.subcommands.specs.declared.failure.InputFault.{InputFault}
