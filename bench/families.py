@@ -117,7 +117,7 @@ def region_lists(count, entries):
 
 
 def key_lists(count, entries):
-    """A list of keys for each subscriber but the last, which has the others. The lists lie in one another."""
+    """A list of keys for each subscriber but the last, which has the others. The lists interleave."""
     lists = [("in", "id", [7 * (count * more + at) for more in range(entries)]) for at in range(count - 1)]
     return Sharding([Column("id", "integer", True)], lists + [("not", one_of(lists))])
 

@@ -1,10 +1,12 @@
-"""What a run of the gate costs: the processor minutes of each crate's proofs, must-fail edits and tests.
+"""What a run of the gate costs: the processor minutes of each crate's proofs, must-fail edits and tests, where a seed is
+the check of a crate that its edits begin with.
 
 They are added up from what /proc says of the prover's processes, twice a second. So what a process does in its last
 half second is left out.
 """
 
 import os
+import pathlib
 import resource
 import select
 import signal
@@ -17,7 +19,9 @@ from typing import NamedTuple
 # How long it is from one look at the processes to the next, in seconds.
 PAUSE = 0.5
 TICKS = os.sysconf("SC_CLK_TCK")
-PARTS = ["proofs", "edits", "tests"]
+# How many processor seconds an edit may take.
+SLOW = 40
+PARTS = ["proofs", "seeds", "edits", "tests"]
 
 
 class Part(NamedTuple):
@@ -25,6 +29,8 @@ class Part(NamedTuple):
 
     crate: str
     kind: str
+    # The number of an edit among those of its crate, if it has one.
+    edit: int | None = None
 
 
 class Process(NamedTuple):
@@ -36,7 +42,8 @@ class Process(NamedTuple):
 
 
 def part_of(words: list[str], folder: str) -> Part | None:
-    """What the process with this command line works for in this folder. An edit is tried in a folder of its own."""
+    """What the process with this command line works for in this folder. An edit is tried in a folder of its own. So is
+    the crate as it is, once, and the edits are tried over what that check keeps, which is in a folder `seed`."""
     for at, word in enumerate(words):
         if os.path.basename(word) == "rattle" and words[at + 1:at + 2] in (["check"], ["build"]):
             options = words[at + 2:]
@@ -47,7 +54,9 @@ def part_of(words: list[str], folder: str) -> Part | None:
         return None
     crate = options[options.index("--crate-name") + 1]
     if os.path.basename(folder).startswith("rt-edit-"):
-        return Part(crate, "edits")
+        kept = options[options.index("--incremental") + 1] if "--incremental" in options[:-1] else ""
+        name = os.path.basename(kept)
+        return Part(crate, "seeds") if name == "seed" else Part(crate, "edits", int(name) if name.isdigit() else None)
     return Part(crate, "tests" if "--test" in options else "proofs")
 
 
@@ -108,8 +117,23 @@ class Meter:
         """The seconds of each part."""
         totals: Counter[Part] = Counter()
         for key, part in self.parts.items():
-            totals[part] += self.seconds[key]
+            totals[part._replace(edit=None)] += self.seconds[key]
         return totals
+
+    def slow(self) -> list[tuple[str, float]]:
+        """The edits that took over 40 seconds, and how many."""
+        seconds: Counter[Part] = Counter()
+        for key, part in self.parts.items():
+            if part.kind == "edits":
+                seconds[part] += self.seconds[key]
+        return [(name_of(part), each) for part, each in seconds.most_common() if each > SLOW]
+
+
+def name_of(part: Part) -> str:
+    """The name of an edit. rt numbers them from 0, in the order of their names; without a number it is the only one."""
+    edits = sorted(path.stem for path in pathlib.Path("crates", part.crate, "must-fail").glob("*.edit"))
+    number = part.edit or 0
+    return f"{part.crate}/{edits[number] if number < len(edits) else number}"
 
 
 def row(name: str, cells: list[str]) -> str:
@@ -117,8 +141,9 @@ def row(name: str, cells: list[str]) -> str:
     return f"{name:<20}" + "".join(f"{cell:>10}" for cell in cells)
 
 
-def table(totals: Counter[Part], wall: float, whole: float) -> str:
-    """The minutes of each part, and those of the whole run, in which programs are built and run too."""
+def table(totals: Counter[Part], slow: list[tuple[str, float]], wall: float, whole: float) -> str:
+    """The minutes of each part, the edits that are slow, and the minutes of the whole run, in which programs are built
+    and run too."""
     def cells(crates: list[str]) -> list[str]:
         each = [sum(totals[Part(crate, kind)] for crate in crates) for kind in PARTS]
         return [f"{seconds / 60:.1f}" for seconds in [*each, sum(each)]]
@@ -128,6 +153,7 @@ def table(totals: Counter[Part], wall: float, whole: float) -> str:
     lines = [row("processor minutes", [*PARTS, "all"])]
     lines += [row(crate, cells([crate])) for crate in crates]
     lines.append(row("all crates", cells(crates)))
+    lines += [f"over {SLOW} seconds: {name}, {seconds:.0f}" for name, seconds in slow]
     lines.append(f"the whole: {wall / 60:.1f} minutes, {whole / 60:.1f} of processors")
     return "".join(f"{line}\n" for line in lines)
 
@@ -174,7 +200,7 @@ def run(words: list[str]) -> int:
         last = pass_on(command, meter)
         status = command.wait()
     used = resource.getrusage(resource.RUSAGE_CHILDREN)
-    write(table(meter.totals(), time.monotonic() - started, used.ru_utime + used.ru_stime).encode())
+    write(table(meter.totals(), meter.slow(), time.monotonic() - started, used.ru_utime + used.ru_stime).encode())
     write(last)
     # A shell has the same status for a command that a signal ended.
     return status if status >= 0 else 128 - status

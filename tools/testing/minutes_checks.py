@@ -20,6 +20,8 @@ LINES = [
     ("/opt/rattle/bin/rattle build --crate-name one src/lib.rt -o one.rlib", "/repo/crates/one", Part("one", "proofs")),
     ("/opt/rattle/bin/rattle build --crate-name one --test src/lib.rt", "/repo/crates/one", Part("one", "tests")),
     ("/opt/rattle/bin/rattle check --crate-name one src/lib.rt --jobs 1", "/tmp/rt-edit-71-abc", Part("one", "edits")),
+    ("rattle check --crate-name one --incremental /tmp/rt-edits-71/3", "/tmp/rt-edit-71-abc", Part("one", "edits", 3)),
+    ("rattle check --crate-name one --incremental /tmp/rt-edits-71/seed", "/tmp/rt-edit-71-abc", Part("one", "seeds")),
     ("python3 -c code /opt/rattle/bin/rattle check --crate-name one src/lib.rt", "/repo", Part("one", "proofs")),
     ("/opt/rattle/bin/rattle fmt src/lib.rt", "/repo/crates/one", None),
     ("/opt/rattle/bin/rattle check src/lib.rt --crate-name", "/repo/crates/one", None),
@@ -28,13 +30,15 @@ LINES = [
 ]
 
 TOTALS = Counter({
-    Part("one", "proofs"): 60.0, Part("one", "edits"): 90.0, Part("two", "proofs"): 30.0, Part("two", "tests"): 240.0,
+    Part("one", "proofs"): 60.0, Part("one", "seeds"): 30.0, Part("one", "edits"): 60.0,
+    Part("two", "proofs"): 30.0, Part("two", "tests"): 240.0,
 })
 TABLE = """\
-processor minutes       proofs     edits     tests       all
-two                        0.5       0.0       4.0       4.5
-one                        1.0       1.5       0.0       2.5
-all crates                 1.5       1.5       4.0       7.0
+processor minutes       proofs     seeds     edits     tests       all
+two                        0.5       0.0       0.0       4.0       4.5
+one                        1.0       0.5       1.0       0.0       2.5
+all crates                 1.5       0.5       1.0       4.0       7.0
+over 40 seconds: one/row_is_lost, 52
 the whole: 2.0 minutes, 7.5 of processors
 """
 
@@ -43,10 +47,11 @@ def check_minutes(tally: Tally) -> None:
     """The parts and the table by themselves, and then runs."""
     for line, folder, part in LINES:
         tally.check(f"the part of {line or 'no command line'}", part_of(line.split(), folder), part)
-    tally.check("a table of minutes", table(TOTALS, 120.0, 450.0), TABLE)
+    tally.check("a table of minutes", table(TOTALS, [("one/row_is_lost", 52.4)], 120.0, 450.0), TABLE)
     if os.path.exists("/proc/self/stat"):
         check_runs_of_commands(tally)
         check_parts_seen(tally)
+        check_jobs(tally)
     else:
         print("skipped: runs of gate_minutes, since there is no /proc")
 
@@ -78,13 +83,24 @@ def check_parts_seen(tally: Tally) -> None:
         script = f"{run} one & (cd {edit} && exec {run} two) & {run} three --test; wait; echo last"
         _, before, last, _ = gate_minutes("sh", "-c", script)
     rows = [line.split() for line in before[1:-2]]
-    tally.check("the crates that were seen", rows, [[name, *["0.0"] * 4] for name in ("one", "three", "two")])
+    tally.check("the crates that were seen", rows, [[name, *["0.0"] * 5] for name in ("one", "three", "two")])
     tally.check("the last line after them", last, "last\n")
 
 
-def gate_minutes(*words: str) -> tuple[int, list[str], str, str]:
+def check_jobs(tally: Tally) -> None:
+    """rt is told how many checks to make at once, unless a variable says that already."""
+    others = {name: value for name, value in os.environ.items() if name != "RT_JOBS"}
+    _, _, last, _ = gate_minutes("sh", "-c", "echo $RT_JOBS", environment=others)
+    tally.check("checks at once", int(last) in range(1, len(os.sched_getaffinity(0)) + 1), True)
+    _, _, last, _ = gate_minutes("sh", "-c", "echo $RT_JOBS", environment={**others, "RT_JOBS": "7"})
+    tally.check("checks at once, as a variable says", last, "7\n")
+
+
+def gate_minutes(*words: str, environment: dict[str, str] | None = None) -> tuple[int, list[str], str, str]:
     """A run: its status, the lines of its output but the last one, that one, and its errors."""
-    answer = subprocess.run([GATE_MINUTES, *words], stdout=subprocess.PIPE, stderr=subprocess.PIPE, encoding="utf-8")
+    answer = subprocess.run(
+        [GATE_MINUTES, *words], stdout=subprocess.PIPE, stderr=subprocess.PIPE, encoding="utf-8", env=environment
+    )
     lines = answer.stdout.splitlines(keepends=True)
     if not lines:
         return answer.returncode, [], "", answer.stderr

@@ -15,7 +15,7 @@ abbrev pub owners_from : ℕ → List ShareOf → List Datum → List ℕ
 owners_from number [] row = []
 owners_from number (share ∷ shares) row = if takes share row then number ∷ owners_from (number + 1) shares row else owners_from (number + 1) shares row
 
--- the row fits the table, and its owners are not one
+-- the row fits the table, and has no owner or several
 pub record IsCounterOf (table : Table) (shares : List ShareOf) (row : List Datum) (owners : List ℕ) : Type 0 where
   pub valid : IsValid table.columns row
   pub all : owners ≡ owners_from 0 shares row

@@ -285,7 +285,7 @@ pub fn counter_of(
     Ok(None)
 }
 
-/// A simple row that not one share takes, if there is one among those that are tried.
+/// A simple row that not exactly one share takes, if there is one among those that are tried.
 pub fn simple_counter(
     alloc: Global,
     problem: &Problem<'_>,

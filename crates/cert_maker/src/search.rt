@@ -83,9 +83,9 @@ struct Search<'a, 'q> {
     problem: &'q Problem<'a>,
     board: Board,
     nodes: usize,
-    /// Some leaf has rows that not one share takes, but none was found.
+    /// Some leaf has rows that not exactly one share takes, but none was found.
     is_broken: bool,
-    /// A row that not one share takes.
+    /// A row that not exactly one share takes.
     counter: Option<Row>,
 }
 

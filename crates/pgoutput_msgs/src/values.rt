@@ -28,7 +28,6 @@ pub fn tuple_of<A: Allocator>(alloc: Global, row: &Row<A>) -> Result<Tuple, Allo
     Ok(Tuple::from_cells(cells))
 }
 
-/// The cell of a text.
 fn text_cell(text: String) -> Cell
     ensures exact { result ≡ Cell.Text (string_bytes text) }
     ensures text { IsCellText result }

@@ -88,7 +88,7 @@ in_schema draft coverage = do
   expect (i.Keyword k.Schema)
   schema_object draft coverage
 
--- a schema whose name was taken
+-- a schema, once its name is read
 unfoldable pub taken_schema : {S : Type 0} → DraftOf S → CoverageOf S → PlacedName → Rule (ObjectsOf S)
 taken_schema draft coverage called = check (schema_mentioned draft coverage called) >>= (λ covered. pure (objects_so_far o.Schema covered))
 
@@ -136,7 +136,7 @@ module _ {S : Type 0} (forms : Forms S) where
 
   -- ---- objects
 
-  -- an object of this kind whose name was taken
+  -- an object of this kind, once its name is read
   abbrev pub taken_by : ObjectKind → DraftOf S → CoverageOf S → PlacedName → Rule (ObjectsOf S)
   taken_by o.Table draft coverage called = taken_table draft coverage called
   taken_by o.Schema draft coverage called = taken_schema draft coverage called

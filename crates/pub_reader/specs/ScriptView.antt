@@ -1,4 +1,4 @@
--- What a script that was read stands for.
+-- A script that was read, as plain data.
 use Rattle.std.specs.Prelude.{map}
 use Rattle.table_changes.specs.Commands.{command_view}
 use Rattle.pub_reader.specs.declared.script.Line.{Line}

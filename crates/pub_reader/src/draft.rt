@@ -171,8 +171,8 @@ impl Draft {
         )
     }
 
-    /// Refuses an index of the table of this number whose name a table or an index of the table's schema has, or that is
-    /// one too many.
+    /// Refuses an index of the table of this number whose name a table or an index of the table's schema has, or that
+    /// is one too many.
     #[tactic(auto, unfolding(crate::specs::Indexes::new_index))]
     pub fn new_index(&self, number: usize, name: &PlacedName) -> Result<(), ReadError>
         requires { number < length (draft_view self.now).tables }

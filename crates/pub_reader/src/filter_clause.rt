@@ -16,7 +16,7 @@ use filter_tree::Filter;
 use sql_reader::{ErrorKind, Item, Keyword, ReadError, Reader, exceeded_limit, read_filter};
 use std::alloc::Global;
 
-/// Refuses a filter with which the filters on its table pass a limit.
+/// Refuses filters that pass a limit together.
 #[tactic(auto, unfolding(crate::specs::Objects::limited))]
 fn limited(alloc: Global, place: usize, filters: &[&Filter]) -> Result<(), ReadError>
     ensures { Answers (λ u. u) (spec.limited place (map (λ f. expr_view f.now) filters.now)) result }
@@ -30,7 +30,7 @@ fn limited(alloc: Global, place: usize, filters: &[&Filter]) -> Result<(), ReadE
     }
 }
 
-/// Refuses a filter with which the filters on its table pass a limit.
+/// Refuses filters that pass a limit together.
 fn within_limits(
     alloc: Global,
     draft: &Draft,

@@ -1,6 +1,6 @@
 //! Reads the catalog of a publisher, its schemas, tables, replica identities, publications with their row filters and
-//! subscriptions, from the SQL of PostgreSQL 15 in which people write them; rows of its tables are read by `read_row`, and
-//! scripts of commands and of what happens to subscribers by `read_script`.
+//! subscriptions, from the SQL of PostgreSQL 15 in which people write them; rows of its tables are read by `read_row`,
+//! and scripts of commands and of what happens to subscribers by `read_script`.
 #![tactic(auto)]
 
 mod coverage;

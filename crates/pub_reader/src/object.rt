@@ -93,7 +93,7 @@ fn in_schema(
     schema_object(r, alloc, draft, coverage)
 }
 
-/// Adds a schema whose name was taken.
+/// Adds a schema, once its name is read.
 #[tactic(auto, unfolding(crate::specs::Objects::taken_schema))]
 fn taken_schema(
     r: &Reader<'_>,

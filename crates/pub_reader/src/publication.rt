@@ -88,7 +88,6 @@ fn for_clause(r: &mut Reader<'_>, alloc: Global, draft: &Draft) -> Result<Covera
     }
 }
 
-/// Adds a publication.
 fn add_publication(
     alloc: Global,
     draft: &mut Draft,

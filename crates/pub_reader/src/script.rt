@@ -67,12 +67,12 @@ fn lines(r: &mut Reader<'_>, alloc: Global, tables: &[Table]) -> Result<Vec<Line
     Ok(lines)
 }
 
-/// Reads a script: steps, each ended by `;`, at most 100,000, of which none is empty. The tables of its commands are those
-/// of the catalog. Rows, keys and the numbers of subscribers are not held against it.
+/// Reads a script: steps, each ended by `;`, at most 100,000, of which none is empty. The tables of its commands are
+/// those of the catalog. Rows, keys and the numbers of subscribers are not held against it.
 ///
 /// | Step | |
 /// |---|---|
-/// | `COMMIT [command , ..]` | `INSERT table row`, `UPDATE table key row`, `DELETE table key`, `TRUNCATE ( table , .. )` |
+/// | `COMMIT [command, ..]` | `INSERT table row`, `UPDATE table key row`, `DELETE table key`, `TRUNCATE (table, ..)` |
 /// | `OPEN i`, `TAKE i`, `LOSE i`, `PUMP i` | on the connection of subscriber i |
 /// | `HEAR i k`, `DELIVER i k` | of the next bytes at most k |
 /// | `KEEP i TRUE`, `KEEP i FALSE`, `REPORT i [TRUE or FALSE]` | whether an answer is wanted |

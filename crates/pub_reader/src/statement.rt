@@ -97,13 +97,13 @@ fn statements(r: &mut Reader<'_>, alloc: Global, draft: &mut Draft) -> Result<()
     Ok(())
 }
 
-/// Reads a catalog: CREATE SCHEMA, CREATE TABLE, CREATE UNIQUE INDEX, ALTER TABLE .. REPLICA IDENTITY, CREATE PUBLICATION
-/// and CREATE SUBSCRIPTION, each ended by `;`. A publication's entries are the tables that it names, and then each table
-/// that it carries whole by FOR ALL TABLES or TABLES IN SCHEMA, wherever in the text the table is made. There are at most
-/// 64 tables of at most 100 columns and 8 unique indexes, 64 publications and 32 subscriptions. An identity by an index
-/// names one of the table's, none of whose columns takes a null. The names of schemas, tables and columns have 1 to 63
-/// bytes of UTF-8, none of which is zero. Each publication has such a name of its own, and each subscription, which takes
-/// at least one of the publications, and none twice.
+/// Reads a catalog: CREATE SCHEMA, CREATE TABLE, CREATE UNIQUE INDEX, ALTER TABLE .. REPLICA IDENTITY, CREATE
+/// PUBLICATION and CREATE SUBSCRIPTION, each ended by `;`. A publication's entries are the tables that it names, and
+/// then each table that it carries whole by FOR ALL TABLES or TABLES IN SCHEMA, wherever in the text the table is made.
+/// There are at most 64 tables of at most 100 columns and 8 unique indexes, 64 publications and 32 subscriptions. An
+/// identity by an index names one of the table's, none of whose columns takes a null. The names of schemas, tables and
+/// columns have 1 to 63 bytes of UTF-8, none of which is zero. Each publication has such a name of its own, and each
+/// subscription, which takes at least one of the publications, and none twice.
 ///
 /// # Errors
 ///

@@ -11,8 +11,8 @@ use sql_reader::{Item, Keyword, ReadError, Reader};
 use std::alloc::Global;
 use table_changes::Command;
 
-/// A step of a script: what is committed, or what happens on the connection of a subscriber, which is told by its number
-/// from 0 and need not be there.
+/// A step of a script: what is committed, or what happens on the connection of a subscriber, which is told by its
+/// number from 0 and need not be there.
 #[derive(Debug, Drop, PartialEq, Eq)]
 pub enum Step {
     /// A transaction of these commands is committed.

@@ -57,23 +57,41 @@ fn check_catalogs(
 
 #[test]
 fn reads_catalogs_or_their_first_fault(rt: HostRuntime) -> Result<(), Fail> {
+    Ok(check_catalogs(&rt, rt.alloc(), "", WHOLE)?)
+}
+
+#[test]
+fn reads_on_after_a_table(rt: HostRuntime) -> Result<(), Fail> {
+    Ok(check_catalogs(&rt, rt.alloc(), TABLE, AFTER_A_TABLE)?)
+}
+
+#[test]
+fn reads_filters_of_publications(rt: HostRuntime) -> Result<(), Fail> {
     let filter = format!(in rt.alloc(); "{TABLE}{FILTER}")?;
-    check_catalogs(&rt, rt.alloc(), "", WHOLE)?;
-    check_catalogs(&rt, rt.alloc(), TABLE, AFTER_A_TABLE)?;
-    check_catalogs(&rt, rt.alloc(), filter.as_str(), FILTERS)?;
-    Ok(())
+    Ok(check_catalogs(&rt, rt.alloc(), filter.as_str(), FILTERS)?)
 }
 
 #[test]
 fn reads_statements_or_their_first_fault(rt: HostRuntime) -> Result<(), Fail> {
+    Ok(check_catalogs(&rt, rt.alloc(), "", STATEMENTS)?)
+}
+
+#[test]
+fn reads_publications_of_tables(rt: HostRuntime) -> Result<(), Fail> {
+    Ok(check_catalogs(&rt, rt.alloc(), TABLES, AFTER_TABLES)?)
+}
+
+#[test]
+fn reads_parameters_of_publications(rt: HostRuntime) -> Result<(), Fail> {
+    Ok(check_catalogs(&rt, rt.alloc(), TABLES, PARAMETERS)?)
+}
+
+#[test]
+fn reads_on_after_publications(rt: HostRuntime) -> Result<(), Fail> {
     let publications = format!(in rt.alloc();
         "{TABLES}CREATE PUBLICATION p;CREATE PUBLICATION q FOR TABLE t;"
     )?;
-    check_catalogs(&rt, rt.alloc(), "", STATEMENTS)?;
-    check_catalogs(&rt, rt.alloc(), TABLES, AFTER_TABLES)?;
-    check_catalogs(&rt, rt.alloc(), TABLES, PARAMETERS)?;
-    check_catalogs(&rt, rt.alloc(), publications.as_str(), AFTER_PUBLICATIONS)?;
-    Ok(())
+    Ok(check_catalogs(&rt, rt.alloc(), publications.as_str(), AFTER_PUBLICATIONS)?)
 }
 
 /// `count` pieces with a separator between them, each with its number from 0.

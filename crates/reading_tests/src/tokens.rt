@@ -11,8 +11,9 @@ type Case = (
     Option<(usize, Fault)>,
 );
 
-const CASES: &[Case] = &[
-    // white space: a space, a tab, a newline, a carriage return, a form feed, and no other
+/// White space and words.
+const WORDS: &[Case] = &[
+    // a space, a tab, a newline, a carriage return, a form feed, and no other
     ("", &[], None),
     (" \t\n\r\x0c", &[], None),
     (
@@ -51,7 +52,10 @@ const CASES: &[Case] = &[
         &[(Kind::Word, 0, 1)],
         Some((2, Fault::NameTooLong)),
     ),
-    // quoted names
+];
+
+/// Quoted names.
+const QUOTED_NAMES: &[Case] = &[
     ("\"A b\"", &[(Kind::QuotedName, 0, 5)], None),
     ("\"a\"\"b\"", &[(Kind::QuotedName, 0, 6)], None),
     ("\"\"", &[], Some((0, Fault::BadToken))),
@@ -90,7 +94,10 @@ const CASES: &[Case] = &[
         &[],
         Some((0, Fault::BadToken)),
     ),
-    // numbers
+];
+
+/// Numbers.
+const NUMBERS: &[Case] = &[
     ("0", &[(Kind::Number(0), 0, 1)], None),
     (
         "007 42",
@@ -127,7 +134,10 @@ const CASES: &[Case] = &[
     ),
     ("5'a'", &[(Kind::Number(5), 0, 1), (Kind::Text, 1, 3)], None),
     (".5", &[(Kind::Dot, 0, 1), (Kind::Number(5), 1, 1)], None),
-    // string constants
+];
+
+/// String constants.
+const TEXTS: &[Case] = &[
     ("''", &[(Kind::Text, 0, 2)], None),
     ("'a''b'", &[(Kind::Text, 0, 6)], None),
     ("''''", &[(Kind::Text, 0, 4)], None),
@@ -138,7 +148,10 @@ const CASES: &[Case] = &[
     ("'\u{e9}\u{20ac}'", &[(Kind::Text, 0, 7)], None),
     ("'-- /* \"'", &[(Kind::Text, 0, 9)], None),
     ("'a' 'b'", &[(Kind::Text, 0, 3), (Kind::Text, 4, 3)], None),
-    // letters before a quote
+];
+
+/// Letters before a quote.
+const PREFIXED_TEXTS: &[Case] = &[
     ("E'a'", &[], Some((0, Fault::StringForm))),
     ("e''", &[], Some((0, Fault::StringForm))),
     ("B'1'", &[], Some((0, Fault::StringForm))),
@@ -161,7 +174,10 @@ const CASES: &[Case] = &[
     ("aU&'b'", &[(Kind::Word, 0, 2)], Some((2, Fault::Operator))),
     ("U&a", &[(Kind::Word, 0, 1)], Some((1, Fault::Operator))),
     ("U &'a'", &[(Kind::Word, 0, 1)], Some((2, Fault::Operator))),
-    // operators
+];
+
+/// Operators.
+const OPERATORS: &[Case] = &[
     (
         "= <> != < <= > >= % - *",
         &[
@@ -251,7 +267,10 @@ const CASES: &[Case] = &[
         ],
         None,
     ),
-    // punctuation, and bytes that begin nothing
+];
+
+/// Punctuation, and bytes that begin nothing.
+const PUNCTUATION: &[Case] = &[
     (
         "(),;.::",
         &[
@@ -275,7 +294,10 @@ const CASES: &[Case] = &[
     ("a\\", &[(Kind::Word, 0, 1)], Some((1, Fault::BadToken))),
     ("\0", &[], Some((0, Fault::BadToken))),
     ("a\0", &[(Kind::Word, 0, 1)], Some((1, Fault::BadToken))),
-    // comments
+];
+
+/// Comments, and a statement.
+const COMMENTS: &[Case] = &[
     ("-- a", &[], None),
     ("-- a\nb", &[(Kind::Word, 5, 1)], None),
     ("-- a\rb", &[(Kind::Word, 5, 1)], None),
@@ -340,11 +362,50 @@ fn check(
     same(rt, cursor.next(), end);
 }
 
-#[test]
-fn cuts_texts(rt: HostRuntime) {
-    for (text, tokens, fault) in CASES {
-        check(&rt, text, tokens, *fault);
+fn check_all(rt: &impl Abort, cases: &[Case]) {
+    for (text, tokens, fault) in cases {
+        check(rt, text, tokens, *fault);
     }
+}
+
+#[test]
+fn cuts_words(rt: HostRuntime) {
+    check_all(&rt, WORDS);
+}
+
+#[test]
+fn cuts_quoted_names(rt: HostRuntime) {
+    check_all(&rt, QUOTED_NAMES);
+}
+
+#[test]
+fn cuts_numbers(rt: HostRuntime) {
+    check_all(&rt, NUMBERS);
+}
+
+#[test]
+fn cuts_string_constants(rt: HostRuntime) {
+    check_all(&rt, TEXTS);
+}
+
+#[test]
+fn cuts_letters_before_a_quote(rt: HostRuntime) {
+    check_all(&rt, PREFIXED_TEXTS);
+}
+
+#[test]
+fn cuts_operators(rt: HostRuntime) {
+    check_all(&rt, OPERATORS);
+}
+
+#[test]
+fn cuts_punctuation(rt: HostRuntime) {
+    check_all(&rt, PUNCTUATION);
+}
+
+#[test]
+fn cuts_comments(rt: HostRuntime) {
+    check_all(&rt, COMMENTS);
 }
 
 /// A quote, this many letters, and an end.

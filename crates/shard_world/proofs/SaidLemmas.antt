@@ -6,7 +6,7 @@ use Rattle.shard_world.specs.Pumping.{all_bytes, on_clock, pump_events}
 use Rattle.shard_world.specs.World.{Event, PeerEvent, Hear, Take, Keep, Deliver, Report, statuses_in, statuses_after}
 use Rattle.shard_world.proofs.ReportLemmas.{statuses_append, statuses_first}
 
--- after so many
+-- how many statuses were said, after so many and these events
 abbrev said_on : ℕ → List (ℕ × Event) → ℕ
 said_on count events = fold (λ count event. statuses_after event.1 count) count events
 
@@ -24,7 +24,7 @@ pub pump_few : (events : List (ℕ × Event)) (now subscriber takes : ℕ) → s
 pump_few events now subscriber takes =
     omega (arith, statuses_append events (map (on_clock now subscriber) (pump_events takes)) 0, said_pumping now subscriber takes (statuses_in events))
 
--- so does no more the first of it
+-- nor do the first events of a pump say more than one
 pub part_few : (events : List (ℕ × Event)) (now subscriber takes : ℕ) (done others : List PeerEvent) → done ++ others ≡ pump_events takes
     → statuses_in (events ++ map (on_clock now subscriber) done) ≤ statuses_in events + 1
 part_few events now subscriber takes done others split =

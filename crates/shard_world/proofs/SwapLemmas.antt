@@ -181,7 +181,8 @@ shard_swapped passes old new rows row =
 
 -- ---- what a subscriber does with what it sees
 
--- after what is seen of an old row and a new one, each if it passes: the rows are found in what is left where they go and coming
+-- after what is seen of an old row and a new one, each if it passes: a row that goes is found, one that comes has a
+-- free key, and then these rows are found
 abbrev pub IsDone : (List Datum → List Datum) → Found → Option (List Datum) → Option (List Datum) → (List Datum → Bool) → Type 0
 IsDone key_of found None None after = FindsRows key_of found after
 IsDone key_of found None (Some new) after = (found (key_of new) ≡ None) × FindsRows key_of (put found (key_of new) (Some new)) after

@@ -268,7 +268,7 @@ abbrev pub peer_step : CheckedOf → List Transaction → ℕ → ℕ → PeerEv
 peer_step checked transactions subscriber now event peer None = shut_step event peer
 peer_step checked transactions subscriber now event peer (Some c) = open_step checked transactions subscriber now event peer c
 
--- Where memory was refused the connection is lost, after some of the bytes that were to be as_many.
+-- Where memory was refused the connection is lost, after some of the bytes that were to be heard or delivered.
 abbrev pub broken : CheckedOf → List Transaction → ℕ → ℕ → PeerEvent → Peer → ℕ → Option Connection → Peer
 broken checked transactions subscriber now event peer some None = peer
 broken checked transactions subscriber now (Hear count) peer some (Some c) =

@@ -16,7 +16,7 @@ pub record HasNoTree (stream : Stream) (error : CertError) : Type 0 where
   pub none : (tree : Tree) (rest : List Node) → stream.nodes ≡ preorder tree ++ rest → ⊥
   pub told : (fault : CertError) → stream.end ≡ Err fault → fault ≡ error
 
--- the result is the tree whose nodes come first, and what comes after them is left, where `view` is what a value stands for; or there is none, or memory was refused
+-- the result is the tree whose nodes come first, and what comes after them is left, where `view` gives a value as plain data; or there is none, or memory was refused
 abbrev pub Grows : {A : Type 0} → (A → Tree) → Stream → Stream → Result A CertError → Type 0
 Grows view before after (Ok value) = before ≡ all_led (preorder (view value)) after
 Grows view before after (Err error) = error ≢ OutOfMemory → HasNoTree before error

@@ -1,4 +1,4 @@
--- What the program's certificates and cursors stand for, wherever they lie in memory, and what a function that reads at a cursor answers. Certificates are this project's own, and restate no section of PostgreSQL's documentation.
+-- The program's certificates and cursors as plain data, wherever they lie in memory, and what a function that reads at a cursor answers. Certificates are this project's own, and restate no section of PostgreSQL's documentation.
 use Rattle.std.specs.Prelude.{Some, Result}
 use Rattle.filter_tree.specs.Memory.{Answers}
 use Rattle.split_cert.specs.declared.cert.Cert.{Cert}
@@ -19,6 +19,6 @@ tree_view (NeverNull atom) = T.NeverNull atom
 abbrev pub here_view : Cursor → Here
 here_view cursor = record { place = cursor.place; nodes = cursor.nodes; rest = cursor.rest.now }
 
--- the result is what the rule gives at the first cursor, where `view` is what a value stands for; with a value the second cursor is where the rule comes to
+-- the result is what the rule gives at the first cursor, where `view` gives a value as plain data; with a value the second cursor is where the rule comes to
 abbrev pub Finds : {A B : Type 0} → (A → B) → Rule B → Cursor → Cursor → Result A CertError → Type 0
 Finds view rule old new result = Answers (λ a. (view a, here_view new)) (λ error. Some error) (rule (here_view old)) result

@@ -17,7 +17,7 @@ pub enum CertError {
     #[error("the certificate is not whole")]
     Ended,
     /// The certificate ends here, and something comes after it.
-    #[error("something stands behind the certificate, at byte {0}")]
+    #[error("something comes after the certificate, at byte {0}")]
     Trailing(usize),
     /// There are more than 1,000,000 nodes.
     #[error("the certificate has more than 1,000,000 nodes")]

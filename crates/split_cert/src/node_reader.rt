@@ -86,7 +86,8 @@ impl<'a> NodeReader<'a> {
     ///
     /// # Errors
     ///
-    /// The first fault of the text, as `read_in` answers it. After the end and after a fault the same is answered again.
+    /// The first fault of the text, as `read_in` answers it. After the end and after a fault the same is answered
+    /// again.
     pub fn next(&mut self) -> Result<Option<Node>, CertError>
         ensures { spec.Takes self.old result self.new }
     {

@@ -145,7 +145,7 @@ told e = fault_or_none e.place (wrong_of e.kind)
 abbrev pub Tells : {A : Type 0} → ReadError → Result A Fault → Type 0
 Tells e outcome = TellsFault (told e) outcome
 
--- the function's answer is the rule's, or want of memory, where `view` is what the value read stands for and `rest` are the tokens left
+-- the function's answer is the rule's, or want of memory, where `view` gives the value read as plain data and `rest` are the tokens left
 abbrev pub Reads : {A B : Type 0} → (A → B) → Outcome B → Result A ReadError → Items → Type 0
 Reads view outcome result rest = AnswersBy (λ a. (view a, rest)) told outcome result
 

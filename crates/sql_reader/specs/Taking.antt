@@ -7,7 +7,7 @@ use Rattle.sql_reader.specs.Items.{size}
 use Rattle.sql_reader.specs.Reading.{Rule, Tells}
 pub use Rattle.sql_reader.specs.Reading.{Reads, Answers, IsFault, item_ahead, written_ahead}
 
--- The answer is the rule's, or want of memory, and what the rule leaves is what is left, no more than there was. `view` is what the value read stands for.
+-- The answer is the rule's, or want of memory, and what the rule leaves is what is left, no more than there was. `view` gives the value read as plain data.
 abbrev pub Takes : {A B : Type 0} → (A → B) → Rule B → Reader → Result A ReadError → Reader → Type 0
 Takes view rule before (Ok value) after = (rule (to_read before) ≡ Ok (view value, to_read after)) × (size (to_read after) ≤ size (to_read before))
 Takes view rule before (Err error) after = Tells error (rule (to_read before))

@@ -16,7 +16,7 @@ use crate::operand::{Operand, Part};
 use filter_tree::{Atom, ColType, Filter, Literal, Op, Term};
 use sql_tokens::Operator;
 
-/// The comparison that a token stands for.
+/// The comparison that a token is.
 pub fn comparison_by(item: Option<Item>) -> Option<Op>
     ensures { result ≡ spec.comparison_by item }
 {

@@ -47,7 +47,6 @@ fn new_column(parts: &TableParts, name: &PlacedName) -> Result<(), ReadError>
     Ok(())
 }
 
-/// Adds a column.
 fn add_column(
     parts: &mut TableParts,
     name: PlacedName,

@@ -23,7 +23,7 @@ pub enum ErrorKind {
     NameTooLong,
     #[error("this name was not made before")]
     UnknownName,
-    #[error("this name is taken, or stands twice in a list")]
+    #[error("this name is taken, or comes twice in a list")]
     NameTwice,
     #[error("lists of columns are not read after a table of a publication")]
     ColumnList,
@@ -41,7 +41,7 @@ pub enum ErrorKind {
     TooMany(Limit),
     #[error("this table has no primary key")]
     NoKey,
-    #[error("this table stands twice in the publication, once with a filter")]
+    #[error("this table comes twice in the publication, once with a filter")]
     TableTwice,
     #[error("out of memory")]
     OutOfMemory,

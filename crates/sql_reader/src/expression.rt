@@ -129,7 +129,7 @@ fn term(
     Ok(divisor_or_none(r, alloc, columns, depth, left)?)
 }
 
-/// Looks at what follows a side of a comparison.
+/// Refuses a cast or an operator that is not read, after a side of a comparison.
 fn side_ended(r: &mut Reader<'_>, part: Part) -> Result<Part, ReadError>
     ensures { Takes part_view (spec.side_ended (part_view part)) r.old result r.new }
 {

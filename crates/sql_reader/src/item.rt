@@ -53,7 +53,8 @@ impl Item {
         }
     }
 
-    /// Whether two items are of one sort: the same keyword, operator or mark, two numbers, two names of a kind or two strings.
+    /// Whether two items are of one sort: the same keyword, operator or mark, two numbers, two names of a kind or two
+    /// strings.
     pub(crate) fn is_like(self, other: Item) -> bool
         ensures { result ≡ spec.is_like self other }
     {

@@ -31,15 +31,12 @@ fn number(r: &mut Reader<'_>, negative: bool) -> Result<PlacedNumber, ReadError>
 }
 
 /// Takes a number, with a minus before it or none, and tells the place of its digits.
-#[tactic(auto, using(crate::proofs::Ahead::rest_is_fewer), unfolding(crate::specs::Numbers::placed_number))]
+#[tactic(auto, using(crate::proofs::Ahead::rest_is_fewer), unfolding(crate::specs::Numbers::placed_number, crate::specs::Reading::eat))]
 pub fn placed_number(r: &mut Reader<'_>) -> Result<PlacedNumber, ReadError>
     ensures { TakesSome (λ number. number) spec.placed_number r.old result r.new }
 {
-    if r.is(Item::Operator(Operator::Minus)) {
-        r.advance();
-        return Ok(number(r, true)?);
-    }
-    number(r, false)
+    let negative = r.eat(Item::Operator(Operator::Minus));
+    Ok(number(r, negative)?)
 }
 
 /// Takes a number, with a minus before it or none.

@@ -31,13 +31,14 @@ pub struct Reader<'a> {
 }
 
 impl<'a> Reader<'a> {
-    ghost use Rattle.std.specs.Prelude.{◌≡◌, ◌<◌, ◌≤◌, IfErr, Ok, OnErr, OnOk};
+    ghost use Rattle.std.specs.Prelude.{◌≡◌, ◌≤◌, IfErr, Ok, OnErr};
     ghost use Rattle.sql_tokens.specs.Left.{text_of, left};
     ghost use Rattle.sql_reader.specs.Items.{items, items_of, size, to_read};
     ghost use Rattle.sql_reader.specs.Numbers.{number_ahead};
     ghost use Rattle.sql_reader.specs.Rows.{end};
     ghost use Rattle.sql_reader.specs.Reading as spec;
     ghost use Rattle.sql_reader.specs.Reading.{Reads, Answers, IsFault};
+    ghost use Rattle.sql_reader.specs.Taking.{TakesSome};
 
     /// A reader before the first token of a text.
     #[tactic(auto, unfolding(crate::specs::Items::items_of))]
@@ -48,7 +49,7 @@ impl<'a> Reader<'a> {
     }
 
     /// A reader whose token ahead is the next of `tokens`.
-    #[tactic(auto, unfolding(crate::specs::Ahead::to_read, crate::specs::Items::items))]
+    #[tactic(auto, unfolding(crate::specs::Items::to_read, crate::specs::Items::items))]
     fn look_at(text: &'a str, mut tokens: Tokens<'a>) -> Reader<'a>
         requires { text_of tokens ≡ text.now }
         ensures { to_read result ≡ items (left tokens.entry) }
@@ -85,7 +86,7 @@ impl<'a> Reader<'a> {
     }
 
     /// Takes the token ahead, if there is one that is not faulty.
-    #[tactic(auto, unfolding(crate::specs::Ahead::to_read))]
+    #[tactic(auto, unfolding(crate::specs::Items::to_read))]
     pub fn advance(&mut self)
         ensures { to_read self.new ≡ spec.rest_of (to_read self.old) }
     {
@@ -95,7 +96,7 @@ impl<'a> Reader<'a> {
     }
 
     /// The token ahead; `None` at the end of the text and at a faulty token.
-    #[tactic(auto, unfolding(crate::specs::Ahead::to_read))]
+    #[tactic(auto, unfolding(crate::specs::Items::to_read))]
     pub fn item(&self) -> Option<Item>
         ensures { result ≡ spec.item_ahead (to_read self.now) }
     {
@@ -106,16 +107,16 @@ impl<'a> Reader<'a> {
     }
 
     /// The place of the token ahead, in bytes from the start of the text; at its end, the text's length.
-    #[tactic(auto, unfolding(crate::specs::Ahead::to_read))]
+    #[tactic(auto, unfolding(crate::specs::Items::to_read))]
     pub fn place(&self) -> usize
         ensures { result ≡ spec.place_ahead (to_read self.now) }
     {
         self.place
     }
 
-    /// The token ahead as it is written, without the quotes of a quoted name or a string; nothing at the end of the text and
-    /// where the token is faulty.
-    #[tactic(auto, unfolding(crate::specs::Ahead::to_read))]
+    /// The token ahead as it is written, without the quotes of a quoted name or a string; nothing at the end of the
+    /// text and where the token is faulty.
+    #[tactic(auto, unfolding(crate::specs::Items::to_read))]
     pub fn written(&self) -> &'a str
         ensures { result.now ≡ spec.written_ahead (to_read self.now) }
     {
@@ -126,7 +127,7 @@ impl<'a> Reader<'a> {
     }
 
     /// Why the token ahead is not taken: it is faulty, or it is not what was expected.
-    #[tactic(auto, unfolding(crate::specs::Ahead::to_read))]
+    #[tactic(auto, unfolding(crate::specs::Items::to_read))]
     pub fn refusal(&self, what: &'static str) -> ReadError
         ensures { IsFault result (spec.refusal (to_read self.now)) }
     {
@@ -166,7 +167,7 @@ impl<'a> Reader<'a> {
     /// # Errors
     ///
     /// The fault of that token, and nothing else.
-    #[tactic(auto, unfolding(crate::specs::Reading::look, crate::specs::Ahead::to_read))]
+    #[tactic(auto, unfolding(crate::specs::Reading::look, crate::specs::Items::to_read))]
     pub fn look(&self) -> Result<(), ReadError>
         ensures reads { Reads (λ u. u) (spec.look (to_read self.now)) result (to_read self.now) }
         ensures err { IfErr result (λ e. IsFault e (spec.refusal (to_read self.now))) }
@@ -214,8 +215,7 @@ impl<'a> Reader<'a> {
     /// The fault of the token ahead, or `Expected` where it is another token; then nothing is taken.
     #[tactic(auto, using(crate::proofs::Ahead::rest_is_fewer), unfolding(crate::specs::Reading::expect))]
     pub fn expect(&mut self, item: Item, what: &'static str) -> Result<usize, ReadError>
-        ensures reads { Reads (λ place. place) (spec.expect item (to_read self.old)) result (to_read self.new) }
-        ensures fewer { OnOk result (size (to_read self.new) < size (to_read self.old)) }
+        ensures takes { TakesSome (λ place. place) (spec.expect item) self.old result self.new }
         ensures err { IfErr result (λ e. IsFault e (spec.refusal (to_read self.old))) }
         ensures kept { OnErr result (to_read self.new ≡ to_read self.old) }
     {
@@ -228,7 +228,7 @@ impl<'a> Reader<'a> {
     }
 
     /// The number ahead, as the negative one where `negative` says so.
-    #[tactic(auto, unfolding(crate::specs::Ahead::to_read))]
+    #[tactic(auto, unfolding(crate::specs::Items::to_read))]
     pub(crate) fn number(&self, negative: bool) -> Option<i64>
         ensures { result ≡ number_ahead negative (spec.item_ahead (to_read self.now)) }
     {
@@ -242,7 +242,7 @@ impl<'a> Reader<'a> {
     }
 
     /// Refuses all but the end of the text.
-    #[tactic(auto, unfolding(crate::specs::Rows::end, crate::specs::Ahead::to_read))]
+    #[tactic(auto, unfolding(crate::specs::Rows::end, crate::specs::Items::to_read))]
     pub(crate) fn end(&self, what: &'static str) -> Result<(), ReadError>
         ensures { Reads (λ u. u) (end (to_read self.now)) result (to_read self.now) }
     {
@@ -257,7 +257,7 @@ impl<'a> Reader<'a> {
     /// # Errors
     ///
     /// The fault of that token, and nothing else.
-    #[tactic(auto, unfolding(crate::specs::Reading::more_ahead, crate::specs::Ahead::to_read))]
+    #[tactic(auto, unfolding(crate::specs::Reading::more_ahead, crate::specs::Items::to_read))]
     pub fn more_ahead(&self) -> Result<bool, ReadError>
         ensures answer { Answers (λ b. b) (spec.more_ahead (to_read self.now)) result }
         ensures err { IfErr result (λ e. IsFault e (spec.refusal (to_read self.now))) }

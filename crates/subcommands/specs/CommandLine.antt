@@ -15,6 +15,8 @@ use Rattle.subcommands.specs.declared.arguments.Request.TheVariants.{Eval, Check
 use Rattle.subcommands.specs.declared.failure.Failure.{Failure}
 use Rattle.subcommands.specs.declared.failure.Failure.TheVariants as f
 
+-- ---- the command line, as clap is told of it
+
 abbrev pub table_rule : Rule
 table_rule = record (new_rule (codes "TABLE")) { required = true; action = Some Set }
 
@@ -36,6 +38,7 @@ limit_rule = record (new_rule (codes "limit")) { long = Some (codes "limit"); va
 abbrev pub simulate : App
 simulate = with_rule (new_app (codes "simulate")) limit_rule
 
+-- the program without its subcommands
 abbrev pub bare : App
 bare = on_top (λ top. record top { has_version = true; propagate_version = true; subcommand_required = true }) (new_app (codes "pgshard"))
 
@@ -61,7 +64,7 @@ pub record IsWithin (limit : ℕ) : Type 0 where
   pub some : 1 ≤ limit
   pub most : limit ≤ 1000000000
 
--- it is what the word spells in decimal digits, after which there is nothing; a plus may be before them
+-- the word spells this limit: decimal digits, with a plus before them or none, and nothing else
 pub record SpellsLimit (word : Text) (limit : ℕ) : Type 0 where
   pub numeral : IsNumeral 10 (without_leading_plus word)
   pub is : limit ≡ digits_value 10 (without_leading_plus word)
@@ -89,18 +92,18 @@ CanDo Check = Unit {0}
 CanDo Make = Unit {0}
 CanDo (Simulate limit) = IsWithin limit
 
--- what is taken is `eval` with its arguments
+-- what clap takes from the words is `eval` with its arguments
 pub record TakesEval (taken : Option (Text × List Row)) (word : Text) (wanted : RowOutput) : Type 0 where
   pub found : List Row
   pub is : taken ≡ Some (codes "eval", found)
   pub arguments : HasArguments found word wanted
 
--- what is taken is the subcommand of this name
+-- what clap takes from the words is the subcommand of this name
 pub record Takes (taken : Option (Text × List Row)) (name : Text) : Type 0 where
   pub found : List Row
   pub is : taken ≡ Some (name, found)
 
--- what is taken is `simulate` with its argument
+-- what clap takes from the words is `simulate` with its argument
 pub record TakesSimulate (taken : Option (Text × List Row)) (limit : ℕ) : Type 0 where
   pub found : List Row
   pub is : taken ≡ Some (codes "simulate", found)
@@ -119,7 +122,8 @@ pub record IsRequest (words : List Text) (request : Request) : Type 0 where
 
 -- ---- what else the words may be
 
--- The words ask for the help or the version. At `help` clap may answer either with help or that there is no such subcommand.
+-- The words ask for the help or the version.
+-- To the word help clap answers with the help, or that there is no such subcommand.
 abbrev pub AsksHelp : List Text → Type 0
 AsksHelp words = IsAmong kind.DisplayHelp (fault_of pgshard words) ⊎ IsAmong kind.DisplayVersion (fault_of pgshard words)
 

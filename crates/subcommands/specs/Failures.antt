@@ -5,7 +5,7 @@ use Rattle.split_cert.specs.ErrorNames.{error_name}
 use Rattle.sql_reader.specs.KindNames.{kind_name}
 use Rattle.sql_reader.specs.Reading.{told}
 use Rattle.sql_reader.specs.declared.error.ReadError.{ReadError}
-use Rattle.subcommands.specs.Eval.BadRows.{counted}
+use Rattle.subcommands.specs.Names.{counted}
 use Rattle.subcommands.specs.declared.failure.Failure.{Failure}
 use Rattle.subcommands.specs.declared.failure.Failure.TheVariants as f
 use Rattle.subcommands.specs.declared.failure.InputFault.{InputFault}
@@ -46,6 +46,6 @@ failure_lines (f.Input fault) = fault_line fault ∷ []
 failure_lines f.Output = []
 failure_lines f.OutOfMemory = codes "out of memory" ∷ []
 
--- a catalog is not read for the fault that the error tells; an error that tells none says that memory ran out
+-- the failure for an error of read_catalog: the fault that it tells, or want of memory if it tells none
 abbrev pub failure_of_read : ReadError → Failure
 failure_of_read error = if is_none (told error) then f.OutOfMemory else f.Input (i.Catalog error)

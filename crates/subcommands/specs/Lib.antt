@@ -1,3 +1,4 @@
+pub mod BadCatalogs
 pub mod Check
 pub mod CommandLine
 pub mod Eval

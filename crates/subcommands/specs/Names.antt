@@ -1,9 +1,12 @@
 -- The names of publications, tables, columns and subscribers, as their catalog names them (PostgreSQL 15, "Schemas", 5.9, and "Logical Replication", 31.1 Publication and 31.2 Subscription), and the words of a line.
-use Rattle.std.specs.Prelude.{ℕ, List, [], ◌∷◌, ◌++◌, Option, Some, None, slice_get}
+use Rattle.std.specs.Prelude.{ℕ, List, [], ◌∷◌, ◌++◌, Option, Some, None, slice_get, codes}
+use Rattle.std.specs.Fmt.{decimal}
 use Rattle.std.specs.List.{flat_map}
 use Rattle.filter_tree.specs.Expr.{Expr}
 use Rattle.filter_tree.specs.declared.table.Column.{Column}
 use Rattle.filter_tree.specs.declared.table.Table.{Table}
+use Rattle.filter_tree.specs.declared.validity.RowFault.{RowFault}
+use Rattle.filter_tree.specs.declared.validity.RowFault.TheVariants as r
 use Rattle.pub_catalog.specs.Catalogs.{PublicationOf}
 use Rattle.pub_catalog.specs.declared.catalog.Subscription.{Subscription}
 
@@ -48,3 +51,16 @@ column_name tables table number = column_in (slice_get tables table) number
 -- each word with a space before it
 abbrev pub spaced : List (List ℕ) → List ℕ
 spaced words = flat_map (λ word. 32 ∷ word) words
+
+-- a word, a space, and a number
+abbrev pub counted : List ℕ → ℕ → List ℕ
+counted word number = word ++ 32 ∷ decimal number
+
+-- the name of a fault, and the number of its column
+abbrev pub fault_words : RowFault → List ℕ
+fault_words r.Width = codes "Width"
+fault_words (r.NullInNotNull column) = counted (codes "NullInNotNull") column
+fault_words (r.WrongType column) = counted (codes "WrongType") column
+fault_words (r.OutOfRange column) = counted (codes "OutOfRange") column
+fault_words (r.NulInText column) = counted (codes "NulInText") column
+fault_words (r.TextTooLong column) = counted (codes "TextTooLong") column

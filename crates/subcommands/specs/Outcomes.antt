@@ -12,14 +12,14 @@ use Rattle.subcommands.specs.declared.failure.Status.{Status}
 use Rattle.subcommands.specs.declared.failure.Status.TheVariants.{Done, Refused, CommandLine, Input, Output, OutOfMemory}
 
 module _ (words : List (List ℕ)) (known : Option (List ℕ)) where
-  -- before its first line nothing is known of an answer
+  -- an answer that is cut short: no line of it, or its first lines
   abbrev pub IsCutShort : List (List ℕ) → Type 0
   IsCutShort lines = (lines ≡ []) ⊎ BeginsWords words known lines
 
   -- ---- the right outputs, where no write fails
 
-  -- Status 0 or 1: the answer. 0: the help or the version, where the words ask for it. 2: a line, and what is wrong with the words.
-  -- 3: the line of a fault of the input. 5: the first lines of the answer, and the line of want of memory.
+  -- Status 0 or 1: the answer. 0: some text, where the words ask for the help or the version. 2: a line, and some text.
+  -- 3: the line of a fault of the input. 5: no line of the answer or its first ones, and the line of want of memory.
   pub data IsOutput : Status → List ℕ → Type 0 where
     Answered : (lines : List (List ℕ)) (status : Status) → AnswersWords words known lines status → IsOutput status (text_of lines)
     Shown : (text : List ℕ) → AsksHelp words → IsOutput Done text
@@ -62,6 +62,7 @@ module _ (words : List (List ℕ)) (known : Option (List ℕ)) where
     pub begun : IsCutShort lines
     pub appends : Appends old new (text_of lines)
 
+  -- what is written when an answer or a failure is known, before the failure's own lines
   abbrev pub IsEnding : Option (List ℕ) → Option (List ℕ) → Result Status Failure → Type 0
   IsEnding old new (Ok status) = WritesOutput old new status
   IsEnding old new (Err (f.CommandLine text)) = IsMisworded words × (new ≡ old)

@@ -17,14 +17,16 @@ use Rattle.subcommands.specs.declared.input.Input.{Input}
 
 -- ---- of a request and its input
 
--- the lines are the answer, and the status says whether it is a refusal
+-- the lines are the whole answer, and the status says whether it is a refusal;
+-- [] and 0 say that no row, table or step is left
 abbrev pub IsAnswer : Request → List ℕ → List (List ℕ) → Status → Type 0
 IsAnswer (Eval table wanted) input lines status = evaluation.IsEvaluation wanted input table.now [] lines status
 IsAnswer Check input lines status = checking.IsCheck input lines status
 IsAnswer Make input lines status = making.IsMaking input 0 lines status
 IsAnswer (Simulate limit) input lines status = simulation.IsSimulation limit input [] lines status
 
--- the lines are the first of an answer, and some are missing; before the first line nothing is known of the input
+-- there is no line yet, and nothing is said of the input;
+-- or the lines are the first of an answer, and others are missing
 abbrev pub IsBegun : Request → List ℕ → List (List ℕ) → Type 0
 IsBegun (Eval table wanted) input lines = (lines ≡ []) ⊎ evaluation.IsBegunEvaluation wanted input table.now lines
 IsBegun Check input lines = lines ≡ []
@@ -53,25 +55,28 @@ pub record IsAsked (words : List (List ℕ)) (known : Option (List ℕ)) (reques
   pub asks : IsRequest words request
   pub given : IsInput known input
 
+-- the lines answer what the words ask of the input
 pub record AnswersWords (words : List (List ℕ)) (known : Option (List ℕ)) (lines : List (List ℕ)) (status : Status) : Type 0 where
   pub request : Request
   pub input : List ℕ
   pub asked : IsAsked words known request input
   pub answer : IsAnswer request input lines status
 
+-- the lines begin such an answer
 pub record BeginsWords (words : List (List ℕ)) (known : Option (List ℕ)) (lines : List (List ℕ)) : Type 0 where
   pub request : Request
   pub input : List ℕ
   pub asked : IsAsked words known request input
   pub begun : IsBegun request input lines
 
+-- the input of which the words ask has this fault
 pub record HasFault (words : List (List ℕ)) (known : Option (List ℕ)) (fault : InputFault) : Type 0 where
   pub request : Request
   pub input : List ℕ
   pub asked : IsAsked words known request input
   pub is : IsFault request input fault
 
--- The input has this fault. A reader may fail at any time, so that an input that is not read has nothing said of it.
+-- The input has this fault. Of Unread nothing is said, since a reader may fail at any time.
 abbrev pub IsReason : List (List ℕ) → Option (List ℕ) → InputFault → Type 0
 IsReason words known i.Unread = Unit {0}
 IsReason words known i.Parts = HasFault words known i.Parts
@@ -80,7 +85,7 @@ IsReason words known (i.Table name) = HasFault words known (i.Table name)
 IsReason words known (i.Certificate line error) = HasFault words known (i.Certificate line error)
 IsReason words known (i.Script error) = HasFault words known (i.Script error)
 
--- reading the input stops because it is not read, or for want of memory
+-- why reading the input may stop: the reader failed, it gave too much or no UTF-8, or memory ran out
 abbrev pub IsOfReading : Failure → Type 0
 IsOfReading (f.Input i.Unread) = Unit {0}
 IsOfReading f.OutOfMemory = Unit {0}

@@ -34,6 +34,7 @@ impl<R: Read> Input<R> {
 }
 
 impl<R: Read> Read for Input<R> {
+    ghost use Rattle.subcommands.specs.Requests.{reader_of, reads_of};
     ghost use Rattle.std.specs.Prelude.{◌≡◌, ◌-◌, IsErr};
     ghost use Rattle.std.specs.Io.{ReadsAtMost};
     ghost use Rattle.std.specs.Io.KnownBytes.{ReadConsumes};

@@ -34,6 +34,7 @@ impl<'a> Iterator for Lines<'a> {
     type Item = &'a str;
 
     ghost use Rattle.std.specs.Iterator.{YieldsFirstRef, item_count};
+    ghost use Rattle.subcommands.specs.Parts.{lines_left};
 
     ghost next_gives = { YieldsFirstRef lines_left };
 

@@ -7,7 +7,7 @@ ghost use Rattle.table_changes.specs.Growing.{SameAreAlike, FaultOfOneMore, Firs
 ghost use Rattle.table_changes.specs.Showing.{RecordShows, RecordShowsAll};
 
 /// A law, and no code, of tables in which a row is found by each of its unique keys, and has a primary key. No other
-/// row changes where a row comes whose values in unique keys no row has (`comes`), where a row goes (`goes`) and where
+/// row changes where a row comes that shares no value in a unique key (`comes`), where a row goes (`goes`) and where
 /// tables are emptied (`empties`). Rows stay where each of their unique keys finds them (`stay`). Rows of a table that
 /// share a value in a unique key are one row (`one`).
 ///

@@ -1,4 +1,4 @@
--- Books stand for the lists of transactions that they accepted.
+-- Books are those of the transactions that they accepted.
 use Rattle.std.proofs.Common.{◌≡◌, ℕ, suc, ◌+◌, List, [], ◌∷◌, ◌++◌, length, refl, sym, ◌∙◌, ap, subst, arith}
 use Rattle.std.specs.Prelude.{fold}
 use Rattle.replica_identity.proofs.SettingLemmas.{has_primary_keys}

@@ -34,7 +34,7 @@ pub record CommitsTables (setting : Setting) (old new : List TableRows) (command
   pub records : entry ≡ commit_of number time (record_of setting (kept_in old) commands)
   pub width : widths new ≡ widths old
 
--- why the list is refused whose command of this number is
+-- why a list is refused for its command of this number
 abbrev pub error_at : ℕ → Refused → CommitError
 error_at number (r.Fault fault) = e.At number fault
 error_at number r.OutOfMemory = e.OutOfMemory

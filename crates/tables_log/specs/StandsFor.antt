@@ -1,4 +1,4 @@
--- What a book stands for: a list of transactions, each of which is accepted on what the earlier ones leave of tables without rows: PostgreSQL 15, 3.4. Transactions, and "Logical Replication", 31.1 Publication.
+-- The transactions of a book: a list of transactions, each of which is accepted on what the earlier ones leave of tables without rows: PostgreSQL 15, 3.4. Transactions, and "Logical Replication", 31.1 Publication.
 use Rattle.std.specs.Prelude.{◌≡◌, ℕ, ◌+◌, ◌++◌, List, [], ◌∷◌, fold, length, None}
 use Rattle.filter_tree.specs.Datum.{Datum}
 use Rattle.table_changes.specs.Commands.{Command, first_fault, all_applied}
@@ -49,16 +49,16 @@ pub record StandsFor (book : Book) (transactions : List Transaction) : Type 0 wh
 
 -- ---- laws
 
--- A new book stands for no transaction.
+-- A new book is of no transaction.
 abbrev pub NewStands : Type 0
 NewStands = (book : Book) (checked : CheckedOf) (limit : ℕ) → IsNew book checked limit → StandsFor book []
 
--- After a commit it stands for one more.
+-- After a commit it is of one more.
 abbrev pub CommitsAddOne : Type 0
 CommitsAddOne = (old new : Book) (commands : List Command) (time number : ℕ) → Commits old new commands time number
     → (transactions : List Transaction) → StandsFor old transactions → StandsFor new (transactions ++ record { commands = commands; time = time } ∷ [])
 
--- After a refusal, and whatever happens to its slots, for the same.
+-- After a refusal, and whatever happens to its slots, it is of the same.
 abbrev pub SlotsKeepIt : Type 0
 SlotsKeepIt = (old new : Book) (slots : List Slot) → ChangesSlots old new slots → (transactions : List Transaction) → StandsFor old transactions → StandsFor new transactions
 

@@ -21,8 +21,8 @@ use table_changes::Command;
 /// The tables of a catalog whose sharding is sound, the log of the commits that made their rows, and a replication slot
 /// for each subscription.
 ///
-/// A book stands for the list of the transactions that it accepted: its tables have the rows that these leave, in their
-/// order, of tables without rows, and its log has an entry for each.
+/// A book is that of the transactions that it accepted: its tables have the rows that these leave, one after another,
+/// of tables without rows, and its log has an entry for each.
 ///
 /// PostgreSQL 15, 3.4. Transactions, and "Logical Replication", 31.1 Publication.
 #[derive(Drop)]
@@ -137,8 +137,8 @@ impl Book {
         }
     }
 
-    /// The commit of this number once more: `Some` for 1 to `log_len()`. The only error is that a commit that is there is
-    /// shared too often.
+    /// The commit of this number once more: `Some` for 1 to `log_len()`. The only error is that a commit that is there
+    /// is shared too often.
     #[tactic(auto, using(crate::proofs::BookLemmas::found_numbered))]
     pub fn shared(&self, number: u32) -> Result<Option<Arc<Commit, Global>>, AllocError>
         ensures shows { IfOk result (λ found. option_map (λ commit. arc_value commit) found ≡ entry_at

@@ -11,7 +11,7 @@ use std::marker::Model;
 
 /// A commit: its number from 1, its time, and the changes that its commands made, in their order. Each of its messages
 /// can be spelled: it is one of 1,000,000,000 commits on one of 64 tables, and each row or part of a row in it has at
-/// most 100 values, whose numbers have 64 bits and whose texts have at most 65,535 bytes.
+/// most 100 values: numbers of 64 bits, and texts of at most 65,535 bytes.
 ///
 /// PostgreSQL 15, 55.9. Logical Replication Message Formats.
 #[derive(Debug, Drop)]

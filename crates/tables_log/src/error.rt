@@ -79,7 +79,7 @@ pub enum StartError {
     InUse,
 }
 
-/// A position that is confirmed after what was sent.
+/// A position to be confirmed is after what was sent.
 #[derive(Clone, Copy, Debug, PartialEq, Eq, Error)]
 #[error("the position is after what was sent")]
 pub struct StatusAhead;

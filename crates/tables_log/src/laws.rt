@@ -1,11 +1,11 @@
-//! Laws of what a book stands for.
+//! Laws of what a book has.
 
 ghost use Rattle.tables_log.specs.StandsFor.{NewStands, CommitsAddOne, SlotsKeepIt, EachIsLogged, BooksAreRight, ListedAreRows};
 
-/// A law, and no code, of the list of transactions that a book stands for. A new book stands for none (`new`); after a
-/// commit it stands for one more (`commits`); and whatever else happens to its slots, or is refused, it stands for the
-/// same (`kept`). Its log has an entry for each (`logged`). Each row is where each of its unique keys has it and fits
-/// its table, and where commands keep rows apart by their replica identity no two rows of a table have one (`rows`).
+/// A law, and no code, of the list of transactions that a book is of. A new book is of none (`new`); after a commit it
+/// is of one more (`commits`); and whatever else happens to its slots, or is refused, it is of the same (`kept`). Its
+/// log has an entry for each (`logged`). Each row is where each of its unique keys has it and fits its table, and where
+/// commands keep rows apart by their replica identity no two rows of a table have one (`rows`).
 ///
 /// PostgreSQL 15, 3.4. Transactions, 5.4.4 Primary Keys, 11.6 Unique Indexes.
 #[tactic(auto, using(crate::proofs::StandLemmas::new_stands, crate::proofs::StandLemmas::commits_add_one, crate::proofs::StandLemmas::slots_keep_it, crate::proofs::StandLemmas::each_is_logged, crate::proofs::StandLemmas::books_are_right))]
@@ -17,7 +17,7 @@ pub fn books_stand_for_transactions()
     ensures rows { BooksAreRight }
 {}
 
-/// A law, and no code: what `Book::rows` answers of a book that stands for a list of transactions is the table, in the
+/// A law, and no code: what `Book::rows` answers of the book of a list of transactions is the table, in the
 /// order of rows: each row that is found by the primary key, once, and no other.
 ///
 /// PostgreSQL 15, 5.4.4 Primary Keys, 7.5 Sorting Rows.

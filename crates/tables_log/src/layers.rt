@@ -1,4 +1,5 @@
-//! Maps of two layers: one is what is kept, and in the other changes are staged until they settle, which takes no memory.
+//! Maps of two layers: one is what is kept, and in the other changes are staged until they settle, which takes no
+//! memory.
 
 ghost use Rattle.std.specs.Prelude.{◌≡◌, true, false, OnOk, OnErr, if◌then◌else◌};
 ghost use Rattle.std.specs.BTreeMap.{IsEmpty};

@@ -73,8 +73,8 @@ impl<V: Drop> Staged<V> {
         }
     }
 
-    /// All that is kept: in the order of the keys that are one number, and then in that of the others. The only error is
-    /// want of memory.
+    /// All that is kept: in the order of the keys that are one number, and then in that of the others. The only error
+    /// is want of memory.
     #[tactic(auto, using(crate::proofs::ListingLemmas::lists_maps), unfolding(crate::specs::Staging::kept))]
     pub fn values(&self) -> Result<Vec<&V>, AllocError>
         ensures shows { IfOk result (λ values. map (λ value. value.now) values.items ≡ kept_values self.now) }

@@ -40,7 +40,7 @@ fn apply(
     }
 }
 
-/// Why the list is refused whose command of this number is.
+/// Why a list is refused for its command of this number.
 fn refused_at(number: usize, refused: Refused) -> CommitError
     ensures { result ≡ error_at number refused }
 {

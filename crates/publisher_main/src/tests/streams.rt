@@ -145,7 +145,7 @@ impl Write for Recovering {
 }
 
 #[test]
-fn nothing_is_written_behind_a_failed_write(rt: HostRuntime) -> Result<(), Fail> {
+fn nothing_is_written_after_a_failed_write(rt: HostRuntime) -> Result<(), Fail> {
     let input = format!(in rt.alloc(); "{BASE}%%\n(7, 'eu')\n(100, NULL)\n")?;
     for word in ["t", "u"] {
         let mut writer = Recovering {

@@ -5,7 +5,7 @@ use filter_tree::Tri;
 /// A text, what is wrong with it ("ok" for nothing), and at which byte.
 pub type Case = (&'static str, &'static str, usize);
 
-/// What follows the parenthesis before a filter.
+/// What follows the parenthesis before a filter: operands, and casts.
 pub const EXPRESSIONS: &[Case] = &[
     // Worked filters.
     ("id % 0 = 1);", "ZeroDivisor", 5),
@@ -88,6 +88,10 @@ pub const EXPRESSIONS: &[Case] = &[
     ("id % nope::int = 1);", "UnknownName", 5),
     ("TRUE::boolean);", "LeftOut(Cast)", 4),
     ("b IS TRUE::boolean);", "Expected", 9),
+];
+
+/// What follows it: operators, remainders, comparisons, and tests with IS.
+pub const COMPARISONS: &[Case] = &[
     // Operators that are not read.
     ("id - 1 = 5);", "LeftOut(Operator)", 3),
     ("id -1 = 5);", "LeftOut(Operator)", 3),

@@ -1,6 +1,6 @@
 //! Filters as they are read: their faults, their trees and what they mean.
 
-use super::expression_cases::{Case, EXPRESSIONS, TREES, VALUES};
+use super::expression_cases::{COMPARISONS, Case, EXPRESSIONS, TREES, VALUES};
 use super::membership_cases::MEMBERSHIPS;
 use crate::calls::{copied, said, text};
 use crate::checks::{expect, same};
@@ -52,6 +52,11 @@ fn expect_filters(rt: &impl Abort, alloc: Global, cases: &[Case]) -> Result<(), 
 #[test]
 fn reads_filters_or_their_first_fault(rt: HostRuntime) -> Result<(), Fail> {
     expect_filters(&rt, rt.alloc(), EXPRESSIONS)
+}
+
+#[test]
+fn reads_comparisons_or_their_first_fault(rt: HostRuntime) -> Result<(), Fail> {
+    expect_filters(&rt, rt.alloc(), COMPARISONS)
 }
 
 #[test]

@@ -15,7 +15,7 @@ use Rattle.shard_checker.specs.declared.error.CheckError.{CheckError}
 use Rattle.shard_checker.specs.declared.text_error.TextError.TheVariants.{Text}
 use Rattle.split_cert.specs.Tree.{Tree}
 use Rattle.split_cert.specs.declared.error.CertError.{CertError}
-use Rattle.subcommands.specs.Eval.Evaluation.{IsBadCatalog}
+use Rattle.subcommands.specs.BadCatalogs.{IsBadCatalog}
 use Rattle.subcommands.specs.Parts.{Cut, two_parts, lines_of}
 use Rattle.subcommands.specs.Check.Refusals.{refused_line}
 use Rattle.subcommands.specs.declared.failure.InputFault.{InputFault}

@@ -35,18 +35,24 @@ refusal_name e.OutOfMemory = codes "OutOfMemory"
 abbrev pub node_words : List Table → ℕ → ℕ → List (List ℕ)
 node_words tables table node = table_name tables table ∷ decimal node ∷ []
 
+abbrev pub owner_words : CatalogOf Expr → ℕ → ℕ → ℕ → List (List ℕ)
+owner_words catalog table node subscriber = node_words catalog.tables table node ++ subscriber_name catalog.subscriptions subscriber ∷ []
+
+-- a publication, and a table that it carries
+abbrev pub entry_words : CatalogOf Expr → ℕ → ℕ → List (List ℕ)
+entry_words catalog publication table = publication_name catalog.publications publication ∷ table_name catalog.tables table ∷ []
+
 abbrev pub arguments_of : CatalogOf Expr → CheckError → List (List ℕ)
 arguments_of catalog (e.PublishMissing publication operation) = publication_name catalog.publications publication ∷ operation_word operation ∷ []
 arguments_of catalog (e.NoIdentity table) = table_name catalog.tables table ∷ []
-arguments_of catalog (e.UnknownTable publication table) = publication_name catalog.publications publication ∷ table_name catalog.tables table ∷ []
-arguments_of catalog (e.NotCovered publication table column) =
-    publication_name catalog.publications publication ∷ table_name catalog.tables table ∷ column_name catalog.tables table column ∷ []
+arguments_of catalog (e.UnknownTable publication table) = entry_words catalog publication table
+arguments_of catalog (e.NotCovered publication table column) = entry_words catalog publication table ++ column_name catalog.tables table column ∷ []
 arguments_of catalog e.CertCount = []
 arguments_of catalog (e.BadIndex table node) = node_words catalog.tables table node
 arguments_of catalog (e.NotEmpty table node) = node_words catalog.tables table node
 arguments_of catalog (e.MayBeNull table node) = node_words catalog.tables table node
 arguments_of catalog (e.NotOwner table node) = node_words catalog.tables table node
-arguments_of catalog (e.SecondOwner table node subscriber) = node_words catalog.tables table node ++ subscriber_name catalog.subscriptions subscriber ∷ []
+arguments_of catalog (e.SecondOwner table node subscriber) = owner_words catalog table node subscriber
 arguments_of catalog e.OutOfMemory = []
 
 -- ---- the line

@@ -1,15 +1,13 @@
 -- Which rows have an answer, those that are read and fit their table, and the line of a row that has none, in the program's own format.
 use Rattle.std.specs.Prelude.{◌≡◌, ℕ, Bool, false, List, ◌∷◌, ◌++◌, Some, None, Result, Ok, Err, is_none, codes}
-use Rattle.std.specs.Fmt.{decimal}
 use Rattle.filter_tree.specs.Datum.{Datum}
 use Rattle.filter_tree.specs.Valid.{row_fault}
 use Rattle.filter_tree.specs.declared.table.Column.{Column}
-use Rattle.filter_tree.specs.declared.validity.RowFault.{RowFault}
-use Rattle.filter_tree.specs.declared.validity.RowFault.TheVariants as r
 use Rattle.sql_reader.specs.KindNames.{kind_name}
 use Rattle.sql_reader.specs.Reading.{Fault, IsFault, Tells, told}
 use Rattle.sql_reader.specs.Rows.{row_of}
 use Rattle.sql_reader.specs.declared.error.ReadError.{ReadError}
+use Rattle.subcommands.specs.Names.{fault_words, counted}
 use Rattle.subcommands.specs.declared.eval.bad_row.BadRow.{BadRow}
 use Rattle.subcommands.specs.declared.eval.bad_row.BadRow.TheVariants.{Unreadable, Invalid}
 
@@ -32,19 +30,6 @@ abbrev pub is_answered : List Column → List ℕ → Bool
 is_answered columns text = fits columns (row_of text)
 
 -- ---- the line of a row that has no answer
-
--- a word, a space, and a number
-abbrev pub counted : List ℕ → ℕ → List ℕ
-counted word number = word ++ 32 ∷ decimal number
-
--- the name of a fault, and the number of its column
-abbrev pub fault_words : RowFault → List ℕ
-fault_words r.Width = codes "Width"
-fault_words (r.NullInNotNull column) = counted (codes "NullInNotNull") column
-fault_words (r.WrongType column) = counted (codes "WrongType") column
-fault_words (r.OutOfRange column) = counted (codes "OutOfRange") column
-fault_words (r.NulInText column) = counted (codes "NulInText") column
-fault_words (r.TextTooLong column) = counted (codes "TextTooLong") column
 
 -- `unreadable`, the place of the fault and its name, or `invalid` and the fault
 abbrev pub bad_line : BadRow → List ℕ

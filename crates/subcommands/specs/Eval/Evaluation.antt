@@ -1,5 +1,5 @@
 -- What `eval` answers: the first part of its input is a catalog, and the second has rows of one of its tables, one a line.
-use Rattle.std.specs.Prelude.{◌≡◌, ℕ, false, if◌then◌else◌, List, [], ◌∷◌, ◌++◌, Option, Some, None, slice_get, is_none, Result, Ok, Err}
+use Rattle.std.specs.Prelude.{◌≡◌, ℕ, if◌then◌else◌, List, [], ◌∷◌, ◌++◌, Option, Some, None, slice_get, Result, Ok, Err}
 use Rattle.std.specs.List.{list_all}
 use Rattle.filter_tree.specs.Datum.{Datum}
 use Rattle.filter_tree.specs.Valid.{row_fault}
@@ -7,12 +7,12 @@ use Rattle.filter_tree.specs.declared.table.Column.{Column}
 use Rattle.filter_tree.specs.declared.table.Table.{Table}
 use Rattle.filter_tree.specs.declared.validity.RowFault.{RowFault}
 use Rattle.pub_catalog.specs.CatalogView.{catalog_view}
-use Rattle.sql_reader.specs.Reading.{Fault, Tells, told as told_by}
+use Rattle.sql_reader.specs.Reading.{Fault}
 use Rattle.sql_reader.specs.Rows.{row_of}
 use Rattle.pub_reader.specs.Statements.{catalog_by}
 use Rattle.sql_reader.specs.Written.{as_filter}
 use Rattle.pub_catalog.specs.declared.catalog.Catalog.{Catalog}
-use Rattle.sql_reader.specs.declared.error.ReadError.{ReadError}
+use Rattle.subcommands.specs.BadCatalogs.{IsBadCatalog}
 use Rattle.subcommands.specs.Eval.Answers.{line_of}
 use Rattle.subcommands.specs.Eval.BadRows.{IsUnreadable, bad_line, is_answered}
 use Rattle.subcommands.specs.Eval.Carriers.{CarrierOf, carriers_of}
@@ -99,13 +99,6 @@ pub record IsBegunEvaluation (wanted : RowOutput) (input word : List ℕ) (lines
   pub first : IsEvaluation wanted input word (row ∷ later) lines status
 
 -- ---- why there is no answer
-
--- the input has two parts, and the first is no catalog, for the fault that the error tells
-pub record IsBadCatalog (input : List ℕ) (error : ReadError) : Type 0 where
-  pub cut : Cut
-  pub parts : two_parts input ≡ Some cut
-  pub tells : Tells error (catalog_by as_filter cut.part)
-  pub known : is_none (told_by error) ≡ false
 
 -- the input has two parts, and the first is a catalog that lacks the table
 pub record IsUnknown (input word : List ℕ) : Type 0 where

@@ -56,6 +56,41 @@ fn push_node(
     write!(line, " {node}")
 }
 
+/// Writes a table, the number of a node of its certificate, and a subscriber.
+fn push_owner(
+    line: &mut String,
+    catalog: &Catalog,
+    table: usize,
+    node: usize,
+    subscriber: usize,
+) -> Result<(), AllocError>
+    ensures { OnOk result (string_bytes line.new ≡ string_bytes line.old ++ spaced
+        (spec.owner_words (catalog_view catalog.now) table node subscriber)) }
+{
+    push_node(line, catalog.tables.as_slice(), table, node)?;
+    push_word(
+        line,
+        subscriber_name(catalog.subscriptions.as_slice(), subscriber),
+    )
+}
+
+/// Writes a publication, and a table that it carries.
+fn push_entry(
+    line: &mut String,
+    catalog: &Catalog,
+    publication: usize,
+    table: usize,
+) -> Result<(), AllocError>
+    ensures { OnOk result (string_bytes line.new ≡ string_bytes line.old ++ spaced
+        (spec.entry_words (catalog_view catalog.now) publication table)) }
+{
+    push_word(
+        line,
+        publication_name(catalog.publications.as_slice(), publication),
+    )?;
+    push_table(line, catalog.tables.as_slice(), table)
+}
+
 /// Writes the arguments of a refusal, with a space before each.
 fn push_arguments(line: &mut String, catalog: &Catalog, error: CheckError) -> Result<(), AllocError>
     ensures { OnOk result (string_bytes line.new ≡ string_bytes line.old ++ spaced
@@ -73,16 +108,14 @@ fn push_arguments(line: &mut String, catalog: &Catalog, error: CheckError) -> Re
         }
         CheckError::NoIdentity { table } => push_table(line, tables, table),
         CheckError::UnknownTable { publication, table } => {
-            push_word(line, publication_name(publications, publication))?;
-            push_table(line, tables, table)
+            push_entry(line, catalog, publication, table)
         }
         CheckError::NotCovered {
             publication,
             table,
             column,
         } => {
-            push_word(line, publication_name(publications, publication))?;
-            push_table(line, tables, table)?;
+            push_entry(line, catalog, publication, table)?;
             push_word(line, column_name(tables, table, column))
         }
         CheckError::BadIndex { table, node }
@@ -93,13 +126,7 @@ fn push_arguments(line: &mut String, catalog: &Catalog, error: CheckError) -> Re
             table,
             node,
             subscriber,
-        } => {
-            push_node(line, tables, table, node)?;
-            push_word(
-                line,
-                subscriber_name(catalog.subscriptions.as_slice(), subscriber),
-            )
-        }
+        } => push_owner(line, catalog, table, node, subscriber),
         CheckError::CertCount | CheckError::OutOfMemory => Ok(()),
     }
 }

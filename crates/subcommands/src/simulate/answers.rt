@@ -2,7 +2,7 @@
 
 ghost use Rattle.std.specs.Prelude.{◌≡◌, ◌++◌, IfOk, OnOk, ◌∷◌, []};
 ghost use Rattle.std.specs.String.{string_bytes};
-ghost use Rattle.subcommands.specs.Eval.BadRows.{fault_words};
+ghost use Rattle.subcommands.specs.Names.{fault_words};
 ghost use Rattle.subcommands.specs.Output.{text_of};
 ghost use Rattle.subcommands.specs.Simulate.Answers as spec;
 
