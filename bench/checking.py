@@ -121,7 +121,20 @@ def beside_whole(size, owner, atoms, remainder_term):
     return f"s {atoms} e {remainder_term} {tree} n {atoms}"
 
 
+def by_lists(size):
+    """The certificate of so many nodes where each subscriber but the last has a list of keys. No key is in two lists, and
+    the further nodes are where one would be in the first two."""
+    def tree_with(further):
+        tree = f"o {LAST}"
+        for at in reversed(range(1, LAST)):
+            tree = split(at, closed(range(at + 1, LAST), f"o {at}"), tree)
+        return split(0, split(1, further, closed(range(2, LAST), "o 0")), tree)
+
+    return tree_with(filled(size - nodes(tree_with("e 0")) + 1, list(range(2, LAST)), "e 0"))
+
+
 BOUNDS = 61
+KEYS = 100
 TEXTS = 52
 SHARED = [("cmp", "id", "<", 100 * (at % BOUNDS)) for at in range(239)]
 LONG = [("cmp", "note", "=", "x" * 65_000 + f"{at:02}") for at in range(TEXTS)]
@@ -137,6 +150,8 @@ def cases():
     for size in SIZES:
         catalog = whole_and_others(31, SHARED, "note text")
         yield "480 nodes that 31 share", "o 31", catalog, beside_whole(size, 31, BOUNDS, 1)
+    for size in SIZES[1:]:
+        yield f"lists of {KEYS} keys", "e 0", families.catalog(families.key_lists(SUBSCRIBERS, KEYS)), by_lists(size)
     yield "52 texts of 65,002 bytes", "o 1", whole_and_others(1, LONG, "note text"), beside_whole(10_000, 1, TEXTS, 1)
 
 
