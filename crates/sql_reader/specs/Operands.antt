@@ -186,6 +186,8 @@ tested forms truth_test asked_part =
     verdict_map (λ s. part asked_part.place (OfFormula (negated_if forms truth_test.is_negated s))) (answered forms truth_test.place truth_test.asked asked_part.operand)
 
 -- ---- parts of the code
+
+-- The data above that an operand of the code stands for.
 abbrev pub operand_view : Operand → OperandOf Expr
 operand_view (p.Term term kind) = OfTerm term kind
 operand_view (p.Literal place literal) = OfLiteral place (constant_view literal)
