@@ -5,31 +5,34 @@ import postgres
 from measuring import print_table
 
 ROWS = (1_000, 10_000, 100_000, 1_000_000)
+# how rows come one after the other: the step from the key of one to that of the next
+ORDERS = {"in order": 1, "far apart": 2_654_435_761}
 PARTS = ("insert", "update", "delete")
 HEADS = [
+    "Keys",
     "Rows",
     *(f"{it}, thousand rows/s" for it in PARTS),
+    *(f"{it}, times that of a tenth of the rows" for it in PARTS),
     "bytes a row",
-    "an insert, times that of a tenth of the rows",
     "COPY, thousand rows/s",
     "prepared INSERT, thousand rows/s",
 ]
 TABLE = "CREATE UNLOGGED TABLE t (id integer PRIMARY KEY, region text);"
 
 
-def number(place, rows):
+def number(place, rows, step):
     """As the driver numbers its rows."""
-    return place * 2_654_435_761 % 2**64 % rows % 2_147_483_648
+    return place * step % 2**64 % rows % 2_147_483_648
 
 
 def thousands(rows, milliseconds):
     return f"{rows / milliseconds:,.0f}"
 
 
-def copied(connection, folder, rows, runs):
+def copied(connection, folder, rows, step, runs):
     """How long COPY takes into an empty table."""
     path = folder / "rows"
-    path.write_text("".join(f"{number(it, rows)}\tinserted\n" for it in range(rows)))
+    path.write_text("".join(f"{number(it, rows, step)}\tinserted\n" for it in range(rows)))
     path.chmod(0o644)
     times = []
     for _ in range(runs):
@@ -38,20 +41,20 @@ def copied(connection, folder, rows, runs):
     return sorted(times)[len(times) // 2]
 
 
-def inserted(connection, rows):
+def inserted(connection, rows, step):
     """How long INSERTs of one row take, a thousand in a transaction, by a statement that is prepared once."""
     connection.ask("TRUNCATE t;")
     loop = (
         f"DO $$ BEGIN FOR place IN 0..{rows - 1} LOOP "
-        f"INSERT INTO t VALUES ((place::numeric * 2654435761 % {rows})::integer, 'inserted'); "
+        f"INSERT INTO t VALUES ((place::numeric * {step} % {rows})::integer, 'inserted'); "
         "IF place % 1000 = 999 THEN COMMIT; END IF; END LOOP; END $$;"
     )
     return connection.milliseconds(loop, 1)[0]
 
 
-def book_row(setup, program, rows, empty):
+def book_row(setup, program, rows, step, empty):
     """The median of some runs of each part, and what a run has at most, over what it has without rows."""
-    runs = [drivers.told(setup, program, rows) for _ in range(setup.runs)]
+    runs = [drivers.told(setup, program, rows, step) for _ in range(setup.runs)]
     times = {part: sorted(parts[part][1] for parts, _ in runs)[len(runs) // 2] / 1e6 for part in PARTS}
     commits = -(-rows // 1_000)
     if any(parts[part][0] != commits for parts, _ in runs for part in PARTS):
@@ -61,17 +64,21 @@ def book_row(setup, program, rows, empty):
 
 
 def table(setup, program, connection, folder):
-    before = None
-    empty = drivers.told(setup, program, 0)[1]
-    for rows in ROWS:
-        times, bytes_used = book_row(setup, program, rows, empty)
-        each = times["insert"] / rows
-        grown = f"{each / before:.2f}" if before else ""
-        before = each
-        server = ["", ""]
-        if connection:
-            server = [thousands(rows, copied(connection, folder, rows, setup.runs)), thousands(rows, inserted(connection, rows))]
-        yield [f"{rows:,}", *(thousands(rows, times[it]) for it in PARTS), f"{bytes_used:,.0f}", grown, *server]
+    empty = drivers.told(setup, program, 0, 1)[1]
+    for order, step in ORDERS.items():
+        before = None
+        for rows in ROWS:
+            times, bytes_used = book_row(setup, program, rows, step, empty)
+            each = {part: times[part] / rows for part in PARTS}
+            grown = [f"{each[part] / before[part]:.2f}" if before else "" for part in PARTS]
+            before = each
+            server = ["", ""]
+            if connection:
+                server = [
+                    thousands(rows, copied(connection, folder, rows, step, setup.runs)),
+                    thousands(rows, inserted(connection, rows, step)),
+                ]
+            yield [order, f"{rows:,}", *(thousands(rows, times[it]) for it in PARTS), *grown, f"{bytes_used:,.0f}", *server]
 
 
 def measure(setup, _):

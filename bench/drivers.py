@@ -17,7 +17,7 @@ NEEDS = {
 }
 # the words of the run in which a driver is proved and built
 WHOLE = "CREATE TABLE t (id integer PRIMARY KEY, region text); CREATE PUBLICATION p FOR TABLE t; CREATE SUBSCRIPTION s CONNECTION '' PUBLICATION p;"
-WORDS = {"book": ["0"], "messages": ["0", "0"], "world": [WHOLE, "o 0", "1", "0"]}
+WORDS = {"book": ["0", "1"], "messages": ["0", "0"], "world": [WHOLE, "o 0", "1", "0"]}
 
 
 def stood_on(names):

@@ -10,7 +10,7 @@ ghost use Rattle.pgoutput_msgs.specs.Spelling.{cell_spelling, tuple_spelling, sp
 ghost use Rattle.pgoutput_msgs.specs.ValueText.{cell_of, cells_of, value_spelling};
 
 use crate::message::Msg;
-use crate::room::{put, put_byte, put_int16};
+use crate::room::{put_byte, put_int16, put_int32};
 use crate::tuple::{Cell, put_text};
 use filter_tree::{Row, Value};
 use itoa::Buffer;
@@ -34,22 +34,17 @@ pub fn encode_insert(relation: u32, row: &Row, out: &mut Vec<u8>) -> Result<(), 
     Ok(())
 }
 
-/// Room for the text of a number with its letter and its length.
-#[tactic(auto, using(crate::proofs::RowWriting::room_of_number))]
-fn number_room(number: i64) -> usize
-    ensures { 5 + length (signed_decimal number) ≤ result }
-{
-    let _ = number;
-    26
-}
+/// Room for the text of any number of 64 bits with its letter and its length.
+const NUMBER_ROOM: usize = 26;
 
 /// Room for a value, up to `usize::MAX`.
+#[tactic(auto, using(crate::proofs::RowWriting::room_of_number))]
 fn value_room(value: &Value) -> usize
     ensures { min (length (value_spelling value.now)) (2 ^ 64 - 1) ≤ result }
 {
     match value {
         Value::Null => 1,
-        Value::Int(number) => number_room(*number),
+        Value::Int(_) => NUMBER_ROOM,
         Value::Bool(_) => 6,
         Value::Text(text) => text.len().saturating_add(5),
     }
@@ -73,8 +68,9 @@ fn put_row(relation: u32, values: &[Value], out: &mut Vec<u8>)
     requires room { HasRoom out.old (spelling_of (Msg.Insert relation (cells_of (map datum_view values.now)))) }
     ensures { Puts out.old out.new (spelling_of (Msg.Insert relation (cells_of (map datum_view values.now)))) }
 {
-    let [a, b, c, d] = relation.to_be_bytes();
-    put(&[b'I', a, b, c, d, b'N'], out);
+    put_byte(b'I', out);
+    put_int32(relation, out);
+    put_byte(b'N', out);
     put_counted(values, out);
 }
 

@@ -9,7 +9,7 @@ ghost use Rattle.pgoutput_msgs.specs.Reading.{Reads, cell_at, many, tuple_at, ol
 
 use crate::error::MsgError;
 use crate::reader::Reader;
-use crate::room::{put, put_byte, put_int16};
+use crate::room::{put, put_byte, put_int16, put_int32};
 use filter_tree::Text;
 use std::alloc::Global;
 use std::marker::Model;
@@ -143,8 +143,8 @@ pub(crate) fn put_text(text: &str, out: &mut Vec<u8>)
     requires room { HasRoom out.old (cell_spelling (Cell.Text text.now)) }
     ensures { Puts out.old out.new (cell_spelling (Cell.Text text.now)) }
 {
-    let [a, b, c, d] = (text.len() as u32).to_be_bytes();
-    put(&[b't', a, b, c, d], out);
+    put_byte(b't', out);
+    put_int32(text.len() as u32, out);
     put(text.as_bytes(), out);
 }
 

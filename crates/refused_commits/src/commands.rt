@@ -25,7 +25,7 @@ enum Change {
     Truncate,
 }
 
-/// What makes the first rows, and the numbers of the tables.
+/// The changes that make the first rows, each with its table's number.
 const FIRST_CHANGES: &[(usize, Change)] = &[
     (0, Change::Insert("(1, 'one', NULL)")),
     (0, Change::Insert("(2, 'two', 'second')")),

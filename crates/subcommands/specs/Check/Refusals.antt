@@ -35,6 +35,7 @@ refusal_name e.OutOfMemory = codes "OutOfMemory"
 abbrev pub node_words : List Table → ℕ → ℕ → List (List ℕ)
 node_words tables table node = table_name tables table ∷ decimal node ∷ []
 
+-- and a subscriber that it gives rows to
 abbrev pub owner_words : CatalogOf Expr → ℕ → ℕ → ℕ → List (List ℕ)
 owner_words catalog table node subscriber = node_words catalog.tables table node ++ subscriber_name catalog.subscriptions subscriber ∷ []
 
