@@ -10,7 +10,7 @@ use Rattle.test_subscriber.specs.Feeding.{limit, hear_while, StopsFor}
 use Rattle.test_subscriber.specs.Frames.{Heard}
 use Rattle.test_subscriber.specs.Machine.{Machine, Alike, lost, opened}
 use Rattle.test_subscriber.specs.StartQuery.{start_query, Asks}
-use Rattle.test_subscriber.specs.Views.{machine_of, copy_of, listed_in}
+use Rattle.test_subscriber.specs.Views.{machine_view, copy_of, listed_in}
 use Rattle.test_subscriber.specs.declared.fault.SubFault.{SubFault}
 use Rattle.test_subscriber.specs.declared.fault.SubFault.TheVariants.{Closed}
 use Rattle.test_subscriber.specs.declared.phase.Phase.{Phase}
@@ -20,7 +20,7 @@ use Rattle.test_subscriber.specs.declared.subscriber.Subscriber.{Subscriber}
 -- ---- what is seen of it
 
 abbrev pub sub_machine : Subscriber → Machine
-sub_machine subscriber = machine_of subscriber.replica
+sub_machine subscriber = machine_view subscriber.replica
 
 -- the bytes that came and are no whole frame
 abbrev pub sub_held : Subscriber → List ℕ

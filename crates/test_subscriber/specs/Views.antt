@@ -56,8 +56,8 @@ machine_with phase at wants copies = record {
   work = λ oid. seen_in (copy_of copies oid);
 }
 
-abbrev pub machine_of : Replica → Machine
-machine_of replica = machine_with replica.phase replica.position replica.wants_reply replica.copies.items
+abbrev pub machine_view : Replica → Machine
+machine_view replica = machine_with replica.phase replica.position replica.wants_reply replica.copies.items
 
 -- ---- what calls do
 

@@ -75,16 +75,16 @@ impl Replica {
     ghost use Rattle.test_subscriber.specs.Frames.{hear_response, hear_start, hear_keepalive, hear_data, hear_content, hear_stream, hear_frame};
     ghost use Rattle.test_subscriber.specs.Machine.{Alike};
     ghost use Rattle.test_subscriber.specs.Frames.{kept_alive};
-    ghost use Rattle.test_subscriber.specs.Views.{machine_of};
+    ghost use Rattle.test_subscriber.specs.Views.{machine_view};
     ghost use Rattle.pgoutput_msgs.specs.Reading.{decoded};
     ghost use Rattle.test_subscriber.specs.Frames.{hear_decoded};
     ghost use Rattle.copy_frames.specs.Contents.{xlog_data_in, keepalive_in};
 
     /// Hears a CopyBothResponse.
     fn hear_response(&mut self, body: &[u8]) -> Result<(), SubFault>
-        ensures ok { OnOk result (Reaches (machine_of self.new) (hear_response body.now (machine_of self.old))) }
-        ensures fault { IfErr result (RefusedBy (hear_response body.now (machine_of self.old))) }
-        ensures stays { OnErr result (Stays (machine_of self.old) (machine_of self.new)) }
+        ensures ok { OnOk result (Reaches (machine_view self.new) (hear_response body.now (machine_view self.old))) }
+        ensures fault { IfErr result (RefusedBy (hear_response body.now (machine_view self.old))) }
+        ensures stays { OnErr result (Stays (machine_view self.old) (machine_view self.new)) }
     {
         if body != b"\0\0\0".as_slice() {
             return Err(SubFault::OutOfPlace);
@@ -95,9 +95,9 @@ impl Replica {
 
     /// Hears the answer to the command that starts the stream.
     fn hear_start(&mut self, frame: &Frame) -> Result<(), SubFault>
-        ensures ok { OnOk result (Reaches (machine_of self.new) (hear_start frame.now (machine_of self.old))) }
-        ensures fault { IfErr result (RefusedBy (hear_start frame.now (machine_of self.old))) }
-        ensures stays { OnErr result (Stays (machine_of self.old) (machine_of self.new)) }
+        ensures ok { OnOk result (Reaches (machine_view self.new) (hear_start frame.now (machine_view self.old))) }
+        ensures fault { IfErr result (RefusedBy (hear_start frame.now (machine_view self.old))) }
+        ensures stays { OnErr result (Stays (machine_view self.old) (machine_view self.new)) }
     {
         match frame.kind {
             b'W' => self.hear_response(frame.body.as_slice()),
@@ -109,7 +109,7 @@ impl Replica {
     /// Raises the position to that of a keepalive, unless a transaction is not committed, and keeps whether it wants a
     /// status.
     fn keep_alive(&mut self, keepalive: &Keepalive)
-        ensures { Alike (machine_of self.new) (kept_alive keepalive.now (machine_of self.old)) }
+        ensures { Alike (machine_view self.new) (kept_alive keepalive.now (machine_view self.old)) }
     {
         if self.phase == Phase::Idle {
             self.position = self.position.max(keepalive.position);
@@ -118,10 +118,10 @@ impl Replica {
     }
 
     fn hear_keepalive(&mut self, body: &[u8]) -> Result<(), SubFault>
-        ensures ok { OnOk result (Reaches (machine_of self.new)
-            (hear_keepalive (keepalive_in body.now) (machine_of self.old))) }
-        ensures fault { IfErr result (RefusedBy (hear_keepalive (keepalive_in body.now) (machine_of self.old))) }
-        ensures stays { OnErr result (Stays (machine_of self.old) (machine_of self.new)) }
+        ensures ok { OnOk result (Reaches (machine_view self.new)
+            (hear_keepalive (keepalive_in body.now) (machine_view self.old))) }
+        ensures fault { IfErr result (RefusedBy (hear_keepalive (keepalive_in body.now) (machine_view self.old))) }
+        ensures stays { OnErr result (Stays (machine_view self.old) (machine_view self.new)) }
     {
         let Some(keepalive) = read_keepalive(body) else {
             return Err(SubFault::Frame(FrameFault::BadLength));
@@ -131,10 +131,10 @@ impl Replica {
     }
 
     fn hear_data(&mut self, body: &[u8]) -> Result<(), SubFault>
-        ensures ok { OnOk result (Reaches (machine_of self.new)
-            (hear_data (xlog_data_in body.now) (machine_of self.old))) }
-        ensures fault { IfErr result (RefusedBy (hear_data (xlog_data_in body.now) (machine_of self.old))) }
-        ensures stays { OnErr result (Stays (machine_of self.old) (machine_of self.new)) }
+        ensures ok { OnOk result (Reaches (machine_view self.new)
+            (hear_data (xlog_data_in body.now) (machine_view self.old))) }
+        ensures fault { IfErr result (RefusedBy (hear_data (xlog_data_in body.now) (machine_view self.old))) }
+        ensures stays { OnErr result (Stays (machine_view self.old) (machine_view self.new)) }
     {
         let Some((_, bytes)) = read_xlog_data(body) else {
             return Err(SubFault::Frame(FrameFault::BadLength));
@@ -144,10 +144,10 @@ impl Replica {
 
     /// Hears the message that the bytes spell.
     fn hear_bytes(&mut self, bytes: &[u8]) -> Result<(), SubFault>
-        ensures ok { OnOk result (Reaches (machine_of self.new)
-            (hear_decoded (decoded bytes.now) (machine_of self.old))) }
-        ensures fault { IfErr result (RefusedBy (hear_decoded (decoded bytes.now) (machine_of self.old))) }
-        ensures stays { OnErr result (Stays (machine_of self.old) (machine_of self.new)) }
+        ensures ok { OnOk result (Reaches (machine_view self.new)
+            (hear_decoded (decoded bytes.now) (machine_view self.old))) }
+        ensures fault { IfErr result (RefusedBy (hear_decoded (decoded bytes.now) (machine_view self.old))) }
+        ensures stays { OnErr result (Stays (machine_view self.old) (machine_view self.new)) }
     {
         let message = message_in(self.alloc, bytes)?;
         self.hear(message)?;
@@ -156,9 +156,9 @@ impl Replica {
 
     /// Hears what CopyData carries.
     fn hear_content(&mut self, body: &[u8]) -> Result<(), SubFault>
-        ensures ok { OnOk result (Reaches (machine_of self.new) (hear_content body.now (machine_of self.old))) }
-        ensures fault { IfErr result (RefusedBy (hear_content body.now (machine_of self.old))) }
-        ensures stays { OnErr result (Stays (machine_of self.old) (machine_of self.new)) }
+        ensures ok { OnOk result (Reaches (machine_view self.new) (hear_content body.now (machine_view self.old))) }
+        ensures fault { IfErr result (RefusedBy (hear_content body.now (machine_view self.old))) }
+        ensures stays { OnErr result (Stays (machine_view self.old) (machine_view self.new)) }
     {
         if body.is_empty() {
             return Err(SubFault::OutOfPlace);
@@ -172,9 +172,9 @@ impl Replica {
 
     /// Hears a frame of the stream.
     fn hear_stream(&mut self, frame: &Frame) -> Result<(), SubFault>
-        ensures ok { OnOk result (Reaches (machine_of self.new) (hear_stream frame.now (machine_of self.old))) }
-        ensures fault { IfErr result (RefusedBy (hear_stream frame.now (machine_of self.old))) }
-        ensures stays { OnErr result (Stays (machine_of self.old) (machine_of self.new)) }
+        ensures ok { OnOk result (Reaches (machine_view self.new) (hear_stream frame.now (machine_view self.old))) }
+        ensures fault { IfErr result (RefusedBy (hear_stream frame.now (machine_view self.old))) }
+        ensures stays { OnErr result (Stays (machine_view self.old) (machine_view self.new)) }
     {
         if frame.kind != b'd' {
             return Err(SubFault::OutOfPlace);
@@ -185,9 +185,9 @@ impl Replica {
 
     /// Hears a frame. An error leaves what stays after a fault.
     pub(crate) fn hear_frame(&mut self, frame: &Frame) -> Result<(), SubFault>
-        ensures ok { OnOk result (Reaches (machine_of self.new) (hear_frame frame.now (machine_of self.old))) }
-        ensures fault { IfErr result (RefusedBy (hear_frame frame.now (machine_of self.old))) }
-        ensures stays { OnErr result (Stays (machine_of self.old) (machine_of self.new)) }
+        ensures ok { OnOk result (Reaches (machine_view self.new) (hear_frame frame.now (machine_view self.old))) }
+        ensures fault { IfErr result (RefusedBy (hear_frame frame.now (machine_view self.old))) }
+        ensures stays { OnErr result (Stays (machine_view self.old) (machine_view self.new)) }
     {
         match self.phase {
             Phase::Shut => Err(SubFault::Closed),

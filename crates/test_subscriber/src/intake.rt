@@ -7,7 +7,7 @@ ghost use Rattle.test_subscriber.specs.Feeding.{StopsFor, hear_while};
 ghost use Rattle.test_subscriber.specs.Frames.{hear_cut};
 ghost use Rattle.test_subscriber.specs.Intake.{HearsHeld, HearsPiece, TakesPiece};
 ghost use Rattle.test_subscriber.specs.Machine.{stopped};
-ghost use Rattle.test_subscriber.specs.Views.{machine_of};
+ghost use Rattle.test_subscriber.specs.Views.{machine_view};
 ghost use Rattle.test_subscriber.specs.declared.fault.SubFault.TheVariants.{Closed, OutOfMemory};
 ghost use Rattle.test_subscriber.specs.declared.phase.Phase.TheVariants.{Shut};
 
@@ -33,11 +33,11 @@ fn take_piece(inbox: &mut Deframer, piece: &[u8]) -> Result<Option<FrameFault>, 
 /// Hears each frame that is held whole.
 fn hear_held(replica: &mut Replica, inbox: &mut Deframer) -> Result<(), SubFault>
     ensures ok { OnOk result (HearsHeld (cut inbox.old.limit inbox.old.bytes)
-        (hear_cut (cut inbox.old.limit inbox.old.bytes) (machine_of replica.old)) inbox.old inbox.new
-        (machine_of replica.new)) }
+        (hear_cut (cut inbox.old.limit inbox.old.bytes) (machine_view replica.old)) inbox.old inbox.new
+        (machine_view replica.new)) }
     ensures stops { IfErr result (λ e. StopsFor (told e)
-        (hear_cut (cut inbox.old.limit inbox.old.bytes) (machine_of replica.old))
-        (cut inbox.old.limit inbox.old.bytes) (machine_of replica.old) (stopped (machine_of replica.new))) }
+        (hear_cut (cut inbox.old.limit inbox.old.bytes) (machine_view replica.old))
+        (cut inbox.old.limit inbox.old.bytes) (machine_view replica.old) (stopped (machine_view replica.new))) }
 {
     while let Some(frame) = inbox.next()? {
         replica.hear_frame(&frame)?;
@@ -53,12 +53,12 @@ pub(crate) fn hear_piece(
 ) -> Result<(), SubFault>
     requires { inbox.old.fault ≡ None }
     ensures ok { OnOk result (HearsPiece (cut inbox.old.limit (inbox.old.bytes ++ piece.now))
-        (hear_while replica.old.phase (cut inbox.old.limit (inbox.old.bytes ++ piece.now)) (machine_of replica.old))
-        inbox.old inbox.new (machine_of replica.new)) }
+        (hear_while replica.old.phase (cut inbox.old.limit (inbox.old.bytes ++ piece.now)) (machine_view replica.old))
+        inbox.old inbox.new (machine_view replica.new)) }
     ensures stops { IfErr result (λ e. StopsFor (told e)
-        (hear_while replica.old.phase (cut inbox.old.limit (inbox.old.bytes ++ piece.now)) (machine_of replica.old))
-        (cut inbox.old.limit (inbox.old.bytes ++ piece.now)) (machine_of replica.old)
-        (stopped (machine_of replica.new))) }
+        (hear_while replica.old.phase (cut inbox.old.limit (inbox.old.bytes ++ piece.now)) (machine_view replica.old))
+        (cut inbox.old.limit (inbox.old.bytes ++ piece.now)) (machine_view replica.old)
+        (stopped (machine_view replica.new))) }
     ensures closed { replica.old.phase ≡ Shut → result ≡ Err Closed }
 {
     if replica.phase == Phase::Shut {

@@ -28,7 +28,7 @@ impl Replica {
     ghost use Rattle.test_subscriber.specs.declared.fault.SubFault.TheVariants.{NoRelation};
     ghost use Rattle.tables_log.specs.Listing.{ListsFound};
     ghost use Rattle.tables_log.specs.Places.{IsInOrder};
-    ghost use Rattle.test_subscriber.specs.Views.{machine_of, copy_of, known_in, listed_in, place_of, IsKnownAt};
+    ghost use Rattle.test_subscriber.specs.Views.{machine_view, copy_of, known_in, listed_in, place_of, IsKnownAt};
     ghost use Rattle.test_subscriber.specs.Answers.{Reaches, Stays};
     ghost use Rattle.test_subscriber.specs.Copies.{RefusedBy};
     ghost use Rattle.test_subscriber.specs.Machine.{Alike, stopped, lost, opened};
@@ -40,7 +40,7 @@ impl Replica {
     pub(crate) fn rows(&self, oid: u32) -> Result<Vec<Row>, AllocError>
         ensures shows { IfOk result (λ rows. IsInOrder (listed_in (copy_of self.now.copies.items oid)) rows.items) }
         ensures found { OnOk result
-            (ListsFound ((machine_of self.now).rows oid) (listed_in (copy_of self.now.copies.items oid))) }
+            (ListsFound ((machine_view self.now).rows oid) (listed_in (copy_of self.now.copies.items oid))) }
     {
         match self.place_of(oid) {
             None => Ok(Vec::new(self.alloc)),
@@ -76,9 +76,9 @@ impl Replica {
     /// Keeps what a new Relation says.
     fn learn(&mut self, relation: Relation) -> Result<(), SubFault>
         requires { place_of self.old.copies.items relation.oid ≡ None }
-        ensures ok { OnOk result (Reaches (machine_of self.new) (hear_relation relation (machine_of self.old))) }
-        ensures fault { IfErr result (RefusedBy (hear_relation relation (machine_of self.old))) }
-        ensures stays { OnErr result (Stays (machine_of self.old) (machine_of self.new)) }
+        ensures ok { OnOk result (Reaches (machine_view self.new) (hear_relation relation (machine_view self.old))) }
+        ensures fault { IfErr result (RefusedBy (hear_relation relation (machine_view self.old))) }
+        ensures stays { OnErr result (Stays (machine_view self.old) (machine_view self.new)) }
     {
         let Some(shape) = TableShape::of(self.alloc, relation)? else {
             return Err(SubFault::BadValue);
@@ -90,9 +90,10 @@ impl Replica {
     /// Hears the Relation of a table whose copy has this place.
     fn recognize(&mut self, place: usize, relation: &Relation) -> Result<(), SubFault>
         requires { place_of self.old.copies.items relation.now.oid ≡ Some place }
-        ensures ok { OnOk result (Reaches (machine_of self.new) (hear_relation relation.now (machine_of self.old))) }
-        ensures fault { IfErr result (RefusedBy (hear_relation relation.now (machine_of self.old))) }
-        ensures stays { OnErr result (Stays (machine_of self.old) (machine_of self.new)) }
+        ensures ok { OnOk result
+            (Reaches (machine_view self.new) (hear_relation relation.now (machine_view self.old))) }
+        ensures fault { IfErr result (RefusedBy (hear_relation relation.now (machine_view self.old))) }
+        ensures stays { OnErr result (Stays (machine_view self.old) (machine_view self.new)) }
     {
         if same_relation(&self.copies[place].shape.relation, relation) {
             self.copies[place].is_known = true;
@@ -103,9 +104,9 @@ impl Replica {
     }
 
     fn hear_relation(&mut self, relation: Relation) -> Result<(), SubFault>
-        ensures ok { OnOk result (Reaches (machine_of self.new) (hear_relation relation (machine_of self.old))) }
-        ensures fault { IfErr result (RefusedBy (hear_relation relation (machine_of self.old))) }
-        ensures stays { OnErr result (Stays (machine_of self.old) (machine_of self.new)) }
+        ensures ok { OnOk result (Reaches (machine_view self.new) (hear_relation relation (machine_view self.old))) }
+        ensures fault { IfErr result (RefusedBy (hear_relation relation (machine_view self.old))) }
+        ensures stays { OnErr result (Stays (machine_view self.old) (machine_view self.new)) }
     {
         match self.place_of(relation.oid) {
             None => self.learn(relation),
@@ -115,9 +116,9 @@ impl Replica {
 
     /// Stages a new row of the table with this OID.
     fn insert(&mut self, oid: u32, new: Tuple) -> Result<(), SubFault>
-        ensures ok { OnOk result (Reaches (machine_of self.new) (hear_insert oid new (machine_of self.old))) }
-        ensures fault { IfErr result (RefusedBy (hear_insert oid new (machine_of self.old))) }
-        ensures stays { Stays (machine_of self.old) (machine_of self.new) }
+        ensures ok { OnOk result (Reaches (machine_view self.new) (hear_insert oid new (machine_view self.old))) }
+        ensures fault { IfErr result (RefusedBy (hear_insert oid new (machine_view self.old))) }
+        ensures stays { Stays (machine_view self.old) (machine_view self.new) }
     {
         let place = self.known_place(oid)?;
         self.copies[place].insert(self.alloc, new)?;
@@ -126,9 +127,9 @@ impl Replica {
 
     /// Stages a row of the table with this OID in place of an old one.
     fn update(&mut self, oid: u32, old: Option<OldTuple>, new: Tuple) -> Result<(), SubFault>
-        ensures ok { OnOk result (Reaches (machine_of self.new) (hear_update oid old new (machine_of self.old))) }
-        ensures fault { IfErr result (RefusedBy (hear_update oid old new (machine_of self.old))) }
-        ensures stays { Stays (machine_of self.old) (machine_of self.new) }
+        ensures ok { OnOk result (Reaches (machine_view self.new) (hear_update oid old new (machine_view self.old))) }
+        ensures fault { IfErr result (RefusedBy (hear_update oid old new (machine_view self.old))) }
+        ensures stays { Stays (machine_view self.old) (machine_view self.new) }
     {
         let place = self.known_place(oid)?;
         self.copies[place].update(self.alloc, old, new)?;
@@ -137,9 +138,9 @@ impl Replica {
 
     /// Stages that a row of the table with this OID is gone.
     fn delete(&mut self, oid: u32, old: OldTuple) -> Result<(), SubFault>
-        ensures ok { OnOk result (Reaches (machine_of self.new) (hear_delete oid old (machine_of self.old))) }
-        ensures fault { IfErr result (RefusedBy (hear_delete oid old (machine_of self.old))) }
-        ensures stays { Stays (machine_of self.old) (machine_of self.new) }
+        ensures ok { OnOk result (Reaches (machine_view self.new) (hear_delete oid old (machine_view self.old))) }
+        ensures fault { IfErr result (RefusedBy (hear_delete oid old (machine_view self.old))) }
+        ensures stays { Stays (machine_view self.old) (machine_view self.new) }
     {
         let place = self.known_place(oid)?;
         self.copies[place].delete(self.alloc, old)?;
@@ -148,9 +149,9 @@ impl Replica {
 
     /// Stages that the table with this OID has no rows.
     fn empty(&mut self, oid: u32) -> Result<(), SubFault>
-        ensures ok { OnOk result (Reaches (machine_of self.new) (hear_empty oid (machine_of self.old))) }
-        ensures fault { IfErr result (RefusedBy (hear_empty oid (machine_of self.old))) }
-        ensures stays { Stays (machine_of self.old) (machine_of self.new) }
+        ensures ok { OnOk result (Reaches (machine_view self.new) (hear_empty oid (machine_view self.old))) }
+        ensures fault { IfErr result (RefusedBy (hear_empty oid (machine_view self.old))) }
+        ensures stays { Stays (machine_view self.old) (machine_view self.new) }
     {
         let place = self.known_place(oid)?;
         self.copies[place].empty();
@@ -159,9 +160,9 @@ impl Replica {
 
     /// Stages that the tables with these OIDs have no rows.
     fn truncate(&mut self, oids: &[u32]) -> Result<(), SubFault>
-        ensures ok { OnOk result (Reaches (machine_of self.new) (hear_truncate oids.now (machine_of self.old))) }
-        ensures fault { IfErr result (RefusedBy (hear_truncate oids.now (machine_of self.old))) }
-        ensures stays { Stays (machine_of self.old) (machine_of self.new) }
+        ensures ok { OnOk result (Reaches (machine_view self.new) (hear_truncate oids.now (machine_view self.old))) }
+        ensures fault { IfErr result (RefusedBy (hear_truncate oids.now (machine_view self.old))) }
+        ensures stays { Stays (machine_view self.old) (machine_view self.new) }
     {
         for oid in oids {
             self.empty(*oid)?;
@@ -171,7 +172,7 @@ impl Replica {
 
     /// Shows what the transaction changed.
     fn commit(&mut self, end_lsn: u64)
-        ensures { Alike (machine_of self.new) (committed end_lsn (machine_of self.old)) }
+        ensures { Alike (machine_view self.new) (committed end_lsn (machine_view self.old)) }
     {
         settle(&mut self.copies);
         self.phase = Phase::Idle;
@@ -180,9 +181,9 @@ impl Replica {
 
     /// Hears a message between transactions.
     fn hear_idle(&mut self, message: Msg) -> Result<(), SubFault>
-        ensures ok { OnOk result (Reaches (machine_of self.new) (hear_idle message (machine_of self.old))) }
-        ensures fault { IfErr result (RefusedBy (hear_idle message (machine_of self.old))) }
-        ensures stays { OnErr result (Stays (machine_of self.old) (machine_of self.new)) }
+        ensures ok { OnOk result (Reaches (machine_view self.new) (hear_idle message (machine_view self.old))) }
+        ensures fault { IfErr result (RefusedBy (hear_idle message (machine_view self.old))) }
+        ensures stays { OnErr result (Stays (machine_view self.old) (machine_view self.new)) }
     {
         match message {
             Msg::Begin { final_lsn, .. } => {
@@ -200,9 +201,9 @@ impl Replica {
 
     /// Hears a message in a transaction whose Begin had this LSN.
     fn hear_busy(&mut self, begin: u64, message: Msg) -> Result<(), SubFault>
-        ensures ok { OnOk result (Reaches (machine_of self.new) (hear_busy begin message (machine_of self.old))) }
-        ensures fault { IfErr result (RefusedBy (hear_busy begin message (machine_of self.old))) }
-        ensures stays { OnErr result (Stays (machine_of self.old) (machine_of self.new)) }
+        ensures ok { OnOk result (Reaches (machine_view self.new) (hear_busy begin message (machine_view self.old))) }
+        ensures fault { IfErr result (RefusedBy (hear_busy begin message (machine_view self.old))) }
+        ensures stays { OnErr result (Stays (machine_view self.old) (machine_view self.new)) }
     {
         match message {
             Msg::Begin { .. } => Err(SubFault::OutOfPlace),
@@ -217,9 +218,10 @@ impl Replica {
 
     /// Hears a Commit in a transaction whose Begin had this LSN.
     fn hear_commit(&mut self, begin: u64, lsn: u64, end_lsn: u64) -> Result<(), SubFault>
-        ensures ok { OnOk result (Reaches (machine_of self.new) (hear_commit begin lsn end_lsn (machine_of self.old))) }
-        ensures fault { IfErr result (RefusedBy (hear_commit begin lsn end_lsn (machine_of self.old))) }
-        ensures stays { OnErr result (Stays (machine_of self.old) (machine_of self.new)) }
+        ensures ok { OnOk result
+            (Reaches (machine_view self.new) (hear_commit begin lsn end_lsn (machine_view self.old))) }
+        ensures fault { IfErr result (RefusedBy (hear_commit begin lsn end_lsn (machine_view self.old))) }
+        ensures stays { OnErr result (Stays (machine_view self.old) (machine_view self.new)) }
     {
         if lsn != begin {
             return Err(SubFault::OutOfPlace);
@@ -230,9 +232,9 @@ impl Replica {
 
     /// Hears a message of the stream. An error leaves what stays after a fault.
     pub(crate) fn hear(&mut self, message: Msg) -> Result<(), SubFault>
-        ensures ok { OnOk result (Reaches (machine_of self.new) (hear message (machine_of self.old))) }
-        ensures fault { IfErr result (RefusedBy (hear message (machine_of self.old))) }
-        ensures stays { OnErr result (Stays (machine_of self.old) (machine_of self.new)) }
+        ensures ok { OnOk result (Reaches (machine_view self.new) (hear message (machine_view self.old))) }
+        ensures fault { IfErr result (RefusedBy (hear message (machine_view self.old))) }
+        ensures stays { OnErr result (Stays (machine_view self.old) (machine_view self.new)) }
     {
         match self.phase {
             Phase::Shut => Err(SubFault::Closed),
@@ -244,7 +246,7 @@ impl Replica {
 
     /// What a fault leaves.
     pub(crate) fn stop(&mut self)
-        ensures { Alike (machine_of self.new) (stopped (machine_of self.old)) }
+        ensures { Alike (machine_view self.new) (stopped (machine_view self.old)) }
     {
         forget(&mut self.copies);
         self.phase = Phase::Shut;
@@ -252,7 +254,7 @@ impl Replica {
 
     /// What the loss of the connection leaves.
     pub(crate) fn lose(&mut self)
-        ensures { Alike (machine_of self.new) (lost (machine_of self.old)) }
+        ensures { Alike (machine_view self.new) (lost (machine_view self.old)) }
     {
         self.stop();
         self.wants_reply = false;
@@ -260,7 +262,7 @@ impl Replica {
 
     /// What a new connection begins with.
     pub(crate) fn open(&mut self)
-        ensures { Alike (machine_of self.new) (opened (machine_of self.old)) }
+        ensures { Alike (machine_view self.new) (opened (machine_view self.old)) }
     {
         self.lose();
         self.phase = Phase::Waiting;

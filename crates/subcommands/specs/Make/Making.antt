@@ -30,28 +30,28 @@ use Rattle.split_cert.specs.Where.{tree_view}
 
 -- a certificate; a row and the subscribers that get it; neither; or no certificate within the limits, and no row
 pub data Finding : Type 0 where
-  Certified : Tree → Finding
-  Shown : List Datum → List ℕ → Finding
-  Undecided : Finding
-  PastLimits : Finding
+  Cert : Tree → Finding
+  Counter : List Datum → List ℕ → Finding
+  Unknown : Finding
+  TooLarge : Finding
 
 -- what the maker's answer says of a table; where memory ran out it says nothing
 abbrev pub finding_view : Made → Finding
-finding_view (m.Cert cert) = Certified (tree_view cert)
-finding_view (m.Counter row owners) = Shown row owners.items
-finding_view m.Unknown = Undecided
-finding_view m.TooLarge = PastLimits
-finding_view m.OutOfMemory = Undecided
+finding_view (m.Cert cert) = Cert (tree_view cert)
+finding_view (m.Counter row owners) = Counter row owners.items
+finding_view m.Unknown = Unknown
+finding_view m.TooLarge = TooLarge
+finding_view m.OutOfMemory = Unknown
 
 -- The check accepts the certificate with the catalog's own plan; the row fits the table and passes to exactly these subscribers, which are none or several. The others say nothing of the table.
 abbrev pub IsTrueOf : CatalogOf Expr → ℕ → Finding → Type 0
-IsTrueOf catalog number (Certified tree) = IsAccepted catalog (plan_of catalog) number tree
-IsTrueOf catalog number (Shown row owners) = IsCounter catalog (plan_of catalog) number row owners
-IsTrueOf catalog number Undecided = Unit {0}
-IsTrueOf catalog number PastLimits = Unit {0}
+IsTrueOf catalog number (Cert tree) = IsAccepted catalog (plan_of catalog) number tree
+IsTrueOf catalog number (Counter row owners) = IsCounter catalog (plan_of catalog) number row owners
+IsTrueOf catalog number Unknown = Unit {0}
+IsTrueOf catalog number TooLarge = Unit {0}
 
 abbrev pub is_certificate : Finding → Bool
-is_certificate (Certified tree) = true
+is_certificate (Cert tree) = true
 is_certificate _ = false
 
 -- ---- its line
@@ -65,10 +65,10 @@ abbrev pub counter_words : CatalogOf Expr → ℕ → List Datum → List ℕ �
 counter_words catalog number row owners = table_name catalog.tables number ∷ row_text row ∷ codes "owners" ∷ owners_text catalog.subscriptions owners ∷ []
 
 abbrev pub line_for : CatalogOf Expr → ℕ → Finding → List ℕ
-line_for catalog number (Certified tree) = spelling_of tree
-line_for catalog number (Shown row owners) = codes "counter" ++ spaced (counter_words catalog number row owners)
-line_for catalog number Undecided = codes "unknown" ++ spaced (table_name catalog.tables number ∷ [])
-line_for catalog number PastLimits = codes "too large" ++ spaced (table_name catalog.tables number ∷ [])
+line_for catalog number (Cert tree) = spelling_of tree
+line_for catalog number (Counter row owners) = codes "counter" ++ spaced (counter_words catalog number row owners)
+line_for catalog number Unknown = codes "unknown" ++ spaced (table_name catalog.tables number ∷ [])
+line_for catalog number TooLarge = codes "too large" ++ spaced (table_name catalog.tables number ∷ [])
 
 -- ---- what is answered
 

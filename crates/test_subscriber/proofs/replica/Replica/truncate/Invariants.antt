@@ -1,11 +1,11 @@
 use Rattle.std.proofs.Common.{drop}
 use Rattle.test_subscriber.specs.Answers.{SameOutcome, Stays}
 use Rattle.test_subscriber.specs.Hearing.{hear_truncate}
-use Rattle.test_subscriber.specs.Views.{machine_of}
+use Rattle.test_subscriber.specs.Views.{machine_view}
 use Rattle.test_subscriber.proofs.replica.Replica.truncate.Given as goal
 
 -- the tables that are left end as all do
 abbrev pub invariant-loop-oid : goal.invariant-loop-oid
 invariant-loop-oid l =
-    SameOutcome (hear_truncate (drop l.oid-index l.oids) (machine_of l.self)) (hear_truncate l.oids (machine_of l.initial.self))
-    × Stays (machine_of l.initial.self) (machine_of l.self)
+    SameOutcome (hear_truncate (drop l.oid-index l.oids) (machine_view l.self)) (hear_truncate l.oids (machine_view l.initial.self))
+    × Stays (machine_view l.initial.self) (machine_view l.self)
