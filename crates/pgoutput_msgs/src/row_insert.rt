@@ -34,17 +34,22 @@ pub fn encode_insert(relation: u32, row: &Row, out: &mut Vec<u8>) -> Result<(), 
     Ok(())
 }
 
-/// Room for the text of any number of 64 bits with its letter and its length.
-const NUMBER_ROOM: usize = 26;
+/// Room for the text of a number of 64 bits with its letter and its length: the same for each number.
+#[tactic(auto, using(crate::proofs::RowWriting::room_of_number))]
+fn number_room(number: i64) -> usize
+    ensures { 5 + length (signed_decimal number) ≤ result }
+{
+    let _ = number;
+    26
+}
 
 /// Room for a value, up to `usize::MAX`.
-#[tactic(auto, using(crate::proofs::RowWriting::room_of_number))]
 fn value_room(value: &Value) -> usize
     ensures { min (length (value_spelling value.now)) (2 ^ 64 - 1) ≤ result }
 {
     match value {
         Value::Null => 1,
-        Value::Int(_) => NUMBER_ROOM,
+        Value::Int(number) => number_room(*number),
         Value::Bool(_) => 6,
         Value::Text(text) => text.len().saturating_add(5),
     }
