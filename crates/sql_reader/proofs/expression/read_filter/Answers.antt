@@ -9,7 +9,8 @@ use Rattle.sql_reader.proofs.expression.read_filter.Goals as goal
 -- the whole expression, and the filter that it is
 pub returns : goal.returns
 unfolding spec.expression
-returns c =
-    (ap (λ whole. and_then whole (λ part. check (wanted as_filter part))) c.in_ok-whole.ensures.0
-    ∙ ap (λ verdict. with_rest verdict (to_read c.disjunction.new.r)) c.in_ok-wanted.ensures,
-    c.in_ok-whole.ensures.1)
+returns c = (
+  ap (λ whole. and_then whole (λ part. check (wanted as_filter part))) c.in_ok-whole.ensures.0
+      ∙ ap (λ verdict. with_rest verdict (to_read c.disjunction.new.r)) c.in_ok-wanted.ensures,
+  c.in_ok-whole.ensures.1,
+)
