@@ -35,10 +35,10 @@ CREATE SUBSCRIPTION s1 CONNECTION '' PUBLICATION pb;
 C = "s 0 s 1 e 0 o 0 n 1 s 1 o 1 e 0 n 1 n 0\n"
 
 
-def halves(first: str, second: str) -> str:
-    """Cuts a table in two by two conditions, each with its own subscriber."""
+def halves(first: str, second: str, others: str = "region text") -> str:
+    """Cuts a table with a key and other columns in two by two conditions, each with its own subscriber."""
     return f"""\
-CREATE TABLE t (id integer, region text, PRIMARY KEY (id));
+CREATE TABLE t (id integer, {others}, PRIMARY KEY (id));
 ALTER TABLE t REPLICA IDENTITY FULL;
 CREATE PUBLICATION pa FOR TABLE t{first};
 CREATE PUBLICATION pb FOR TABLE t{second};

@@ -3,11 +3,15 @@
 from collections.abc import Iterator
 
 from .case import ACCEPTED, Case, Made, Outline, two_parts
-from .catalogs import halves
+from .catalogs import C, halves
 from .inputs import MAX_INPUT
+from .simulations import end_of, text_of, three_parts, view_of
 
 # The longest text that a value may have, in bytes.
 MAX_TEXT = 65_535
+
+# Rows of the simulation of many tables, each by its table's number and its key.
+Rows = list[tuple[int, int]]
 
 
 def cases() -> Iterator[Case | Made]:
@@ -17,6 +21,8 @@ def cases() -> Iterator[Case | Made]:
     yield from longest_row()
     yield Made("make of the largest sharding", largest_catalog())
     yield from largest_certificate()
+    yield simulation_of_tables()
+    yield simulation_of_columns()
 
 
 def columns() -> Iterator[Case]:
@@ -111,3 +117,93 @@ def empty_tree(splits: int) -> str:
         third = below // 3
         left += [third, third, below - 2 * third]
     return "".join(nodes)
+
+
+def simulation_of_tables() -> Case:
+    """64 tables that 32 subscribers share, of which each takes two publications, with names of 63 bytes. There is a row
+    in each table, then all tables are emptied at once, and then some have a row of each remainder."""
+    first = [(table, table) for table in range(64)]
+    later = [(table, key) for table in range(0, 64, 8) for key in range(-31, 32)]
+    opens = "".join(f"OPEN {number}; " for number in range(32))
+    pumps = "".join(f"PUMP {number}; " for number in range(32))
+    tables = ", ".join(long_name("t", table) for table in range(64))
+    script = (
+        f"COMMIT {inserts(first)}; {opens}{pumps}VIEW;\n"
+        f"COMMIT TRUNCATE ({tables}); COMMIT {inserts(later)}; {pumps}VIEW;\n")
+    lines = [
+        "commit 1", *["opened"] * 32, *[f"at {end_of(1)}"] * 32, *view_of(1, lines_of(first), shards_of(first)),
+        "commit 2", "commit 3", *[f"at {end_of(3)}"] * 32, *view_of(3, lines_of(later), shards_of(later)),
+    ]
+    text = three_parts(catalog_of_remainders(), f"{tree_of_remainders()}\n" * 64, script)
+    return Case("simulate with 64 tables and 32 subscribers", ("simulate",), text, 0, text_of(lines))
+
+
+def long_name(kind: str, number: int) -> str:
+    """A name of 63 bytes."""
+    return f"{kind}{number:062}"
+
+
+def catalog_of_remainders() -> str:
+    """64 publications of all tables, each by a remainder, from -31 to 31. The first two have 0, and the two of each
+    other subscriber its number and minus its number."""
+    statements = [f"CREATE TABLE {long_name('t', table)} (id integer PRIMARY KEY);\n" for table in range(64)]
+    for subscriber in range(32):
+        names = long_name("p", 2 * subscriber), long_name("p", 2 * subscriber + 1)
+        for name, remainder in zip(names, (subscriber, -subscriber)):
+            entries = ", ".join(f"{long_name('t', table)} WHERE (id % 32 = {remainder})" for table in range(64))
+            statements.append(f"CREATE PUBLICATION {name} FOR TABLE {entries};\n")
+        statements.append(
+            f"CREATE SUBSCRIPTION {long_name('s', subscriber)} CONNECTION '' PUBLICATION {', '.join(names)};\n")
+    return "".join(statements)
+
+
+def tree_of_remainders() -> str:
+    """A certificate that asks for one remainder after another, in the order of the publications. Where one is found,
+    no later one is; where none is found, no value is left."""
+    tree = "e 0"
+    for atom in reversed(range(63)):
+        found = f"o {(atom + 1) // 2}"
+        for later in range(atom + 1, 63):
+            found = f"s {later} e 0 {found} n {later}"
+        tree = f"s {atom} {found} {tree} n {atom}"
+    return tree
+
+
+def inserts(rows: Rows) -> str:
+    """A command for each row."""
+    return ", ".join(f"INSERT {long_name('t', table)} ({key})" for table, key in rows)
+
+
+def lines_of(rows: Rows) -> list[str]:
+    """The rows as VIEW shows them, if they come in their order."""
+    return [f"public.{long_name('t', table)} ({key})" for table, key in rows]
+
+
+def shards_of(rows: Rows) -> dict[str, list[str]]:
+    """The rows of each subscriber."""
+    return {
+        long_name("s", number): lines_of([row for row in rows if abs(row[1]) % 32 == number]) for number in range(32)}
+
+
+def simulation_of_columns() -> Case:
+    """A table of 100 columns, in which a row of 98 longest texts and an empty one gets other texts, and another row
+    goes. The message of the change has both of its rows, and 12.8 MB."""
+    longest = [f"{number}".ljust(MAX_TEXT, "x") for number in range(98)]
+    before, after, other = wide_row(1, [*longest, ""]), wide_row(1, ["", *longest]), wide_row(100, [""] * 99)
+    script = (
+        f"COMMIT INSERT t {before}, INSERT t {other}; OPEN 0; OPEN 1; PUMP 0; PUMP 1; VIEW;\n"
+        f"COMMIT UPDATE t (1) {after}, DELETE t (100); PUMP 0; PUMP 1; VIEW;\n")
+    old, new, gone = f"public.t {before}", f"public.t {after}", f"public.t {other}"
+    lines = [
+        "commit 1", "opened", "opened", *[f"at {end_of(1)}"] * 2, *view_of(1, [old, gone], {"s0": [old], "s1": [gone]}),
+        "commit 2", *[f"at {end_of(2)}"] * 2, *view_of(2, [new], {"s0": [new], "s1": []}),
+    ]
+    texts = ", ".join(f"c{number} text" for number in range(99))
+    catalog = halves(" WHERE (id < 100)", " WHERE (id >= 100)", texts)
+    return Case("simulate with 100 columns", ("simulate",), three_parts(catalog, C, script), 0, text_of(lines))
+
+
+def wide_row(key: int, texts: list[str]) -> str:
+    """A row of a number and texts that have no quotes."""
+    values = "', '".join(texts)
+    return f"({key}, '{values}')"

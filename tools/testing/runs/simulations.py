@@ -183,13 +183,27 @@ def many() -> tuple[str, list[str]]:
     deletes = [f"DELETE t ({key})" for key in range(MANY)]
     commands = inserts + deletes
     commits = [", ".join(commands[at:at + EACH]) for at in range(0, len(commands), EACH)]
-    position = 64 * len(commits) + 64
     script = "".join(f"COMMIT {commit};\n" for commit in commits) + "OPEN 0; PUMP 0; OPEN 1; PUMP 1; VIEW;\n"
-    at = f"0/{position:X}"
+    at = end_of(len(commits))
     return script, [
         *(f"commit {number}" for number in range(1, len(commits) + 1)), "opened", f"at {at}", "opened", f"at {at}",
-        f"log {len(commits)}", f"s0 {at} {len(commits)} confirmed {at}", f"s1 {at} {len(commits)} confirmed {at}",
+        *view_of(len(commits), [], {"s0": [], "s1": []}),
     ]
+
+
+def end_of(commits: int) -> str:
+    """Where a log of so many commits ends: each takes 64 bytes, and 64 come before the first."""
+    return f"0/{64 * commits + 64:X}"
+
+
+def view_of(commits: int, rows: list[str], shards: dict[str, list[str]]) -> list[str]:
+    """The lines of VIEW where each subscriber was pumped after so many commits: the rows, each with its table before
+    it, and those of each subscriber, by its name."""
+    at = end_of(commits)
+    lines = [f"log {commits}", *rows]
+    for name, shard in shards.items():
+        lines += [f"{name} {at} {commits} confirmed {at}", *(f"{name} {row}" for row in shard)]
+    return lines
 
 
 def scripts() -> Iterator[tuple[str, str, tuple[str, list[str]]]]:
