@@ -1,7 +1,7 @@
 //! Filters over the numbers of atoms.
 
 use crate::masks::{both, either, is_settled, mask_at};
-use filter_tree::{Atom, Filter, Mask, Test, Tri, same_atom};
+use filter_tree::{Atom, Filter, Mask, Test, Tri, add_distinct, same_atom};
 use replica_identity::Share;
 use std::alloc::{AllocError, Allocator, Global};
 
@@ -182,7 +182,7 @@ impl Formula {
     pub fn gather(&self, numbers: &mut Vec<usize>) -> Result<(), AllocError> {
         match self {
             Formula::Const(_) => Ok(()),
-            Formula::Atom(number) => add(numbers, *number),
+            Formula::Atom(number) => add_distinct(numbers, *number),
             Formula::Not(part) | Formula::Is(_, part) => part.gather(numbers),
             Formula::And(left, right) | Formula::Or(left, right) => {
                 left.gather(numbers)?;
@@ -190,11 +190,4 @@ impl Formula {
             }
         }
     }
-}
-
-fn add(numbers: &mut Vec<usize>, number: usize) -> Result<(), AllocError> {
-    if !numbers.contains(&number) {
-        numbers.push(number)?;
-    }
-    Ok(())
 }

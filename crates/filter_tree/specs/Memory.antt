@@ -1,5 +1,5 @@
 -- What a call that takes memory may answer: what its definition says, or that memory was refused, which may come in place of any other answer.
-use Rattle.std.specs.Prelude.{◌≡◌, Option, Some, None, Result, Ok, Err}
+use Rattle.std.specs.Prelude.{◌≡◌, Option, Some, None, Result, Ok, Err, IfErr}
 
 -- An error that tells a fault tells that of the answer. One that tells none says that memory was refused.
 abbrev pub TellsFault : {A F : Type 0} → Option F → Result A F → Type 0
@@ -10,3 +10,7 @@ TellsFault (Some fault) answer = answer ≡ Err fault
 abbrev pub Answers : {V E A F : Type 0} → (V → A) → (E → Option F) → Result A F → Result V E → Type 0
 Answers view told answer (Ok value) = answer ≡ Ok (view value)
 Answers view told answer (Err error) = TellsFault (told error) answer
+
+-- Memory is refused only where the fact holds. `refused` is the error that says so.
+abbrev pub NeedsMemoryOnlyIf : {V E : Type 0} → E → Type 0 → Result V E → Type 0
+NeedsMemoryOnlyIf refused Fact result = IfErr result (λ error. error ≡ refused → Fact)

@@ -4,6 +4,7 @@ use Rattle.std.specs.Prelude.{Option, Some, None}
 use Rattle.std.specs.Borrow.{Bor}
 use Rattle.std.specs.Option.{option_map}
 use Rattle.filter_tree.specs.Expr.{Expr}
+use Rattle.filter_tree.specs.Memory.{NeedsMemoryOnlyIf}
 use Rattle.pub_catalog.specs.Catalogs.{CatalogOf}
 use Rattle.replica_identity.specs.Plans.{PlanOf}
 use Rattle.split_cert.specs.declared.error.CertError.{CertError}
@@ -13,7 +14,7 @@ use Rattle.split_cert.specs.Tree.{Tree}
 use Rattle.split_cert.proofs.PreorderLemmas.{nodes_of_texts}
 use Rattle.shard_checker.specs.CatalogRefusal.{declared_refusal, sharding_refusal}
 use Rattle.shard_checker.specs.CatalogTruth.{ShardingIsWrong}
-use Rattle.shard_checker.specs.Checks.{Checks, NeedsMemoryOnlyIf}
+use Rattle.shard_checker.specs.Checks.{Checks}
 use Rattle.shard_checker.specs.Emptiness.{Test, IsEmptiness}
 use Rattle.shard_checker.specs.Texts.{texts_view, fault_at, first_fault, text_fault, tree_in, trees_in, text_refusal, AreRead, ChecksText, IfCheckErr, IfTextRefused, TextNeedsMemoryOnlyIf}
 use Rattle.shard_checker.specs.Trying.{is_empty}
@@ -136,6 +137,6 @@ module _ {A B : Type 0} (catalog : CatalogOf Expr) (plan : PlanOf) (texts : List
       subst (λ (result : Result B TextError). IfTextRefused result (ShardingIsWrong catalog plan (trees_in texts))) (sym told)
       (λ other. sharding_wrong catalog plan (trees_in texts) found (found_by h other))
 
-  pub refused_memory : NeedsMemoryOnlyIf (declared_refusal catalog ≡ None) given → TextNeedsMemoryOnlyIf (declared_refusal catalog ≡ None) result
+  pub refused_memory : NeedsMemoryOnlyIf OutOfMemory (declared_refusal catalog ≡ None) given → TextNeedsMemoryOnlyIf (declared_refusal catalog ≡ None) result
   refused_memory h =
-      subst (TextNeedsMemoryOnlyIf (declared_refusal catalog ≡ None)) (sym told) (subst (NeedsMemoryOnlyIf (declared_refusal catalog ≡ None)) fails h)
+      subst (TextNeedsMemoryOnlyIf (declared_refusal catalog ≡ None)) (sym told) (subst (NeedsMemoryOnlyIf OutOfMemory (declared_refusal catalog ≡ None)) fails h)

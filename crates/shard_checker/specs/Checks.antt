@@ -16,7 +16,3 @@ Checks refusal (Err error) = error ≢ OutOfMemory → refusal ≡ Some error
 -- a fact about the refusal, where there is one
 abbrev pub IfRefused : {A : Type 0} → Result A CheckError → (CheckError → Type 0) → Type 0
 IfRefused result Fact = IfErr result (λ error. error ≢ OutOfMemory → Fact error)
-
--- memory is refused only where the fact holds
-abbrev pub NeedsMemoryOnlyIf : {A : Type 0} → Type 0 → Result A CheckError → Type 0
-NeedsMemoryOnlyIf Fact result = IfErr result (λ error. error ≡ OutOfMemory → Fact)

@@ -1,6 +1,7 @@
 //! The check of a whole catalog.
 
 ghost use Rattle.std.specs.Prelude.{◌≡◌, OnOk, IfOk, None, map, length};
+ghost use Rattle.filter_tree.specs.Memory.{NeedsMemoryOnlyIf};
 ghost use Rattle.pub_catalog.specs.CatalogView.{catalog_view};
 ghost use Rattle.replica_identity.specs.Plans.{plan_of, plan_view};
 ghost use Rattle.replica_identity.specs.Setting.{setting_of};
@@ -8,7 +9,7 @@ ghost use Rattle.table_changes.specs.Standing.{Covered, KeepsApart, Sound};
 ghost use Rattle.split_cert.specs.Where.{tree_view};
 ghost use Rattle.shard_checker.specs.CatalogRefusal as spec;
 ghost use Rattle.shard_checker.specs.CatalogTruth.{ShardingIsWrong};
-ghost use Rattle.shard_checker.specs.Checks.{Checks, Finds, IfRefused, NeedsMemoryOnlyIf};
+ghost use Rattle.shard_checker.specs.Checks.{Checks, Finds, IfRefused};
 ghost use Rattle.shard_checker.specs.CheckedView.{checked_of, checked_view};
 ghost use Rattle.shard_checker.specs.Emptiness.{IsEmptiness, Test};
 ghost use Rattle.shard_checker.specs.Owners.{shares_view};
@@ -96,7 +97,7 @@ fn check_count(tables: usize, certificates: usize) -> Result<(), CheckError>
 fn check_catalog(alloc: Global, catalog: &Catalog) -> Result<(), CheckError>
     ensures exact { Checks (spec.catalog_refusal (catalog_view catalog.now)) result }
     ensures declared { OnOk result (spec.declared_refusal (catalog_view catalog.now) ≡ None) }
-    ensures memory { NeedsMemoryOnlyIf (spec.declared_refusal (catalog_view catalog.now) ≡ None) result }
+    ensures memory { NeedsMemoryOnlyIf CheckError.OutOfMemory (spec.declared_refusal (catalog_view catalog.now) ≡ None) result }
 {
     let tables = catalog.tables.as_slice();
     let publications = catalog.publications.as_slice();
@@ -117,7 +118,7 @@ pub fn check_given<C: Source>(
     ensures exact { Checks
         (walking.refusal_by_nodes is_empty (catalog_view catalog.now) (plan_view plan.now) (map C.nodes certs.now))
         result }
-    ensures memory { NeedsMemoryOnlyIf (spec.declared_refusal (catalog_view catalog.now) ≡ None) result }
+    ensures memory { NeedsMemoryOnlyIf CheckError.OutOfMemory (spec.declared_refusal (catalog_view catalog.now) ≡ None) result }
 {
     check_catalog(alloc, catalog)?;
     let tables = catalog.tables.as_slice();
@@ -135,7 +136,7 @@ fn check_sharding<A: Allocator>(
     ensures exact { Checks
         (spec.sharding_refusal is_empty (catalog_view catalog.now) (plan_view plan.now) (map tree_view certs.now))
         result }
-    ensures memory { NeedsMemoryOnlyIf (spec.declared_refusal (catalog_view catalog.now) ≡ None) result }
+    ensures memory { NeedsMemoryOnlyIf CheckError.OutOfMemory (spec.declared_refusal (catalog_view catalog.now) ≡ None) result }
 {
     check_given(alloc, catalog, plan, certs)?;
     Ok(())
@@ -177,7 +178,7 @@ pub fn check<A: Allocator>(
     ensures kept { IfOk result (λ checked. checked_view checked ≡ checked_of catalog plan) }
     ensures exact { (test : Test) → IsEmptiness test → Checks
         (spec.sharding_refusal test (catalog_view catalog) (plan_view plan) (map tree_view certs.now)) result }
-    ensures memory { NeedsMemoryOnlyIf (spec.declared_refusal (catalog_view catalog) ≡ None) result }
+    ensures memory { NeedsMemoryOnlyIf CheckError.OutOfMemory (spec.declared_refusal (catalog_view catalog) ≡ None) result }
     ensures wrong { IfRefused result
         (ShardingIsWrong (catalog_view catalog) (plan_view plan) (map tree_view certs.now)) }
 {

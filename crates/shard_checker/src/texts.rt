@@ -1,6 +1,7 @@
 //! The check of a whole catalog by the texts of its certificates.
 
 ghost use Rattle.std.specs.Prelude.{◌≡◌, OnOk, IfOk, None};
+ghost use Rattle.filter_tree.specs.Memory.{NeedsMemoryOnlyIf};
 ghost use Rattle.pub_catalog.specs.CatalogView.{catalog_view};
 ghost use Rattle.replica_identity.specs.Plans.{plan_of, plan_view};
 ghost use Rattle.replica_identity.specs.Setting.{setting_of};
@@ -8,7 +9,7 @@ ghost use Rattle.table_changes.specs.Standing.{Covered, KeepsApart, Sound};
 ghost use Rattle.split_cert.specs.Text.{certificate_of};
 ghost use Rattle.shard_checker.specs.CatalogRefusal.{declared_refusal, sharding_refusal};
 ghost use Rattle.shard_checker.specs.CatalogTruth.{ShardingIsWrong};
-ghost use Rattle.shard_checker.specs.Checks.{Checks, NeedsMemoryOnlyIf};
+ghost use Rattle.shard_checker.specs.Checks.{Checks};
 ghost use Rattle.shard_checker.specs.CheckedView.{checked_of, checked_view};
 ghost use Rattle.shard_checker.specs.Emptiness.{IsEmptiness, Test};
 ghost use Rattle.shard_checker.specs.Sound.{IsSound};
@@ -55,7 +56,7 @@ fn check_texts(
     ensures exact { spec.text_fault 1 (spec.texts_view texts.now) ≡ None
         → Checks (sharding_refusal is_empty (catalog_view catalog.now) (plan_view plan.now)
         (spec.trees_in (spec.texts_view texts.now))) result }
-    ensures memory { NeedsMemoryOnlyIf (declared_refusal (catalog_view catalog.now) ≡ None) result }
+    ensures memory { NeedsMemoryOnlyIf CheckError.OutOfMemory (declared_refusal (catalog_view catalog.now) ≡ None) result }
 {
     check_given(alloc, catalog, plan, texts)?;
     Ok(())

@@ -1,5 +1,5 @@
 -- How the text of a certificate is read, up to one node's two words: each rule takes bytes from the front of a text, and gives what it reads and where the reader is after it, or the first fault. The format is this project's own.
-use Rattle.std.specs.Prelude.{◌≡◌, ℕ, ◌+◌, Bool, false, true, not, ◌&&◌, ◌==◌, nat_le, if◌then◌else◌, List, [], ◌∷◌, length, take, drop, Option, Some, None, Result, Ok, Err, IfErr}
+use Rattle.std.specs.Prelude.{ℕ, ◌+◌, Bool, false, true, not, ◌&&◌, ◌==◌, nat_le, if◌then◌else◌, List, [], ◌∷◌, length, take, drop, Option, Some, None, Result, Ok, Err}
 use Rattle.std.specs.List.{prefix_len}
 use Rattle.split_cert.specs.declared.error.CertError.{CertError}
 use Rattle.split_cert.specs.declared.error.CertError.TheVariants.{BadToken, Ended, Trailing, TooLarge, TooDeep, OutOfMemory}
@@ -125,7 +125,3 @@ told Ended = Some Ended
 told (Trailing place) = Some (Trailing place)
 told TooLarge = Some TooLarge
 told TooDeep = Some TooDeep
-
--- memory is refused only where the fact holds
-abbrev pub NeedsMemoryOnlyIf : {A : Type 0} → Type 0 → Result A CertError → Type 0
-NeedsMemoryOnlyIf Fact result = IfErr result (λ error. error ≡ OutOfMemory → Fact)

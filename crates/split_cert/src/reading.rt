@@ -1,11 +1,11 @@
 //! Certificates as they are read.
 
 ghost use Rattle.std.specs.Prelude.{◌≡◌, ◌++◌, ◌∷◌, ℕ, List, length, IfOk, Ok, Err};
-ghost use Rattle.filter_tree.specs.Memory.{Answers};
+ghost use Rattle.filter_tree.specs.Memory.{Answers, NeedsMemoryOnlyIf};
 ghost use Rattle.split_cert.specs.declared.error.CertError.TheVariants.{Trailing};
 ghost use Rattle.split_cert.specs.Growing.{Grows, BeginsBySplit};
 ghost use Rattle.split_cert.specs.Nodes.{led};
-ghost use Rattle.split_cert.specs.Reading.{NeedsMemoryOnlyIf, told};
+ghost use Rattle.split_cert.specs.Reading.{told};
 ghost use Rattle.split_cert.specs.Text as spec;
 ghost use Rattle.split_cert.specs.Tree.{Tree, IsWithinLimits};
 ghost use Rattle.split_cert.specs.Where.{tree_view};
@@ -21,7 +21,7 @@ use std::alloc::Allocator;
 #[tactic(auto, using(crate::proofs::GrowLemmas::grows, crate::proofs::GrowMemory::wants))]
 fn tree<A: Allocator + Clone>(alloc: &A, reader: &mut NodeReader<'_>) -> Result<Cert<A>, CertError>
     ensures tree { Grows tree_view reader.old reader.new result }
-    ensures memory { NeedsMemoryOnlyIf (BeginsBySplit reader.old) result }
+    ensures memory { NeedsMemoryOnlyIf CertError.OutOfMemory (BeginsBySplit reader.old) result }
 {
     match reader.next()? {
         None => Err(CertError::Ended),
@@ -38,7 +38,7 @@ fn rooted<A: Allocator + Clone>(
     reader: &mut NodeReader<'_>,
 ) -> Result<Cert<A>, CertError>
     ensures tree { Grows tree_view (led node reader.old) reader.new result }
-    ensures memory { NeedsMemoryOnlyIf (BeginsBySplit (led node reader.old)) result }
+    ensures memory { NeedsMemoryOnlyIf CertError.OutOfMemory (BeginsBySplit (led node reader.old)) result }
 {
     match node {
         Node::Split(atom) => split(alloc, atom, reader),
@@ -80,7 +80,7 @@ fn branch<A: Allocator + Clone>(
 #[tactic(auto, using(crate::proofs::GrowMemory::texts))]
 fn certificate<A: Allocator + Clone>(alloc: &A, text: &str) -> Result<Cert<A>, CertError>
     ensures exact { Answers tree_view told (spec.certificate_of text.now) result }
-    ensures memory { NeedsMemoryOnlyIf (spec.BeginsWithSplit text.now) result }
+    ensures memory { NeedsMemoryOnlyIf CertError.OutOfMemory (spec.BeginsWithSplit text.now) result }
 {
     let mut reader = NodeReader::new(text);
     let cert = tree(alloc, &mut reader)?;
@@ -103,7 +103,7 @@ pub fn read_in<A: Allocator + Clone>(alloc: A, text: &str) -> Result<Cert<A>, Ce
     // The answer is the certificate of the text, or its first fault.
     ensures exact { Answers tree_view told (spec.certificate_of text.now) result }
     // Want of memory is no answer to a text that doesn't begin with a split.
-    ensures memory { NeedsMemoryOnlyIf (spec.BeginsWithSplit text.now) result }
+    ensures memory { NeedsMemoryOnlyIf CertError.OutOfMemory (spec.BeginsWithSplit text.now) result }
     // What is read is within the limits, and the text is what `write` gives for it.
     ensures found { IfOk result (λ cert. spec.IsCertificateOf (tree_view cert) text.now) }
     // What `write` gives for a certificate within the limits is read as that certificate.
