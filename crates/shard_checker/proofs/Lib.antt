@@ -21,6 +21,7 @@ pub mod ShardingLemmas
 pub mod SoundFacts
 pub mod SoundLemmas
 pub mod StandingLemmas
+pub mod TellingLemmas
 pub mod Testing
 pub mod StepLemmas
 pub mod TextLemmas

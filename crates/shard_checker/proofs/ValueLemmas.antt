@@ -20,7 +20,7 @@ use Rattle.filter_tree.specs.declared.tri.Tri.{Tri}
 use Rattle.filter_tree.specs.declared.tri.Tri.TheVariants.{True, False, Null}
 use Rattle.shard_checker.specs.Domain.{range_of, IsIn, IsInDomain}
 use Rattle.shard_checker.specs.Facts.{compares, holds_of, is_about, leaves, may_be}
-use Rattle.shard_checker.specs.Trying.{serves, constants_of, gives_number, names_number, has_number, gives_text, names_text, has_text, has_value}
+use Rattle.shard_checker.specs.Trying.{serves, serves_nearby, constants_of, gives_number, names_number, has_number, gives_text, names_text, has_text, has_value}
 use Rattle.shard_checker.specs.declared.domain.Range.{Range}
 use Rattle.shard_checker.proofs.Testing.{by_test, two_true, two_false, both_false, left_true, right_true, clash, not_true_false, from_test}
 
@@ -231,3 +231,11 @@ value_found Boolean term path (Number n) inside left = absurd inside
 value_found Boolean term path (Bytes s) inside left = absurd inside
 value_found Text term path (Number n) inside left = absurd inside
 value_found Text term path (Truth b) inside left = absurd inside
+
+-- ---- a number beside one that doesn't serve
+
+pub next_alone : (range : Range) (term : Term) (path : Path) (number : ℤ) {one next : Bool} {same before : ℤ} → one ≡ false → one ≡ serves range term path same → same ≡ number
+    → next ≡ serves range term path (before +ℤ pos 1) → before ≡ number → next ≡ serves_nearby range term path number
+next_alone range term path number none h same k before =
+    let nothing : serves range term path number ≡ false = sym (h ∙ ap (serves range term path) same) ∙ none in
+    k ∙ ap (λ (before : ℤ). serves range term path (before +ℤ pos 1)) before ∙ rw nothing refl
