@@ -1,7 +1,7 @@
 -- Catalogs are read the same whatever the forms of their filters make.
 use Rattle.std.proofs.Common.{◌≡◌, ℕ, suc, Bool, true, false, List, [], ◌∷◌, ◌++◌, map, refl, ap, sym, ◌∙◌}
 use Rattle.std.proofs.lemmas.List.{map-append}
-use Rattle.std.specs.Prelude.{Option, Some, None, Ok, Err}
+use Rattle.std.specs.Prelude.{Option, Some, None, Result, Ok, Err, IfOk}
 use Rattle.std.specs.Option.{option_map}
 use Rattle.filter_tree.specs.declared.table.Table.{Table}
 use Rattle.filter_tree.specs.Expr.{Expr, meaning}
@@ -10,12 +10,15 @@ use Rattle.sql_reader.specs.declared.item.Item.{Item}
 use Rattle.sql_reader.specs.declared.item.Item.TheVariants as i
 use Rattle.sql_reader.specs.Expressions.{Forms}
 use Rattle.sql_reader.specs.Items.{Items, items_of}
-use Rattle.sql_reader.specs.Reading.{Outcome, Verdict, expect, item_ahead, more_ahead, rest_of}
+use Rattle.sql_reader.specs.declared.error.ReadError.{ReadError}
+use Rattle.sql_reader.specs.Reading.{Answers, Outcome, Verdict, expect, item_ahead, more_ahead, rest_of}
 use Rattle.sql_reader.specs.Turns.{each, repeat}
 use Rattle.sql_reader.specs.Written.{Written, as_written, as_filter, filter_of, written_meaning}
 use Rattle.sql_reader.proofs.Carrying.{mapped, Carries, then-same, then-carried, repeat-carried, each-carried}
 use Rattle.sql_reader.proofs.Meanings.{filters_carry, meaning-filter_of}
 use Rattle.pub_reader.specs.CatalogMeaning.{MeansAsWritten}
+use Rattle.pub_catalog.specs.declared.catalog.Catalog.{Catalog}
+use Rattle.pub_catalog.specs.CatalogView.{catalog_view}
 use Rattle.pub_catalog.specs.Catalogs.{EntryOf, PublicationOf, CatalogOf, entry_map, publication_map, catalog_map}
 use Rattle.pub_reader.specs.Drafts.{CoverageOf, DraftPublicationOf, DraftOf, no_draft, is_covered, whole_from, resolved_entries, resolved_publication, resolved, coverage_map, draft_publication_map, draft_map}
 use Rattle.pub_reader.specs.Statements.{created_by, created, create, statement_by, statement, ended_statement, statements, finished, catalog_by}
@@ -137,3 +140,8 @@ means_by (Ok written) catalog e =
 pub means_as_written : (text : List ℕ) (catalog : CatalogOf Expr) → catalog_by as_filter text ≡ Ok catalog → MeansAsWritten (catalog_by as_written text) catalog
 means_as_written text catalog e =
     means_by (catalog_by as_written text) catalog (sym (catalog_by-carried as_written as_filter filter_of filters_carry text) ∙ e)
+
+pub read_as_written : (text : List ℕ) (result : Result Catalog ReadError) → Answers catalog_view (catalog_by as_filter text) result
+    → IfOk result (λ catalog. MeansAsWritten (catalog_by as_written text) (catalog_view catalog))
+read_as_written text (Ok catalog) h = means_as_written text (catalog_view catalog) h
+read_as_written text (Err error) h = tt

@@ -1,6 +1,7 @@
 pub mod CarryingCatalogs
 pub mod CarryingDrafts
 pub mod CarryingObjects
+pub mod FoundIndexes
 pub mod KeptIndexes
 pub mod KeptLimits
 pub mod KeptNames
@@ -9,3 +10,4 @@ pub mod OwnNames
 pub mod Positions
 pub mod StepWords
 pub mod TableLemmas
+pub mod WholeTexts
