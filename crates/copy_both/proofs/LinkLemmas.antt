@@ -1,6 +1,6 @@
 -- Both halves of a link are equally far after what was heard is answered, and what was heard of all of a piece was heard of some first frames.
-use Rattle.std.proofs.Common.{◌≡◌, ◌≢◌, ℕ, Bool, true, false, List, [], ◌∷◌, ◌++◌, length, refl, sym, ap, ◌∙◌, subst}
-use Rattle.std.specs.Prelude.{Option, Some, None, Result, Ok, Err, IsErrAnd, min, nat_lt}
+use Rattle.std.proofs.Common.{◌≡◌, ◌≢◌, ℕ, Bool, true, false, List, [], ◌∷◌, ◌++◌, length, refl, sym, ap, ◌∙◌, subst, inl, inr}
+use Rattle.std.specs.Prelude.{◌⊎◌, Option, Some, None, Result, Ok, Err, IsErrAnd, min, nat_lt}
 use Rattle.std.proofs.Math.Seq.{take-length}
 use Rattle.shard_checker.specs.CheckedView.{CheckedOf}
 use Rattle.tables_log.specs.Slots.{end_after}
@@ -143,6 +143,13 @@ pub together_after : (checked : CheckedOf) (old new : Ear) (before after : Book)
     → last ≡ stage_by checked stage (ear_started new) heard → heard_state (ear_phase new) (ear_started new) ≡ said_state last
 together_after checked old new before after piece sent heard stage last =
     together_in (ear_phase old) checked old new before after piece sent heard stage last
+
+-- an ear that has ended hears nothing
+pub ended_answers : (p : Phase) (h : HearingOf) → (p ≡ phase.Closed) ⊎ (p ≡ phase.Lost) → answer_in p h ≡ Err fault.Closed
+ended_answers phase.Open h (inl closed) = absurd cc
+ended_answers phase.Open h (inr lost) = absurd cc
+ended_answers phase.Closed h ended = refl
+ended_answers phase.Lost h ended = refl
 
 -- memory for the response was refused
 pub unanswered : (p : Phase) (old new : Ear) (before after : Book) (piece : List ℕ) (sent : ℕ) (state : SqlState)
