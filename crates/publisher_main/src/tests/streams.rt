@@ -91,7 +91,7 @@ fn reads_have_a_limit(rt: HostRuntime) -> Result<(), Fail> {
         };
         let (status, output) = output_of(rt.alloc(), ["pgshard", "make"].as_slice(), reader)?;
         assert_eq!(rt; (status, output.as_slice()), (3, b"input\n".as_slice()));
-        assert!(rt; reads <= 16_777_217);
+        assert_eq!(rt; reads, 16_777_217);
     }
     Ok(())
 }

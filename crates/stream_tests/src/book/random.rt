@@ -1,27 +1,44 @@
-use super::{MIXED, book, commit};
+use super::{book, commit};
 use crate::checks::{holds, same};
-use filter_tree::{Row, Value};
+use filter_tree::{Row, Text, Value};
 use std::alloc::{AllocError, Global};
 use std::process::Abort;
 use std::test::Fail;
 use table_changes::Command;
 use tables_log::{Book, CommandFault, CommitError};
 
-/// A row of the plain list, which is in the order of rows: by the mark, and then by the number, which is the primary
-/// key.
+/// A table whose primary key is a number, and one whose primary key is a number and a text, in another order than that
+/// of its columns, and whose codes differ where they are not null.
+const CATALOG: &str = "CREATE TABLE t (name text, code boolean, number integer PRIMARY KEY);
+CREATE TABLE u (name text, code integer, number integer, PRIMARY KEY (number, name));
+CREATE UNIQUE INDEX u_code ON u (code);
+CREATE PUBLICATION p FOR ALL TABLES;
+CREATE SUBSCRIPTION s CONNECTION '' PUBLICATION p;";
+
+/// A row of the plain list: the number of its table, and the values of its columns in their order. The codes of the
+/// first table are 0 for FALSE and 1 for TRUE. The order of these is the order of rows, since NULL comes first.
 #[derive(Clone, Copy, PartialEq, Eq, PartialOrd, Ord)]
 struct Plain {
-    mark: bool,
-    number: u64,
+    table: usize,
+    name: Option<&'static str>,
+    code: Option<u64>,
+    number: i64,
 }
 
-/// What a command of the test does to the row of this number.
+/// What a command of the test does. A row that is deleted or replaced is the one that shares this row's primary key.
 #[derive(Clone, Copy)]
 enum Deed {
     Insert(Plain),
-    Delete(u64),
-    Update(u64, Plain),
+    Delete(Plain),
+    Update(Plain, Plain),
+    Truncate(&'static [usize]),
 }
+
+/// The names of rows, in the order of their bytes.
+const NAMES: &[&str] = &["", "B", "a", "aa", "\u{e9}", "\u{20ac}"];
+
+/// The lists of tables that are emptied.
+const EMPTIED: &[&[usize]] = &[&[0], &[1], &[0, 1], &[1, 0, 1]];
 
 /// The next of a sequence of numbers, by a linear congruence.
 fn next(state: u64) -> u64 {
@@ -30,52 +47,130 @@ fn next(state: u64) -> u64 {
         .wrapping_add(1_442_695_040_888_963_407)
 }
 
+/// The name at this place, or none past the last one.
+fn name_at(place: u64) -> Option<&'static str> {
+    NAMES.get((place % 100) as usize).copied()
+}
+
+/// A row of the first table; one of eight has no name, and one of three no code.
+fn make_first(state: u64) -> Plain {
+    let code = (state >> 40) % 3;
+    Plain {
+        table: 0,
+        name: name_at((state >> 32) % 8),
+        code: if code < 2 { Some(code) } else { None },
+        number: ((state >> 50) % 60) as i64 - 30,
+    }
+}
+
+/// A row of the second table; one of four has no code.
+fn make_second(state: u64) -> Plain {
+    let code = (state >> 40) % 48;
+    Plain {
+        table: 1,
+        name: name_at((state >> 32) % 6),
+        code: if code < 36 { Some(code) } else { None },
+        number: ((state >> 50) % 10) as i64 - 5,
+    }
+}
+
+/// A row of this table, the first one for 0.
+fn make_row(table: u64, state: u64) -> Plain {
+    if table == 0 {
+        make_first(state)
+    } else {
+        make_second(state)
+    }
+}
+
+/// One of 200 deeds empties tables.
 fn make_deed(state: u64) -> Deed {
-    let number = (state >> 20) % 60;
-    let row = Plain {
-        mark: (state >> 32) % 2 == 0,
-        number: (state >> 50) % 60,
-    };
-    match (state >> 40) % 3 {
-        0 => Deed::Insert(row),
-        1 => Deed::Delete(number),
-        _ => Deed::Update(number, row),
+    let table = (state >> 20) % 2;
+    let key = make_row(table, state);
+    let row = make_row(table, next(state));
+    match (state >> 24) % 200 {
+        0 => Deed::Truncate(
+            EMPTIED
+                .get(((state >> 60) % 4) as usize)
+                .copied()
+                .unwrap_or(&[]),
+        ),
+        1..=80 => Deed::Insert(row),
+        81..=130 => Deed::Delete(key),
+        _ => Deed::Update(key, row),
+    }
+}
+
+fn name_value(alloc: Global, name: Option<&str>) -> Result<Value, AllocError> {
+    match name {
+        None => Ok(Value::Null),
+        Some(name) => Ok(Value::Text(Text::from_str(alloc, name)?)),
+    }
+}
+
+/// The value of a code of this table.
+fn code_value(table: usize, code: Option<u64>) -> Value {
+    match code {
+        None => Value::Null,
+        Some(code) if table == 0 => Value::Bool(code == 1),
+        Some(code) => Value::Int((code % 100) as i64),
     }
 }
 
 fn as_row(alloc: Global, plain: Plain) -> Result<Row, AllocError> {
-    let number = Value::Int((plain.number % 1_000) as i64);
-    Ok(Row::from_values(vec![in alloc; Value::Null, Value::Bool(plain.mark), number]?))
+    let name = name_value(alloc, plain.name)?;
+    let code = code_value(plain.table, plain.code);
+    Ok(Row::from_values(vec![in alloc; name, code, Value::Int(plain.number)]?))
 }
 
-fn key(alloc: Global, number: u64) -> Result<Row, AllocError> {
-    let number = Value::Int((number % 1_000) as i64);
-    Ok(Row::from_values(vec![in alloc; number]?))
+/// The primary key of a row.
+fn key(alloc: Global, plain: Plain) -> Result<Row, AllocError> {
+    let mut values = vec![in alloc; Value::Int(plain.number)]?;
+    if plain.table == 1 {
+        values.push(name_value(alloc, plain.name)?)?;
+    }
+    Ok(Row::from_values(values))
 }
 
 fn command(alloc: Global, deed: Deed) -> Result<Command, AllocError> {
     Ok(match deed {
         Deed::Insert(row) => Command::Insert {
-            table: 0,
+            table: row.table,
             row: as_row(alloc, row)?,
         },
-        Deed::Delete(number) => Command::Delete {
-            table: 0,
-            key: key(alloc, number)?,
+        Deed::Delete(old) => Command::Delete {
+            table: old.table,
+            key: key(alloc, old)?,
         },
-        Deed::Update(number, row) => Command::Update {
-            table: 0,
-            key: key(alloc, number)?,
+        Deed::Update(old, row) => Command::Update {
+            table: old.table,
+            key: key(alloc, old)?,
             row: as_row(alloc, row)?,
+        },
+        Deed::Truncate(tables) => Command::Truncate {
+            tables: Vec::from_slice(alloc, tables)?,
         },
     })
 }
 
-/// The rows but for the one of this number, or `None` if there is none.
-fn without(alloc: Global, rows: &[Plain], number: u64) -> Result<Option<Vec<Plain>>, AllocError> {
+/// Whether two rows share their table's primary key.
+fn shares_key(one: Plain, other: Plain) -> bool {
+    one.table == other.table
+        && one.number == other.number
+        && (one.table == 0 || one.name == other.name)
+}
+
+/// Whether two rows can't be in their table together: they share its primary key, or a code of the second table.
+fn collides(one: Plain, other: Plain) -> bool {
+    let shares_code = one.table == 1 && other.table == 1 && one.code == other.code;
+    shares_key(one, other) || (shares_code && one.code.is_some())
+}
+
+/// The rows but for the one that shares this one's key, or `None` if there is none.
+fn without(alloc: Global, rows: &[Plain], old: Plain) -> Result<Option<Vec<Plain>>, AllocError> {
     let mut left = Vec::new(alloc);
     for row in rows {
-        if row.number != number {
+        if !shares_key(*row, old) {
             left.push(*row)?;
         }
     }
@@ -86,10 +181,21 @@ fn without(alloc: Global, rows: &[Plain], number: u64) -> Result<Option<Vec<Plai
     })
 }
 
-/// The rows with this one, or `None` if there is one of its number.
+/// The rows of other tables than these.
+fn emptied(alloc: Global, rows: &[Plain], tables: &[usize]) -> Result<Vec<Plain>, AllocError> {
+    let mut left = Vec::new(alloc);
+    for row in rows {
+        if !tables.contains(&row.table) {
+            left.push(*row)?;
+        }
+    }
+    Ok(left)
+}
+
+/// The rows with this one, or `None` if one of them collides with it.
 fn with(rows: Vec<Plain>, row: Plain) -> Result<Option<Vec<Plain>>, AllocError> {
     let mut rows = rows;
-    if rows.iter().any(|other| other.number == row.number) {
+    if rows.iter().any(|other| collides(*other, row)) {
         return Ok(None);
     }
     rows.push(row)?;
@@ -104,8 +210,9 @@ fn done(
 ) -> Result<Result<Vec<Plain>, CommandFault>, AllocError> {
     let (left, row) = match deed {
         Deed::Insert(row) => (Some(Vec::from_slice(alloc, rows)?), Some(row)),
-        Deed::Delete(number) => (without(alloc, rows, number)?, None),
-        Deed::Update(number, row) => (without(alloc, rows, number)?, Some(row)),
+        Deed::Delete(old) => (without(alloc, rows, old)?, None),
+        Deed::Update(old, row) => (without(alloc, rows, old)?, Some(row)),
+        Deed::Truncate(tables) => (Some(emptied(alloc, rows, tables)?), None),
     };
     let Some(left) = left else {
         return Ok(Err(CommandFault::NoSuchRow));
@@ -134,16 +241,22 @@ fn all_done(
     Ok(Ok(left))
 }
 
-/// Whether the table has these rows, in their order, and finds each by its key.
-fn has_rows(alloc: Global, book: &Book, rows: &[Plain]) -> Result<bool, AllocError> {
-    let found = book.rows(0)?;
-    if found.len() != rows.len() {
-        return Ok(false);
+/// Whether the table has those of the rows that are its own, in their order.
+fn has_rows(alloc: Global, book: &Book, table: usize, rows: &[Plain]) -> Result<bool, AllocError> {
+    let mut wanted = Vec::new(alloc);
+    for row in rows {
+        if row.table == table {
+            wanted.push(as_row(alloc, *row)?)?;
+        }
     }
-    for (row, plain) in found.iter().zip(rows) {
+    Ok(book.rows(table)?.as_slice() == wanted.as_slice())
+}
+
+/// Whether each of the rows is found by its primary key.
+fn finds_rows(alloc: Global, book: &Book, rows: &[Plain]) -> Result<bool, AllocError> {
+    for plain in rows {
         let wanted = as_row(alloc, *plain)?;
-        let by_key = book.row(0, &key(alloc, plain.number)?);
-        if *row != wanted || by_key != Some(&wanted) {
+        if book.row(plain.table, &key(alloc, *plain)?) != Some(&wanted) {
             return Ok(false);
         }
     }
@@ -155,7 +268,7 @@ fn some_deeds(alloc: Global, state: u64) -> Result<(Vec<Deed>, u64), AllocError>
     let mut state = next(state);
     let mut deeds = Vec::new(alloc);
     for _ in 0..1 + (state >> 33) % 7 {
-        state = next(state);
+        state = next(next(state));
         deeds.push(make_deed(state))?;
     }
     Ok((deeds, state))
@@ -195,7 +308,7 @@ fn turned(
 #[test]
 fn a_book_does_what_a_plain_list_does(rt: HostRuntime) -> Result<(), Fail> {
     let alloc = rt.alloc();
-    let mut book = book(alloc, MIXED, &["o 0"], 5_200)?;
+    let mut book = book(alloc, CATALOG, &["o 0", "o 0"], 5_200)?;
     let mut rows: Vec<Plain> = Vec::new(alloc);
     let mut state = 7;
     let mut given = 0usize;
@@ -204,7 +317,9 @@ fn a_book_does_what_a_plain_list_does(rt: HostRuntime) -> Result<(), Fail> {
         state = later;
         given = given.saturating_add(deeds.len());
         rows = turned(&rt, alloc, &mut book, rows, &deeds)?;
-        holds(&rt, has_rows(alloc, &book, &rows)?);
+        holds(&rt, has_rows(alloc, &book, 0, &rows)?);
+        holds(&rt, has_rows(alloc, &book, 1, &rows)?);
+        holds(&rt, finds_rows(alloc, &book, &rows)?);
     }
     holds(&rt, 20_000 <= given);
     Ok(())
