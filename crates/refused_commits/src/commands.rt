@@ -17,67 +17,88 @@ pub fn row(alloc: Global, text: &str) -> Result<Row> {
     Ok(read_row(alloc, text)?)
 }
 
-/// What a command does to its table, by the texts of its rows and keys.
-enum Change {
-    Insert(&'static str),
-    Update(&'static str, &'static str),
-    Delete(&'static str),
-    Truncate,
+/// A command, by the number of its table and the texts of its rows and keys, or by the numbers of its tables.
+enum Order {
+    Insert(usize, &'static str),
+    Update(usize, &'static str, &'static str),
+    Delete(usize, &'static str),
+    Truncate(&'static [usize]),
 }
 
-/// The changes that make the first rows, each with its table's number.
-const FIRST_CHANGES: &[(usize, Change)] = &[
-    (0, Change::Insert("(1, 'one', NULL)")),
-    (0, Change::Insert("(2, 'two', 'second')")),
-    (1, Change::Insert("(7, 'eu')")),
-    (1, Change::Insert("(200, NULL)")),
+/// The orders of the commits that make the first rows. The log has memory for four commits at first, so that the fifth
+/// one makes an allocation for the log too.
+const FIRST_ORDERS: [&[Order]; 4] = [
+    &[
+        Order::Insert(0, "(1, 'one', NULL)"),
+        Order::Insert(2, "('a', 1, NULL)"),
+    ],
+    &[
+        Order::Insert(0, "(2, 'two', 'second')"),
+        Order::Insert(2, "('a', 2, 'other')"),
+    ],
+    &[Order::Insert(1, "(7, 'eu')")],
+    &[
+        Order::Insert(1, "(200, NULL)"),
+        Order::Insert(2, "('', 1, NULL)"),
+    ],
 ];
 
-/// Changes of all four kinds, on both tables.
-const CHANGES: &[(usize, Change)] = &[
-    (0, Change::Insert("(3, 'three', 'third')")),
-    (0, Change::Update("(1)", "(4, 'four', 'was one')")),
-    (0, Change::Delete("(2)")),
-    (0, Change::Insert("(5, 'two', NULL)")),
-    (1, Change::Update("(7)", "(107, 'us')")),
-    (1, Change::Delete("(200)")),
-    (1, Change::Truncate),
-    (1, Change::Insert("(8, 'as')")),
+/// Commands of all four kinds, on each table.
+const ORDERS: &[Order] = &[
+    Order::Insert(0, "(3, 'three', 'third')"),
+    Order::Update(0, "(1)", "(4, 'four', 'was one')"),
+    Order::Delete(0, "(2)"),
+    Order::Insert(0, "(5, 'two', NULL)"),
+    Order::Insert(2, "('b', 2, 'new')"),
+    Order::Delete(2, "(2, 'a')"),
+    Order::Update(2, "(1, 'a')", "('b', 1, 'other')"),
+    Order::Update(1, "(7)", "(107, 'us')"),
+    Order::Delete(1, "(200)"),
+    Order::Truncate(&[2, 1]),
+    Order::Insert(1, "(8, 'as')"),
+    Order::Insert(2, "('a', 2, 'other')"),
 ];
 
-fn command(alloc: Global, table: usize, change: &Change) -> Result<Command> {
-    Ok(match change {
-        Change::Insert(new) => Command::Insert {
-            table,
-            row: row(alloc, new)?,
-        },
-        Change::Update(key, new) => Command::Update {
-            table,
-            key: row(alloc, key)?,
-            row: row(alloc, new)?,
-        },
-        Change::Delete(key) => Command::Delete {
-            table,
-            key: row(alloc, key)?,
-        },
-        Change::Truncate => Command::Truncate {
-            tables: vec![in alloc; table]?,
-        },
+fn truncate(alloc: Global, tables: &[usize]) -> Result<Command> {
+    Ok(Command::Truncate {
+        tables: Vec::from_slice(alloc, tables)?,
     })
 }
 
-fn commands_of(alloc: Global, changes: &[(usize, Change)]) -> Result<Vec<Command>> {
+fn command(alloc: Global, order: &Order) -> Result<Command> {
+    Ok(match order {
+        Order::Insert(table, new) => Command::Insert {
+            table: *table,
+            row: row(alloc, new)?,
+        },
+        Order::Update(table, key, new) => Command::Update {
+            table: *table,
+            key: row(alloc, key)?,
+            row: row(alloc, new)?,
+        },
+        Order::Delete(table, key) => Command::Delete {
+            table: *table,
+            key: row(alloc, key)?,
+        },
+        Order::Truncate(tables) => truncate(alloc, tables)?,
+    })
+}
+
+fn commands_of(alloc: Global, orders: &[Order]) -> Result<Vec<Command>> {
     let mut commands = Vec::new(alloc);
-    for (table, change) in changes {
-        commands.push(command(alloc, *table, change)?)?;
+    for order in orders {
+        commands.push(command(alloc, order)?)?;
     }
     Ok(commands)
 }
 
-/// The commands that make the first rows, each for a commit of its own. The log has memory for four commits at first,
-/// so that the fifth one makes an allocation for the log too.
-pub fn first_commands(alloc: Global) -> Result<Vec<Command>> {
-    commands_of(alloc, FIRST_CHANGES)
+/// The commands of the commits that make the first rows.
+pub fn first_commits(alloc: Global) -> Result<Vec<Vec<Command>>> {
+    let mut commits = Vec::new(alloc);
+    for orders in FIRST_ORDERS {
+        commits.push(commands_of(alloc, orders)?)?;
+    }
+    Ok(commits)
 }
 
 /// The row of `codes` with this number, as the commit's last commands have it.
@@ -92,15 +113,23 @@ pub fn numbered_order(alloc: Global, number: u16) -> Result<Row> {
     row(alloc, text.as_str())
 }
 
-/// The commands of the commit whose allocations are refused, of all four kinds and on both tables. The last ones insert
+/// The row of `places` with this number, as the commit's last commands have it.
+pub fn numbered_place(alloc: Global, number: u16) -> Result<Row> {
+    let text = format!(in alloc; "('place {number}', 2, 'place {number}')")?;
+    row(alloc, text.as_str())
+}
+
+/// The commands of the commit whose allocations are refused, of all four kinds and on each table. The last ones insert
 /// more rows than a node of a map has room for.
 pub fn commands(alloc: Global) -> Result<Vec<Command>> {
-    let mut commands = commands_of(alloc, CHANGES)?;
+    let mut commands = commands_of(alloc, ORDERS)?;
     for number in FIRST..=LAST {
         let row = numbered_code(alloc, number)?;
         commands.push(Command::Insert { table: 0, row })?;
         let row = numbered_order(alloc, number)?;
         commands.push(Command::Insert { table: 1, row })?;
+        let row = numbered_place(alloc, number)?;
+        commands.push(Command::Insert { table: 2, row })?;
     }
     Ok(commands)
 }

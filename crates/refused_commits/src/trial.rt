@@ -1,6 +1,6 @@
 //! A trial: the commit with one of its allocations refused.
 
-use crate::commands::{commands, first_commands};
+use crate::commands::{commands, first_commits};
 use crate::refusals::refuse;
 use crate::shown::{check_shown, shown_after, shown_before};
 use anyhow::{Context, Result, ensure};
@@ -8,25 +8,27 @@ use pub_reader::read_catalog;
 use replica_identity::plan;
 use shard_checker::check_text;
 use std::alloc::Global;
-use std::slice;
 use std::sync::Arc;
 use table_changes::Command;
 use tables_log::{Book, CommitError};
 
-/// A table whose rows are identified by a unique index, and one whose rows are identified by all their values and go to
-/// one of two subscribers by their number.
+/// A table whose rows are identified by a unique index, one whose rows are identified by all their values and go to one
+/// of two subscribers by their number, and one whose primary key is a number and a text, in another order than that of
+/// its columns, and whose notes differ where they are not null.
 const CATALOG: &str = "CREATE TABLE codes (id integer PRIMARY KEY, code text NOT NULL, note text);
 CREATE UNIQUE INDEX codes_code ON codes (code);
 ALTER TABLE codes REPLICA IDENTITY USING INDEX codes_code;
 CREATE TABLE orders (id integer PRIMARY KEY, region text);
 ALTER TABLE orders REPLICA IDENTITY FULL;
-CREATE PUBLICATION low FOR TABLE codes, TABLE orders WHERE (id < 100);
+CREATE TABLE places (name text, id integer, note text, PRIMARY KEY (id, name));
+CREATE UNIQUE INDEX places_note ON places (note);
+CREATE PUBLICATION low FOR TABLE codes, places, TABLE orders WHERE (id < 100);
 CREATE PUBLICATION high FOR TABLE orders WHERE (id >= 100);
 CREATE SUBSCRIPTION s0 CONNECTION '' PUBLICATION low;
 CREATE SUBSCRIPTION s1 CONNECTION '' PUBLICATION high;";
 
 /// The certificates of its tables.
-const CERTIFICATES: [&str; 2] = ["o 0", "s 0 s 1 e 0 o 0 n 1 s 1 o 1 e 0 n 1 n 0"];
+const CERTIFICATES: [&str; 3] = ["o 0", "s 0 s 1 e 0 o 0 n 1 s 1 o 1 e 0 n 1 n 0", "o 0"];
 
 /// A book of the catalog's tables, without rows.
 fn empty_book(alloc: Global) -> Result<Book> {
@@ -39,9 +41,9 @@ fn empty_book(alloc: Global) -> Result<Book> {
 /// A book in which the tables have their first rows.
 fn begun_book(alloc: Global) -> Result<Book> {
     let mut book = empty_book(alloc)?;
-    let commands = first_commands(alloc)?;
-    for command in commands.iter() {
-        book.commit(slice::from_ref(command), 1)?;
+    let commits = first_commits(alloc)?;
+    for commands in commits.iter() {
+        book.commit(commands, 1)?;
     }
     check_shown(&book, &shown_before(alloc)?).context("before the commit")?;
     Ok(book)
