@@ -1,9 +1,11 @@
-//! The largest catalog. There is memory for it, so that it is not refused for want of it.
+//! The largest catalog, and the largest rows of a script. There is memory for them, so that they are not refused for
+//! want of it.
 
-use crate::calls::{catalog_of, repeated};
+use crate::calls::{catalog_of, is_same, repeated};
 use crate::checks::{holds, same};
-use filter_tree::{Identity, Table};
+use filter_tree::{Identity, Row, Table, Text, Value};
 use pub_catalog::{Catalog, Publication};
+use pub_reader::{Command, Line, ReadError, Step, read_script};
 use std::alloc::{AllocError, Global};
 use std::process::Abort;
 use std::test::Fail;
@@ -168,5 +170,74 @@ fn reads_the_largest_catalog(rt: HostRuntime) -> Result<(), Fail> {
     let text = largest_catalog(rt.alloc())?;
     holds(&rt, text.len() > 16_777_216);
     expect_largest(&rt, &catalog_of(rt.alloc(), text.as_str())?);
+    Ok(())
+}
+
+/// A table whose row in a script may have any number of values.
+const SCRIPTED: &str = "CREATE TABLE t (id integer PRIMARY KEY);";
+
+/// A row of 100 values, one of them the longest text.
+fn hundred_values(alloc: Global) -> Result<String, AllocError> {
+    let mut text = format!(in alloc; "('{}'", repeated(alloc, "a", 65_535)?)?;
+    for number in 1..97 {
+        write!(text, ", -{number}")?;
+    }
+    text.push_str(", NULL, TRUE, '')")?;
+    Ok(text)
+}
+
+/// That row.
+fn hundred(alloc: Global) -> Result<Row, AllocError> {
+    let longest = Text::new(repeated(alloc, "a", 65_535)?);
+    let mut values = vec![in alloc; Value::Text(longest)]?;
+    for number in 1..97 {
+        values.push(Value::Int(-number))?;
+    }
+    values.push(Value::Null)?;
+    values.push(Value::Bool(true))?;
+    values.push(Value::Text(Text::new(String::new(alloc))))?;
+    Ok(Row::from_values(values))
+}
+
+/// A script whose only step updates a row, where key and row have this text.
+fn script_of(alloc: Global, row: &str) -> Result<String, AllocError> {
+    format!(in alloc; "COMMIT UPDATE t {row} {row};")
+}
+
+/// The lines of a script.
+fn lines_of(alloc: Global, catalog: &Catalog, text: &str) -> Result<Vec<Line>, ReadError> {
+    read_script(alloc, catalog, text)
+}
+
+/// Whether the command is an update, where both the key and the row are this one.
+fn updates(command: &Command, wanted: &Row) -> bool {
+    match command {
+        Command::Update { table: 0, key, row } => is_same(key, wanted) && is_same(row, wanted),
+        _ => false,
+    }
+}
+
+/// Whether the only line, at the script's start, is a commit of that update.
+fn is_updated(lines: &[Line], wanted: &Row) -> bool {
+    match lines {
+        [
+            Line {
+                place: 0,
+                step: Step::Commit(commands),
+            },
+        ] => commands.len() == 1 && commands.iter().all(|command| updates(command, wanted)),
+        _ => false,
+    }
+}
+
+#[test]
+fn reads_a_script_with_a_row_of_a_hundred_values(rt: HostRuntime) -> Result<(), Fail> {
+    let alloc = rt.alloc();
+    let catalog = catalog_of(alloc, SCRIPTED)?;
+    let text = hundred_values(alloc)?;
+    let wanted = hundred(alloc)?;
+    same(&rt, wanted.values().len(), 100);
+    let lines = lines_of(alloc, &catalog, script_of(alloc, text.as_str())?.as_str())?;
+    holds(&rt, is_updated(lines.as_slice(), &wanted));
     Ok(())
 }
