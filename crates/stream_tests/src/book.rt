@@ -1,4 +1,5 @@
 mod commits;
+mod entries;
 mod many;
 mod random;
 mod slots;

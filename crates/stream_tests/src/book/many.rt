@@ -1,7 +1,7 @@
 use super::Order::{Delete, Insert, Update};
 use super::{FULL, SPLIT, book, commands, commit, log_len};
 use crate::checks::{holds, same};
-use filter_tree::{Row, Text, Value};
+use filter_tree::{Row, RowFault, Text, Value};
 use std::alloc::{AllocError, Global};
 use std::process::Abort;
 use std::test::Fail;
@@ -133,14 +133,40 @@ fn refused(alloc: Global, number: u64) -> Result<(Command, CommandFault), AllocE
             },
             CommandFault::NoTable,
         ),
-        _ => (
+        5 => (
             Command::Delete {
                 table: 1,
                 key: key(alloc, 1_050)?,
             },
             CommandFault::NoTable,
         ),
+        _ => unfit(alloc, number)?,
     })
+}
+
+/// The command of this number, from 6, whose row doesn't fit its table, and why.
+fn unfit(alloc: Global, number: u64) -> Result<(Command, CommandFault), AllocError> {
+    let (command, fault) = match number {
+        6 => (
+            Command::Insert {
+                table: 0,
+                row: key(alloc, 1_070)?,
+            },
+            RowFault::Width,
+        ),
+        7 => (
+            Command::Insert {
+                table: 0,
+                row: Row::from_values(vec![in alloc; Value::Null, Value::Null]?),
+            },
+            RowFault::NullInNotNull(0),
+        ),
+        _ => (
+            change(alloc, 1_050, 2_147_483_648)?,
+            RowFault::OutOfRange(0),
+        ),
+    };
+    Ok((command, CommandFault::Row(fault)))
 }
 
 fn change(alloc: Global, number: i64, other: i64) -> Result<Command, AllocError> {
@@ -151,41 +177,56 @@ fn change(alloc: Global, number: i64, other: i64) -> Result<Command, AllocError>
     })
 }
 
-/// Whether the rows of the table are 1,050 and 1,060, as they were made first.
+/// A book whose only commit makes the rows 1,050 and 1,060.
+fn begun(alloc: Global) -> Result<Book, Fail> {
+    let mut book = book(alloc, FULL, &[SPLIT], 2)?;
+    let first = vec![in alloc; put(alloc, 1_050, "a")?, put(alloc, 1_060, "a")?]?;
+    book.commit(&first, 1)?;
+    Ok(book)
+}
+
+/// Whether the rows of the table are 1,050 and 1,060, as they were made first, after one commit.
 fn is_kept(alloc: Global, book: &Book) -> Result<bool, AllocError> {
     let rows = book.rows(0)?;
     let kept = [pair(alloc, 1_050, "a")?, pair(alloc, 1_060, "a")?];
-    Ok(rows.as_slice() == kept.as_slice())
+    Ok(log_len(book) == 1 && rows.as_slice() == kept.as_slice())
 }
 
-/// That a list of this length is refused for the command of this kind in its middle, and leaves the rows.
-fn expect_refusal(
-    rt: &impl Abort,
-    alloc: Global,
-    book: &mut Book,
-    length: usize,
-    kind: u64,
-) -> Result<(), Fail> {
+/// That the list without the refused command, so many commands, is accepted, or is empty.
+fn expect_rest(rt: &impl Abort, alloc: Global, book: &mut Book, count: usize) -> Result<(), Fail> {
+    let mut rest = Vec::new(alloc);
+    add_puts(alloc, &mut rest, 0, count)?;
+    let answer = if count == 0 {
+        Err(CommitError::EmptyTransaction)
+    } else {
+        Ok(2)
+    };
+    same(rt, commit(book, &rest, 2), answer);
+    same(rt, book.rows(0)?.len(), count.saturating_add(2));
+    Ok(())
+}
+
+/// That a list of this length is refused for the command of this kind in its middle, and leaves the rows, and that the
+/// list without it is accepted.
+fn expect_refusal(rt: &impl Abort, alloc: Global, length: usize, kind: u64) -> Result<(), Fail> {
+    let mut book = begun(alloc)?;
     let (command, fault) = refused(alloc, kind)?;
     let (list, number) = around(alloc, length, command)?;
     let refusal = Err(CommitError::At(number, fault));
-    same(rt, commit(book, &list, 1), refusal);
-    holds(rt, is_kept(alloc, book)?);
+    same(rt, commit(&mut book, &list, 2), refusal);
+    holds(rt, is_kept(alloc, &book)?);
+    expect_rest(rt, alloc, &mut book, length.saturating_sub(1))?;
     Ok(())
 }
 
 #[test]
 fn a_refusal_in_the_middle_of_a_list_leaves_the_rows(rt: HostRuntime) -> Result<(), Fail> {
     let alloc = rt.alloc();
-    let mut book = book(alloc, FULL, &[SPLIT], 10)?;
-    let first = commands(alloc, &[Insert(0, "(1050, 'a')"), Insert(0, "(1060, 'a')")])?;
-    same(&rt, commit(&mut book, &first, 1), Ok(1));
     for length in [1, 2, 3, 10, 100, 999, 1_000] {
-        for kind in 0..6u64 {
-            expect_refusal(&rt, alloc, &mut book, length, kind)?;
+        for kind in 0..9u64 {
+            expect_refusal(&rt, alloc, length, kind)?;
         }
     }
-    same(&rt, log_len(&book), 1);
     Ok(())
 }
 

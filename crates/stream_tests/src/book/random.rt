@@ -1,4 +1,4 @@
-use super::{book, commit};
+use super::{book, commit, log_len};
 use crate::checks::{holds, same};
 use filter_tree::{Row, Text, Value};
 use std::alloc::{AllocError, Global};
@@ -59,23 +59,23 @@ fn make_first(state: u64) -> Plain {
         table: 0,
         name: name_at((state >> 32) % 8),
         code: if code < 2 { Some(code) } else { None },
-        number: ((state >> 50) % 60) as i64 - 30,
+        number: ((state >> 50) % 120) as i64 - 60,
     }
 }
 
 /// A row of the second table; one of four has no code.
 fn make_second(state: u64) -> Plain {
-    let code = (state >> 40) % 48;
+    let code = (state >> 40) % 160;
     Plain {
         table: 1,
         name: name_at((state >> 32) % 6),
-        code: if code < 36 { Some(code) } else { None },
-        number: ((state >> 50) % 10) as i64 - 5,
+        code: if code < 120 { Some(code) } else { None },
+        number: ((state >> 50) % 30) as i64 - 15,
     }
 }
 
-/// A row of this table, the first one for 0.
-fn make_row(table: u64, state: u64) -> Plain {
+/// A row of the table of this number.
+fn make_row(table: usize, state: u64) -> Plain {
     if table == 0 {
         make_first(state)
     } else {
@@ -83,11 +83,33 @@ fn make_row(table: u64, state: u64) -> Plain {
     }
 }
 
-/// One of 200 deeds empties tables.
-fn make_deed(state: u64) -> Deed {
-    let table = (state >> 20) % 2;
-    let key = make_row(table, state);
-    let row = make_row(table, next(state));
+/// One of the rows; one of 16 times any row, which need not be among them.
+fn make_old(state: u64, rows: &[Plain]) -> Plain {
+    let place = ((state >> 44) as usize)
+        .checked_rem(rows.len())
+        .unwrap_or(0);
+    match rows.get(place) {
+        Some(row) if (state >> 35) % 16 > 0 => *row,
+        _ => make_row(((state >> 20) % 2) as usize, state),
+    }
+}
+
+/// What a row becomes; one of four keeps its key.
+fn make_new(state: u64, old: Plain) -> Plain {
+    let row = make_row(old.table, next(state));
+    if (state >> 58) % 4 > 0 {
+        return row;
+    }
+    Plain {
+        code: row.code,
+        ..old
+    }
+}
+
+/// A deed on these rows; one of 200 empties tables.
+fn make_deed(state: u64, rows: &[Plain]) -> Deed {
+    let old = make_old(state, rows);
+    let table = ((state >> 20) % 2) as usize;
     match (state >> 24) % 200 {
         0 => Deed::Truncate(
             EMPTIED
@@ -95,9 +117,9 @@ fn make_deed(state: u64) -> Deed {
                 .copied()
                 .unwrap_or(&[]),
         ),
-        1..=80 => Deed::Insert(row),
-        81..=130 => Deed::Delete(key),
-        _ => Deed::Update(key, row),
+        1..=90 => Deed::Insert(make_row(table, next(state))),
+        91..=130 => Deed::Delete(old),
+        _ => Deed::Update(old, make_new(state, old)),
     }
 }
 
@@ -113,7 +135,7 @@ fn code_value(table: usize, code: Option<u64>) -> Value {
     match code {
         None => Value::Null,
         Some(code) if table == 0 => Value::Bool(code == 1),
-        Some(code) => Value::Int((code % 100) as i64),
+        Some(code) => Value::Int((code % 1_000) as i64),
     }
 }
 
@@ -263,13 +285,13 @@ fn finds_rows(alloc: Global, book: &Book, rows: &[Plain]) -> Result<bool, AllocE
     Ok(true)
 }
 
-/// A list of one to seven deeds, and the state after it.
-fn some_deeds(alloc: Global, state: u64) -> Result<(Vec<Deed>, u64), AllocError> {
+/// A list of one to seven deeds on these rows, and the state after it.
+fn some_deeds(alloc: Global, state: u64, rows: &[Plain]) -> Result<(Vec<Deed>, u64), AllocError> {
     let mut state = next(state);
     let mut deeds = Vec::new(alloc);
     for _ in 0..1 + (state >> 33) % 7 {
         state = next(next(state));
-        deeds.push(make_deed(state))?;
+        deeds.push(make_deed(state, rows))?;
     }
     Ok((deeds, state))
 }
@@ -313,7 +335,7 @@ fn a_book_does_what_a_plain_list_does(rt: HostRuntime) -> Result<(), Fail> {
     let mut state = 7;
     let mut given = 0usize;
     for _turn in 0..5_200 {
-        let (deeds, later) = some_deeds(alloc, state)?;
+        let (deeds, later) = some_deeds(alloc, state, &rows)?;
         state = later;
         given = given.saturating_add(deeds.len());
         rows = turned(&rt, alloc, &mut book, rows, &deeds)?;
@@ -322,5 +344,7 @@ fn a_book_does_what_a_plain_list_does(rt: HostRuntime) -> Result<(), Fail> {
         holds(&rt, finds_rows(alloc, &book, &rows)?);
     }
     holds(&rt, 20_000 <= given);
+    // Not all of them are refused.
+    holds(&rt, 2_000 <= log_len(&book));
     Ok(())
 }
