@@ -4,6 +4,7 @@ use crate::answer_cases::{
     FRAMES, OPTION_LISTS, OTHER_COMMANDS, PUBLICATION_NAMES, REFUSED, STARTS, UNREAD,
 };
 use crate::checks::{holds, same};
+use crate::largest::{published_catalog, start_text};
 use bytes::BytesMut;
 use copy_both::{Asked, Offer, SqlState, answer_start};
 use pub_catalog::Catalog;
@@ -276,5 +277,26 @@ fn a_refusal_is_appended(rt: HostRuntime) -> Result<(), Fail> {
     let expected: &[u8] =
         b"xE\0\0\0\x3bSERROR\0VERROR\0C55006\0Mreplication slot \"s0\" is active\0\0";
     holds(&rt, response.as_slice() == expected);
+    Ok(())
+}
+
+/// How many of the 64 publications of a subscription a start names, and what it is answered.
+const NAMED: &[(usize, &str)] = &[
+    (64, "slot 0 from 0"),
+    (63, "22023 publications differ from those of slot \"s0\""),
+    (
+        65,
+        "42704 publication \"pppppppppppppppppppppppppppppppppppppppppppppppppppppppppppp064\" does not exist",
+    ),
+];
+
+#[test]
+fn a_start_may_name_64_publications(rt: HostRuntime) -> Result<(), Fail> {
+    let alloc = rt.alloc();
+    let catalog = published_catalog(alloc)?;
+    for (count, expected) in NAMED {
+        let text = start_text(alloc, *count)?;
+        expect_told(&rt, alloc, catalog.as_str(), false, text.as_str(), expected)?;
+    }
     Ok(())
 }

@@ -312,3 +312,48 @@ fn a_stream_is_written_frame_by_frame(rt: HostRuntime) -> Result<(), Fail> {
     holds(&rt, out.as_slice() == COPY_DONE);
     Ok(())
 }
+
+/// Appends the frame of a message that is not longer than any may be.
+fn append_frame(
+    rt: &impl Abort,
+    out: &mut BytesMut,
+    head: &XLogData,
+    message: &[u8],
+) -> Result<(), AllocError> {
+    assert!(rt; message.len() <= 16_777_187);
+    append_xlog_data(out, head, message)
+}
+
+/// Whether the frame's body is an XLogData with this head and this message.
+fn carries(frame: &[u8], head: &XLogData, message: &[u8]) -> bool {
+    match read_xlog_data(body(frame)) {
+        None => false,
+        Some((found, carried)) => found == *head && carried == message,
+    }
+}
+
+/// The longest message that a subscriber takes, in a frame after another one.
+#[test]
+fn the_longest_message_is_carried(rt: HostRuntime) -> Result<(), Fail> {
+    let alloc = rt.alloc();
+    let message = filled(alloc, b"I", 16_777_187, b'a')?;
+    let head = XLogData {
+        start: 64,
+        end: u64::MAX,
+        clock: 4,
+    };
+    let mut out = BytesMut::new(alloc);
+    append_copy_done(&mut out)?;
+    append_frame(&rt, &mut out, &head, &message)?;
+    let (first, frame) = out.as_slice().split_at(5.min(out.len()));
+    holds(&rt, first == COPY_DONE);
+    same(&rt, frame.len(), 16_777_217);
+    let begin =
+        b"d\x01\0\0\0w\0\0\0\0\0\0\0\x40\xff\xff\xff\xff\xff\xff\xff\xff\0\0\0\0\0\0\0\x04Iaa";
+    holds(&rt, frame.starts_with(begin));
+    holds(&rt, carries(frame, &head, &message));
+    let mut deframer = Deframer::new(alloc, 16_777_216);
+    feed(&mut deframer, out.as_slice())?;
+    expect_frames(&rt, alloc, &mut deframer, &[COPY_DONE, frame])?;
+    Ok(())
+}

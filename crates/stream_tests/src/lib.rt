@@ -14,6 +14,10 @@ mod ear;
 #[cfg(test)]
 mod frames;
 #[cfg(test)]
+mod largest;
+#[cfg(test)]
+mod limits;
+#[cfg(test)]
 mod link;
 #[cfg(test)]
 mod messages;

@@ -22,12 +22,17 @@ fn link(alloc: Global) -> Result<Link, Fail> {
 }
 
 /// What the publisher hears in a piece, or why it closes.
-fn hear(link: &mut Link, piece: &[u8], book: &mut Book, now: u64) -> Result<Heard, LinkFault> {
+pub(crate) fn hear(
+    link: &mut Link,
+    piece: &[u8],
+    book: &mut Book,
+    now: u64,
+) -> Result<Heard, LinkFault> {
     link.hear(piece, book, now)
 }
 
 /// What becomes of the next commit.
-fn take(link: &mut Link, book: &Book, now: u64) -> Result<Taken, LinkFault> {
+pub(crate) fn take(link: &mut Link, book: &Book, now: u64) -> Result<Taken, LinkFault> {
     link.take(book, now)
 }
 
@@ -37,7 +42,7 @@ fn keepalive(link: &mut Link, now: u64, want: bool) -> Result<bool, LinkFault> {
 }
 
 /// The bytes that wait for the client.
-fn output(link: &Link) -> &[u8] {
+pub(crate) fn output(link: &Link) -> &[u8] {
     link.output()
 }
 

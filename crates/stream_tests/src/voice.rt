@@ -88,7 +88,7 @@ fn book_and_voice(alloc: Global, row: &str) -> Result<(Book, Voice), Fail> {
 }
 
 /// Starts the stream of a slot.
-fn start(voice: &mut Voice, slot: usize, position: u64) -> Result<(), LinkFault> {
+pub(crate) fn start(voice: &mut Voice, slot: usize, position: u64) -> Result<(), LinkFault> {
     voice.start(slot, position)
 }
 
@@ -108,12 +108,12 @@ fn next(voice: &Voice) -> Option<u64> {
 }
 
 /// Up to where the log was sent.
-fn sent(voice: &Voice) -> Option<u64> {
+pub(crate) fn sent(voice: &Voice) -> Option<u64> {
     voice.sent()
 }
 
 /// The bytes that wait.
-fn output(voice: &Voice) -> &[u8] {
+pub(crate) fn output(voice: &Voice) -> &[u8] {
     voice.output()
 }
 

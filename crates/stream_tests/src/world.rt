@@ -1,5 +1,7 @@
 //! The world of a publisher and its subscribers.
 
+mod largest;
+
 use crate::checks::same;
 use crate::sharding::accepted;
 use crate::voice::{CATALOG, SPLIT};

@@ -1,7 +1,7 @@
 use crate::checks::{holds, same};
-use crate::messages::{bytes_of, longest, spelled};
+use crate::largest::{longest_commands, wide_catalog};
+use crate::messages::{bytes_of, spelled};
 use crate::sharding::accepted;
-use filter_tree::{Row, Text, Value};
 use pgoutput_msgs::{Msg, messages_are_read_back, messages_of};
 use pub_reader::{Step, read_script};
 use shard_checker::Checked;
@@ -299,37 +299,6 @@ fn want_of_memory_leaves_what_was_told(rt: HostRuntime) -> Result<(), Fail> {
     same(&rt, told, [true, true, false]);
     same(&rt, count_told(alloc, &checked, commit, &mut told)?, 4);
     Ok(())
-}
-
-/// A catalog of a table of 100 texts under FULL.
-fn wide_catalog(alloc: Global) -> Result<String, AllocError> {
-    let mut text = String::from_str(alloc, "CREATE TABLE t (c0 text PRIMARY KEY")?;
-    for number in 1..100 {
-        write!(text, ", c{number} text")?;
-    }
-    text.push_str("); ALTER TABLE t REPLICA IDENTITY FULL; CREATE PUBLICATION p FOR TABLE t;")?;
-    text.push_str("CREATE SUBSCRIPTION s CONNECTION '' PUBLICATION p;")?;
-    Ok(text)
-}
-
-/// A key of one of the longest texts.
-fn longest_key(alloc: Global) -> Result<Row, AllocError> {
-    let text = Value::Text(Text::new("a".repeat(alloc, 65_535)?));
-    Ok(Row::from_values(vec![in alloc; text]?))
-}
-
-/// An insert of the longest row, and an update of all that it has.
-fn longest_commands(alloc: Global) -> Result<Vec<Command>, AllocError> {
-    let insert = Command::Insert {
-        table: 0,
-        row: longest(alloc, "a")?,
-    };
-    let update = Command::Update {
-        table: 0,
-        key: longest_key(alloc)?,
-        row: longest(alloc, "b")?,
-    };
-    Ok(vec![in alloc; insert, update]?)
 }
 
 /// The messages of the first commit of a sharding's book, where the Relation of its only table was sent.
