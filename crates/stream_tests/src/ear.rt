@@ -60,12 +60,17 @@ fn ear(alloc: Global) -> Result<Ear, Fail> {
 }
 
 /// What is heard in a piece, where so much was sent, or why it is refused.
-fn hear(ear: &mut Ear, piece: &[u8], book: &mut Book, sent: u64) -> Result<Heard, LinkFault> {
+pub(crate) fn hear(
+    ear: &mut Ear,
+    piece: &[u8],
+    book: &mut Book,
+    sent: u64,
+) -> Result<Heard, LinkFault> {
     ear.hear(piece, book, sent)
 }
 
 /// The connection is lost.
-fn lose(ear: &mut Ear, book: &mut Book) {
+pub(crate) fn lose(ear: &mut Ear, book: &mut Book) {
     ear.lose(book);
 }
 

@@ -191,7 +191,7 @@ fn hundred(alloc: Global) -> Result<Row, AllocError> {
     let longest = Text::new(repeated(alloc, "a", 65_535)?);
     let mut values = vec![in alloc; Value::Text(longest)]?;
     for number in 1..97 {
-        values.push(Value::Int(-number))?;
+        values.push(Value::Int(0i64.saturating_sub(number)))?;
     }
     values.push(Value::Null)?;
     values.push(Value::Bool(true))?;

@@ -16,8 +16,8 @@ fn many_catalog(alloc: Global) -> Result<String, AllocError> {
     for number in 0..64 {
         write!(text, "CREATE TABLE t{number} (id integer PRIMARY KEY);")?;
     }
-    for number in 0..32 {
-        let other = number + 32;
+    for number in 0..32usize {
+        let other = number.saturating_add(32);
         write!(
             text,
             "CREATE PUBLICATION p{number} FOR TABLE t{number}, t{other};"
