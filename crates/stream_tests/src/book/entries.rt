@@ -14,7 +14,7 @@ fn is_same(one: &Commit, other: &Commit) -> bool {
 }
 
 /// Whether the changes are an insert of the row.
-fn inserts(alloc: Global, changes: &[Change], text: &str) -> Result<bool, Fail> {
+fn is_insert(alloc: Global, changes: &[Change], text: &str) -> Result<bool, Fail> {
     let wanted = row(alloc, text)?;
     Ok(match changes {
         [Change::Insert { table: 0, new }] => *new == wanted,
@@ -35,7 +35,7 @@ fn expect_shared(
         return Err(Fail::from("no commit"));
     };
     same(rt, (shared.number(), shared.time()), (number, time));
-    holds(rt, inserts(alloc, shared.changes(), text)?);
+    holds(rt, is_insert(alloc, shared.changes(), text)?);
     let is_entry = match book.entry(number) {
         None => false,
         Some(entry) => is_same(&shared, entry),
@@ -44,9 +44,14 @@ fn expect_shared(
     Ok(())
 }
 
-/// Whether the log has no commit of this number, and the book shares none.
-fn lacks_entry(book: &Book, number: u32) -> Result<bool, AllocError> {
-    Ok(book.entry(number).is_none() && book.shared(number)?.is_none())
+/// Whether the log has no commit of these numbers, and the book shares none.
+fn lacks_entries(book: &Book, numbers: &[u32]) -> Result<bool, AllocError> {
+    for number in numbers {
+        if book.entry(*number).is_some() || book.shared(*number)?.is_some() {
+            return Ok(false);
+        }
+    }
+    Ok(true)
 }
 
 /// Commits, and the row that each inserts.
@@ -60,8 +65,7 @@ const COMMITS: &[(Order, &str)] = &[
 fn what_is_shared_is_the_entry_of_its_number(rt: HostRuntime) -> Result<(), Fail> {
     let alloc = rt.alloc();
     let mut book = book(alloc, FULL, &[SPLIT], 9)?;
-    holds(&rt, lacks_entry(&book, 0)?);
-    holds(&rt, lacks_entry(&book, 1)?);
+    holds(&rt, lacks_entries(&book, &[0, 1])?);
     let mut number = 0u32;
     for (order, text) in COMMITS {
         number = number.saturating_add(1);
@@ -70,20 +74,24 @@ fn what_is_shared_is_the_entry_of_its_number(rt: HostRuntime) -> Result<(), Fail
         expect_shared(&rt, alloc, &book, number, time, text)?;
     }
     expect_shared(&rt, alloc, &book, 1, u64::MAX - 1, "(1, 'a')")?;
-    for number in [0, 4, u32::MAX] {
-        holds(&rt, lacks_entry(&book, number)?);
-    }
+    holds(&rt, lacks_entries(&book, &[0, 4, u32::MAX])?);
     Ok(())
 }
 
-/// 997 inserts, an update and a delete of two of their rows, and a TRUNCATE.
-fn thousand(alloc: Global) -> Result<Vec<Command>, Fail> {
+/// 997 inserts.
+fn inserts(alloc: Global) -> Result<Vec<Command>, Fail> {
     let mut list = Vec::new(alloc);
     for number in 1..=997 {
         let text = format!(in alloc; "({number}, 'a')")?;
         let row = row(alloc, text.as_str())?;
         list.push(Command::Insert { table: 0, row })?;
     }
+    Ok(list)
+}
+
+/// 997 inserts, an update and a delete of two of their rows, and a TRUNCATE.
+fn thousand(alloc: Global) -> Result<Vec<Command>, Fail> {
+    let mut list = inserts(alloc)?;
     let last = [
         Update(0, "(1)", "(-1, NULL)"),
         Delete(0, "(2)"),

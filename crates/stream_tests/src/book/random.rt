@@ -52,7 +52,7 @@ fn name_at(place: u64) -> Option<&'static str> {
     NAMES.get((place % 100) as usize).copied()
 }
 
-/// A row of the first table; one of eight has no name, and one of three no code.
+/// A row of the first table; one of four has no name, and one of three no code.
 fn make_first(state: u64) -> Plain {
     let code = (state >> 40) % 3;
     Plain {

@@ -10,12 +10,18 @@ use std::process::Abort;
 use std::test::Fail;
 use table_changes::Command;
 
-/// A catalog of 64 tables and 32 subscribers: each has the table of its number, and the one of 32 more.
-fn many_catalog(alloc: Global) -> Result<String, AllocError> {
+/// 64 tables.
+fn many_tables(alloc: Global) -> Result<String, AllocError> {
     let mut text = String::new(alloc);
     for number in 0..64 {
         write!(text, "CREATE TABLE t{number} (id integer PRIMARY KEY);")?;
     }
+    Ok(text)
+}
+
+/// A catalog of 64 tables and 32 subscribers: each has the table of its number, and the one of 32 more.
+fn many_catalog(alloc: Global) -> Result<String, AllocError> {
+    let mut text = many_tables(alloc)?;
     for number in 0..32usize {
         let other = number.saturating_add(32);
         write!(
