@@ -45,6 +45,10 @@ report_is failure text told status old new other is same writes =
     report_of failure status old new other
     (subst (λ (t : Status). IsWritten (text_of (failure_lines failure)) t old new status) same (subst (λ (t : List ℕ). IsWritten t told old new status) is writes))
 
+-- the writer failed before
+pub is_silent : (failure : Failure) (old : Option (List ℕ)) → failure ≡ f.Output → IsReport failure old old Output
+is_silent failure old h = subst (λ (failure : Failure). IsReport failure old old Output) (sym h) (refl, refl)
+
 module _ (words : List (List ℕ)) (known : Option (List ℕ)) where
   -- ---- what was asked is answered, or not
 
