@@ -222,10 +222,14 @@ fn is_updated(lines: &[Line], wanted: &Row) -> bool {
     match lines {
         [
             Line {
-                place: 0,
+                place,
                 step: Step::Commit(commands),
             },
-        ] => commands.len() == 1 && commands.iter().all(|command| updates(command, wanted)),
+        ] => {
+            *place == 0
+                && commands.len() == 1
+                && commands.iter().all(|command| updates(command, wanted))
+        }
         _ => false,
     }
 }
