@@ -78,7 +78,9 @@ def table(setup, program, connection, folder):
                     thousands(rows, copied(connection, folder, rows, step, setup.runs)),
                     thousands(rows, inserted(connection, rows, step)),
                 ]
-            yield [order, f"{rows:,}", *(thousands(rows, times[it]) for it in PARTS), *grown, f"{bytes_used:,.0f}", *server]
+            # fewer rows take less than the interpreter had when it started the process, which counts as the process's
+            taken = f"{bytes_used:,.0f}" if rows == ROWS[-1] else ""
+            yield [order, f"{rows:,}", *(thousands(rows, times[it]) for it in PARTS), *grown, taken, *server]
 
 
 def measure(setup, _):
