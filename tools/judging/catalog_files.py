@@ -1,0 +1,1 @@
+def judge(file, options): raise NotImplementedError

@@ -1,0 +1,1 @@
+def regions(verdict): return []

@@ -1,0 +1,21 @@
+"""Exit statuses, and what ends a run or the reading of a form."""
+
+SOUND, NOT_SOUND, BAD_COMMAND, NOT_READ, NO_ANSWER, NO_PROGRAM, NO_OUTPUT = range(7)
+
+
+class Fault(Exception):
+    """An exit status and the line that is said."""
+
+    def __init__(self, status, words):
+        super().__init__(words)
+        self.status = status
+        self.words = words
+
+
+class Unread(Exception):
+    """A form of a filter that is not read, and how to write it otherwise where that is known."""
+
+    def __init__(self, form, advice=""):
+        super().__init__(form)
+        self.form = form
+        self.advice = advice

@@ -1,0 +1,83 @@
+"""PostgreSQL's own parser, by the Python library pglast."""
+
+import os
+import re
+import sys
+
+from judging.faults import NO_PROGRAM, Fault, Unread
+
+# Debian's packages are for this Python, which need not be the first one on the path.
+SYSTEM_PYTHON = "/usr/bin/python3"
+TRIED = "JUDGE_TRIED_SYSTEM_PYTHON"
+TEXT_CAST = re.compile(r"CAST\(('(?:[^']|'')*') AS text\)")
+MISSING = (
+    "pglast, which is PostgreSQL's parser as a Python library, is not installed: "
+    "on Debian 12 `apt-get install python3-pglast` installs it"
+)
+
+
+def has_pglast():
+    try:
+        import pglast  # noqa: F401
+    except ImportError:
+        return False
+    return True
+
+
+def want_pglast(script, words):
+    """Goes on where pglast is, and else runs the script once more by the system's Python."""
+    if has_pglast():
+        return
+    if TRIED not in os.environ and os.access(SYSTEM_PYTHON, os.X_OK):
+        sys.stdout.flush()
+        os.execve(SYSTEM_PYTHON, [SYSTEM_PYTHON, script, *words], os.environ | {TRIED: "1"})
+    raise Fault(NO_PROGRAM, MISSING)
+
+
+def parsed(text):
+    """The tree of an expression."""
+    import pglast
+    try:
+        statement = pglast.parse_sql(f"SELECT ({text})")
+    except pglast.parser.ParseError as fault:
+        raise Unread(text) from fault
+    return statement[0].stmt.targetList[0].val
+
+
+def written(node):
+    """An expression as SQL, its text constants without the cast that the server writes."""
+    from pglast.stream import RawStream
+    return TEXT_CAST.sub(r"\1", RawStream()(node)).replace("pg_catalog.", "")
+
+
+def kind_of(node):
+    return type(node).__name__
+
+
+def name_of(parts):
+    """A name of an operator, a function or a type, without the schema of the server's own."""
+    words = [part.sval for part in parts]
+    if len(words) > 1 and words[0] == "pg_catalog":
+        words = words[1:]
+    return ".".join(words)
+
+
+def columns_of(text):
+    """The columns that an expression names, in the order of their first mention."""
+    found = {}
+    try:
+        gather(parsed(text), found)
+    except Unread:
+        return []
+    return list(found)
+
+
+def gather(node, found):
+    if kind_of(node) == "ColumnRef":
+        found.update({part.sval: True for part in node.fields if kind_of(part) == "String"})
+    elif isinstance(node, tuple):
+        for part in node:
+            gather(part, found)
+    elif hasattr(node, "__slots__") and hasattr(node, "__iter__"):
+        for name in node:
+            gather(getattr(node, name), found)

@@ -1,0 +1,101 @@
+"""A row that shows a fault, as values of the server's types."""
+
+import itertools
+from dataclasses import dataclass
+
+from judging import server_types
+
+# Of columns that only functions name, so many plain rows are tried.
+MOST_ROWS = 12
+
+
+@dataclass
+class Confirmed:
+    """What the server says of a row: whether its constraints take it, and who gets it."""
+
+    is_accepted: bool
+    takers: list
+
+
+def codes_of(trial):
+    """The code of each printed column in the row of pgshard, None for NULL. The first column is the key."""
+    return {coded: None if text == "NULL" else coded.code_printed(text)
+            for coded, text in zip(trial.rewritten.codings, trial.made.row[1:])}
+
+
+def candidates(read, trial):
+    """Rows of the server that may be the row of pgshard, as constants by the names of columns.
+
+    There is one, unless a filter has a function of a column: then some plain values of the column are tried.
+    """
+    codes = codes_of(trial)
+    choices = {column["name"]: values_of(column, codes) for column in read.shares.table["columns"]}
+    for values in itertools.islice(itertools.product(*choices.values()), MOST_ROWS):
+        yield dict(zip(choices, values))
+
+
+def values_of(column, codes):
+    """What a column may hold, the likeliest first."""
+    name = column["name"]
+    for coded, code in codes.items():
+        if coded.subject.is_column and coded.subject.columns == (name,):
+            if code is None:
+                return ["NULL"]
+            if coded.value(code) is not None:
+                return [coded.constant(code)]
+    plain = server_types.plain_literal(column)
+    named = {coded: code for coded, code in codes.items() if name in coded.subject.columns}
+    if not named:
+        return [plain] if column["not_null"] else ["NULL"]
+    is_null = any(code is None for code in named.values())
+    words = [coded.constant(code) for coded, code in named.items()
+             if code is not None and coded.subject.type in ("text", column["type"]) and coded.value(code) is not None]
+    return list(dict.fromkeys([
+        *(["NULL"] if is_null and not column["not_null"] else []), *words, plain,
+        *([] if column["not_null"] else ["NULL"])]))
+
+
+def is_fault(takers, purpose):
+    return len(takers) > 1 if purpose == "partial" else len(takers) != 1
+
+
+def columns_that_matter(read):
+    """The columns that a filter names, in the table's order."""
+    named = set().union(*read.named.values()) if read.named else set()
+    return [column["name"] for column in read.shares.table["columns"] if column["name"] in named]
+
+
+def remarks(read, row):
+    """What the server does to a row that judge does not read, where it concerns a column that a filter names."""
+    table, found = read.shares.table, []
+    named = set(columns_that_matter(read))
+    by_number = {column["number"]: column["name"] for column in table["columns"]}
+    for column in table["columns"]:
+        if column["name"] in named and column["generated"]:
+            found.append(f"column {column['name']} is generated; its expression is not read, so it may never be this")
+        if column["name"] in named and column["kind"] == "d":
+            found.append(f"column {column['name']} is of a domain, whose constraints are not read")
+    for reference in table["references"]:
+        columns = [by_number.get(it) for it in reference["numbers"] or ()]
+        if named & set(columns):
+            found.append(f"foreign key {reference['name']} on {', '.join(columns)} is not read, and may refuse this row")
+    for name, (_, form, columns) in read.unread.items():
+        if named & set(columns):
+            found.append(f"{name} is not read, since it has {' '.join(form.split())}, and may refuse this row")
+    if table["triggers"]:
+        found.append(f"trigger {', '.join(table['triggers'])} is not read, and may change or refuse this row")
+    return found
+
+
+def opaque_texts(trial):
+    return [it.subject.sql for it in trial.rewritten.codings if not it.subject.is_column]
+
+
+def words_of_unconfirmed(trial):
+    """Why a row of pgshard is not told as one of the server."""
+    listed = list(dict.fromkeys(" ".join(it.split()) for it in opaque_texts(trial)))
+    if listed:
+        return (
+            f"of {' and '.join(listed)} nothing is known but the type, so only a proof counts, and there is none; "
+            "a proof is found where the filters say NOT, IS NULL or an equality of one and the same expression")
+    return "the server does not take the row that pgshard found, or sends it elsewhere"

@@ -1,0 +1,103 @@
+"""Questions to the server about values: whether it takes a row, who gets it, and how it orders texts.
+
+They are asked in one psql, which can only read, and name no table.
+"""
+
+import json
+import subprocess
+import uuid
+
+from judging.faults import NO_ANSWER, Fault
+from judging.rows import Confirmed
+from judging.server_types import quoted
+
+SETUP = r"""
+\set QUIET on
+\set ECHO none
+\timing off
+\pset pager off
+\pset expanded off
+\pset format unaligned
+\pset recordsep '\n'
+\pset tuples_only on
+SET default_transaction_read_only = on;
+SET search_path = pg_catalog;
+SET client_encoding = 'UTF8';
+SET standard_conforming_strings = on;
+SET timezone = 'UTC';
+SET datestyle = 'ISO, YMD';
+SET statement_timeout = '60s';
+"""
+
+
+class Session:
+    """A psql that is started with the first question."""
+
+    def __init__(self, words):
+        self.words = words
+        self.process = None
+
+    def ask(self, query):
+        """The answer of a query, '' where it fails."""
+        if self.process is None:
+            self.process = subprocess.Popen(
+                ["psql", "-X", "-q", *self.words], stdin=subprocess.PIPE, stdout=subprocess.PIPE,
+                stderr=subprocess.DEVNULL, encoding="utf-8", errors="surrogateescape")
+            self.process.stdin.write(SETUP)
+        end = f"end {uuid.uuid4()}"
+        self.process.stdin.write(f"{query};\n\\echo\n\\echo '{end}'\n")
+        self.process.stdin.flush()
+        lines = []
+        for line in self.process.stdout:
+            if line.rstrip("\n") == end:
+                return "".join(lines).removesuffix("\n").removesuffix("\n")
+            lines.append(line)
+        raise Fault(NO_ANSWER, "the connection to the server is lost")
+
+    def close(self):
+        if self.process is not None:
+            self.process.stdin.close()
+            self.process.stdout.close()
+            self.process.wait()
+
+    def sorted_texts(self, collation, texts):
+        """Texts in the order of a collation; the server tells those that are equal in it apart by their bytes."""
+        listed = quoted(json.dumps(sorted(texts)))
+        name = '"' + collation.replace('"', '""') + '"'
+        answer = self.ask(
+            f"SELECT json_agg(x ORDER BY x COLLATE {name}) FROM json_array_elements_text({listed}) AS t (x)")
+        if not answer:
+            raise Fault(NO_ANSWER, f"the server does not order texts by {name}")
+        return json.loads(answer)
+
+    def confirmed(self, read, takers, row):
+        """Whether the constraints take a row, and which of the takers get it, by the server's own evaluation.
+
+        Where it cannot say, as at a value that a type or a domain refuses, the row is not taken.
+        """
+        shares = read.shares
+        filters = {name: text for name, text in shares.filters.items() if name in read.filters}
+        texts = [f"({text or 'true'}) IS TRUE" for text in filters.values()]
+        texts += [f"({text}) IS NOT FALSE" for text in self.checks(read)]
+        values = ", ".join(value_text(column, row[column["name"]]) for column in shares.table["columns"])
+        answer = self.ask(f"SELECT json_build_array({', '.join(texts) or 'true'}) FROM (SELECT {values}) AS the_row")
+        if not answer:
+            return Confirmed(False, [])
+        found = json.loads(answer)
+        passed = {name for name, value in zip(filters, found) if value}
+        return Confirmed(
+            all(found[len(filters):] if filters else []),
+            [name for name, names in takers.items() if passed & set(names)])
+
+    @staticmethod
+    def checks(read):
+        """The constraints that the server is asked of: those that judge reads, so that no function of the database's
+        own is called."""
+        texts = {f"CHECK {it['name']}": it["text"] for it in read.shares.table["checks"] if it["is_valid"]}
+        texts["the bounds of the partition"] = read.shares.table["partition"]
+        return [texts[name] for name in read.constraints]
+
+
+def value_text(column, literal):
+    collation = f' COLLATE "{column["collation"]}"' if column["collation"] not in (None, "default") else ""
+    return f"{literal}::{column['written']}{collation} AS {column['quoted']}"
