@@ -1,1 +1,229 @@
-def judge(file, options): raise NotImplementedError
+"""A catalog text that is judged as it is, by what it names."""
+
+import re
+from dataclasses import dataclass
+
+from judging import program, report, verdicts
+from judging.faults import BAD_COMMAND, NO_PROGRAM, NOT_READ, NOT_SOUND, SOUND, Fault
+from judging.limits import LIMITS
+from judging.verdicts import Verdict
+
+KINDS = {
+    "BadToken": "this is not SQL, or a quote or a comment that is not closed",
+    "Expected": "something else is expected here",
+    "LeftOut": "PostgreSQL has this form, and pgshard leaves it out",
+    "ColumnList": "the table is published with a list of columns, which pgshard leaves out",
+    "UnknownName": "nothing has this name",
+    "NameTwice": "the name is taken",
+    "TableTwice": "a publication names a table twice, once with a filter",
+    "TypeClash": "the parts of this expression do not fit together",
+    "ZeroDivisor": "a division by zero, at which the server fails",
+    "NoKey": "the table has no primary key",
+    "NullableIndex": "a column of this index may be null, so it cannot identify rows",
+    "NumberTooLarge": "pgshard reads no number past 9223372036854775807, and so not the least bigint",
+    "NameTooLong": "the name has over 63 bytes",
+    "TooDeep": "the filter nests over 64 deep",
+    "TooMany": f"this is past a limit of pgshard: {'; '.join(LIMITS.values())}",
+}
+TOKEN = re.compile(r"""\s+|--[^\n\r]*|/\*|'(?:[^']|'')*'|"(?:[^"]|"")*"|[\w$]+|.""", re.S)
+
+
+@dataclass
+class Table:
+    name: str
+    written: str
+    columns: list
+
+
+@dataclass
+class Names:
+    """What a catalog names, as it is stored and in its order, and all words of its publications, their filters' too."""
+
+    tables: list
+    publications: list
+    subscriptions: list
+    publication_words: set
+
+
+@dataclass
+class Source:
+    """What a report says of where the catalog is from."""
+
+    name: str
+    unpublished: tuple = ()
+
+
+def judge(path, options):
+    """Judges the catalog of a file, and answers the exit status."""
+    if options.explain or options.copied or options.partial or options.catalog or options.subscriber:
+        raise Fault(BAD_COMMAND, "a file is judged as it is: of judge's own options it goes with --all and --json alone")
+    catalog = read_file(path)
+    made = run("make", catalog, catalog)
+    names = names_of(catalog)
+    found = verdicts_of(catalog, names, made) if names.tables else []
+    status = SOUND if found and all(it.answer == verdicts.SOUND for it in found) else NOT_SOUND
+    answer = report.Report(Source(path), [], None, found, {}, status)
+    print(report.json_text(answer) if options.json else report.text(answer, options.all))
+    return status
+
+
+def read_file(path):
+    try:
+        with open(path, encoding="utf-8", newline="") as file:
+            return file.read()
+    except (OSError, UnicodeDecodeError) as fault:
+        raise Fault(BAD_COMMAND, f"cannot read {path}: {fault}") from fault
+
+
+def run(subcommand, text, catalog):
+    output = program.run(subcommand, text)
+    if isinstance(output, program.Unreadable):
+        raise Fault(NOT_READ, why_not_read(output, catalog))
+    return output
+
+
+def why_not_read(fault, catalog):
+    if fault.part != "catalog":
+        return "refused: the catalog is not UTF-8, has over 16,777,216 bytes, or has a line that is %% and nothing else"
+    before = catalog.encode("utf-8", "surrogateescape")[:fault.place].decode("utf-8", "surrogateescape")
+    at = len(before)
+    begin = before.rfind("\n") + 1
+    line = catalog[begin:].split("\n", 1)[0].rstrip("\r")
+    there = " ".join(catalog[at:].split("\n", 1)[0][:60].split()) or "the end of the text"
+    # A long line is shown from a little before the place on.
+    cut = max(0, at - begin - 70)
+    return "\n".join([
+        f"refused: line {before.count(chr(10)) + 1} of the catalog, {fault.kind} at: {there}",
+        f"    {line[cut:cut + 110]}",
+        f"    {' ' * (at - begin - cut)}^ {KINDS.get(fault.kind, fault.kind)}",
+    ])
+
+
+def tokens_of(text):
+    """The tokens of a catalog, without white space and comments."""
+    at = 0
+    while at < len(text):
+        token = TOKEN.match(text, at).group()
+        if token == "/*":
+            at = end_of_comment(text, at)
+            continue
+        at += len(token)
+        if not token.isspace() and not token.startswith("--"):
+            yield token
+
+
+def end_of_comment(text, begin):
+    depth = 0
+    for mark in re.finditer(r"/\*|\*/", text[begin:]):
+        depth += 1 if mark.group() == "/*" else -1
+        if depth == 0:
+            return begin + mark.end()
+    return len(text)
+
+
+def statements_of(text):
+    statement = []
+    for token in tokens_of(text):
+        if token == ";":
+            yield statement
+            statement = []
+        else:
+            statement.append(token)
+
+
+def stored(token):
+    return token[1:-1].replace('""', '"') if token.startswith('"') else token.lower()
+
+
+def names_of(catalog):
+    """Of a catalog that pgshard reads."""
+    names = Names([], [], [], set())
+    for statement in statements_of(catalog):
+        match [word.upper() for word in statement[:2]]:
+            case ["CREATE", "TABLE"]:
+                names.tables.append(table_of(statement[2:]))
+            case ["CREATE", "PUBLICATION"]:
+                names.publications.append(stored(statement[2]))
+                names.publication_words.update(stored(token) for token in statement[3:])
+            case ["CREATE", "SUBSCRIPTION"]:
+                names.subscriptions.append(stored(statement[2]))
+    return names
+
+
+def table_of(tokens):
+    begin = tokens.index("(")
+    name = ".".join(stored(token) for token in tokens[:begin] if token != ".")
+    columns, depth = [], 0
+    for before, token in zip(tokens[begin:], tokens[begin + 1:]):
+        depth += (before == "(") - (before == ")")
+        if depth == 1 and before in "(," and token.upper() != "PRIMARY":
+            columns.append(stored(token))
+    return Table(name if "." in tokens[:begin] else f"public.{name}", "".join(tokens[:begin]), columns)
+
+
+def verdicts_of(catalog, names, made):
+    """What is found of each table. `make` prints only certificates that the check accepts; the check of all tables
+    together says what else is refused."""
+    answers, at = [], 0
+    for table in names.tables:
+        answer, at = program.made_of(made, at, table.name, names.subscriptions)
+        answers.append(answer)
+    refused, last = check(catalog, names, [it.certificate for it in answers if it.certificate])
+    missing = words_of_missing(last) if last.startswith("refused PublishMissing ") else None
+    if missing is None and last not in ("accepted", "refused CertCount"):
+        raise Fault(NO_PROGRAM, f"pgshard check answers {last}")
+    found = []
+    for table, answer in zip(names.tables, answers):
+        verdict = verdict_of(table, answer, names)
+        verdict.because.extend(it for it in (refused.get(table.name), missing) if it)
+        if verdict.answer == verdicts.SOUND and verdict.because:
+            verdict.answer = verdicts.REFUSED
+        found.append(verdict)
+    return found
+
+
+def verdict_of(table, answer, names):
+    if answer.certificate:
+        return Verdict(table.name, verdicts.SOUND, certificate=answer.certificate)
+    if answer.row is None:
+        return Verdict(table.name, verdicts.NOT_DECIDED, [verdicts.words_of_made(answer)])
+    row = dict(zip(table.columns, answer.row))
+    matters = [it for it in table.columns if it in names.publication_words]
+    return Verdict(table.name, verdicts.NOT_SOUND, row=row, takers=answer.owners, matters=matters)
+
+
+def check(catalog, names, certificates):
+    """Why tables are refused, by their names, and the last answer of `pgshard check`.
+
+    The check answers its first reason alone. To see those of other tables, too, it is asked again with an identity by
+    which the first table has no such reason.
+    """
+    refused = {}
+    while True:
+        text = "".join([catalog, "\n%%\n", *(f"{certificate}\n" for certificate in certificates)])
+        last = run("check", text, catalog).removesuffix("\n")
+        table, words = refusal_of(last, names)
+        if table is None or table.name in refused:
+            return refused, last
+        refused[table.name] = words
+        catalog += f"\nALTER TABLE {table.written} REPLICA IDENTITY FULL;"
+
+
+def refusal_of(line, names):
+    """The table whose identity the check refuses, if it refuses one, and what an operator is told."""
+    for table in names.tables:
+        if line == f"refused NoIdentity {table.name}":
+            return table, "it has no replica identity that can be used, so the server refuses its updates and deletes"
+        for publication in names.publications:
+            for column in table.columns:
+                if line == f"refused NotCovered {publication} {table.name} {column}":
+                    return table, (
+                        f"the filter of publication {publication} names column {column}, which is not in the table's "
+                        "replica identity, so the server refuses its updates and deletes"
+                    )
+    return None, None
+
+
+def words_of_missing(line):
+    publication, operation = line.removeprefix("refused PublishMissing ").rsplit(" ", 1)
+    return f"publication {publication}, which has a subscriber, does not publish {operation}"

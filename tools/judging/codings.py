@@ -199,6 +199,7 @@ class Labels(Coding):
     """
 
     def __init__(self, subject, constants):
+        self.subject = subject
         self.limit = server_types.length_limit(subject.type, subject.modifier)
         self.words = sorted({self.word(it) for it in constants if self.is_possible(it)})
         super().__init__(subject, "text", 0, len(self.words))
@@ -213,7 +214,7 @@ class Labels(Coding):
     def is_possible(self, value):
         if isinstance(value, Point):
             return True
-        is_cut = self.limit is not None and value != value.rstrip(" ")
+        is_cut = self.subject.type == "bpchar" and value != value.rstrip(" ")
         return not is_cut and (self.limit is None or len(value) <= self.limit)
 
     def ranges_of(self, op, value):

@@ -4,7 +4,8 @@ They are given to pgshard as constraints. Each is a law of arithmetic or of NULL
 """
 
 from judging import codings, ranges
-from judging.formulas import IsNull, Within, both, either, leaves_of, negation
+from judging.formulas import IsNull, Subject, Within, both, either, leaves_of, negation
+from judging.rewriting import free_name
 
 # Facts of more pieces of a column than these would only make the filters long.
 MOST_PIECES = 100
@@ -76,13 +77,15 @@ def facts_of_nulls(rewritten, not_null_columns):
     for coding in rewritten.codings:
         for name in coding.subject.columns:
             by_column.setdefault(name, []).append(coding)
-    facts, columns = [], {}
-    for name, shared in by_column.items():
-        if name not in not_null_columns and len(shared) > 1:
-            columns[name] = column_coding(rewritten, name, shared)
-    for coding in list(rewritten.codings):
+    shared = {name for name, codings_of in by_column.items() if len(codings_of) > 1}
+    asked = [it for it in rewritten.codings if shared & set(it.subject.columns) - not_null_columns]
+    columns = {
+        name: column_coding(rewritten, name, by_column[name])
+        for coding in asked for name in coding.subject.columns if name not in not_null_columns}
+    facts = []
+    for coding in asked:
         names = [it for it in coding.subject.columns if it not in not_null_columns]
-        if not names or not all(it in columns for it in names) or coding in columns.values():
+        if coding in columns.values():
             continue
         of_columns = either(*(IsNull(columns[it]) for it in names))
         if coding.subject.is_strict:
@@ -94,11 +97,9 @@ def facts_of_nulls(rewritten, not_null_columns):
 
 def column_coding(rewritten, name, shared):
     """The coding of a column itself; one is made where only expressions over it are asked for."""
-    for coding in shared:
-        if coding.subject.is_column:
+    for coding in [*shared, *rewritten.codings]:
+        if coding.subject.is_column and coding.subject.columns == (name,):
             return coding
-    from judging.formulas import Subject
-    from judging.rewriting import free_name
     made = codings.Nulls(Subject(sql=name, type="any", columns=(name,), is_column=True))
     made.name = free_name(name, {it.name for it in rewritten.codings})
     rewritten.codings.append(made)

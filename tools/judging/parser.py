@@ -47,7 +47,12 @@ def parsed(text):
 def written(node):
     """An expression as SQL, its text constants without the cast that the server writes."""
     from pglast.stream import RawStream
-    return TEXT_CAST.sub(r"\1", RawStream()(node)).replace("pg_catalog.", "")
+    return TEXT_CAST.sub(r"\1", RawStream()(node))
+
+
+def shown(text):
+    """SQL as an operator reads it, in one line."""
+    return " ".join(text.replace("pg_catalog.", "").split())
 
 
 def kind_of(node):

@@ -4,6 +4,7 @@ import itertools
 from dataclasses import dataclass
 
 from judging import server_types
+from judging.parser import shown
 
 # Of columns that only functions name, so many plain rows are tried.
 MOST_ROWS = 12
@@ -93,7 +94,7 @@ def opaque_texts(trial):
 
 def words_of_unconfirmed(trial):
     """Why a row of pgshard is not told as one of the server."""
-    listed = list(dict.fromkeys(" ".join(it.split()) for it in opaque_texts(trial)))
+    listed = list(dict.fromkeys(shown(it) for it in opaque_texts(trial)))
     if listed:
         return (
             f"of {' and '.join(listed)} nothing is known but the type, so only a proof counts, and there is none; "

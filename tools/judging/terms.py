@@ -21,7 +21,7 @@ SAME_VALUE = {
     "float8": {"float8"},
     "text": {"text", "varchar"},
     "varchar": {"text", "varchar"},
-    "bpchar": {"bpchar", "text"},
+    "bpchar": {"bpchar", "text", "varchar"},
 }
 
 

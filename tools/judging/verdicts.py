@@ -5,7 +5,7 @@ from dataclasses import dataclass, field
 
 from judging import catalogs, database, facts, formulas, limits, program, rows
 from judging.faults import Unread
-from judging.parser import columns_of
+from judging.parser import columns_of, shown
 from judging.rewriting import rewritten
 from judging.terms import Reader
 
@@ -102,12 +102,8 @@ def filter_of(reader, publication, table, text):
     except Unread as fault:
         advice = f": {fault.advice}" if fault.advice else ""
         raise NotRead(
-            f"publication {publication} publishes {database.full_name(table)} where {one_line(text)}, and judge does "
-            f"not read {one_line(fault.form)}{advice}") from fault
-
-
-def one_line(text):
-    return " ".join(text.split())
+            f"publication {publication} publishes {database.full_name(table)} where {shown(text)}, and judge does "
+            f"not read {shown(fault.form)}{advice}") from fault
 
 
 def constraint_texts(shares):
@@ -135,13 +131,10 @@ def judged_as_copied(db, read, name, sort, confirm):
 
 def decided(db, read, name, takers, purpose, sort, confirm):
     """Tries the filters alone, then with facts, then with what the server enforces; the first proof counts."""
-    ways = trials_of(read, takers)
     verdict = None
-    for with_facts, constraints in ways:
+    for with_facts, constraints in trials_of(read):
         trial = trial_of(db, read, takers, purpose, with_facts, constraints, sort)
-        limit = trial.catalog is None
-        if limit:
-            verdict = verdict or Verdict(name, NOT_DECIDED, [trial.made])
+        if with_facts and not trial.constraints:
             continue
         answer = program.run("make", trial.catalog)
         if isinstance(answer, program.Unreadable):
@@ -150,11 +143,13 @@ def decided(db, read, name, takers, purpose, sort, confirm):
         trial.made, _ = program.made_of(answer, 0, name, catalogs.subscriber_names(takers, purpose))
         if trial.made.certificate:
             return accepted(name, trial, purpose)
-        verdict = without_proof(db, read, name, takers, purpose, trial, confirm)
+        verdict = without_proof(read, name, takers, purpose, trial, confirm)
+        if verdict.answer == NOT_SOUND:
+            break
     return verdict
 
 
-def trials_of(read, takers):
+def trials_of(read):
     """With facts or without, and with which constraints. The last one is the one that rows are taken from."""
     relevant = {}
     names = set().union(*(columns for columns in read.named.values())) if read.named else set()
@@ -211,11 +206,11 @@ def accepted(name, trial, purpose):
     return verdict
 
 
-def without_proof(db, read, name, takers, purpose, trial, confirm):
+def without_proof(read, name, takers, purpose, trial, confirm):
     """A row that shows a fault, if the server says the same of it, and else why nothing is known."""
     verdict = Verdict(name, NOT_DECIDED, catalog=trial.catalog, trial=trial)
     if trial.made.row is None:
-        verdict.because.append(words_of_unknown(trial))
+        verdict.because.append(words_of_made(trial.made))
         return verdict
     for row in rows.candidates(read, trial):
         found = confirm(read, takers, row)
@@ -226,3 +221,14 @@ def without_proof(db, read, name, takers, purpose, trial, confirm):
             return verdict
     verdict.because.append(rows.words_of_unconfirmed(trial))
     return verdict
+
+
+def words_of_made(made):
+    """Why `make` has neither a certificate nor a row."""
+    if made.word == "too large":
+        return (
+            "it is past a limit of pgshard: 1,000,000 nodes of a certificate, or 64 splits on a path of one; split the "
+            "table by fewer columns, or by ranges of one")
+    return (
+        "pgshard found neither a proof that its rows are divided nor a row that shows a fault; split the table by one "
+        "column, or say one filter as NOT of another")

@@ -1,0 +1,308 @@
+"""Databases as people have them, with the truth of each table worked out by hand.
+
+What is expected of a table is `sound`, `refused`, `not read`, `not decided`, or `not sound:` and who gets the row.
+"""
+
+from dataclasses import dataclass, field
+
+
+@dataclass
+class Case:
+    """A database, the words for judge, and for each table what is true of it. `told` has parts of the lines."""
+
+    name: str
+    setup: str
+    truth: dict
+    words: list = field(default_factory=list)
+    told: list = field(default_factory=list)
+    # Tables whose row the server may refuse, as judge tells beside it.
+    refusing: list = field(default_factory=list)
+
+
+DATABASES = [
+    # A day is in neither half, and the order's id is a uuid.
+    Case("orders_by_day", """
+        CREATE TABLE orders (id uuid PRIMARY KEY, region integer NOT NULL, placed date NOT NULL);
+        ALTER TABLE orders REPLICA IDENTITY FULL;
+        CREATE PUBLICATION old FOR TABLE orders WHERE (placed < '2024-01-01');
+        CREATE PUBLICATION new FOR TABLE orders WHERE (placed > '2024-01-01');
+    """, {"orders": "not sound:"}, told=["placed = '2024-01-01'", "'00000000-0000-0000-0000-000000000000'"]),
+    # The same day by BETWEEN and >=: whole days leave no gap between 2023-12-31 and 2024-01-01.
+    Case("whole_days", """
+        CREATE TABLE orders (id uuid PRIMARY KEY, placed date NOT NULL);
+        ALTER TABLE orders REPLICA IDENTITY FULL;
+        CREATE PUBLICATION early FOR TABLE orders WHERE (placed <= '2022-12-31');
+        CREATE PUBLICATION middle FOR TABLE orders WHERE (placed BETWEEN '2023-01-01' AND '2023-12-31');
+        CREATE PUBLICATION late FOR TABLE orders WHERE (placed >= '2024-01-01');
+    """, {"orders": "sound"}),
+    # Moments are finer than days: 23:59:59 to 0:00 is a gap, and NULL is in no month.
+    Case("months_of_moments", """
+        CREATE TABLE events (id bigint PRIMARY KEY, at timestamptz NOT NULL);
+        CREATE TABLE visits (id bigint PRIMARY KEY, at timestamptz);
+        CREATE TABLE calls (id bigint PRIMARY KEY, at timestamp(0) NOT NULL);
+        CREATE TABLE days (id bigint PRIMARY KEY, at timestamp NOT NULL);
+        ALTER TABLE events REPLICA IDENTITY FULL; ALTER TABLE visits REPLICA IDENTITY FULL;
+        ALTER TABLE calls REPLICA IDENTITY FULL; ALTER TABLE days REPLICA IDENTITY FULL;
+        CREATE PUBLICATION may FOR TABLE events WHERE (at <= '2024-05-31 23:59:59+00'),
+            visits WHERE (at < '2024-06-01 00:00:00+00'), calls WHERE (at <= '2024-05-31 23:59:59'),
+            days WHERE (at::date <= '2024-05-31');
+        CREATE PUBLICATION june FOR TABLE events WHERE (at >= '2024-06-01 00:00:00+00'),
+            visits WHERE (at >= '2024-06-01 00:00:00+00'), calls WHERE (at >= '2024-06-01 00:00:00'),
+            days WHERE (at >= '2024-06-01');
+    """, {"events": "not sound:", "visits": "not sound:", "calls": "sound", "days": "sound"}),
+    # Cents: no numeric(12,2) is between 99.99 and 100, but a numeric without a scale is. NaN is above all.
+    Case("prices", """
+        CREATE TABLE goods (id integer PRIMARY KEY, price numeric(12,2) NOT NULL);
+        CREATE TABLE rates (id integer PRIMARY KEY, rate numeric NOT NULL);
+        CREATE TABLE tops (id integer PRIMARY KEY, price numeric(6,2) NOT NULL);
+        ALTER TABLE goods REPLICA IDENTITY FULL; ALTER TABLE rates REPLICA IDENTITY FULL;
+        ALTER TABLE tops REPLICA IDENTITY FULL;
+        CREATE PUBLICATION cheap FOR TABLE goods WHERE (price <= 99.99), rates WHERE (rate <= 99.99),
+            tops WHERE (price < 100);
+        CREATE PUBLICATION dear FOR TABLE goods WHERE (price >= 100), rates WHERE (rate >= 100),
+            tops WHERE (price BETWEEN 100 AND 9999.99);
+    """, {"goods": "sound", "rates": "not sound:", "tops": "not sound:"}, told=["price = 'NaN'"]),
+    # Halves of all uuids, and a list of tenants that leaves out all others.
+    Case("uuids", """
+        CREATE TABLE halves (id uuid PRIMARY KEY);
+        CREATE TABLE holes (id uuid PRIMARY KEY);
+        CREATE TABLE tenants (id uuid PRIMARY KEY);
+        CREATE PUBLICATION low FOR TABLE halves WHERE (id < '80000000-0000-0000-0000-000000000000'),
+            holes WHERE (id < '80000000-0000-0000-0000-000000000000'),
+            tenants WHERE (id IN ('a0eebc99-9c0b-4ef8-bb6d-6bb9bd380a11', 'b0eebc99-9c0b-4ef8-bb6d-6bb9bd380a11'));
+        CREATE PUBLICATION high FOR TABLE halves WHERE (id >= '80000000-0000-0000-0000-000000000000'),
+            holes WHERE (id > '80000000-0000-0000-0000-000000000000'),
+            tenants WHERE (id = 'c0eebc99-9c0b-4ef8-bb6d-6bb9bd380a11');
+    """, {"halves": "sound", "holes": "not sound:", "tenants": "not sound:"},
+        told=["the row ('80000000-0000-0000-0000-000000000000')", "the row ('00000000-0000-0000-0000-000000000000')"]),
+    # The blanks of a char do not count, so 'D' and 'D ' are one country.
+    Case("countries", """
+        CREATE TABLE people (id integer PRIMARY KEY, country char(2) NOT NULL);
+        CREATE TABLE twice (id integer PRIMARY KEY, country char(2) NOT NULL);
+        ALTER TABLE people REPLICA IDENTITY FULL; ALTER TABLE twice REPLICA IDENTITY FULL;
+        CREATE PUBLICATION germany FOR TABLE people WHERE (country IN ('DE', 'AT')), twice WHERE (country = 'D');
+        CREATE PUBLICATION others FOR TABLE people WHERE (country NOT IN ('DE', 'AT', 'DEU')),
+            twice WHERE (country <> 'DE');
+    """, {"people": "sound", "twice": "not sound: germany others"}, told=["country = 'D'"]),
+    # Remainders have the sign of the number, so -1 has none of 0, 1 and 2; the bits of -1 are those of 3.
+    Case("remainders", """
+        CREATE TABLE plain (id bigint PRIMARY KEY);
+        CREATE TABLE positive (id bigint PRIMARY KEY CHECK (id > 0));
+        CREATE TABLE bits (id integer PRIMARY KEY);
+        CREATE TABLE absolute (id integer PRIMARY KEY);
+        CREATE PUBLICATION p0 FOR TABLE plain WHERE (mod(id, 3) = 0), positive WHERE (mod(id, 3) = 0),
+            bits WHERE (id & 3 = 0), absolute WHERE (abs(id % 3) = 0);
+        CREATE PUBLICATION p1 FOR TABLE plain WHERE (mod(id, 3) = 1), positive WHERE (mod(id, 3) = 1),
+            bits WHERE (id & 3 = 1), absolute WHERE (abs(id % 3) = 1);
+        CREATE PUBLICATION p2 FOR TABLE plain WHERE (mod(id, 3) = 2), positive WHERE (mod(id, 3) = 2),
+            bits WHERE (id & 3 >= 2), absolute WHERE (abs(id % 3) = 2);
+    """, {"plain": "not sound:", "positive": "sound", "bits": "sound", "absolute": "sound"}),
+    # The sign is asked for beside the remainder: below zero all goes to the archive.
+    Case("signs", """
+        CREATE TABLE rows (id bigint PRIMARY KEY);
+        CREATE TABLE zeros (id bigint PRIMARY KEY);
+        CREATE PUBLICATION p0 FOR TABLE rows WHERE (id >= 0 AND id % 4 = 0), zeros WHERE (id > 0 AND id % 2 = 0);
+        CREATE PUBLICATION p1 FOR TABLE rows WHERE (id >= 0 AND id % 4 = 1), zeros WHERE (id > 0 AND id % 2 = 1);
+        CREATE PUBLICATION p2 FOR TABLE rows WHERE (id >= 0 AND id % 4 = 2);
+        CREATE PUBLICATION p3 FOR TABLE rows WHERE (id >= 0 AND id % 4 = 3);
+        CREATE PUBLICATION archive FOR TABLE rows WHERE (id < 0), zeros WHERE (id < 0);
+    """, {"rows": "sound", "zeros": "not sound:"}, told=["the row (0)"]),
+    # One shard of four was split in two by the remainder by eight; in `wrong` the number 7 is left out.
+    Case("split_shard", """
+        CREATE TABLE rows (id bigint PRIMARY KEY, CONSTRAINT is_positive CHECK (id > 0));
+        CREATE TABLE wrong (id bigint PRIMARY KEY CHECK (id > 0));
+        CREATE PUBLICATION p0 FOR TABLE rows WHERE (id % 4 = 0), wrong WHERE (id % 4 = 0);
+        CREATE PUBLICATION p1 FOR TABLE rows WHERE (id % 4 = 1), wrong WHERE (id % 4 = 1);
+        CREATE PUBLICATION p2 FOR TABLE rows WHERE (id % 4 = 2), wrong WHERE (id % 4 = 2);
+        CREATE PUBLICATION p3 FOR TABLE rows WHERE (id % 8 = 3), wrong WHERE (id % 8 = 3);
+        CREATE PUBLICATION p7 FOR TABLE rows WHERE (id % 8 = 7), wrong WHERE (id % 8 = 7 AND id <> 7);
+    """, {"rows": "sound", "wrong": "not sound:"}, told=["the row (7)"]),
+    # NULL of types that are compared with nothing.
+    Case("nulls", """
+        CREATE TABLE jobs (id bigint PRIMARY KEY, result jsonb, tags text[], took interval);
+        CREATE TABLE lost (id bigint PRIMARY KEY, result jsonb, took interval);
+        ALTER TABLE jobs REPLICA IDENTITY FULL; ALTER TABLE lost REPLICA IDENTITY FULL;
+        CREATE PUBLICATION open FOR TABLE jobs WHERE (result IS NULL), lost WHERE (result IS NULL AND took IS NULL);
+        CREATE PUBLICATION done FOR TABLE jobs WHERE (result IS NOT NULL), lost WHERE (result IS NOT NULL);
+    """, {"jobs": "sound", "lost": "not sound:"}),
+    # A shard by a hash: its remainder may be negative. Without these only a proof would count, and there is none.
+    Case("hashes", """
+        CREATE TABLE users (name text PRIMARY KEY);
+        CREATE TABLE lost (name text PRIMARY KEY);
+        CREATE PUBLICATION p0 FOR TABLE users WHERE (hashtext(name) % 3 = 0), lost WHERE (hashtext(name) % 3 = 0);
+        CREATE PUBLICATION p1 FOR TABLE users WHERE (mod(hashtext(name), 3) IN (1, -1)), lost WHERE (hashtext(name) % 3 = 1);
+        CREATE PUBLICATION p2 FOR TABLE users WHERE (abs(hashtext(name) % 3) = 2), lost WHERE (hashtext(name) % 3 = 2);
+    """, {"users": "sound", "lost": "not decided"}, told=["of hashtext(name) nothing is known but the type"]),
+    # Functions of texts: the same function on both sides is a proof, and so is coalesce, which is read as it is.
+    Case("functions", """
+        CREATE TABLE mails (address text PRIMARY KEY);
+        CREATE TABLE regions (id integer PRIMARY KEY, region text);
+        CREATE TABLE paths (path text PRIMARY KEY);
+        CREATE TABLE maybe (path text);
+        CREATE TABLE bodies (body jsonb NOT NULL);
+        ALTER TABLE regions REPLICA IDENTITY FULL; ALTER TABLE maybe REPLICA IDENTITY FULL;
+        ALTER TABLE bodies REPLICA IDENTITY FULL;
+        CREATE PUBLICATION one FOR TABLE mails WHERE (lower(address) < 'm'), regions WHERE (coalesce(region, 'eu') = 'eu'),
+            paths WHERE (path LIKE '/a%'), maybe WHERE (path LIKE '/a%'), bodies WHERE (body ->> 'r' = 'eu');
+        CREATE PUBLICATION two FOR TABLE mails WHERE (lower(address) >= 'm'), regions WHERE (coalesce(region, 'eu') <> 'eu'),
+            paths WHERE (path NOT LIKE '/a%'), maybe WHERE (path NOT LIKE '/a%'), bodies WHERE (body ->> 'r' <> 'eu');
+        CREATE PUBLICATION three FOR TABLE bodies WHERE ((body ->> 'r') IS NULL);
+    """, {"mails": "sound", "regions": "sound", "paths": "sound", "maybe": "not sound:", "bodies": "sound"}),
+    # Texts in order: z itself is in no range of `gap`, and 'm' in both of `twice`.
+    Case("ranges_of_texts", """
+        CREATE TABLE names (name text PRIMARY KEY);
+        CREATE TABLE gap (name text PRIMARY KEY);
+        CREATE TABLE twice (name varchar(20) PRIMARY KEY);
+        CREATE PUBLICATION a FOR TABLE names WHERE (name < 'h'), gap WHERE (name < 'm'), twice WHERE (name <= 'm');
+        CREATE PUBLICATION h FOR TABLE names WHERE (name >= 'h' AND name < 'q'), gap WHERE (name > 'm' AND name <= 'z'),
+            twice WHERE (name >= 'm');
+        CREATE PUBLICATION q FOR TABLE names WHERE (name >= 'q'), gap WHERE (name > 'z' OR name = 'm');
+    """, {"names": "sound", "gap": "sound", "twice": "not sound: a h"}, told=["the row ('m')"]),
+    # Two columns of one row, which are ordered one way or the other, or one is NULL.
+    Case("two_columns", """
+        CREATE TABLE spans (id integer PRIMARY KEY, low integer NOT NULL, high integer NOT NULL);
+        CREATE TABLE plans (id integer PRIMARY KEY, due date, done date);
+        CREATE TABLE lost (id integer PRIMARY KEY, due date, done date);
+        ALTER TABLE spans REPLICA IDENTITY FULL; ALTER TABLE plans REPLICA IDENTITY FULL;
+        ALTER TABLE lost REPLICA IDENTITY FULL;
+        CREATE PUBLICATION well FOR TABLE spans WHERE (low <= high), plans WHERE (done <= due), lost WHERE (done <= due);
+        CREATE PUBLICATION ill FOR TABLE spans WHERE (high < low), plans WHERE (due < done OR due IS NULL OR done IS NULL),
+            lost WHERE (due < done OR due IS NULL);
+    """, {"spans": "sound", "plans": "sound", "lost": "not sound:"}, told=["done = NULL"]),
+    # A partitioned table that is published by its root is one table.
+    Case("by_the_root", """
+        CREATE TABLE log (id bigint, day date NOT NULL, PRIMARY KEY (id, day)) PARTITION BY RANGE (day);
+        CREATE TABLE log_2023 PARTITION OF log FOR VALUES FROM ('2023-01-01') TO ('2024-01-01');
+        CREATE TABLE log_rest PARTITION OF log DEFAULT;
+        CREATE PUBLICATION even FOR TABLE log WHERE (id % 2 = 0) WITH (publish_via_partition_root);
+        CREATE PUBLICATION odd FOR TABLE log WHERE (id % 2 <> 0) WITH (publish_via_partition_root);
+    """, {"log": "sound"}),
+    # Partitions that are published themselves: the bounds of 2023 hold for its rows.
+    Case("by_partitions", """
+        CREATE TABLE log (id bigint, day date NOT NULL, PRIMARY KEY (id, day)) PARTITION BY RANGE (day);
+        CREATE TABLE log_2023 PARTITION OF log FOR VALUES FROM ('2023-01-01') TO ('2024-01-01');
+        CREATE TABLE log_rest PARTITION OF log DEFAULT;
+        CREATE PUBLICATION spring FOR TABLE log_2023 WHERE (day BETWEEN '2023-01-01' AND '2023-06-30'), log_rest;
+        CREATE PUBLICATION autumn FOR TABLE log_2023 WHERE (day BETWEEN '2023-07-01' AND '2023-12-31');
+    """, {"log_2023": "sound", "log_rest": "sound"}),
+    # No key at all, under FULL and without.
+    Case("no_key", """
+        CREATE TABLE kept (kind integer NOT NULL, note text);
+        CREATE TABLE refused (kind integer NOT NULL, note text);
+        ALTER TABLE kept REPLICA IDENTITY FULL;
+        CREATE PUBLICATION one FOR TABLE kept WHERE (kind = 1), refused WHERE (kind = 1);
+        CREATE PUBLICATION other FOR TABLE kept WHERE (kind <> 1), refused WHERE (kind <> 1);
+    """, {"kept": "sound", "refused": "refused"}),
+    # A list of columns says nothing of rows, but the identity has to be in it.
+    Case("column_lists", """
+        CREATE TABLE good (id integer PRIMARY KEY, a text, b text);
+        CREATE TABLE bad (id integer PRIMARY KEY, a text, b text);
+        CREATE PUBLICATION low FOR TABLE good (id, a) WHERE (id < 5), bad (a);
+        CREATE PUBLICATION high FOR TABLE good (id, a) WHERE (id >= 5);
+    """, {"good": "sound", "bad": "refused"}, told=["the column list of publication low lacks column id"]),
+    # What a CHECK allows is split; a CHECK that is not validated allows all.
+    Case("checks", """
+        CREATE TABLE orders (id integer PRIMARY KEY, status varchar(10) NOT NULL
+            CONSTRAINT known CHECK (status IN ('new', 'paid', 'sent')));
+        CREATE TABLE open (id integer PRIMARY KEY, status text CHECK (status IN ('new', 'paid', 'sent')));
+        CREATE TABLE late (id integer PRIMARY KEY, status text NOT NULL);
+        ALTER TABLE late ADD CONSTRAINT known CHECK (status IN ('new', 'paid', 'sent')) NOT VALID;
+        ALTER TABLE orders REPLICA IDENTITY FULL; ALTER TABLE open REPLICA IDENTITY FULL;
+        ALTER TABLE late REPLICA IDENTITY FULL;
+        CREATE PUBLICATION shop FOR TABLE orders WHERE (status = 'new' OR status = 'paid'),
+            open WHERE (status = 'new' OR status = 'paid'), late WHERE (status = 'new' OR status = 'paid');
+        CREATE PUBLICATION stock FOR TABLE orders WHERE (status = 'sent'), open WHERE (status = 'sent'),
+            late WHERE (status = 'sent');
+    """, {"orders": "sound", "open": "not sound:", "late": "not sound:"}, refusing=["late"], told=["status = NULL"]),
+    # A price is positive, and an amount has its own CHECK: the row has to meet both.
+    Case("checks_beside", """
+        CREATE TABLE goods (id integer PRIMARY KEY CHECK (id > 100), kind integer,
+            price numeric(8,2) NOT NULL CHECK (price > 0), amount integer NOT NULL CHECK (amount BETWEEN 10 AND 20));
+        ALTER TABLE goods REPLICA IDENTITY FULL;
+        CREATE PUBLICATION one FOR TABLE goods WHERE (kind < 5);
+        CREATE PUBLICATION other FOR TABLE goods WHERE (kind >= 5);
+    """, {"goods": "not sound:"}, told=["kind = NULL"]),
+    # What judge does not read may refuse the row, and it says so.
+    Case("not_read_beside", """
+        CREATE TABLE regions (id integer PRIMARY KEY);
+        CREATE TABLE shops (id integer PRIMARY KEY, region integer REFERENCES regions, tripled integer
+            GENERATED ALWAYS AS (3 * id) STORED);
+        CREATE TABLE triples (id integer PRIMARY KEY, tripled integer GENERATED ALWAYS AS (3 * id) STORED);
+        CREATE TABLE stamped (id integer PRIMARY KEY, at date);
+        CREATE FUNCTION stamp() RETURNS trigger LANGUAGE plpgsql AS $$BEGIN NEW.at := '2024-01-01'; RETURN NEW; END$$;
+        CREATE TRIGGER stamping BEFORE INSERT OR UPDATE ON stamped FOR EACH ROW EXECUTE FUNCTION stamp();
+        ALTER TABLE shops REPLICA IDENTITY FULL; ALTER TABLE triples REPLICA IDENTITY FULL;
+        ALTER TABLE stamped REPLICA IDENTITY FULL;
+        CREATE PUBLICATION one FOR TABLE regions, shops WHERE (region <= 5), stamped WHERE (at IS NOT NULL),
+            triples WHERE (tripled % 3 = 0);
+        CREATE PUBLICATION two FOR TABLE shops WHERE (region >= 5);
+    """, {"regions": "sound", "shops": "not sound:", "stamped": "not sound:", "triples": "not sound:"},
+        refusing=["stamped", "triples"],
+        told=["foreign key shops_region_fkey on region is not read", "trigger stamping is not read",
+              "column tripled is generated"]),
+    # A small table for all, and one of which only some rows are published.
+    Case("on_purpose", """
+        CREATE TABLE rates (currency char(3) PRIMARY KEY, rate numeric);
+        CREATE TABLE drafts (id integer PRIMARY KEY, state integer);
+        CREATE TABLE twice (id integer PRIMARY KEY, state integer);
+        CREATE TABLE few (id integer PRIMARY KEY);
+        ALTER TABLE drafts REPLICA IDENTITY FULL; ALTER TABLE twice REPLICA IDENTITY FULL;
+        CREATE PUBLICATION one FOR TABLE rates, drafts WHERE (state = 1), twice WHERE (state = 1), few;
+        CREATE PUBLICATION two FOR TABLE rates, drafts WHERE (state = 2), twice WHERE (state <= 2), few WHERE (id > 0);
+    """, {"rates": "sound", "drafts": "sound", "twice": "not sound: one two", "few": "not sound:"},
+        words=["--copied", "rates", "--copied", "few", "--partial", "drafts", "--partial", "public.twice"],
+        told=["of which two does not get each row"]),
+    # A form that is not read silences its own table alone.
+    Case("not_read", """
+        CREATE TABLE one (id integer PRIMARY KEY);
+        CREATE TABLE two (id integer PRIMARY KEY);
+        CREATE TABLE three (id integer PRIMARY KEY);
+        CREATE PUBLICATION p FOR TABLE one WHERE (id + 1 > 5), two, three WHERE (abs(id) % 2 = 1);
+    """, {"one": "not read", "two": "sound", "three": "not read"},
+        told=["publication p publishes public.one where ((id + 1) > 5), and judge does not read id + 1",
+              "take abs of the remainder, as in abs(x % 4)"]),
+    # Ranges of tenants in two schemas; the ranges of one meet at 200.
+    Case("tenants", """
+        CREATE SCHEMA app;
+        CREATE TABLE app.accounts (tenant integer, id bigint, PRIMARY KEY (tenant, id));
+        CREATE TABLE app.notes (tenant integer, id bigint, PRIMARY KEY (tenant, id));
+        CREATE PUBLICATION low FOR TABLE app.accounts WHERE (tenant < 100), app.notes WHERE (tenant < 100);
+        CREATE PUBLICATION middle FOR TABLE app.accounts WHERE (tenant BETWEEN 100 AND 199),
+            app.notes WHERE (tenant BETWEEN 100 AND 200);
+        CREATE PUBLICATION high FOR TABLE app.accounts WHERE (tenant >= 200), app.notes WHERE (tenant >= 200);
+    """, {"app.accounts": "sound", "app.notes": "not sound: london tokyo"},
+        words=["-v", "subscriptions=london=low,middle tokyo=high"], told=["tenant = 200"]),
+    # What pgshard's own name server and mail tables look like, as PowerDNS and Roundcube make them.
+    Case("name_server", """
+        CREATE TABLE domains (id serial PRIMARY KEY, name varchar(255) NOT NULL, master varchar(128), last_check int,
+            type text NOT NULL, notified_serial bigint, account varchar(40),
+            CONSTRAINT c_lowercase_name CHECK (name::text = lower(name::text)));
+        CREATE TABLE records (id bigserial PRIMARY KEY, domain_id int REFERENCES domains ON DELETE CASCADE,
+            name varchar(255), type varchar(10), content varchar(65535), ttl int, prio int, disabled bool DEFAULT 'f',
+            CONSTRAINT c_lowercase_name CHECK (name::text = lower(name::text)));
+        ALTER TABLE records REPLICA IDENTITY FULL;
+        CREATE PUBLICATION even FOR TABLE domains WHERE (id % 2 = 0), records WHERE (domain_id % 2 = 0);
+        CREATE PUBLICATION odd FOR TABLE domains WHERE (id % 2 <> 0), records WHERE (domain_id % 2 <> 0);
+    """, {"domains": "sound", "records": "not sound:"}, told=["domain_id = NULL"]),
+    # Twenty ranges of one column, each of which the server writes as two comparisons.
+    Case("twenty_ranges", "CREATE TABLE cells (id integer PRIMARY KEY);\n" + "\n".join(
+        f"CREATE PUBLICATION p{n} FOR TABLE cells WHERE (id >= {n * 100} AND id < {n * 100 + 100});" for n in range(20)
+    ) + "CREATE PUBLICATION rest FOR TABLE cells WHERE (id < 0 OR id >= 2000);", {"cells": "sound"}),
+    # One more subscriber than pgshard reads, of a table; the other table has only two.
+    Case("past_a_limit", "CREATE TABLE cells (id integer PRIMARY KEY); CREATE TABLE two (id integer PRIMARY KEY);\n" + "\n".join(
+        f"CREATE PUBLICATION p{n} FOR TABLE cells WHERE (id % 33 = {n})" + (f", two WHERE (id % 2 {'=' if n else '<>'} 0)" if n < 2 else "") + ";"
+        for n in range(33)), {"cells": "not decided", "two": "sound"}, told=["32 subscriptions"]),
+    # Operations that are not published, and all tables at once.
+    Case("operations", """
+        CREATE TABLE rows (id integer PRIMARY KEY);
+        CREATE PUBLICATION low FOR TABLE rows WHERE (id < 0);
+        CREATE PUBLICATION high FOR TABLE rows WHERE (id >= 0) WITH (publish = 'insert, update');
+    """, {"rows": "refused"}, told=["publication high, which has a subscriber, does not publish delete"]),
+    # A condition by cases, and truth values that are compared.
+    Case("cases", """
+        CREATE TABLE jobs (id integer PRIMARY KEY, kind text NOT NULL, urgent boolean NOT NULL, prio integer);
+        ALTER TABLE jobs REPLICA IDENTITY FULL;
+        CREATE PUBLICATION now FOR TABLE jobs WHERE (CASE WHEN urgent THEN true WHEN prio > 5 THEN true ELSE false END);
+        CREATE PUBLICATION later FOR TABLE jobs WHERE (NOT urgent AND coalesce(prio, 0) <= 5);
+    """, {"jobs": "sound"}),
+]

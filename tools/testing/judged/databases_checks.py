@@ -1,0 +1,97 @@
+"""What judge says of each database, and whether the server takes each row that is called NOT SOUND, and who gets it."""
+
+import json
+import subprocess
+
+from judged.databases import DATABASES
+from programs import PGSHARD, TOOLS, judge
+from server import PROGRAMS, environment, run_as_user
+
+
+def check_databases(tally, server):
+    """All databases, and what pgbench makes."""
+    for case in DATABASES:
+        server.create(case.name, case.setup)
+        check_case(tally, server, case)
+
+
+def report_of(server, database, words):
+    """What judge says, as JSON."""
+    answer = subprocess.run(
+        [TOOLS / "judge", "--json", *server.words(database), *words],
+        stdout=subprocess.PIPE, encoding="utf-8", env=environment() | {"PGSHARD": PGSHARD})
+    return json.loads(answer.stdout), answer.returncode
+
+
+def check_case(tally, server, case):
+    """One database: the answers, what is told beside them, the status, and the rows."""
+    report, status = report_of(server, case.name, case.words)
+    found = {it["table"].removeprefix("public."): answer_of(it) for it in report["tables"]}
+    tally.check(f"{case.name}: what is said of each table", found, case.truth)
+    tally.check(f"{case.name}: the status", status, status_of(case.truth))
+    if case.told:
+        lines = judge(*server.words(case.name), *case.words)
+        for part in case.told:
+            tally.check(f"{case.name}: what is told", part if part in lines else lines, part)
+    for table in report["tables"]:
+        if "row" in table and table["table"].removeprefix("public.") not in case.refusing:
+            check_row(tally, server, case, report, table)
+
+
+def answer_of(table):
+    if table["answer"] != "not sound":
+        return table["answer"]
+    return " ".join(["not sound:", *sorted(table["goes_to"])])
+
+
+def status_of(truth):
+    answers = {it.split(":")[0] for it in truth.values()}
+    if answers & {"not sound", "not decided", "refused"}:
+        return 1
+    return 3 if "not read" in answers else 0
+
+
+def check_row(tally, server, case, report, table):
+    """Inserts the row, and asks which filters are true of it. The foreign keys of the table are met first."""
+    name, row = table["table"], table["row"]
+    given = {column: value for column, value in row.items() if column not in ("tripled",)}
+    columns = ", ".join(f'"{column}"' for column in given)
+    server.psql(case.name, f"""
+        SET timezone = 'UTC';
+        INSERT INTO {name} ({columns}) OVERRIDING SYSTEM VALUE VALUES ({', '.join(given.values())});
+    """)
+    takers = [it["name"] for it in report["subscribers"] if passes(server, case.name, name, it["publications"])]
+    purposes = dict(zip(case.words[1::2], case.words[::2]))
+    if purposes.get(name.removeprefix("public.")) == "--copied":
+        tally.check(f"{case.name}: {name} goes to all", len(takers) < len(report["subscribers"]), True)
+        return
+    tally.check(f"{case.name}: who gets the row of {name}", sorted(takers), sorted(table["goes_to"]))
+
+
+def passes(server, database, table, publications):
+    """Whether the only row of a table passes a filter of one of some publications."""
+    listed = ", ".join(f"'{it}'" for it in publications)
+    texts = server.psql(database, f"""
+        SELECT coalesce(json_agg(coalesce(rowfilter, 'true')), '[]') FROM pg_publication_tables
+        WHERE pubname IN ({listed}) AND format('%I.%I', schemaname, tablename) = '{table}';
+    """)
+    filters = " OR ".join(f"({it}) IS TRUE" for it in json.loads(texts))
+    return bool(filters) and server.psql(database, f"SELECT {filters} FROM {table};") == "t"
+
+
+def check_pgbench(tally, server):
+    """The tables that pgbench makes, split by account; the history has no key, and its account may be NULL."""
+    server.psql("postgres", "CREATE DATABASE bench;")
+    run_as_user(PROGRAMS / "pgbench", "-i", "-q", "-s", "1", *server.words("bench")[:-2], "bench")
+    server.psql("bench", """
+        ALTER TABLE pgbench_history REPLICA IDENTITY FULL;
+        CREATE PUBLICATION even FOR TABLE pgbench_accounts WHERE (aid % 2 = 0), pgbench_history WHERE (aid % 2 = 0),
+            pgbench_branches, pgbench_tellers WHERE (tid BETWEEN 1 AND 5);
+        CREATE PUBLICATION odd FOR TABLE pgbench_accounts WHERE (aid % 2 <> 0), pgbench_history WHERE (aid % 2 <> 0),
+            pgbench_branches, pgbench_tellers WHERE (tid NOT BETWEEN 1 AND 5);
+    """)
+    report, status = report_of(server, "bench", ["--copied", "pgbench_branches"])
+    found = {it["table"]: answer_of(it) for it in report["tables"]}
+    tally.check("what judge says of pgbench's tables", (found, status), ({
+        "public.pgbench_accounts": "sound", "public.pgbench_branches": "sound",
+        "public.pgbench_history": "not sound:", "public.pgbench_tellers": "sound"}, 1))
