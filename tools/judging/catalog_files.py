@@ -62,7 +62,8 @@ def judge(path, options):
     names = names_of(catalog)
     found = verdicts_of(catalog, names, made) if names.tables else []
     status = SOUND if found and all(it.answer == verdicts.SOUND for it in found) else NOT_SOUND
-    answer = report.Report(Source(path), [], None, found, {}, status)
+    unpublished = tuple(re.findall(r"(?m)^-- not published: (.*)$", catalog))
+    answer = report.Report(Source(path, unpublished), [], None, found, {}, status)
     print(report.json_text(answer) if options.json else report.text(answer, options.all))
     return status
 

@@ -1,6 +1,6 @@
 """The catalog of one table that pgshard is given."""
 
-from judging import formulas, printing
+from judging import printing
 from judging.formulas import Const, both, either, negation, tested
 from judging.printing import name_text
 
@@ -90,14 +90,3 @@ def publication_text(table, name, formula, operations):
     options = f" WITH (publish = '{', '.join(operations)}')" if is_part else ""
     return f"CREATE PUBLICATION {name_text(name)} FOR TABLE {table}{where}{options};"
 
-
-def atoms_of(trial, takers, purpose):
-    """The texts of the conditions of a catalog, as they are first met in the filters of its subscribers."""
-    held = both(*trial.constraints) if trial.constraints else None
-    found = []
-    for names in takers.values():
-        for name in names:
-            formula = filter_text(trial.filters[name], held)
-            if formula is not None:
-                found.extend(formulas.leaves_of(formula))
-    return found

@@ -156,7 +156,7 @@ def sign_of(one, other):
     return Subject(
         sql=f"CASE WHEN {a.sql} < {b.sql} THEN -1 WHEN {a.sql} = {b.sql} THEN 0 WHEN {a.sql} > {b.sql} THEN 1 END",
         type="sign", columns=tuple(dict.fromkeys([*a.columns, *b.columns])),
-        is_strict=a.is_strict and b.is_strict, is_total=a.is_total and b.is_total)
+        is_strict=a.is_strict and b.is_strict, is_total=a.is_total and b.is_total, sides=(a.sql, b.sql))
 
 
 def is_null(operand, null_of):

@@ -155,10 +155,29 @@ def identity_of(table):
     return names_of(table, table["identity_numbers"]) if table["identity_numbers"] else None
 
 
+def taken_publications(shares):
+    """The publications of a table that have a subscriber, each once."""
+    return list(dict.fromkeys(name for names in shares.takers.values() for name in names))
+
+
+def missing_operation(database, shares):
+    """A publication that has a subscriber and the first operation that it leaves out, in words, or None."""
+    for name in taken_publications(shares):
+        for operation in OPERATIONS:
+            if operation not in database.publications[name]["operations"]:
+                return missing_words(name, operation)
+    return None
+
+
+def missing_words(publication, operation):
+    return f"publication {publication}, which has a subscriber, does not publish {operation}"
+
+
 def identity_refusals(database, shares, named):
     """Why the server refuses updates and deletes of a table. `named` has the columns that each filter names."""
-    taken = dict.fromkeys(name for names in shares.takers.values() for name in names)
-    for leaf in shares.leaves:
+    taken = [name for name in taken_publications(shares)
+             if {"update", "delete"} & set(database.publications[name]["operations"])]
+    for leaf in shares.leaves if taken else ():
         where = "" if leaf is shares.table else f" of partition {full_name(leaf)}"
         columns = identity_of(leaf)
         if columns is None:

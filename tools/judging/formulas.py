@@ -18,8 +18,10 @@ class Subject:
     is_column: bool = False
     is_strict: bool = True
     is_total: bool = True
-    # For the order of texts, the collation; and the kind `sign` is that of a comparison of two subjects.
+    # For the order of texts, the collation.
     collation: str | None = None
+    # Of the type `sign`, which is that of a comparison of two subjects, their texts.
+    sides: tuple = ()
 
 
 @dataclass(frozen=True)

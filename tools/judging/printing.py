@@ -1,5 +1,7 @@
 """Formulas over codings in the grammar that pgshard reads."""
 
+from dataclasses import dataclass
+
 from judging import ranges
 from judging.formulas import And, Const, Is, IsNull, Not, Or, Within
 
@@ -42,17 +44,59 @@ def in_parentheses(part):
 
 def within_text(coded, found):
     """Whether a column's code is in some ranges, by the fewest conditions; NULL where the column is."""
-    if not found:
-        return never_text(coded)
-    if found == coded.full:
-        return "TRUE" if coded.not_null else f"NOT ({never_text(coded)})"
-    if coded.printed_type == "boolean":
-        return term_text(coded) if found == ((1, 1),) else f"NOT {term_text(coded)}"
+    if not found or found == coded.full:
+        is_never = not found
+        if coded.not_null:
+            return "FALSE" if is_never else "TRUE"
+        return never_text(coded) if is_never else f"NOT ({never_text(coded)})"
+    parts, is_negated = conditions(coded, found)
+    text = " OR ".join(it.text for it in parts)
+    return f"NOT ({text})" if is_negated else text
+
+
+@dataclass(frozen=True)
+class Condition:
+    """A comparison as it is printed, the condition of pgshard's in it, and the codes at which that one is TRUE."""
+
+    text: str
+    atom: str
+    coded: object
+    ranges: tuple
+
+
+def atoms_of(part):
+    """The conditions of a formula from the left, as pgshard counts them: each with its text, and its meaning."""
+    match part:
+        case Not() | Is():
+            yield from atoms_of(part.part)
+        case And() | Or():
+            for it in part.parts:
+                yield from atoms_of(it)
+        case IsNull():
+            yield Condition("", text_of(part), part.subject, None)
+        case Within():
+            yield from atoms_within(part.coded, part.ranges)
+
+
+def atoms_within(coded, found):
+    if found and found != coded.full:
+        yield from conditions(coded, found)[0]
+    elif not coded.not_null:
+        text = never_text(coded).split(" AND ")[0]
+        code = 1 if coded.printed_type == "boolean" else coded.low if coded.printed_type == "text" else 0
+        yield Condition(text, text, coded, ((code, code),))
+
+
+def conditions(coded, found):
+    """Conditions one of which holds where the code is in the ranges, or none of which does, if the second is true."""
     rest = ranges.complement(found, coded.low, coded.high)
-    inside, outside = conditions(coded, found), conditions(coded, rest)
-    if len(outside) < len(inside) or is_upper_half(coded, found) or has_last(coded, found, rest):
-        return f"NOT ({' OR '.join(outside)})"
-    return " OR ".join(inside)
+    if coded.printed_type == "boolean":
+        term = term_text(coded)
+        return [Condition(term, term, coded, ((1, 1),))], found == ((0, 0),)
+    inside, outside = pieces(coded, found), pieces(coded, rest)
+    if len(outside) < len(inside) or is_upper_half(coded, found) or has_last(coded, found):
+        return outside, True
+    return inside, False
 
 
 def is_upper_half(coded, found):
@@ -60,7 +104,7 @@ def is_upper_half(coded, found):
     return len(found) == 1 and found[0][1] == coded.high and found[0][0] != found[0][1]
 
 
-def has_last(coded, found, rest):
+def has_last(coded, found):
     """The last code of a text is that of all other texts, which no list can name."""
     return coded.printed_type == "text" and found[-1][1] == coded.high
 
@@ -76,32 +120,32 @@ def never_text(coded):
     return f"{term} = {value} AND NOT {term} = {value}"
 
 
-def conditions(coded, found):
+def pieces(coded, found):
     """Conditions one of which holds where the code is in the ranges."""
-    term, singles, texts = term_text(coded), [], []
+    term, singles, listed = term_text(coded), [], []
     for low, high in found:
-        if coded.printed_type == "text":
-            singles.extend(coded.literal(it) for it in range(low, high + 1))
-        elif low == high and can_name(coded, low):
-            singles.append(coded.literal(low))
-        elif high - low < 3 and can_name(coded, low) and can_name(coded, high):
-            singles.extend(coded.literal(it) for it in range(low, high + 1))
-        elif low == coded.low and high == coded.high:
-            texts.append(f"NOT ({never_text(coded)})")
+        if coded.printed_type == "text" or high - low < 3 and can_name(coded, low) and can_name(coded, high):
+            singles.extend(range(low, high + 1))
         elif low == coded.low:
-            texts.append(f"{term} < {high + 1}")
+            listed.append(condition(coded, f"{term} < {high + 1}", low, high))
         elif high == coded.high:
-            texts.append(f"NOT {term} < {low}")
+            atom = f"{term} < {low}"
+            listed.append(Condition(f"NOT {atom}", atom, coded, ((coded.low, low - 1),)))
         else:
-            texts.append(f"{term} BETWEEN {low} AND {high}")
+            listed.append(condition(coded, f"{term} BETWEEN {low} AND {high}", low, high))
     for begin in range(0, len(singles), LONGEST_LIST):
         part = singles[begin:begin + LONGEST_LIST]
-        texts.append(f"{term} = {part[0]}" if len(part) == 1 else f"{term} IN ({', '.join(part)})")
-    return texts
+        names = ", ".join(coded.literal(it) for it in part)
+        text = f"{term} = {names}" if len(part) == 1 else f"{term} IN ({names})"
+        listed.append(Condition(text, text, coded, ranges.of_numbers(part)))
+    return listed
+
+
+def condition(coded, text, low, high):
+    return Condition(text, text, coded, ((low, high),))
 
 
 def can_name(coded, code):
     """Whether a code is one value: past the ends of one that is not tight, pgshard has other values, which count as
     the end; and it reads no number as low as the least bigint."""
     return (coded.is_tight or coded.low < code < coded.high) and code > -(2**63)
-

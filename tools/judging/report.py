@@ -30,8 +30,7 @@ def text(report, with_all):
         lines.extend(f"    {where} → {who}" for where, who in report.regions.get(verdict.table, ()))
     if report.how:
         lines.append(report.how)
-    if report.verdicts:
-        lines.append(counts(report, with_all))
+    lines.append(counts(report, with_all))
     return "\n".join(lines)
 
 

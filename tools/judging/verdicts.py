@@ -28,6 +28,8 @@ class Verdict:
     certificate: str | None = None
     catalog: str | None = None
     trial: object = None
+    takers_of_rows: dict = field(default_factory=dict)
+    purpose: str | None = None
 
 
 @dataclass
@@ -66,6 +68,10 @@ def judged(db, shares, purpose, sort, confirm):
         verdict = judged_as_copied(db, read, name, sort, confirm)
     else:
         verdict = decided(db, read, name, shares.takers, purpose, sort, confirm)
+    missing = database.missing_operation(db, shares)
+    if missing and verdict.answer == NOT_SOUND:
+        # Of a table that is sound the check itself says so.
+        refusals.insert(0, missing)
     if refusals and verdict.answer == SOUND:
         verdict.answer = REFUSED
     verdict.because.extend(refusals)
@@ -142,7 +148,7 @@ def decided(db, read, name, takers, purpose, sort, confirm):
             continue
         trial.made, _ = program.made_of(answer, 0, name, catalogs.subscriber_names(takers, purpose))
         if trial.made.certificate:
-            return accepted(name, trial, purpose)
+            return accepted(name, trial, takers, purpose)
         verdict = without_proof(read, name, takers, purpose, trial, confirm)
         if verdict.answer == NOT_SOUND:
             break
@@ -189,15 +195,17 @@ def trial_of(db, read, takers, purpose, with_facts, constraints, sort):
     return trial
 
 
-def accepted(name, trial, purpose):
+def accepted(name, trial, takers, purpose):
     """`make` prints only certificates that the check accepts; here it is asked of these very texts."""
     last = program.checked(trial.catalog, [trial.made.certificate])
     last = last if isinstance(last, str) else f"{last.part} {last.place} {last.kind}"
-    verdict = Verdict(name, SOUND, certificate=trial.made.certificate, catalog=trial.catalog, trial=trial)
+    verdict = Verdict(
+        name, SOUND, certificate=trial.made.certificate, catalog=trial.catalog, trial=trial, takers_of_rows=takers,
+        purpose=purpose)
     missing = re.fullmatch(r"refused PublishMissing (.*) (\w+)\n", last, re.S)
     if missing:
         verdict.answer = REFUSED
-        verdict.because.append(f"publication {missing[1]}, which has a subscriber, does not publish {missing[2]}")
+        verdict.because.append(database.missing_words(missing[1], missing[2]))
     elif last != "accepted\n":
         verdict.answer = NOT_DECIDED
         verdict.because.append(f"pgshard check answers {last.strip()}")

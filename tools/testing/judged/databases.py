@@ -17,6 +17,9 @@ class Case:
     told: list = field(default_factory=list)
     # Tables whose row the server may refuse, as judge tells beside it.
     refusing: list = field(default_factory=list)
+    # Of a table that is sound, the regions of --explain, and rows for it, each of which is in one region.
+    regions: dict = field(default_factory=dict)
+    rows: dict = field(default_factory=dict)
 
 
 DATABASES = [
@@ -34,7 +37,11 @@ DATABASES = [
         CREATE PUBLICATION early FOR TABLE orders WHERE (placed <= '2022-12-31');
         CREATE PUBLICATION middle FOR TABLE orders WHERE (placed BETWEEN '2023-01-01' AND '2023-12-31');
         CREATE PUBLICATION late FOR TABLE orders WHERE (placed >= '2024-01-01');
-    """, {"orders": "sound"}),
+    """, {"orders": "sound"},
+        regions={"orders": [
+            ("placed < '2023-01-01'", "early"), ("placed BETWEEN '2023-01-01' AND '2023-12-31'", "middle"),
+            ("placed >= '2024-01-01'", "late")]},
+        rows={"orders": "SELECT gen_random_uuid(), date '2022-12-25' + n FROM generate_series(0, 400) AS n"}),
     # Moments are finer than days: 23:59:59 to 0:00 is a gap, and NULL is in no month.
     Case("months_of_moments", """
         CREATE TABLE events (id bigint PRIMARY KEY, at timestamptz NOT NULL);
@@ -83,7 +90,9 @@ DATABASES = [
         CREATE PUBLICATION germany FOR TABLE people WHERE (country IN ('DE', 'AT')), twice WHERE (country = 'D');
         CREATE PUBLICATION others FOR TABLE people WHERE (country NOT IN ('DE', 'AT', 'DEU')),
             twice WHERE (country <> 'DE');
-    """, {"people": "sound", "twice": "not sound: germany others"}, told=["country = 'D'"]),
+    """, {"people": "sound", "twice": "not sound: germany others"}, told=["country = 'D'"],
+        regions={"people": [("country IN ('AT', 'DE')", "germany"), ("country NOT IN ('AT', 'DE')", "others")]},
+        rows={"people": "SELECT n, (ARRAY['DE', 'AT', 'D', '', 'XX'])[n] FROM generate_series(1, 5) AS n"}),
     # Remainders have the sign of the number, so -1 has none of 0, 1 and 2; the bits of -1 are those of 3.
     Case("remainders", """
         CREATE TABLE plain (id bigint PRIMARY KEY);
@@ -106,7 +115,11 @@ DATABASES = [
         CREATE PUBLICATION p2 FOR TABLE rows WHERE (id >= 0 AND id % 4 = 2);
         CREATE PUBLICATION p3 FOR TABLE rows WHERE (id >= 0 AND id % 4 = 3);
         CREATE PUBLICATION archive FOR TABLE rows WHERE (id < 0), zeros WHERE (id < 0);
-    """, {"rows": "sound", "zeros": "not sound:"}, told=["the row (0)"]),
+    """, {"rows": "sound", "zeros": "not sound:"}, told=["the row (0)"],
+        regions={"rows": [
+            ("id < 0", "archive"), ("id >= 0 AND id % 4 = 0", "p0"), ("id >= 0 AND id % 4 = 1", "p1"),
+            ("id >= 0 AND id % 4 = 2", "p2"), ("id >= 0 AND id % 4 = 3", "p3")]},
+        rows={"rows": "SELECT n FROM generate_series(-20, 20) AS n"}),
     # One shard of four was split in two by the remainder by eight; in `wrong` the number 7 is left out.
     Case("split_shard", """
         CREATE TABLE rows (id bigint PRIMARY KEY, CONSTRAINT is_positive CHECK (id > 0));
@@ -124,7 +137,9 @@ DATABASES = [
         ALTER TABLE jobs REPLICA IDENTITY FULL; ALTER TABLE lost REPLICA IDENTITY FULL;
         CREATE PUBLICATION open FOR TABLE jobs WHERE (result IS NULL), lost WHERE (result IS NULL AND took IS NULL);
         CREATE PUBLICATION done FOR TABLE jobs WHERE (result IS NOT NULL), lost WHERE (result IS NOT NULL);
-    """, {"jobs": "sound", "lost": "not sound:"}),
+    """, {"jobs": "sound", "lost": "not sound:"},
+        regions={"jobs": [("result IS NOT NULL", "done"), ("result IS NULL", "open")]},
+        rows={"jobs": "SELECT n, CASE WHEN n % 2 = 0 THEN '{}'::jsonb END FROM generate_series(1, 9) AS n"}),
     # A shard by a hash: its remainder may be negative. Without these only a proof would count, and there is none.
     Case("hashes", """
         CREATE TABLE users (name text PRIMARY KEY);
@@ -157,7 +172,10 @@ DATABASES = [
         CREATE PUBLICATION h FOR TABLE names WHERE (name >= 'h' AND name < 'q'), gap WHERE (name > 'm' AND name <= 'z'),
             twice WHERE (name >= 'm');
         CREATE PUBLICATION q FOR TABLE names WHERE (name >= 'q'), gap WHERE (name > 'z' OR name = 'm');
-    """, {"names": "sound", "gap": "sound", "twice": "not sound: a h"}, told=["the row ('m')"]),
+    """, {"names": "sound", "gap": "sound", "twice": "not sound: a h"}, told=["the row ('m')"],
+        regions={"names": [
+            ("name < 'h'", "a"), ("name >= 'h' AND name < 'q'", "h"), ("name >= 'q'", "q")]},
+        rows={"names": "SELECT chr(n) FROM generate_series(32, 126) AS n"}),
     # Two columns of one row, which are ordered one way or the other, or one is NULL.
     Case("two_columns", """
         CREATE TABLE spans (id integer PRIMARY KEY, low integer NOT NULL, high integer NOT NULL);
@@ -168,7 +186,11 @@ DATABASES = [
         CREATE PUBLICATION well FOR TABLE spans WHERE (low <= high), plans WHERE (done <= due), lost WHERE (done <= due);
         CREATE PUBLICATION ill FOR TABLE spans WHERE (high < low), plans WHERE (due < done OR due IS NULL OR done IS NULL),
             lost WHERE (due < done OR due IS NULL);
-    """, {"spans": "sound", "plans": "sound", "lost": "not sound:"}, told=["done = NULL"]),
+    """, {"spans": "sound", "plans": "sound", "lost": "not sound:"}, told=["done = NULL"],
+        regions={"plans": [
+            ("done > due", "ill"), ("due IS NOT NULL AND done IS NULL", "ill"), ("due IS NULL", "ill"),
+            ("done <= due", "well")]},
+        rows={"plans": "SELECT 4 * n + m, nullif(date '2024-01-01' + n, '2024-01-03'), nullif(date '2024-01-01' + m, '2024-01-03') FROM generate_series(0, 3) AS n, generate_series(0, 3) AS m"}),
     # A partitioned table that is published by its root is one table.
     Case("by_the_root", """
         CREATE TABLE log (id bigint, day date NOT NULL, PRIMARY KEY (id, day)) PARTITION BY RANGE (day);
@@ -271,7 +293,9 @@ DATABASES = [
             app.notes WHERE (tenant BETWEEN 100 AND 200);
         CREATE PUBLICATION high FOR TABLE app.accounts WHERE (tenant >= 200), app.notes WHERE (tenant >= 200);
     """, {"app.accounts": "sound", "app.notes": "not sound: london tokyo"},
-        words=["-v", "subscriptions=london=low,middle tokyo=high"], told=["tenant = 200"]),
+        words=["-v", "subscriptions=london=low,middle tokyo=high"], told=["tenant = 200"],
+        regions={"app.accounts": [("tenant < 200", "london"), ("tenant >= 200", "tokyo")]},
+        rows={"app.accounts": "SELECT n, 1 FROM generate_series(-5, 300) AS n"}),
     # What pgshard's own name server and mail tables look like, as PowerDNS and Roundcube make them.
     Case("name_server", """
         CREATE TABLE domains (id serial PRIMARY KEY, name varchar(255) NOT NULL, master varchar(128), last_check int,
@@ -304,5 +328,7 @@ DATABASES = [
         ALTER TABLE jobs REPLICA IDENTITY FULL;
         CREATE PUBLICATION now FOR TABLE jobs WHERE (CASE WHEN urgent THEN true WHEN prio > 5 THEN true ELSE false END);
         CREATE PUBLICATION later FOR TABLE jobs WHERE (NOT urgent AND coalesce(prio, 0) <= 5);
-    """, {"jobs": "sound"}),
+    """, {"jobs": "sound"},
+        regions={"jobs": []},
+        rows={"jobs": "SELECT 20 * n + m, 'k', n = 1, nullif(m, 9) FROM generate_series(0, 1) AS n, generate_series(0, 9) AS m"}),
 ]

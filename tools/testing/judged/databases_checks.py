@@ -25,7 +25,7 @@ def report_of(server, database, words):
 
 def check_case(tally, server, case):
     """One database: the answers, what is told beside them, the status, and the rows."""
-    report, status = report_of(server, case.name, case.words)
+    report, status = report_of(server, case.name, [*case.words, *(["--explain"] if case.regions else [])])
     found = {it["table"].removeprefix("public."): answer_of(it) for it in report["tables"]}
     tally.check(f"{case.name}: what is said of each table", found, case.truth)
     tally.check(f"{case.name}: the status", status, status_of(case.truth))
@@ -36,6 +36,26 @@ def check_case(tally, server, case):
     for table in report["tables"]:
         if "row" in table and table["table"].removeprefix("public.") not in case.refusing:
             check_row(tally, server, case, report, table)
+        if table["table"].removeprefix("public.") in case.regions:
+            check_regions(tally, server, case, table, report)
+
+
+def check_regions(tally, server, case, table, report):
+    """The regions as they are expected, in any order; and each of some rows is in one region, whose subscriber gets it."""
+    name = table["table"]
+    found = [(it["rows"], it["subscriber"]) for it in table["regions"]]
+    expected = case.regions[name.removeprefix("public.")]
+    if expected:
+        tally.check(f"{case.name}: the regions of {name}", sorted(found), sorted(expected))
+    server.psql(case.name, f"INSERT INTO {name} {case.rows[name.removeprefix('public.')]};")
+    counted = " + ".join(f"(({rows.replace('all rows', 'true')}) IS TRUE)::integer" for rows, _ in found)
+    tally.check(f"{case.name}: rows of {name} that are not in one region", server.psql(
+        case.name, f"SELECT count(*) FROM {name} WHERE {counted} <> 1;"), "0")
+    for rows, subscriber in found:
+        publications = next(it["publications"] for it in report["subscribers"] if it["name"] == subscriber)
+        filters = filters_of(server, case.name, name, publications)
+        tally.check(f"{case.name}: rows of {name} where {rows} that {subscriber} does not get", server.psql(
+            case.name, f"SELECT count(*) FROM {name} WHERE ({rows}) AND ({filters}) IS NOT TRUE;"), "0")
 
 
 def answer_of(table):
@@ -70,13 +90,18 @@ def check_row(tally, server, case, report, table):
 
 def passes(server, database, table, publications):
     """Whether the only row of a table passes a filter of one of some publications."""
+    filters = filters_of(server, database, table, publications)
+    return server.psql(database, f"SELECT {filters} FROM {table};") == "t"
+
+
+def filters_of(server, database, table, publications):
+    """What the server itself says of a table's filters in some publications, as one condition."""
     listed = ", ".join(f"'{it}'" for it in publications)
     texts = server.psql(database, f"""
         SELECT coalesce(json_agg(coalesce(rowfilter, 'true')), '[]') FROM pg_publication_tables
-        WHERE pubname IN ({listed}) AND format('%I.%I', schemaname, tablename) = '{table}';
+        WHERE pubname IN ({listed}) AND format('%s.%s', schemaname, tablename) = '{table}';
     """)
-    filters = " OR ".join(f"({it}) IS TRUE" for it in json.loads(texts))
-    return bool(filters) and server.psql(database, f"SELECT {filters} FROM {table};") == "t"
+    return " OR ".join(f"({it}) IS TRUE" for it in json.loads(texts)) or "false"
 
 
 def check_pgbench(tally, server):
