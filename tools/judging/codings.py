@@ -130,8 +130,7 @@ class Remainders(Coding):
     is_tight = True
 
     def __init__(self, base, modulus):
-        most = min(modulus - 1, base.high)
-        super().__init__(base.subject, base.printed_type, -most, most)
+        super().__init__(base.subject, base.printed_type, max(1 - modulus, base.low), min(modulus - 1, base.high))
         self.base = base
         self.modulus = modulus
 

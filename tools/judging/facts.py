@@ -59,8 +59,8 @@ def remainders_in(coded, low, high):
     elif ranges.remainder(low, coded.modulus) <= ranges.remainder(high, coded.modulus):
         found = ranges.remainder(low, coded.modulus), ranges.remainder(high, coded.modulus)
     else:
-        return ranges.normal(wrapped(coded, low, high))
-    return ranges.normal([found])
+        return ranges.intersection(wrapped(coded, low, high), coded.full)
+    return ranges.intersection([found], coded.full)
 
 
 def wrapped(coded, low, high):

@@ -10,6 +10,7 @@ from judging.faults import NO_PROGRAM, Fault, Unread
 SYSTEM_PYTHON = "/usr/bin/python3"
 TRIED = "JUDGE_TRIED_SYSTEM_PYTHON"
 TEXT_CAST = re.compile(r"CAST\(('(?:[^']|'')*') AS text\)")
+NO_MEANING = {"location", "funcformat", "list_start", "list_end"}
 MISSING = (
     "pglast, which is PostgreSQL's parser as a Python library, is not installed: "
     "on Debian 12 `apt-get install python3-pglast` installs it"
@@ -48,6 +49,31 @@ def written(node):
     """An expression as SQL, its text constants without the cast that the server writes."""
     from pglast.stream import RawStream
     return TEXT_CAST.sub(r"\1", RawStream()(node))
+
+
+def faithful(node):
+    """An expression as SQL that is read as this very expression again, so that equal texts are equal expressions."""
+    from pglast.stream import RawStream
+    text = RawStream()(node)
+    if tree_of(parsed(text)) != tree_of(node):
+        raise Unread(text)
+    return TEXT_CAST.sub(r"\1", text)
+
+
+def side_text(node):
+    """The same, so that an operator may stand beside it."""
+    text = faithful(node)
+    is_alone = kind_of(node) in ("ColumnRef", "A_Const", "FuncCall", "TypeCast")
+    return text if is_alone else f"({text})"
+
+
+def tree_of(node):
+    """A tree without places in the text, and without what says how a call was written."""
+    if isinstance(node, tuple):
+        return [tree_of(part) for part in node]
+    if not (hasattr(node, "__slots__") and hasattr(node, "__iter__")):
+        return node
+    return kind_of(node), [(name, tree_of(getattr(node, name))) for name in node if name not in NO_MEANING]
 
 
 def shown(text):

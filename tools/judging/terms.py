@@ -4,7 +4,7 @@ from judging import arithmetic, comparing, functions, parser, server_types
 from judging.faults import Unread
 from judging.formulas import Compare, Const, IsNull, Subject, both, chosen, either, negation, tested
 from judging.operands import Array, Choice, DayOf, Mixed, Ref, Truth, Value
-from judging.parser import kind_of, name_of, written
+from judging.parser import kind_of, name_of, side_text, written
 from judging.points import finite
 from judging.server_types import INTEGERS
 
@@ -33,15 +33,20 @@ class Reader:
 
     def formula(self, text):
         """The formula of a filter or a constraint, or Unread."""
-        return self.condition(parser.parsed(text))
+        try:
+            return self.condition(parser.parsed(text))
+        except (AttributeError, IndexError, KeyError, RecursionError, TypeError, ValueError) as fault:
+            # A tree that was not foreseen is no reason to say nothing of the other tables.
+            raise Unread(text, f"a form that judge does not know ({type(fault).__name__})") from fault
 
     def subject(self, name):
         column = self.columns.get(name)
         if column is None:
             raise Unread(name, "it is no column that rows have")
         type = f"enum {column['type']}" if column["kind"] == "e" else column["type"]
-        if column["kind"] not in "be":
-            type = column["written"]
+        if column["kind"] not in "be" or not column["is_deterministic"]:
+            # Of a domain, or of texts that are equal though their bytes are not, only NULL is read.
+            type = f"type of column {name}"
         return Subject(
             sql=column["quoted"], type=type, columns=(name,), modifier=column["modifier"], is_column=True,
             collation=column["collation"])
@@ -125,13 +130,13 @@ class Reader:
             if parts is None:
                 raise Unread(written(node), "write the list with IN")
             return Array(tuple(
-                Value(type, None) if part is None else typed(type, part, self.is_enum(type)) for part in parts))
+                Value(type, None) if part is None else as_value(typed(type, part, self.is_enum(type))) for part in parts))
         if kind_of(inner) == "A_Const" and inner.isnull:
             return Array(None)
         raise Unread(written(node))
 
     def read_A_ArrayExpr(self, node):
-        return Array(tuple(self.operand(part) for part in node.elements or ()))
+        return Array(tuple(as_value(self.operand(part)) for part in node.elements or ()))
 
     def cast(self, form, type, modifier, operand):
         if isinstance(operand, Choice):
@@ -167,7 +172,7 @@ class Reader:
         one, other = self.operand(node.lexpr), self.operand(node.rexpr)
         match kind:
             case "AEXPR_OP":
-                return self.of_operator(name, form, one, other)
+                return self.of_operator(name, form, one, other, (node.lexpr, node.rexpr))
             case "AEXPR_DISTINCT":
                 return Truth(comparing.distinct(form, one, other, self.null_of))
             case "AEXPR_NOT_DISTINCT":
@@ -177,16 +182,19 @@ class Reader:
                 return Choice(comparing.comparison(form, "=", one, other), Value("text", None), one)
         raise Unread(form)
 
-    def of_operator(self, name, form, one, other):
+    def of_operator(self, name, form, one, other, sides):
+        """An operator between operands; the sides are what they are written as, nodes or texts."""
         if name in COMPARISONS:
             return Truth(comparing.comparison(form, name, one, other))
         if name in arithmetic.OPERATORS:
             return arithmetic.combined(form, name, one, other)
-        if name in functions.NEGATIONS:
-            positive = form.replace(f" {name} ", f" {functions.NEGATIONS[name]} ", 1)
-            return Truth(negation(truth_of(functions.operator(functions.NEGATIONS[name], positive, (one, other)))))
-        found = functions.operator(name, form, (one, other))
-        return Truth(truth_of(found)) if found.type == "bool" else found
+        left, right = (it if isinstance(it, str) else side_text(it) for it in sides)
+        positive = functions.NEGATIONS.get(name, name)
+        found = functions.operator(positive, f"{left} {positive} {right}", (one, other))
+        if found.type != "bool":
+            return found
+        truth = truth_of(found)
+        return Truth(truth if positive == name else negation(truth))
 
     def of_list(self, node, name, form, is_any):
         """`x op ANY (list)` is OR of the comparisons, `x op ALL (list)` AND of them; that is also so of NULLs in the
@@ -200,8 +208,10 @@ class Reader:
             return Const(None)
         parts = []
         for part in listed.parts:
-            found = self.of_operator(name, f"{written(node.lexpr)} {name} {constant_text(part)}", one, part)
-            parts.append(found.formula)
+            if not isinstance(part, Value):
+                raise Unread(form, "a list of what is not constant")
+            found = self.of_operator(name, form, one, part, (node.lexpr, constant_text(part)))
+            parts.append(self.as_truth(node, found))
         return either(*parts) if is_any else both(*parts)
 
     def read_BoolExpr(self, node):
@@ -253,7 +263,7 @@ class Reader:
         if name == "timezone" and is_utc(arguments):
             # A timestamptz in UTC is the timestamp of the same microsecond.
             return Ref(arguments[1].subject, "timestamp")
-        found = functions.call(name, form, arguments)
+        found = functions.call(name, parser.faithful(node), arguments)
         return Truth(truth_of(found)) if isinstance(found, Ref) and found.type == "bool" else found
 
     def read_CollateClause(self, node):
@@ -276,6 +286,12 @@ def is_utc(arguments):
 def of_type(subject):
     """A subject as an operand: what has truth values is a condition."""
     return Truth(Compare(subject, "=", True)) if subject.type == "bool" else Ref(subject, subject.type)
+
+
+def as_value(operand):
+    """A constant condition as a constant."""
+    is_constant = isinstance(operand, Truth) and isinstance(operand.formula, Const)
+    return Value("bool", operand.formula.value) if is_constant else operand
 
 
 def truth_of(operand):
@@ -317,10 +333,9 @@ def cast_subject(form, type, operand):
 
 
 def constant_text(part):
-    if isinstance(part, Value):
-        quoted = server_types.literal(part.type, part.value)
-        return quoted if part.type in INTEGERS else f"{quoted}::{part.type}"
-    return "?"
+    """A constant as faithful() writes it."""
+    text = server_types.literal(part.type, part.value)
+    return text if part.type in INTEGERS or part.type == "text" else f"CAST({text} AS {part.type})"
 
 
 def array_parts(text):

@@ -5,11 +5,11 @@ import subprocess
 
 from judged.databases import DATABASES
 from programs import PGSHARD, TOOLS, judge
-from server import PROGRAMS, environment, run_as_user
+from server import PROGRAMS, environment
 
 
 def check_databases(tally, server):
-    """All databases, and what pgbench makes."""
+    """All databases."""
     for case in DATABASES:
         server.create(case.name, case.setup)
         check_case(tally, server, case)
@@ -107,7 +107,8 @@ def filters_of(server, database, table, publications):
 def check_pgbench(tally, server):
     """The tables that pgbench makes, split by account; the history has no key, and its account may be NULL."""
     server.psql("postgres", "CREATE DATABASE bench;")
-    run_as_user(PROGRAMS / "pgbench", "-i", "-q", "-s", "1", *server.words("bench")[:-2], "bench")
+    words = [PROGRAMS / "pgbench", "-i", "-q", *server.words("bench")[:-2], "bench"]
+    subprocess.run([str(word) for word in words], check=True, stderr=subprocess.DEVNULL, env=environment())
     server.psql("bench", """
         ALTER TABLE pgbench_history REPLICA IDENTITY FULL;
         CREATE PUBLICATION even FOR TABLE pgbench_accounts WHERE (aid % 2 = 0), pgbench_history WHERE (aid % 2 = 0),

@@ -106,7 +106,7 @@ GROUPS = [
     ]),
     Group("o boolean, p boolean, i integer", [
         f"({a}, {b}, {i})" for a in ("NULL", "TRUE", "FALSE") for b in ("NULL", "TRUE", "FALSE") for i in ("NULL", "0", "1", "2")], [
-        "o", "NOT o", "o = p", "o <> p", "o IS DISTINCT FROM p", "o = (i = 1)", "o IN (true)", "(o AND i = 1) IS UNKNOWN",
+        "o", "NOT o", "o = p", "o <> p", "o IS DISTINCT FROM p", "o = (i = 1)", "o IN (true)", "o IN (true, false)", "o NOT IN (true, NULL)", "(o AND i = 1) IS UNKNOWN",
         "CASE WHEN o THEN i = 1 ELSE p END", "CASE i WHEN 1 THEN 'a' WHEN 2 THEN 'b' END = 'a'",
         "coalesce(i, 1) = 1", "coalesce(o, p, false)", "nullif(i, 1) = 0", "o OR NULL", "NOT (p AND NULL)",
         "CASE WHEN i > 0 THEN 1 ELSE 0 END < 1", "coalesce(i, 0) BETWEEN 0 AND 1",
