@@ -89,7 +89,7 @@ def file_of(words):
     is_connection = "=" in words[0] or "://" in words[0]
     if os.path.exists(words[0]) and not os.path.isdir(words[0]):
         return words[0]
-    if os.path.isdir(words[0]) or (not is_connection and ("/" in words[0] or "." in words[0])):
+    if not is_connection and ("/" in words[0] or "." in words[0]):
         raise Fault(BAD_COMMAND, f"there is no file {words[0]}; a database is named as in: -d shop")
     return None
 

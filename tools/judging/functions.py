@@ -35,6 +35,7 @@ OPERATORS = {
 }
 DAY_PARTS = {"year", "month", "day", "dow", "isodow", "doy", "quarter", "week", "isoyear", "century", "decade"}
 CLOCK_PARTS = {"hour", "minute", "second"}
+PATTERNS = {"~~", "~~*", "~", "~*"}
 # The operators that are NOT of others.
 NEGATIONS = {"!~~": "~~", "!~~*": "~~*", "!~": "~", "!~*": "~*"}
 
@@ -58,7 +59,14 @@ def operator(name, form, arguments):
     is_text = all(getattr(it, "type", None) in TEXT_ARGUMENTS for it in arguments)
     if name not in OPERATORS or name == "||" and not is_text:
         raise Unread(form, advice_of(name))
+    if name in PATTERNS and not is_pattern(arguments[1]):
+        raise Unread(form, "a pattern that is no constant, or has a backslash at its end")
     return opaque(form, *OPERATORS[name], arguments)
+
+
+def is_pattern(operand):
+    """A constant: a pattern from a column may be none, and the server fails there."""
+    return isinstance(operand, Value) and not (operand.value or "").endswith("\\")
 
 
 def advice_of(name):

@@ -29,6 +29,8 @@ SET datestyle = 'ISO, YMD';
 SET statement_timeout = '60s';
 """
 
+LOST = "the connection to the server is lost"
+
 
 class Session:
     """A psql that is started with the first question."""
@@ -39,6 +41,12 @@ class Session:
 
     def ask(self, query):
         """The answer of a query, '' where it fails."""
+        try:
+            return self.answered(query)
+        except BrokenPipeError as fault:
+            raise Fault(NO_ANSWER, LOST) from fault
+
+    def answered(self, query):
         if self.process is None:
             self.process = subprocess.Popen(
                 ["psql", "-X", "-q", *self.words], stdin=subprocess.PIPE, stdout=subprocess.PIPE,
@@ -52,7 +60,7 @@ class Session:
             if line.rstrip("\n") == end:
                 return "".join(lines).removesuffix("\n").removesuffix("\n")
             lines.append(line)
-        raise Fault(NO_ANSWER, "the connection to the server is lost")
+        raise Fault(NO_ANSWER, LOST)
 
     def close(self):
         if self.process is not None:

@@ -2,6 +2,7 @@
 
 import json
 import pathlib
+import shutil
 import subprocess
 import tempfile
 import time
@@ -150,10 +151,23 @@ def check_refusals(tally, server):
         psql.chmod(0o700)
         check_lines(tally, "another version", in_folder(folder, words), [
             "judge: the server has version 14.5, and what is judged here are filters of version 15"], 4)
+        shutil.copytree(TOOLS, folder / "tools", ignore=shutil.ignore_patterns("testing"))
+        check_lines(tally, "pgshard that is not built", not_built(folder), [
+            f"judge: pgshard is not built: `{folder}/pgshard --version` builds it, which takes an hour or two"], 5)
     closed = subprocess.run(
         f"{TOOLS / 'judge'} {' '.join(words)} | true; echo ${{PIPESTATUS[0]}}", shell=True, executable="/bin/bash",
         capture_output=True, encoding="utf-8", env=environment() | {"PGSHARD": PGSHARD})
     tally.check("a pipe that is closed", (closed.stdout, closed.stderr), ("6\n", "judge: the output was closed\n"))
+
+
+def not_built(folder):
+    """What judge prints of a file where there is no program beside it."""
+    file = folder / "catalog.sql"
+    file.write_text("CREATE TABLE t (id integer PRIMARY KEY);")
+    others = {name: value for name, value in environment().items() if name != "PGSHARD"}
+    answer = subprocess.run(
+        [folder / "tools" / "judge", file], stdout=subprocess.PIPE, stderr=subprocess.STDOUT, encoding="utf-8", env=others)
+    return f"{answer.stdout}status {answer.returncode}\n"
 
 
 def in_folder(folder, words):
