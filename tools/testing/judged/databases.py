@@ -208,7 +208,7 @@ DATABASES = [
         CREATE PUBLICATION autumn FOR TABLE log_2023 WHERE (day BETWEEN '2023-07-01' AND '2023-12-31');
     """, {"log_2023": "sound", "log_rest": "sound"}),
     # No key at all, under FULL and without.
-    Case("no_key", """
+    Case("keyless", """
         CREATE TABLE kept (kind integer NOT NULL, note text);
         CREATE TABLE refused (kind integer NOT NULL, note text);
         ALTER TABLE kept REPLICA IDENTITY FULL;
@@ -317,7 +317,7 @@ DATABASES = [
         f"CREATE PUBLICATION p{n} FOR TABLE cells WHERE (id % 33 = {n})" + (f", two WHERE (id % 2 {'=' if n else '<>'} 0)" if n < 2 else "") + ";"
         for n in range(33)), {"cells": "not decided", "two": "sound"}, told=["32 subscriptions"]),
     # Operations that are not published, and all tables at once.
-    Case("operations", """
+    Case("some_operations", """
         CREATE TABLE rows (id integer PRIMARY KEY);
         CREATE PUBLICATION low FOR TABLE rows WHERE (id < 0);
         CREATE PUBLICATION high FOR TABLE rows WHERE (id >= 0) WITH (publish = 'insert, update');
