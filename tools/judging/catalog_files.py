@@ -56,7 +56,7 @@ class Source:
 def judge(path, options):
     """Judges the catalog of a file, and answers the exit status."""
     if options.explain or options.copied or options.partial or options.catalog or options.subscriber:
-        raise Fault(BAD_COMMAND, "a file is judged as it is: of judge's own options it goes with --all and --json alone")
+        raise Fault(BAD_COMMAND, "a file is judged as it is: of judge's options only --all and --json go with one")
     catalog = read_file(path)
     made = run("make", catalog, catalog)
     names = names_of(catalog)

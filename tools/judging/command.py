@@ -109,7 +109,8 @@ def judge_server(options):
         session.close()
     if options.catalog is not None:
         return print_catalog(options.catalog, found)
-    regions = {it.table: explaining.regions(it) for it in found if it.answer == verdicts.SOUND} if options.explain else {}
+    explained = [it for it in found if options.explain and it.answer == verdicts.SOUND]
+    regions = {it.table: explaining.regions(it) for it in explained}
     answer = report.Report(db, listed, how, found, regions, status_of(found))
     print(report.json_text(answer) if options.json else report.text(answer, options.all))
     return answer.status

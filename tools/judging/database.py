@@ -84,7 +84,8 @@ class Database:
     def has(self, publication, oid):
         """Whether a publication names a table, or its schema."""
         table = self.by_oid.get(oid)
-        return (table is not None and table["schema"] in publication["schemas"]) or self.entry(publication, oid) is not None
+        is_in_schema = table is not None and table["schema"] in publication["schemas"]
+        return is_in_schema or self.entry(publication, oid) is not None
 
     @staticmethod
     def entry(publication, oid):

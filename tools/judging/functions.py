@@ -1,7 +1,7 @@
 """Functions and operators of the server that are immutable and never fail: each use gets a column of its own.
 
-Of such a column nothing is known but its type, where it is NULL, and that equal texts of SQL are equal values. So only a
-proof counts where it is named. The server takes no other function in a filter but built-in immutable ones; those that
+Of such a column nothing is known but its type, where it is NULL, and that equal texts of SQL are equal values. So only
+a proof counts where it is named. The server takes no other function in a filter but built-in immutable ones; those that
 fail at some values are left out here, since a filter that fails ends the replication.
 """
 

@@ -1,6 +1,6 @@
 """Faults of a catalog in the words of an operator, the limits by name."""
 
-from judging import formulas
+from judging import printing
 
 LIMITS = {
     "Tables": "64 tables", "Columns": "100 columns in a table", "Publications": "64 publications",
@@ -26,10 +26,9 @@ def words(trial, unreadable):
 def limit_of(trial, place):
     """Which limit a TooMany is of: by where it is, and for filters by how many conditions there are."""
     if place.startswith("WHERE"):
-        leaves = set()
-        for formula in [*trial.filters.values(), *trial.constraints]:
-            leaves.update(formulas.leaves_of(formula))
-        return "Atoms" if len(leaves) > ATOMS else "Nodes"
+        listed = [*trial.filters.values(), *trial.constraints]
+        atoms = {it.atom for formula in listed if formula is not None for it in printing.atoms_of(formula)}
+        return "Atoms" if len(atoms) > ATOMS else "Nodes"
     before = trial.catalog[:len(trial.catalog) - len(place)].rsplit(";", 1)[-1]
     if "SUBSCRIPTION" in before:
         return "Subscriptions"

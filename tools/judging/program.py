@@ -30,7 +30,8 @@ def program():
     if named:
         return named
     if not os.access(BUILT, os.X_OK):
-        raise Fault(NO_PROGRAM, f"pgshard is not built: `{ROOT}/pgshard --version` builds it, which takes an hour or two")
+        raise Fault(
+            NO_PROGRAM, f"pgshard is not built: `{ROOT}/pgshard --version` builds it, which takes an hour or two")
     return BUILT
 
 

@@ -47,7 +47,8 @@ def values_of(column, codes):
     plain = server_types.plain_literal(column)
     named = {coded: code for coded, code in codes.items() if name in coded.subject.columns}
     if not named:
-        return [plain] if column["not_null"] else ["NULL"]
+        is_given = column["generated"] or column["identity"]
+        return ["DEFAULT"] if is_given else [plain] if column["not_null"] else ["NULL"]
     is_null = any(code is None for code in named.values())
     words = [coded.constant(code) for coded, code in named.items()
              if code is not None and coded.subject.type in ("text", column["type"]) and coded.value(code) is not None]
@@ -66,26 +67,32 @@ def columns_that_matter(read):
     return [column["name"] for column in read.shares.table["columns"] if column["name"] in named]
 
 
-def remarks(read, row):
-    """What the server does to a row that judge does not read, where it concerns a column that a filter names."""
-    table, found = read.shares.table, []
+def remarks(read):
+    """What is not read of the table, where it may refuse the row or concerns a column that a filter names."""
     named = set(columns_that_matter(read))
-    by_number = {column["number"]: column["name"] for column in table["columns"]}
-    for column in table["columns"]:
-        if column["name"] in named and column["generated"]:
-            found.append(f"column {column['name']} is generated; its expression is not read, so it may never be this")
-        if column["name"] in named and column["kind"] == "d":
-            found.append(f"column {column['name']} is of a domain, whose constraints are not read")
-    for reference in table["references"]:
+    found = [words for column in read.shares.table["columns"] for words in column_remarks(column, named)]
+    by_number = {column["number"]: column["name"] for column in read.shares.table["columns"]}
+    for reference in read.shares.table["references"]:
         columns = [by_number.get(it) for it in reference["numbers"] or ()]
         if named & set(columns):
-            found.append(f"foreign key {reference['name']} on {', '.join(columns)} is not read, and may refuse this row")
-    for name, (_, form, columns) in read.unread.items():
-        if named & set(columns):
-            found.append(f"{name} is not read, since it has {' '.join(form.split())}, and may refuse this row")
-    if table["triggers"]:
-        found.append(f"trigger {', '.join(table['triggers'])} is not read, and may change or refuse this row")
+            listed = ", ".join(columns)
+            found.append(f"foreign key {reference['name']} on {listed} is not read, and may refuse this row")
+    for name, form in read.unread.items():
+        found.append(f"{name} is not read, since it has {shown(form)}, and may refuse this row")
+    if read.shares.table["triggers"]:
+        triggers = ", ".join(read.shares.table["triggers"])
+        found.append(f"trigger {triggers} is not read, and may change or refuse this row")
     return found
+
+
+def column_remarks(column, named):
+    name = column["name"]
+    if name in named and column["generated"]:
+        yield f"column {name} is generated; its expression is not read, so it may never be this"
+    if name in named and column["identity"]:
+        yield f"column {name} is an identity, so an INSERT of the row has to say OVERRIDING SYSTEM VALUE"
+    if column["kind"] == "d" and (name in named or column["not_null"]):
+        yield f"column {name} is of a domain, whose constraints are not read"
 
 
 def opaque_texts(trial):

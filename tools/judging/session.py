@@ -8,6 +8,7 @@ import subprocess
 import uuid
 
 from judging.faults import NO_ANSWER, Fault
+from judging.parser import columns_of
 from judging.rows import Confirmed
 from judging.server_types import quoted
 
@@ -84,18 +85,20 @@ class Session:
         Where it cannot say, as at a value that a type or a domain refuses, the row is not taken.
         """
         shares = read.shares
-        filters = {name: text for name, text in shares.filters.items() if name in read.filters}
-        texts = [f"({text or 'true'}) IS TRUE" for text in filters.values()]
-        texts += [f"({text}) IS NOT FALSE" for text in self.checks(read)]
-        values = ", ".join(value_text(column, row[column["name"]]) for column in shares.table["columns"])
-        answer = self.ask(f"SELECT json_build_array({', '.join(texts) or 'true'}) FROM (SELECT {values}) AS the_row")
+        filters = {name: text or "true" for name, text in shares.filters.items() if name in read.filters}
+        checks = self.checks(read)
+        texts = [f"({text}) IS TRUE" for text in filters.values()] + [f"({text}) IS NOT FALSE" for text in checks]
+        named = {name for text in [*filters.values(), *checks] for name in columns_of(text)}
+        columns = [it for it in shares.table["columns"] if it["name"] in named]
+        values = [value_text(it, row[it["name"]]) for it in columns]
+        answer = self.ask(
+            f"SELECT json_build_array({', '.join(texts)}) FROM (SELECT {', '.join(values) or '1 AS one'}) AS the_row")
         if not answer:
             return Confirmed(False, [])
         found = json.loads(answer)
         passed = {name for name, value in zip(filters, found) if value}
         return Confirmed(
-            all(found[len(filters):] if filters else []),
-            [name for name, names in takers.items() if passed & set(names)])
+            all(found[len(filters):]), [name for name, names in takers.items() if passed & set(names)])
 
     @staticmethod
     def checks(read):

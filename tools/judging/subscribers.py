@@ -112,7 +112,8 @@ def remarks(database, row):
 
 def subscriptions_at(connection):
     if "=" not in connection and not connection.startswith(("postgres://", "postgresql://")):
-        raise Fault(BAD_COMMAND, f"--subscriber wants a connection text such as 'host=london dbname=shop', not {connection}")
+        raise Fault(
+            BAD_COMMAND, f"--subscriber wants a connection text such as 'host=london dbname=shop', not {connection}")
     script = os.path.join(FOLDER, "subscriptions.sql")
     return json.loads(run_psql(["-d", connection], script=script))
 

@@ -62,7 +62,8 @@ class Reader:
             case Value() if operand.value is None or isinstance(operand.value, bool):
                 return Const(operand.value)
             case Choice():
-                    return chosen(operand.condition, self.as_truth(node, operand.one), self.as_truth(node, operand.other))
+                    one, other = self.as_truth(node, operand.one), self.as_truth(node, operand.other)
+                return chosen(operand.condition, one, other)
         raise Unread(written(node))
 
     def operand(self, node):
@@ -129,8 +130,9 @@ class Reader:
             parts = array_parts(inner.val.sval)
             if parts is None:
                 raise Unread(written(node), "write the list with IN")
+            is_enum = self.is_enum(type)
             return Array(tuple(
-                Value(type, None) if part is None else as_value(typed(type, part, self.is_enum(type))) for part in parts))
+                Value(type, None) if part is None else as_value(typed(type, part, is_enum)) for part in parts))
         if kind_of(inner) == "A_Const" and inner.isnull:
             return Array(None)
         raise Unread(written(node))

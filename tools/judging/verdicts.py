@@ -97,7 +97,7 @@ def read_of(shares, named):
         try:
             constraints[name] = reader.formula(text)
         except Unread as fault:
-            unread[name] = (text, fault.form, columns_of(text))
+            unread[name] = fault.form
     not_null = {column["name"] for column in shares.table["columns"] if column["not_null"]}
     return Read(shares, filters, constraints, unread, not_null, named)
 
@@ -225,7 +225,7 @@ def without_proof(read, name, takers, purpose, trial, confirm):
         if found.is_accepted and rows.is_fault(found.takers, purpose):
             verdict.answer, verdict.row, verdict.takers = NOT_SOUND, row, found.takers
             verdict.matters = rows.columns_that_matter(read)
-            verdict.remarks = rows.remarks(read, row)
+            verdict.remarks = rows.remarks(read)
             return verdict
     verdict.because.append(rows.words_of_unconfirmed(trial))
     return verdict

@@ -145,7 +145,8 @@ DATABASES = [
         CREATE TABLE users (name text PRIMARY KEY);
         CREATE TABLE lost (name text PRIMARY KEY);
         CREATE PUBLICATION p0 FOR TABLE users WHERE (hashtext(name) % 3 = 0), lost WHERE (hashtext(name) % 3 = 0);
-        CREATE PUBLICATION p1 FOR TABLE users WHERE (mod(hashtext(name), 3) IN (1, -1)), lost WHERE (hashtext(name) % 3 = 1);
+        CREATE PUBLICATION p1 FOR TABLE users WHERE (mod(hashtext(name), 3) IN (1, -1)),
+            lost WHERE (hashtext(name) % 3 = 1);
         CREATE PUBLICATION p2 FOR TABLE users WHERE (abs(hashtext(name) % 3) = 2), lost WHERE (hashtext(name) % 3 = 2);
     """, {"users": "sound", "lost": "not decided"}, told=["of hashtext(name) nothing is known but the type"]),
     # Functions of texts: the same function on both sides is a proof, and so is coalesce, which is read as it is.
@@ -157,9 +158,11 @@ DATABASES = [
         CREATE TABLE bodies (body jsonb NOT NULL);
         ALTER TABLE regions REPLICA IDENTITY FULL; ALTER TABLE maybe REPLICA IDENTITY FULL;
         ALTER TABLE bodies REPLICA IDENTITY FULL;
-        CREATE PUBLICATION one FOR TABLE mails WHERE (lower(address) < 'm'), regions WHERE (coalesce(region, 'eu') = 'eu'),
+        CREATE PUBLICATION one FOR TABLE mails WHERE (lower(address) < 'm'),
+            regions WHERE (coalesce(region, 'eu') = 'eu'),
             paths WHERE (path LIKE '/a%'), maybe WHERE (path LIKE '/a%'), bodies WHERE (body ->> 'r' = 'eu');
-        CREATE PUBLICATION two FOR TABLE mails WHERE (lower(address) >= 'm'), regions WHERE (coalesce(region, 'eu') <> 'eu'),
+        CREATE PUBLICATION two FOR TABLE mails WHERE (lower(address) >= 'm'),
+            regions WHERE (coalesce(region, 'eu') <> 'eu'),
             paths WHERE (path NOT LIKE '/a%'), maybe WHERE (path NOT LIKE '/a%'), bodies WHERE (body ->> 'r' <> 'eu');
         CREATE PUBLICATION three FOR TABLE bodies WHERE ((body ->> 'r') IS NULL);
     """, {"mails": "sound", "regions": "sound", "paths": "sound", "maybe": "not sound:", "bodies": "sound"}),
@@ -183,14 +186,18 @@ DATABASES = [
         CREATE TABLE lost (id integer PRIMARY KEY, due date, done date);
         ALTER TABLE spans REPLICA IDENTITY FULL; ALTER TABLE plans REPLICA IDENTITY FULL;
         ALTER TABLE lost REPLICA IDENTITY FULL;
-        CREATE PUBLICATION well FOR TABLE spans WHERE (low <= high), plans WHERE (done <= due), lost WHERE (done <= due);
-        CREATE PUBLICATION ill FOR TABLE spans WHERE (high < low), plans WHERE (due < done OR due IS NULL OR done IS NULL),
+        CREATE PUBLICATION well FOR TABLE spans WHERE (low <= high), plans WHERE (done <= due),
+            lost WHERE (done <= due);
+        CREATE PUBLICATION ill FOR TABLE spans WHERE (high < low),
+            plans WHERE (due < done OR due IS NULL OR done IS NULL),
             lost WHERE (due < done OR due IS NULL);
     """, {"spans": "sound", "plans": "sound", "lost": "not sound:"}, told=["done = NULL"],
         regions={"plans": [
             ("done > due", "ill"), ("due IS NOT NULL AND done IS NULL", "ill"), ("due IS NULL", "ill"),
             ("done <= due", "well")]},
-        rows={"plans": "SELECT 4 * n + m, nullif(date '2024-01-01' + n, '2024-01-03'), nullif(date '2024-01-01' + m, '2024-01-03') FROM generate_series(0, 3) AS n, generate_series(0, 3) AS m"}),
+        rows={"plans": """
+            SELECT 4 * n + m, nullif(date '2024-01-01' + n, '2024-01-03'), nullif(date '2024-01-01' + m, '2024-01-03')
+            FROM generate_series(0, 3) AS n, generate_series(0, 3) AS m"""}),
     # A partitioned table that is published by its root is one table.
     Case("by_the_root", """
         CREATE TABLE log (id bigint, day date NOT NULL, PRIMARY KEY (id, day)) PARTITION BY RANGE (day);
@@ -313,9 +320,30 @@ DATABASES = [
         f"CREATE PUBLICATION p{n} FOR TABLE cells WHERE (id >= {n * 100} AND id < {n * 100 + 100});" for n in range(20)
     ) + "CREATE PUBLICATION rest FOR TABLE cells WHERE (id < 0 OR id >= 2000);", {"cells": "sound"}),
     # One more subscriber than pgshard reads, of a table; the other table has only two.
-    Case("past_a_limit", "CREATE TABLE cells (id integer PRIMARY KEY); CREATE TABLE two (id integer PRIMARY KEY);\n" + "\n".join(
-        f"CREATE PUBLICATION p{n} FOR TABLE cells WHERE (id % 33 = {n})" + (f", two WHERE (id % 2 {'=' if n else '<>'} 0)" if n < 2 else "") + ";"
-        for n in range(33)), {"cells": "not decided", "two": "sound"}, told=["32 subscriptions"]),
+    Case("past_a_limit", """
+        CREATE TABLE cells (id integer PRIMARY KEY); CREATE TABLE two (id integer PRIMARY KEY);
+    """ + "\n".join(f"CREATE PUBLICATION p{n} FOR TABLE cells WHERE (id % 33 = {n});" for n in range(33)) + """
+        ALTER PUBLICATION p0 ADD TABLE two WHERE (id % 2 = 0);
+        ALTER PUBLICATION p1 ADD TABLE two WHERE (id % 2 <> 0);
+    """, {"cells": "not decided", "two": "sound"}, told=["32 subscriptions"]),
+    # Seventy pieces with holes between them are past the limit of conditions.
+    Case("seventy_pieces", "CREATE TABLE cells (id integer PRIMARY KEY);\n" + "".join(
+        f"CREATE PUBLICATION p{place} FOR TABLE cells WHERE (({pieces}) IS {test} TRUE);\n"
+        for place, (pieces, test) in enumerate(
+            (" OR ".join(f"id BETWEEN {10 * n} AND {10 * n + 5}" for n in range(70)), test) for test in ("", "NOT"))),
+        {"cells": "not decided"}, told=["64 different conditions"]),
+    # The server gives an identity and a generated column their values; a domain's constraint is not read.
+    Case("given_values", """
+        CREATE DOMAIN code AS text CHECK (VALUE ~ '^[A-Z]{3}$');
+        CREATE TABLE items (id bigint GENERATED ALWAYS AS IDENTITY PRIMARY KEY, kind integer, twice integer
+            GENERATED ALWAYS AS (2 * kind) STORED);
+        CREATE TABLE parts (id bigint GENERATED ALWAYS AS IDENTITY PRIMARY KEY);
+        CREATE TABLE coded (id integer PRIMARY KEY, code code NOT NULL, kind integer);
+        ALTER TABLE items REPLICA IDENTITY FULL; ALTER TABLE coded REPLICA IDENTITY FULL;
+        CREATE PUBLICATION one FOR TABLE items WHERE (kind = 1), parts WHERE (id % 2 = 0), coded WHERE (kind = 1);
+        CREATE PUBLICATION two FOR TABLE items WHERE (kind <> 1), parts WHERE (id % 2 = 1), coded WHERE (kind <> 1);
+    """, {"items": "not sound:", "parts": "not sound:", "coded": "not sound:"}, refusing=["coded"],
+        told=["the row (DEFAULT, NULL, DEFAULT)", "OVERRIDING SYSTEM VALUE", "column code is of a domain"]),
     # Operations that are not published, and all tables at once.
     Case("some_operations", """
         CREATE TABLE rows (id integer PRIMARY KEY);
@@ -330,5 +358,7 @@ DATABASES = [
         CREATE PUBLICATION later FOR TABLE jobs WHERE (NOT urgent AND coalesce(prio, 0) <= 5);
     """, {"jobs": "sound"},
         regions={"jobs": []},
-        rows={"jobs": "SELECT 20 * n + m, 'k', n = 1, nullif(m, 9) FROM generate_series(0, 1) AS n, generate_series(0, 9) AS m"}),
+        rows={"jobs": """
+            SELECT 20 * n + m, 'k', n = 1, nullif(m, 9)
+            FROM generate_series(0, 1) AS n, generate_series(0, 9) AS m"""}),
 ]

@@ -41,7 +41,7 @@ def check_case(tally, server, case):
 
 
 def check_regions(tally, server, case, table, report):
-    """The regions as they are expected, in any order; and each of some rows is in one region, whose subscriber gets it."""
+    """The regions as they are expected, in any order. Each of some rows is in one region, whose subscriber gets it."""
     name = table["table"]
     found = [(it["rows"], it["subscriber"]) for it in table["regions"]]
     expected = case.regions[name.removeprefix("public.")]
@@ -72,13 +72,12 @@ def status_of(truth):
 
 
 def check_row(tally, server, case, report, table):
-    """Inserts the row, and asks which filters are true of it. The foreign keys of the table are met first."""
+    """Inserts the row, and asks which filters are true of it."""
     name, row = table["table"], table["row"]
-    given = {column: value for column, value in row.items() if column not in ("tripled",)}
-    columns = ", ".join(f'"{column}"' for column in given)
+    columns = ", ".join(f'"{column}"' for column in row)
     server.psql(case.name, f"""
         SET timezone = 'UTC';
-        INSERT INTO {name} ({columns}) OVERRIDING SYSTEM VALUE VALUES ({', '.join(given.values())});
+        INSERT INTO {name} ({columns}) OVERRIDING SYSTEM VALUE VALUES ({', '.join(row.values())});
     """)
     takers = [it["name"] for it in report["subscribers"] if passes(server, case.name, name, it["publications"])]
     purposes = dict(zip(case.words[1::2], case.words[::2]))

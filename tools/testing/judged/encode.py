@@ -30,7 +30,8 @@ def main(words):
 
 def catalogs_of(db, table, session):
     reader = Reader(table["columns"])
-    entries = {name: db.filter_of(it, table["oid"]) for name, it in db.publications.items() if db.entry(it, table["oid"])}
+    having = {name: it for name, it in db.publications.items() if db.entry(it, table["oid"])}
+    entries = {name: db.filter_of(it, table["oid"]) for name, it in having.items()}
     names = [name for name in entries if is_read(reader, entries[name])]
     for begin in range(0, len(names), FILTERS):
         part = names[begin:begin + FILTERS]

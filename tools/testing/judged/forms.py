@@ -42,6 +42,7 @@ UUIDS = ["NULL", "'00000000-0000-0000-0000-000000000000'", "'00000000-0000-0000-
          "'80000000-0000-0000-0000-000000000001'", "'a0eebc99-9c0b-4ef8-bb6d-6bb9bd380a11'",
          "'ffffffff-ffff-ffff-ffff-ffffffffffff'"]
 TEXTS = ["NULL", "''", "' '", "'a'", "'A'", "'ab'", "'b'", "'it''s'", "'z'", "'é'", "'%'", "'abcde'"]
+TRUTHS = ["NULL", "TRUE", "FALSE"]
 
 GROUPS = [
     Group("i integer, s smallint", values(MIDDLE, SMALL), [
@@ -55,7 +56,8 @@ GROUPS = [
         "i % 1 = 0", "-(i % 4) = 1", "(i % 4) * 2 > 3", "(i % 2 = 0) = (i % 4 = 0)", "i % 4 IS NULL", "(6 & i) = 2",
     ]),
     Group("b bigint", values(LARGE), [
-        "b >= 0 AND b % 4 = 1", "b < 0", "b > -9223372036854775808", "b = 9223372036854775807", "b < 99999999999999999999",
+        "b >= 0 AND b % 4 = 1", "b < 0", "b > -9223372036854775808", "b = 9223372036854775807",
+        "b < 99999999999999999999",
         "b >= 9223372036854775807", "b <> -9223372036854775807",
     ]),
     Group("d date", values(DATES), [
@@ -67,7 +69,8 @@ GROUPS = [
         "extract(year FROM d) = 2024",
     ]),
     Group("t timestamp, z timestamptz, m timestamp(0)", values(TIMES, TIMES, [
-        "NULL", "'-infinity'", "'2023-12-31 23:59:59'", "'2024-01-01 00:00:00'", "'2024-01-01 00:00:01'", "'infinity'"]), [
+        "NULL", "'-infinity'", "'2023-12-31 23:59:59'", "'2024-01-01 00:00:00'", "'2024-01-01 00:00:01'",
+        "'infinity'"]), [
         "t < '2024-01-01'", "t >= '2024-01-01'::date", "t::date = '2024-01-01'", "t::date < '2024-01-01'",
         "t::date > '2024-01-01'", "t::date <> '2024-01-01'", "t::date = 'infinity'", "t::date <= '2024-01-01'",
         "z < '2024-01-01 00:00:00+00'", "z >= '2024-01-01 00:00:00+02'", "z = 'infinity'",
@@ -105,8 +108,9 @@ GROUPS = [
         "a < b", "a >= b", "b <= a", "a = b", "a <> b", "x < y", "NOT (y > x)", "x IS NOT DISTINCT FROM y", "a = a",
     ]),
     Group("o boolean, p boolean, i integer", [
-        f"({a}, {b}, {i})" for a in ("NULL", "TRUE", "FALSE") for b in ("NULL", "TRUE", "FALSE") for i in ("NULL", "0", "1", "2")], [
-        "o", "NOT o", "o = p", "o <> p", "o IS DISTINCT FROM p", "o = (i = 1)", "o IN (true)", "o IN (true, false)", "o NOT IN (true, NULL)", "(o AND i = 1) IS UNKNOWN",
+        f"({a}, {b}, {i})" for a in TRUTHS for b in TRUTHS for i in ("NULL", "0", "1", "2")], [
+        "o", "NOT o", "o = p", "o <> p", "o IS DISTINCT FROM p", "o = (i = 1)", "o IN (true)", "o IN (true, false)",
+        "o NOT IN (true, NULL)", "(o AND i = 1) IS UNKNOWN",
         "CASE WHEN o THEN i = 1 ELSE p END", "CASE i WHEN 1 THEN 'a' WHEN 2 THEN 'b' END = 'a'",
         "coalesce(i, 1) = 1", "coalesce(o, p, false)", "nullif(i, 1) = 0", "o OR NULL", "NOT (p AND NULL)",
         "CASE WHEN i > 0 THEN 1 ELSE 0 END < 1", "coalesce(i, 0) BETWEEN 0 AND 1",
