@@ -62,7 +62,7 @@ class Reader:
             case Value() if operand.value is None or isinstance(operand.value, bool):
                 return Const(operand.value)
             case Choice():
-                    one, other = self.as_truth(node, operand.one), self.as_truth(node, operand.other)
+                one, other = self.as_truth(node, operand.one), self.as_truth(node, operand.other)
                 return chosen(operand.condition, one, other)
         raise Unread(written(node))
 
