@@ -44,14 +44,14 @@ def options_of(words):
     return options
 
 
-def run(script, words, help):
+def run(words, help):
     """Runs the command, and answers its exit status."""
     try:
         if words[:1] in (["--help"], ["-?"]):
             print(help.strip())
             sys.stdout.flush()
             return SOUND
-        status = judge(script, words)
+        status = judge(words)
         sys.stdout.flush()
         return status
     except Fault as fault:
@@ -73,12 +73,12 @@ def ended(fault):
     return fault.status
 
 
-def judge(script, words):
+def judge(words):
     options = options_of(words)
     file = file_of(options.words)
     if file is not None:
         return catalog_files.judge(file, options)
-    parser.want_pglast(script, words)
+    parser.want_pglast()
     return judge_server(options)
 
 

@@ -65,8 +65,10 @@ def of_constants(form, op, one, other):
     """Two constants: the server's answer is one of three, and is computed here."""
     if one.value is None:
         return UNKNOWN
-    if family(one.type) != family(other.type) or isinstance(one.value, str) and op not in ("=", "<>"):
+    if family(one.type) != family(other.type):
         raise Unread(form)
+    if isinstance(one.value, str) and op not in ("=", "<>"):
+        raise Unread(form, "the order of two texts; without coalesce it is read, as in x < 'm' OR x IS NULL")
     a, b = one.value, other.value
     return Const({
         "=": a == b, "<>": a != b, "<": a < b, "<=": a <= b, ">": a > b, ">=": a >= b,

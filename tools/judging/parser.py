@@ -1,14 +1,10 @@
 """PostgreSQL's own parser, by the Python library pglast."""
 
-import os
 import re
-import sys
 
 from judging.faults import NO_PROGRAM, Fault, Unread
+from judging.pythons import has_pglast
 
-# Debian's packages are for this Python, which need not be the first one on the path.
-SYSTEM_PYTHON = "/usr/bin/python3"
-TRIED = "JUDGE_TRIED_SYSTEM_PYTHON"
 TEXT_CAST = re.compile(r"CAST\(('(?:[^']|'')*') AS text\)")
 NO_MEANING = {"location", "funcformat", "list_start", "list_end"}
 MISSING = (
@@ -17,22 +13,9 @@ MISSING = (
 )
 
 
-def has_pglast():
-    try:
-        import pglast  # noqa: F401
-    except ImportError:
-        return False
-    return True
-
-
-def want_pglast(script, words):
-    """Goes on where pglast is, and else runs the script once more by the system's Python."""
-    if has_pglast():
-        return
-    if TRIED not in os.environ and os.access(SYSTEM_PYTHON, os.X_OK):
-        sys.stdout.flush()
-        os.execve(SYSTEM_PYTHON, [SYSTEM_PYTHON, script, *words], os.environ | {TRIED: "1"})
-    raise Fault(NO_PROGRAM, MISSING)
+def want_pglast():
+    if not has_pglast():
+        raise Fault(NO_PROGRAM, MISSING)
 
 
 def parsed(text):

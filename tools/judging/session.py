@@ -14,6 +14,7 @@ from judging.server_types import quoted
 
 SETUP = r"""
 \set QUIET on
+\set ON_ERROR_STOP off
 \set ECHO none
 \timing off
 \pset pager off

@@ -214,6 +214,23 @@ DATABASES = [
         CREATE PUBLICATION spring FOR TABLE log_2023 WHERE (day BETWEEN '2023-01-01' AND '2023-06-30'), log_rest;
         CREATE PUBLICATION autumn FOR TABLE log_2023 WHERE (day BETWEEN '2023-07-01' AND '2023-12-31');
     """, {"log_2023": "sound", "log_rest": "sound"}),
+    # By the root for some and by a partition for others: even rows of 2023 go to both, and odd ones of the rest to none.
+    Case("both_ways", """
+        CREATE TABLE log (id bigint, day date NOT NULL, PRIMARY KEY (id, day)) PARTITION BY RANGE (day);
+        CREATE TABLE log_2023 PARTITION OF log FOR VALUES FROM ('2023-01-01') TO ('2024-01-01');
+        CREATE TABLE log_rest PARTITION OF log DEFAULT;
+        CREATE PUBLICATION even FOR TABLE log WHERE (id % 2 = 0) WITH (publish_via_partition_root);
+        CREATE PUBLICATION year FOR TABLE log_2023;
+    """, {"log_2023": "not sound: even year", "log_rest": "not sound:"}),
+    # One subscriber of both: the rows of 2023 are sent as those of the root, so the filter of the root is what counts.
+    Case("both_ways_to_one", """
+        CREATE TABLE log (id bigint, day date NOT NULL, PRIMARY KEY (id, day)) PARTITION BY RANGE (day);
+        CREATE TABLE log_2023 PARTITION OF log FOR VALUES FROM ('2023-01-01') TO ('2024-01-01');
+        CREATE TABLE log_rest PARTITION OF log DEFAULT;
+        CREATE PUBLICATION even FOR TABLE log WHERE (id % 2 = 0) WITH (publish_via_partition_root);
+        CREATE PUBLICATION odd FOR TABLE log WHERE (id % 2 <> 0) WITH (publish_via_partition_root);
+        CREATE PUBLICATION year FOR TABLE log_2023;
+    """, {"log_2023": "not sound:", "log_rest": "not sound:"}, words=["-v", "subscriptions=one=even,year"]),
     # No key at all, under FULL and without.
     Case("keyless", """
         CREATE TABLE kept (kind integer NOT NULL, note text);

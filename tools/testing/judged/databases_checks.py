@@ -1,7 +1,9 @@
 """What judge says of each database, and whether the server takes each row that is called NOT SOUND, and who gets it."""
 
 import json
+import os
 import subprocess
+from concurrent.futures import ThreadPoolExecutor
 
 from judged.databases import DATABASES
 from programs import PGSHARD, TOOLS, judge
@@ -12,7 +14,16 @@ def check_databases(tally, server):
     """All databases."""
     for case in DATABASES:
         server.create(case.name, case.setup)
-        check_case(tally, server, case)
+    with ThreadPoolExecutor(len(os.sched_getaffinity(0))) as threads:
+        answers = list(threads.map(lambda case: answers_of(server, case), DATABASES))
+    for case, (report, status, lines) in zip(DATABASES, answers):
+        check_case(tally, server, case, report, status, lines)
+
+
+def answers_of(server, case):
+    """What judge says of a case: as JSON, its status, and as lines where some of them are looked at."""
+    report, status = report_of(server, case.name, [*case.words, *(["--explain"] if case.regions else [])])
+    return report, status, judge(*server.words(case.name), *case.words) if case.told else ""
 
 
 def report_of(server, database, words):
@@ -23,16 +34,13 @@ def report_of(server, database, words):
     return json.loads(answer.stdout), answer.returncode
 
 
-def check_case(tally, server, case):
+def check_case(tally, server, case, report, status, lines):
     """One database: the answers, what is told beside them, the status, and the rows."""
-    report, status = report_of(server, case.name, [*case.words, *(["--explain"] if case.regions else [])])
     found = {it["table"].removeprefix("public."): answer_of(it) for it in report["tables"]}
     tally.check(f"{case.name}: what is said of each table", found, case.truth)
     tally.check(f"{case.name}: the status", status, status_of(case.truth))
-    if case.told:
-        lines = judge(*server.words(case.name), *case.words)
-        for part in case.told:
-            tally.check(f"{case.name}: what is told", part if part in lines else lines, part)
+    for part in case.told:
+        tally.check(f"{case.name}: what is told", part if part in lines else lines, part)
     for table in report["tables"]:
         if "row" in table and table["table"].removeprefix("public.") not in case.refusing:
             check_row(tally, server, case, report, table)
@@ -72,14 +80,16 @@ def status_of(truth):
 
 
 def check_row(tally, server, case, report, table):
-    """Inserts the row, and asks which filters are true of it."""
+    """Inserts the row, and looks at what the server sends of it under each subscriber's publications."""
     name, row = table["table"], table["row"]
     columns = ", ".join(f'"{column}"' for column in row)
+    server.psql(case.name, "SELECT FROM pg_create_logical_replication_slot('judged', 'pgoutput');")
     server.psql(case.name, f"""
         SET timezone = 'UTC';
         INSERT INTO {name} ({columns}) OVERRIDING SYSTEM VALUE VALUES ({', '.join(row.values())});
     """)
-    takers = [it["name"] for it in report["subscribers"] if passes(server, case.name, name, it["publications"])]
+    takers = [it["name"] for it in report["subscribers"] if is_sent(server, case.name, it["publications"])]
+    server.psql(case.name, "SELECT FROM pg_drop_replication_slot('judged');")
     purposes = dict(zip(case.words[1::2], case.words[::2]))
     if purposes.get(name.removeprefix("public.")) == "--copied":
         tally.check(f"{case.name}: {name} goes to all", len(takers) < len(report["subscribers"]), True)
@@ -87,10 +97,14 @@ def check_row(tally, server, case, report, table):
     tally.check(f"{case.name}: who gets the row of {name}", sorted(takers), sorted(table["goes_to"]))
 
 
-def passes(server, database, table, publications):
-    """Whether the only row of a table passes a filter of one of some publications."""
-    filters = filters_of(server, database, table, publications)
-    return server.psql(database, f"SELECT {filters} FROM {table};") == "t"
+def is_sent(server, database, publications):
+    """Whether the server sends an Insert message to one who takes some publications."""
+    names = ",".join(f'"{it}"' for it in publications)
+    return server.psql(database, f"""
+        SELECT count(*) FROM pg_logical_slot_peek_binary_changes(
+            'judged', NULL, NULL, 'proto_version', '1', 'publication_names', '{names}')
+        WHERE get_byte(data, 0) = ascii('I');
+    """) != "0"
 
 
 def filters_of(server, database, table, publications):
