@@ -4,7 +4,7 @@ import math
 
 from judging import ranges
 from judging.faults import Unread
-from judging.operands import Mixed, Ref, Value
+from judging.operands import Mixed, Quotient, Ref, Value
 from judging.points import finite
 from judging.server_types import INTEGERS
 
@@ -87,6 +87,8 @@ def of_column(form, op, column, constant):
         raise Unread(form, "it divides by zero")
     if op == "%":
         return Mixed(column.subject, abs(number), type)
+    if op == "/" and number > 0:
+        return Quotient(column.subject, number, type)
     if op == "&" and number >= 0:
         return Mixed(column.subject, 2 ** number.bit_length(), type, lambda it: it & number)
     raise Unread(form, f"{SMALLEST_FAILURE}; compare the column with the number that this comes to")
@@ -144,6 +146,16 @@ def absolute(form, operand):
     if isinstance(operand, Mixed):
         return checked(form, Mixed(operand.subject, operand.modulus, operand.type, lambda it: abs(operand.at(it))))
     raise Unread(form, "abs fails at the least number of the type; take abs of the remainder, as in abs(x % 4)")
+
+
+def quotient_end(divisor, op, point):
+    """The number at or below which just the columns are whose quotient is < or <= a point; None for all of them.
+
+    The quotient goes toward zero. So it is at most q, from zero on, just where the column is at most q * d + d - 1, and
+    below zero where it is at most q * d.
+    """
+    last = math.ceil(point.value) - 1 if op == "<" else math.floor(point.value)
+    return last * divisor + (divisor - 1 if last >= 0 else 0)
 
 
 def remainders_where(mixed, op, point):

@@ -309,8 +309,8 @@ class Ranks(Coding):
     def between(self, low, high):
         """A plain value between two neighbours, one of which may be None."""
         if isinstance(low if low is not None else high, str):
-            # The least text is the empty one. What follows a text and a blank is above it in each collation.
-            return "" if low is None else low + " "
+            # The least text is the empty one. A text with more at its end is above it; a char drops blanks there.
+            return "" if low is None else low + ("!" if self.subject.type == "bpchar" else " ")
         if low is None or low == LEAST:
             return Point(0, Fraction(math.floor(high.value) - 1)) if high is not None and high.is_finite else Point(0)
         if high is None or not high.is_finite:

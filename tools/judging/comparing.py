@@ -5,7 +5,7 @@ from judging.faults import Unread
 from judging.formulas import (
     Compare, Const, IsNull, Not, Remainder, Subject, both, chosen, compared, either, negation, same_truth, tested,
     unlike_truth)
-from judging.operands import Choice, DayOf, Mixed, Ref, Truth, Value
+from judging.operands import Choice, DayOf, Mixed, Quotient, Ref, Truth, Value
 from judging.points import Point, finite
 from judging.server_types import LABELS, family, is_ordered
 
@@ -58,6 +58,8 @@ def with_constant(form, op, operand, constant):
         return of_remainder(op, operand, constant)
     if isinstance(operand, DayOf):
         return of_day(op, operand.subject, constant)
+    if isinstance(operand, Quotient):
+        return of_quotient(form, op, operand, constant)
     return of_subject(form, op, operand, constant)
 
 
@@ -83,6 +85,19 @@ def of_remainder(op, mixed, constant):
     if op in (">", ">=", "<>"):
         return Not(of_remainder({">": "<=", ">=": "<", "<>": "="}[op], mixed, constant))
     return Remainder(mixed.subject, mixed.modulus, arithmetic.remainders_where(mixed, op, constant.value))
+
+
+def of_quotient(form, op, quotient, constant):
+    """A quotient by a positive number grows with the column, so each comparison is one of the column with the ends."""
+    point = constant.value
+    if not isinstance(point, Point) or not point.is_finite:
+        raise Unread(form)
+    if op in (">", ">=", "<>"):
+        return negation(of_quotient(form, {">": "<=", ">=": "<", "<>": "="}[op], quotient, constant))
+    ends = {it: finite(arithmetic.quotient_end(quotient.divisor, it, point)) for it in ("<", "<=")}
+    if op in ends:
+        return Compare(quotient.subject, "<=", ends[op])
+    return both(Compare(quotient.subject, "<=", ends["<="]), Not(Compare(quotient.subject, "<=", ends["<"])))
 
 
 def of_day(op, subject, constant):
@@ -122,7 +137,7 @@ def of_subject(form, op, operand, constant):
         raise Unread(form, f"the order of {type}")
     if op not in ("=", "<>") and isinstance(constant.value, str) and subject.collation is None:
         raise Unread(form, "the collation of its order is not known")
-    if not (is_ordered(type) or type == "bpchar" or type in LABELS or type.startswith("enum ")):
+    if not (is_ordered(type) or type in LABELS or type.startswith("enum ")):
         raise Unread(form, f"equality of {type}")
     return compared(subject, op, constant.value)
 
@@ -140,7 +155,7 @@ def of_two(form, op, one, other):
         return of_itself(op, one.subject)
     if family(one.type) != family(other.type):
         raise Unread(form, f"it compares {one.type} with {other.type}")
-    if op in ("=", "<>") and (one.type in LABELS or one.type == "bpchar") or is_ordered(one.type):
+    if op in ("=", "<>") and one.type in LABELS or is_ordered(one.type):
         if other.subject.sql < one.subject.sql:
             return of_two(form, TURNED[op], other, one)
         return compared(sign_of(one, other), op, finite(0))

@@ -7,13 +7,14 @@ fail at some values are left out here, since a filter that fails ends the replic
 
 from judging.faults import Unread
 from judging.formulas import Subject
-from judging.operands import Choice, DayOf, Mixed, Ref, Truth, Value
+from judging.operands import Array, DayOf, Mixed, Quotient, Ref, Value
 
 TEXT_ARGUMENTS = {"text", "varchar", "bpchar"}
 # The type of the result, and whether it is NULL just where an argument is.
 FUNCTIONS = {
     **{name: ("text", True) for name in (
-        "lower", "upper", "initcap", "md5", "btrim", "ltrim", "rtrim", "reverse", "left", "right", "translate")},
+        "lower", "upper", "initcap", "md5", "btrim", "ltrim", "rtrim", "reverse", "left", "right", "translate",
+        "substr", "substring", "split_part")},
     **{name: ("int4", True) for name in (
         "length", "char_length", "character_length", "octet_length", "bit_length", "ascii", "strpos", "position",
         "hashtext", "hashbpchar", "hashint2", "hashint4", "hashint8", "uuid_hash", "hashfloat8", "hash_numeric",
@@ -46,7 +47,19 @@ def call(name, form, arguments):
         raise Unread(form, advice_of(name))
     if name in ("extract", "date_part") and not is_part(*arguments):
         raise Unread(form, "this part of that type")
+    if name in ("substr", "substring", "split_part") and not is_cut(name, arguments):
+        raise Unread(form, "it fails at some arguments, or its numbers are no constants")
     return opaque(form, *FUNCTIONS[name], arguments)
+
+
+def is_cut(name, arguments):
+    """Whether the numbers are constants at which the function never fails: a length that is not negative, a field that
+    is not 0."""
+    numbers = arguments[2:] if name == "split_part" else arguments[1:]
+    if not numbers or not all(isinstance(it, Value) and it.type == "int4" and it.value for it in numbers):
+        return False
+    last = numbers[-1].value.value
+    return last != 0 if name == "split_part" else len(numbers) == 1 or last >= 0
 
 
 def is_part(part, operand):
@@ -64,6 +77,13 @@ def operator(name, form, arguments):
     return opaque(form, *OPERATORS[name], arguments)
 
 
+def member(name, form, written, arguments):
+    """`x = ANY (column)`: NULL where one of the two is, and maybe where an element of the list is."""
+    if name not in ("=", "<>"):
+        raise Unread(form, "a list that is a column")
+    return opaque(written, "bool", False, arguments)
+
+
 def is_pattern(operand):
     """A constant: a pattern from a column may be none, and the server fails there."""
     return isinstance(operand, Value) and not (operand.value or "").endswith("\\")
@@ -75,8 +95,6 @@ def advice_of(name):
             return "abs fails at the least number of the type; take abs of the remainder, as in abs(x % 4)"
         case "date_trunc":
             return "compare the column itself with the first moment and the end of the time that is meant"
-        case "substr" | "substring" | "split_part":
-            return "it fails at some arguments; left(x, n) is read"
     return ""
 
 
@@ -88,12 +106,15 @@ def opaque(form, type, is_total, arguments):
             case Value():
                 if argument.value is None:
                     return Value(type, None)
-            case Ref() | Mixed() | DayOf():
+            case Array():
+                if argument.parts is None or not all(isinstance(it, Value) for it in argument.parts):
+                    raise Unread(form, "a list of what is not constant")
+            case Ref() | Mixed() | Quotient() | DayOf():
                 columns.extend(argument.subject.columns)
                 total = total and argument.subject.is_total
                 if not argument.subject.is_strict:
                     raise Unread(form)
-            case Choice() | Truth():
+            case _:
                 raise Unread(form, "its argument is a condition or a CASE")
     if not columns:
         raise Unread(form, "it is a function of constants")

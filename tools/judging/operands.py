@@ -43,6 +43,15 @@ class Mixed:
 
 
 @dataclass(frozen=True)
+class Quotient:
+    """A column divided by a positive number, toward zero."""
+
+    subject: Subject
+    divisor: int
+    type: str
+
+
+@dataclass(frozen=True)
 class DayOf:
     """The date of a timestamp."""
 

@@ -95,3 +95,23 @@ def gather(node, found):
     elif hasattr(node, "__slots__") and hasattr(node, "__iter__"):
         for name in node:
             gather(getattr(node, name), found)
+
+
+def is_built_in(text):
+    """Whether an expression has the server's own functions, operators and types alone: those of others have a schema
+    before their names, where the search path has pg_catalog alone."""
+    try:
+        return not has_schema(parsed(text))
+    except Unread:
+        return False
+
+
+def has_schema(node):
+    if isinstance(node, tuple):
+        return any(has_schema(part) for part in node)
+    if not (hasattr(node, "__slots__") and hasattr(node, "__iter__")):
+        return False
+    names = {"FuncCall": "funcname", "A_Expr": "name", "TypeName": "names", "CollateClause": "collname"}
+    name = getattr(node, names.get(kind_of(node), ""), None)
+    is_own = name is not None and len(name) > 1 and name[0].sval != "pg_catalog"
+    return is_own or any(has_schema(getattr(node, part)) for part in node)

@@ -77,8 +77,9 @@ def remarks(read):
         if named & set(columns):
             listed = ", ".join(columns)
             found.append(f"foreign key {reference['name']} on {listed} is not read, and may refuse this row")
-    for name, form in read.unread.items():
-        found.append(f"{name} is not read, since it has {shown(form)}, and may refuse this row")
+    for name, constraint in read.unread.items():
+        if not constraint.is_built_in:
+            found.append(f"{name} is not read, since it has {shown(constraint.form)}, and may refuse this row")
     if read.shares.table["triggers"]:
         triggers = ", ".join(read.shares.table["triggers"])
         found.append(f"trigger {triggers} is not read, and may change or refuse this row")
@@ -99,8 +100,12 @@ def opaque_texts(trial):
     return [it.subject.sql for it in trial.rewritten.codings if not it.subject.is_column]
 
 
-def words_of_unconfirmed(trial):
+def words_of_unconfirmed(read, trial):
     """Why a row of pgshard is not told as one of the server."""
+    for name, constraint in read.unread.items():
+        if constraint.is_built_in:
+            return (f"{name} is not read, since it has {shown(constraint.form)}, and refuses the rows that were tried, "
+                    "or the server sends these elsewhere")
     listed = list(dict.fromkeys(shown(it) for it in opaque_texts(trial)))
     if listed:
         return (

@@ -14,7 +14,7 @@ TIMES = {"date", "timestamp", "timestamptz", "time"}
 TEXTS = {"text", "varchar", "bpchar"}
 # Types of which two values are equal just where the server writes the same text of both.
 LABELS = {"name", "char", "bytea", "inet", "cidr", "macaddr", "macaddr8"}
-ORDERED = NUMBERS | TIMES | {"uuid", "text", "varchar"}
+ORDERED = NUMBERS | TIMES | {"uuid", "text", "varchar", "bpchar"}
 
 
 def family(type):

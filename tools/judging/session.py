@@ -103,11 +103,12 @@ class Session:
 
     @staticmethod
     def checks(read):
-        """The constraints that the server is asked of: those that judge reads, so that no function of the database's
-        own is called."""
+        """The constraints that the server is asked of: not those with functions of the database's own, which are called
+        by nobody here."""
         texts = {f"CHECK {it['name']}": it["text"] for it in read.shares.table["checks"] if it["is_valid"]}
         texts["the bounds of the partition"] = read.shares.table["partition"]
-        return [texts[name] for name in read.constraints]
+        unread = [it.text for it in read.unread.values() if it.is_built_in]
+        return [*(texts[name] for name in read.constraints), *unread]
 
 
 def value_text(column, literal):

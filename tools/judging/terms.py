@@ -3,8 +3,8 @@
 from judging import arithmetic, comparing, functions, parser, server_types
 from judging.faults import Unread
 from judging.formulas import Compare, Const, IsNull, Subject, both, chosen, either, negation, tested
-from judging.operands import Array, Choice, DayOf, Mixed, Ref, Truth, Value
-from judging.parser import kind_of, name_of, side_text, written
+from judging.operands import Array, Choice, DayOf, Mixed, Quotient, Ref, Truth, Value
+from judging.parser import faithful, kind_of, name_of, side_text, written
 from judging.points import finite
 from judging.server_types import INTEGERS
 
@@ -155,6 +155,8 @@ class Reader:
         if isinstance(operand, Mixed) and type in SAME_VALUE[operand.type]:
             wide = type if type in INTEGERS else operand.type
             return Mixed(operand.subject, operand.modulus, wide, operand.function)
+        if isinstance(operand, Quotient) and type in SAME_VALUE[operand.type]:
+            return Quotient(operand.subject, operand.divisor, type if type in INTEGERS else operand.type)
         if isinstance(operand, Ref):
             return cast_subject(form, type, operand)
         raise Unread(form, "a cast that fails at some rows, or changes values")
@@ -203,7 +205,8 @@ class Reader:
         list, and of the empty list, whose answer does not depend on x."""
         one, listed = self.operand(node.lexpr), self.operand(node.rexpr)
         if isinstance(listed, Ref):
-            raise Unread(form, "a list that is a column")
+            # A list with NULL in it may make this NULL, so it is not total.
+            return truth_of(functions.member(name, form, faithful(node), (one, listed)))
         if not isinstance(listed, Array):
             raise Unread(form)
         if listed.parts is None:
@@ -265,7 +268,7 @@ class Reader:
         if name == "timezone" and is_utc(arguments):
             # A timestamptz in UTC is the timestamp of the same microsecond.
             return Ref(arguments[1].subject, "timestamp")
-        found = functions.call(name, parser.faithful(node), arguments)
+        found = functions.call(name, faithful(node), arguments)
         return Truth(truth_of(found)) if isinstance(found, Ref) and found.type == "bool" else found
 
     def read_CollateClause(self, node):

@@ -5,7 +5,7 @@ from dataclasses import dataclass, field
 
 from judging import catalogs, database, facts, formulas, limits, program, rows
 from judging.faults import Unread
-from judging.parser import columns_of, shown
+from judging.parser import columns_of, is_built_in, shown
 from judging.rewriting import rewritten
 from judging.terms import Reader
 
@@ -42,6 +42,15 @@ class Read:
     unread: dict
     not_null: set
     named: dict
+
+
+@dataclass
+class UnreadConstraint:
+    """A constraint that is not read. The server is asked of it, if it has nothing but the server's own functions."""
+
+    text: str
+    form: str
+    is_built_in: bool
 
 
 @dataclass
@@ -97,7 +106,7 @@ def read_of(shares, named):
         try:
             constraints[name] = reader.formula(text)
         except Unread as fault:
-            unread[name] = fault.form
+            unread[name] = UnreadConstraint(text, fault.form, is_built_in(text))
     not_null = {column["name"] for column in shares.table["columns"] if column["not_null"]}
     return Read(shares, filters, constraints, unread, not_null, named)
 
@@ -227,7 +236,7 @@ def without_proof(read, name, takers, purpose, trial, confirm):
             verdict.matters = rows.columns_that_matter(read)
             verdict.remarks = rows.remarks(read)
             return verdict
-    verdict.because.append(rows.words_of_unconfirmed(trial))
+    verdict.because.append(rows.words_of_unconfirmed(read, trial))
     return verdict
 
 

@@ -361,6 +361,19 @@ DATABASES = [
         CREATE PUBLICATION two FOR TABLE items WHERE (kind <> 1), parts WHERE (id % 2 = 1), coded WHERE (kind <> 1);
     """, {"items": "not sound:", "parts": "not sound:", "coded": "not sound:"}, refusing=["coded"],
         told=["the row (DEFAULT, NULL, DEFAULT)", "OVERRIDING SYSTEM VALUE", "column code is of a domain"]),
+    # A constraint that is not read, of the server's functions and of the database's own.
+    Case("unread_checks", """
+        CREATE FUNCTION is_even(number integer) RETURNS boolean IMMUTABLE LANGUAGE sql AS 'SELECT number % 2 = 0';
+        CREATE TABLE own (id integer PRIMARY KEY, kind integer CONSTRAINT even CHECK (is_even(kind)));
+        CREATE TABLE sum (id integer PRIMARY KEY, kind integer CONSTRAINT small CHECK (kind + 0 < 100 AND kind + 0 > 0));
+        CREATE TABLE never (id integer PRIMARY KEY, kind integer NOT NULL CONSTRAINT small CHECK (kind + 0 < 100));
+        ALTER TABLE own REPLICA IDENTITY FULL; ALTER TABLE sum REPLICA IDENTITY FULL;
+        ALTER TABLE never REPLICA IDENTITY FULL;
+        CREATE PUBLICATION one FOR TABLE own WHERE (kind <> 7), sum WHERE (kind < 50), never WHERE (kind < 100);
+        CREATE PUBLICATION two FOR TABLE own WHERE (kind IS NULL), sum WHERE (kind >= 50), never WHERE (kind > 100);
+    """, {"own": "not sound:", "sum": "not sound:", "never": "not decided"}, refusing=["own"],
+        told=["CHECK even is not read, since it has public.is_even(kind)", "kind = NULL",
+              "CHECK small is not read, since it has kind + 0, and refuses the rows that were tried"]),
     # Operations that are not published, and all tables at once.
     Case("some_operations", """
         CREATE TABLE rows (id integer PRIMARY KEY);

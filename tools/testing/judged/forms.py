@@ -54,6 +54,7 @@ GROUPS = [
         "i % 4 = 1", "i % 4 = -1", "mod(i, 4) = 3", "(i & 3) = 0", "(i & 3) = 2", "i & 7 < 3", "(i % 4 + 4) % 4 = 1",
         "abs(i % 4) = 3", "i % 8 IN (1, 5)", "b % 3000000000 = 5", "b % 4 <> 0", "mod(b, 8) >= 4", "(b & 1023) < 512",
         "i % 1 = 0", "-(i % 4) = 1", "(i % 4) * 2 > 3", "(i % 2 = 0) = (i % 4 = 0)", "i % 4 IS NULL", "(6 & i) = 2",
+        "i / 4 = 1", "i / 4 = 0", "i / 4 < -1", "i / 4 >= 0", "i / 4 <> -1", "b / 1000 <= 2.5", "b / 3000000000 = -1",
     ]),
     Group("b bigint", values(LARGE), [
         "b >= 0 AND b % 4 = 1", "b < 0", "b > -9223372036854775808", "b = 9223372036854775807",
@@ -92,14 +93,15 @@ GROUPS = [
     ]),
     Group("c char(3), v varchar(3), t text", values(
         ["NULL", "''", "'a'", "'a  '", "'abc'", "'é'"], ["NULL", "''", "'a'", "'a  '", "'abc'"], TEXTS), [
-        "c = 'a'", "c = 'a  '", "c <> 'abc'", "c IN ('a', 'abcd')", "c::text = 'a '", "c IS NULL", "v = 'a'",
+        "c = 'a'", "c = 'a  '", "c <> 'abc'", "c IN ('a', 'abcd')", "c::text = 'a '", "c IS NULL", "c < 'b'", "c >= 'a'", "v = 'a'",
         "v = 'abcd'", "v <> 'a  '", "v::text IN ('a', 'abc')", "t = 'it''s'", "t <> ''", "t IN ('a', 'b', NULL)",
         "t IS DISTINCT FROM 'a'", "nullif(t, 'a') IS NULL", "coalesce(t, 'a') = 'a'", "coalesce(v, c) = 'a'",
     ]),
     Group("t text, w text", values(TEXTS, TEXTS), [
         "t < 'b'", "t >= 'a' AND t < 'b'", "t = 'ab'", "t COLLATE \"C\" > ''", "t <= 'z'", "lower(t) = 'a'",
         "lower(t) < 'b'", "w LIKE 'a%'", "w NOT LIKE 'a%'", "w ILIKE 'A%'", "w ~ '^a'", "length(w) >= 2",
-        "hashtext(w) % 4 = 0", "mod(hashtext(w), 4) IN (1, -1)", "left(w, 1) = 'a'", "w LIKE ANY (ARRAY['a%', '%b'])",
+        "hashtext(w) % 4 = 0", "mod(hashtext(w), 4) IN (1, -1)", "left(w, 1) = 'a'", "substr(w, 1, 1) = 'a'",
+        "split_part(w, 'b', 2) = ''", "w LIKE ANY (ARRAY['a%', '%b'])",
         "starts_with(w, 'a')", "t || w = 'aab'",
     ]),
     Group("a integer, b bigint, x date, y date", [
@@ -118,7 +120,7 @@ GROUPS = [
     Group("j jsonb, a integer[], q inet", [
         "(NULL, NULL, NULL)", "('{\"r\": \"eu\"}', '{1,2}', '10.0.0.1')", "('{\"r\": null}', '{}', '10.0.0.0/8')",
         "('[]', '{NULL}', '::1')", "('{\"r\": \"us\"}', '{2}', '10.0.0.2')"], [
-        "j IS NULL", "j ->> 'r' = 'eu'", "(j ->> 'r') IS NULL", "j @> '{\"r\": \"eu\"}'", "j ? 'r'", "a IS NOT NULL",
+        "1 = ANY (a)", "2 <> ANY (a)", "j IS NULL", "j ->> 'r' = 'eu'", "(j ->> 'r') IS NULL", "j @> '{\"r\": \"eu\"}'", "j ? 'r'", "a IS NOT NULL",
         "q = '10.0.0.1'", "q <> '10.0.0.0/8'", "a @> ARRAY[2]",
     ]),
 ]
