@@ -86,7 +86,7 @@ def json_text(report):
         "status": report.status,
         "subscribers": [
             {"name": it.name, "publications": it.publications, "remarks": it.remarks} for it in report.subscribers],
-        "subscribers_known": report.how or "the subscribers are those of -v subscriptions",
+        "subscribers_known": report.how,
         "tables": [json_of(it, report.regions.get(it.table)) for it in report.verdicts],
         "unpublished": unpublished,
     }, indent=2, ensure_ascii=False)

@@ -20,12 +20,12 @@ EACH = "each publication counts as a subscriber of its own; -v subscriptions='..
 
 
 def subscribers_of(database, words, connections):
-    """The subscribers, and a line that says how they are known, None where they were named."""
+    """The subscribers, and a line that says how they are known."""
     if connections:
         return from_databases(database, connections), "the subscribers are those of the databases given by --subscriber"
     named = variable(words)
     if named is not None:
-        return from_variable(database, named), None
+        return from_variable(database, named), "the subscribers are those of -v subscriptions"
     connected = from_walsenders(database)
     if connected:
         return connected, "the subscribers are those that are connected now"

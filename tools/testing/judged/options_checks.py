@@ -63,7 +63,8 @@ def check_variable(tally, server):
     for variable in "-v", "--set", "--variable=":
         given = ["subscriptions=london=europe tokyo=elsewhere"]
         given = [f"{variable}{given[0]}"] if variable.endswith("=") else [variable, *given]
-        check_lines(tally, f"subscribers by {variable}", judge(*words, *given), [*NOT_SOUND, ENDING.format(0)], 1)
+        check_lines(tally, f"subscribers by {variable}", judge(*words, *given), [
+            *NOT_SOUND, "the subscribers are those of -v subscriptions", ENDING.format(0)], 1)
     check_lines(tally, "--all", judge(*words, "--all"), [
         "public.drafts: not published, so not judged", "public.notes: not published, so not judged", *SOUND, EACH,
         "tables: 1 judged, 1 sound; 2 not published"], 0)
