@@ -2,6 +2,9 @@
 
 SOUND, NOT_SOUND, BAD_COMMAND, NOT_READ, NO_ANSWER, NO_PROGRAM, NO_OUTPUT = range(7)
 
+# What a form that was not foreseen may end in.
+FAILURES = (ArithmeticError, AttributeError, LookupError, RecursionError, StopIteration, TypeError, ValueError)
+
 
 class Fault(Exception):
     """An exit status and the line that is said."""

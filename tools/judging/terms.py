@@ -1,7 +1,7 @@
 """From the server's tree of an expression to what is on a side of a comparison, and to formulas."""
 
 from judging import arithmetic, comparing, functions, parser, server_types
-from judging.faults import Unread
+from judging.faults import FAILURES, Unread
 from judging.formulas import Compare, Const, IsNull, Subject, both, chosen, either, negation, tested
 from judging.operands import Array, Choice, DayOf, Mixed, Quotient, Ref, Truth, Value
 from judging.parser import faithful, kind_of, name_of, side_text, written
@@ -35,7 +35,7 @@ class Reader:
         """The formula of a filter or a constraint, or Unread."""
         try:
             return self.condition(parser.parsed(text))
-        except (AttributeError, IndexError, KeyError, RecursionError, TypeError, ValueError) as fault:
+        except FAILURES as fault:
             # A tree that was not foreseen is no reason to say nothing of the other tables.
             raise Unread(text, f"a form that judge does not know ({type(fault).__name__})") from fault
 

@@ -4,7 +4,7 @@ import re
 from dataclasses import dataclass, field
 
 from judging import catalogs, database, facts, formulas, limits, program, rows
-from judging.faults import Unread
+from judging.faults import FAILURES, Unread
 from judging.parser import columns_of, is_built_in, shown
 from judging.rewriting import rewritten
 from judging.terms import Reader
@@ -73,10 +73,12 @@ def judged(db, shares, purpose, sort, confirm):
         read = read_of(shares, named)
     except NotRead as fault:
         return Verdict(name, NOT_READ, [fault.words, *refusals])
-    if purpose == "copied":
-        verdict = judged_as_copied(db, read, name, sort, confirm)
-    else:
-        verdict = decided(db, read, name, shares.takers, purpose, sort, confirm)
+    try:
+        judge = judged_as_copied if purpose == "copied" else judged_as_split
+        verdict = judge(db, read, name, purpose, sort, confirm)
+    except FAILURES as fault:
+        # What was not foreseen of one table is no reason to say nothing of the others.
+        return Verdict(name, NOT_DECIDED, [f"judge fails at it ({type(fault).__name__}: {fault})", *refusals])
     missing = database.missing_operation(db, shares)
     if missing and verdict.answer == NOT_SOUND:
         # Of a table that is sound the check itself says so.
@@ -130,7 +132,11 @@ def constraint_texts(shares):
         yield "the bounds of the partition", shares.table["partition"]
 
 
-def judged_as_copied(db, read, name, sort, confirm):
+def judged_as_split(db, read, name, purpose, sort, confirm):
+    return decided(db, read, name, read.shares.takers, purpose, sort, confirm)
+
+
+def judged_as_copied(db, read, name, _, sort, confirm):
     """Each subscriber is to get each row: its own share alone is a sharding that is sound."""
     if not read.shares.takers:
         return Verdict(name, NOT_SOUND, ["no subscriber takes it"])
