@@ -36,6 +36,8 @@ OPERATORS = {
 }
 DAY_PARTS = {"year", "month", "day", "dow", "isodow", "doy", "quarter", "week", "isoyear", "century", "decade"}
 CLOCK_PARTS = {"hour", "minute", "second"}
+# How people write them.
+WORDS = {"~~": "LIKE", "~~*": "ILIKE"}
 PATTERNS = {"~~", "~~*", "~", "~*"}
 # The operators that are NOT of others.
 NEGATIONS = {"!~~": "~~", "!~~*": "~~*", "!~": "~", "!~*": "~*"}

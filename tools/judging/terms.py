@@ -194,7 +194,8 @@ class Reader:
             return arithmetic.combined(form, name, one, other)
         left, right = (it if isinstance(it, str) else side_text(it) for it in sides)
         positive = functions.NEGATIONS.get(name, name)
-        found = functions.operator(positive, f"{left} {positive} {right}", (one, other))
+        form = f"{left} {functions.WORDS.get(positive, positive)} {right}"
+        found = functions.operator(positive, form, (one, other))
         if found.type != "bool":
             return found
         truth = truth_of(found)

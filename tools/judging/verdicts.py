@@ -142,8 +142,10 @@ def judged_as_copied(db, read, name, _, sort, confirm):
         return Verdict(name, NOT_SOUND, ["no subscriber takes it"])
     for subscriber, taken in read.shares.takers.items():
         verdict = decided(db, read, name, {subscriber: taken}, None, sort, confirm)
+        if verdict.answer == NOT_SOUND:
+            verdict.takers = confirm(read, read.shares.takers, verdict.row).takers
+            verdict.remarks.insert(0, f"it is to be copied to all subscribers, and {subscriber} does not get this row")
         if verdict.answer != SOUND:
-            verdict.because.append(f"judged as copied to all subscribers, of which {subscriber} does not get each row")
             return verdict
     verdict.remarks.append("copied to all subscribers")
     verdict.certificate = None

@@ -16,8 +16,10 @@ def words_of(coded, found, with_null):
         return null_words(coded) if with_null else "FALSE"
     if found == coded.full:
         return "" if with_null or coded.not_null else not_null_words(coded)
-    text = range_words(coded, found)
-    return f"({text} OR {null_words(coded)})" if with_null and not coded.not_null else text
+    texts = range_words(coded, found)
+    if with_null and not coded.not_null:
+        texts.append(null_words(coded))
+    return texts[0] if len(texts) == 1 else f"({' OR '.join(texts)})"
 
 
 def null_words(coded):
@@ -31,15 +33,15 @@ def not_null_words(coded):
 
 
 def range_words(coded, found):
-    """A condition that holds just where the code is in the ranges."""
+    """Conditions one of which holds just where the code is in the ranges."""
     subject = shown(coded.subject.sql)
     match coded:
         case Truths():
-            return subject if found == ((1, 1),) else f"NOT ({subject})"
+            return [subject if found == ((1, 1),) else f"NOT ({subject})"]
         case Signs():
-            return f"{coded.subject.sides[0]} {SIGNS[found]} {coded.subject.sides[1]}"
+            return [f"{coded.subject.sides[0]} {SIGNS[found]} {coded.subject.sides[1]}"]
         case Labels():
-            return label_words(coded, subject, found)
+            return [label_words(coded, subject, found)]
         case Remainders():
             return remainder_words(coded, f"{subject} % {coded.modulus}", found)
     return joined(coded, subject, found)
@@ -60,7 +62,7 @@ def remainder_words(coded, subject, found):
     if ranges.size(found) > MOST_REMAINDERS:
         return joined(coded, subject, found)
     listed = [str(it) for it in ranges.numbers_of(found)]
-    return f"{subject} = {listed[0]}" if len(listed) == 1 else f"{subject} IN ({', '.join(listed)})"
+    return [f"{subject} = {listed[0]}" if len(listed) == 1 else f"{subject} IN ({', '.join(listed)})"]
 
 
 def joined(coded, subject, found):
@@ -68,12 +70,12 @@ def joined(coded, subject, found):
     rest = ranges.complement(found, coded.low, coded.high)
     if len(rest) < len(found) and all(is_single(coded, *it) for it in rest):
         listed = [coded.constant(low) for low, _ in rest]
-        return f"{subject} <> {listed[0]}" if len(listed) == 1 else f"{subject} NOT IN ({', '.join(listed)})"
+        return [f"{subject} <> {listed[0]}" if len(listed) == 1 else f"{subject} NOT IN ({', '.join(listed)})"]
     singles = [coded.constant(low) for low, high in found if is_single(coded, low, high)]
     texts = [one_range(coded, subject, low, high) for low, high in found if not is_single(coded, low, high)]
     if singles:
         texts.append(f"{subject} = {singles[0]}" if len(singles) == 1 else f"{subject} IN ({', '.join(singles)})")
-    return texts[0] if len(texts) == 1 else f"({' OR '.join(texts)})"
+    return texts
 
 
 def is_single(coded, low, high):

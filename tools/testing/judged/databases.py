@@ -295,9 +295,9 @@ DATABASES = [
         ALTER TABLE drafts REPLICA IDENTITY FULL; ALTER TABLE twice REPLICA IDENTITY FULL;
         CREATE PUBLICATION one FOR TABLE rates, drafts WHERE (state = 1), twice WHERE (state = 1), few;
         CREATE PUBLICATION two FOR TABLE rates, drafts WHERE (state = 2), twice WHERE (state <= 2), few WHERE (id > 0);
-    """, {"rates": "sound", "drafts": "sound", "twice": "not sound: one two", "few": "not sound:"},
+    """, {"rates": "sound", "drafts": "sound", "twice": "not sound: one two", "few": "not sound: one"},
         words=["--copied", "rates", "--copied", "few", "--partial", "drafts", "--partial", "public.twice"],
-        told=["of which two does not get each row"]),
+        told=["it is to be copied to all subscribers, and two does not get this row"]),
     # A form that is not read silences its own table alone.
     Case("not_read", """
         CREATE TABLE one (id integer PRIMARY KEY);

@@ -90,10 +90,6 @@ def check_row(tally, server, case, report, table):
     """)
     takers = [it["name"] for it in report["subscribers"] if is_sent(server, case.name, it["publications"])]
     server.psql(case.name, "SELECT FROM pg_drop_replication_slot('judged');")
-    purposes = dict(zip(case.words[1::2], case.words[::2]))
-    if purposes.get(name.removeprefix("public.")) == "--copied":
-        tally.check(f"{case.name}: {name} goes to all", len(takers) < len(report["subscribers"]), True)
-        return
     tally.check(f"{case.name}: who gets the row of {name}", sorted(takers), sorted(table["goes_to"]))
 
 

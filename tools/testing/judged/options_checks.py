@@ -4,6 +4,7 @@ import json
 import pathlib
 import shutil
 import subprocess
+import sys
 import tempfile
 import time
 
@@ -154,6 +155,9 @@ def check_refusals(tally, server):
         shutil.copytree(TOOLS, folder / "tools", ignore=shutil.ignore_patterns("testing"))
         check_lines(tally, "pgshard that is not built", not_built(folder), [
             f"judge: pgshard is not built: `{folder}/pgshard --version` builds it, which takes an hour or two"], 5)
+    check_lines(tally, "no pglast", without_pglast(words), [
+        "judge: pglast, which is PostgreSQL's parser as a Python library, is not installed: on Debian 12 "
+        "`apt-get install python3-pglast` installs it"], 5)
     closed = subprocess.run(
         f"{TOOLS / 'judge'} {' '.join(words)} | true; echo ${{PIPESTATUS[0]}}", shell=True, executable="/bin/bash",
         capture_output=True, encoding="utf-8", env=environment() | {"PGSHARD": PGSHARD})
@@ -168,6 +172,14 @@ def not_built(folder):
     answer = subprocess.run(
         [folder / "tools" / "judge", file],
         stdout=subprocess.PIPE, stderr=subprocess.STDOUT, encoding="utf-8", env=others)
+    return f"{answer.stdout}status {answer.returncode}\n"
+
+
+def without_pglast(words):
+    """What judge prints where Python has its own libraries alone."""
+    answer = subprocess.run(
+        [sys.executable, "-S", TOOLS / "judge", *words], stdout=subprocess.PIPE, stderr=subprocess.STDOUT,
+        encoding="utf-8", env=environment() | {"PGSHARD": PGSHARD, "JUDGE_TRIED_SYSTEM_PYTHON": "1"})
     return f"{answer.stdout}status {answer.returncode}\n"
 
 
