@@ -29,7 +29,7 @@ SET LOCAL bytea_output = 'hex';
 SET LOCAL extra_float_digits = 1;
 
 WITH tables AS (
-    SELECT c.oid, c.relnamespace, s.nspname AS schema, c.relname AS name, c.relkind AS kind, c.relispartition AS is_partition,
+    SELECT c.oid, s.nspname AS schema, c.relname AS name, c.relkind AS kind,
            c.relreplident AS identity, pg_relation_is_publishable(c.oid) AS is_publishable, ancestors.oids AS ancestors
     FROM pg_class c JOIN pg_namespace s ON s.oid = c.relnamespace,
     LATERAL (SELECT coalesce(array_agg(a.relid::oid ORDER BY a.place), '{}') AS oids
@@ -100,7 +100,8 @@ described AS (
 publications AS (
     SELECT json_build_object(
         'name', p.pubname, 'quoted', quote_ident(p.pubname), 'all', p.puballtables, 'via_root', p.pubviaroot,
-        'operations', array_remove(ARRAY[CASE WHEN p.pubinsert THEN 'insert' END, CASE WHEN p.pubupdate THEN 'update' END,
+        'operations', array_remove(ARRAY[
+            CASE WHEN p.pubinsert THEN 'insert' END, CASE WHEN p.pubupdate THEN 'update' END,
             CASE WHEN p.pubdelete THEN 'delete' END, CASE WHEN p.pubtruncate THEN 'truncate' END], NULL),
         'entries', coalesce((
             SELECT json_agg(json_build_object('oid', r.prrelid::bigint, 'filter', pg_get_expr(r.prqual, r.prrelid),
@@ -125,7 +126,8 @@ SELECT json_build_object(
         FROM pg_replication_slots WHERE database = current_database() AND plugin = 'pgoutput'), '[]'),
     'walsenders', coalesce((
         SELECT json_agg(query ORDER BY query) FROM pg_stat_activity
-        WHERE datname = current_database() AND backend_type = 'walsender' AND query LIKE 'START_REPLICATION SLOT % LOGICAL %'
+        WHERE datname = current_database() AND backend_type = 'walsender'
+            AND query LIKE 'START_REPLICATION SLOT % LOGICAL %'
     ), '[]')
 );
 COMMIT;

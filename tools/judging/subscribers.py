@@ -28,8 +28,16 @@ def subscribers_of(database, words, connections):
         return from_variable(database, named), "the subscribers are those of -v subscriptions"
     connected = from_walsenders(database)
     if connected:
-        return connected, "the subscribers are those that are connected now"
+        return connected, connected_words(database, connected)
     return [Subscriber(name, [name]) for name in database.publications], EACH
+
+
+def connected_words(database, connected):
+    """That these are not all, where other slots wait for a subscriber."""
+    names = {it.name for it in connected}
+    waiting = [it for it in database.slots if it not in names and not COPYING.fullmatch(it)]
+    others = f"; nobody is connected to slot {', '.join(waiting)}, so its subscriber does not count" if waiting else ""
+    return f"the subscribers are those that are connected now{others}"
 
 
 def variable(words):

@@ -214,7 +214,7 @@ DATABASES = [
         CREATE PUBLICATION spring FOR TABLE log_2023 WHERE (day BETWEEN '2023-01-01' AND '2023-06-30'), log_rest;
         CREATE PUBLICATION autumn FOR TABLE log_2023 WHERE (day BETWEEN '2023-07-01' AND '2023-12-31');
     """, {"log_2023": "sound", "log_rest": "sound"}),
-    # By the root for some and by a partition for others: even rows of 2023 go to both, and odd ones of the rest to none.
+    # By the root for some and by a partition for others: even rows of 2023 go to both, odd ones of the rest to none.
     Case("both_ways", """
         CREATE TABLE log (id bigint, day date NOT NULL, PRIMARY KEY (id, day)) PARTITION BY RANGE (day);
         CREATE TABLE log_2023 PARTITION OF log FOR VALUES FROM ('2023-01-01') TO ('2024-01-01');
@@ -365,7 +365,8 @@ DATABASES = [
     Case("unread_checks", """
         CREATE FUNCTION is_even(number integer) RETURNS boolean IMMUTABLE LANGUAGE sql AS 'SELECT number % 2 = 0';
         CREATE TABLE own (id integer PRIMARY KEY, kind integer CONSTRAINT even CHECK (is_even(kind)));
-        CREATE TABLE sum (id integer PRIMARY KEY, kind integer CONSTRAINT small CHECK (kind + 0 < 100 AND kind + 0 > 0));
+        CREATE TABLE sum (id integer PRIMARY KEY,
+            kind integer CONSTRAINT small CHECK (kind + 0 < 100 AND kind + 0 > 0));
         CREATE TABLE never (id integer PRIMARY KEY, kind integer NOT NULL CONSTRAINT small CHECK (kind + 0 < 100));
         ALTER TABLE own REPLICA IDENTITY FULL; ALTER TABLE sum REPLICA IDENTITY FULL;
         ALTER TABLE never REPLICA IDENTITY FULL;

@@ -93,7 +93,8 @@ GROUPS = [
     ]),
     Group("c char(3), v varchar(3), t text", values(
         ["NULL", "''", "'a'", "'a  '", "'abc'", "'é'"], ["NULL", "''", "'a'", "'a  '", "'abc'"], TEXTS), [
-        "c = 'a'", "c = 'a  '", "c <> 'abc'", "c IN ('a', 'abcd')", "c::text = 'a '", "c IS NULL", "c < 'b'", "c >= 'a'", "v = 'a'",
+        "c = 'a'", "c = 'a  '", "c <> 'abc'", "c IN ('a', 'abcd')", "c::text = 'a '", "c IS NULL", "c < 'b'", "c >= 'a'",
+        "v = 'a'",
         "v = 'abcd'", "v <> 'a  '", "v::text IN ('a', 'abc')", "t = 'it''s'", "t <> ''", "t IN ('a', 'b', NULL)",
         "t IS DISTINCT FROM 'a'", "nullif(t, 'a') IS NULL", "coalesce(t, 'a') = 'a'", "coalesce(v, c) = 'a'",
     ]),
@@ -120,7 +121,8 @@ GROUPS = [
     Group("j jsonb, a integer[], q inet", [
         "(NULL, NULL, NULL)", "('{\"r\": \"eu\"}', '{1,2}', '10.0.0.1')", "('{\"r\": null}', '{}', '10.0.0.0/8')",
         "('[]', '{NULL}', '::1')", "('{\"r\": \"us\"}', '{2}', '10.0.0.2')"], [
-        "1 = ANY (a)", "2 <> ANY (a)", "j IS NULL", "j ->> 'r' = 'eu'", "(j ->> 'r') IS NULL", "j @> '{\"r\": \"eu\"}'", "j ? 'r'", "a IS NOT NULL",
+        "1 = ANY (a)", "2 <> ANY (a)", "j IS NULL", "j ->> 'r' = 'eu'", "(j ->> 'r') IS NULL",
+        "j @> '{\"r\": \"eu\"}'", "j ? 'r'", "a IS NOT NULL",
         "q = '10.0.0.1'", "q <> '10.0.0.0/8'", "a @> ARRAY[2]",
     ]),
 ]

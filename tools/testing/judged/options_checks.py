@@ -101,7 +101,8 @@ def check_walsenders(tally, server):
         time.sleep(0.1)
     words = server.words("options")
     check_lines(tally, "who is connected", judge(*words), [
-        *NOT_SOUND, "the subscribers are those that are connected now", ENDING.format(0)], 1)
+        *NOT_SOUND, "the subscribers are those that are connected now; nobody is connected to slot tokyo, so its "
+        "subscriber does not count", ENDING.format(0)], 1)
     check_lines(tally, "who is connected, to a stranger", judge(*words, "-U", "stranger"), [
         *SOUND, EACH, ENDING.format(1)], 0)
     server.psql("london", "ALTER SUBSCRIPTION london DISABLE;")
