@@ -12,10 +12,12 @@ MOST_ROWS = 12
 
 @dataclass
 class Confirmed:
-    """What the server says of a row: whether its constraints take it, and who gets it."""
+    """What the server says of a row: whether its constraints take it, who gets it, and the columns whose types do not
+    take the plain values that no filter names."""
 
     is_accepted: bool
     takers: list
+    unfit: tuple = ()
 
 
 def codes_of(trial):
@@ -92,7 +94,7 @@ def column_remarks(column, named):
         yield f"column {name} is generated; its expression is not read, so it may never be this"
     if name in named and column["identity"]:
         yield f"column {name} is an identity, so an INSERT of the row has to say OVERRIDING SYSTEM VALUE"
-    if column["kind"] == "d" and (name in named or column["not_null"]):
+    if column["kind"] == "d" and name in named:
         yield f"column {name} is of a domain, whose constraints are not read"
 
 

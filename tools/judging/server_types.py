@@ -125,7 +125,7 @@ def plain_literal(column):
     type = column["type"]
     if column["kind"] == "e":
         return quoted(column["label"] or "")
-    if column["written"].endswith("[]"):
+    if column["written"].endswith("[]") or column["kind"] == "m":
         return "'{}'"
     if column["kind"] == "r" or type.endswith("range"):
         return "'empty'"

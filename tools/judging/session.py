@@ -98,8 +98,14 @@ class Session:
             return Confirmed(False, [])
         found = json.loads(answer)
         passed = {name for name, value in zip(filters, found) if value}
+        others = [it for it in shares.table["columns"] if it["name"] not in named and it["kind"] != "b"]
+        unfit = [it["name"] for it in others if not self.is_value(it, row[it["name"]])]
         return Confirmed(
-            all(found[len(filters):]), [name for name, names in takers.items() if passed & set(names)])
+            all(found[len(filters):]), [name for name, names in takers.items() if passed & set(names)], tuple(unfit))
+
+    def is_value(self, column, literal):
+        """Whether a type of the database's own takes a value."""
+        return literal in ("NULL", "DEFAULT") or self.ask(f"SELECT {literal}::{column['written']} IS NULL") != ""
 
     @staticmethod
     def checks(read):

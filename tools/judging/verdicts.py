@@ -243,6 +243,7 @@ def without_proof(read, name, takers, purpose, trial, confirm):
             verdict.answer, verdict.row, verdict.takers = NOT_SOUND, row, found.takers
             verdict.matters = rows.columns_that_matter(read)
             verdict.remarks = rows.remarks(read)
+            verdict.remarks += [f"judge knows no value of the type of column {it}, so give it one" for it in found.unfit]
             return verdict
     verdict.because.append(rows.words_of_unconfirmed(read, trial))
     return verdict

@@ -349,18 +349,20 @@ DATABASES = [
         for place, (pieces, test) in enumerate(
             (" OR ".join(f"id BETWEEN {10 * n} AND {10 * n + 5}" for n in range(70)), test) for test in ("", "NOT"))),
         {"cells": "not decided"}, told=["64 different conditions"]),
-    # The server gives an identity and a generated column their values; a domain's constraint is not read.
+    # The server gives an identity and a generated column their values; a domain's values are not known.
     Case("given_values", """
         CREATE DOMAIN code AS text CHECK (VALUE ~ '^[A-Z]{3}$');
         CREATE TABLE items (id bigint GENERATED ALWAYS AS IDENTITY PRIMARY KEY, kind integer, twice integer
             GENERATED ALWAYS AS (2 * kind) STORED);
         CREATE TABLE parts (id bigint GENERATED ALWAYS AS IDENTITY PRIMARY KEY);
-        CREATE TABLE coded (id integer PRIMARY KEY, code code NOT NULL, kind integer);
+        CREATE TYPE mood AS ENUM ('fine', 'sad');
+        CREATE TABLE coded (id integer PRIMARY KEY, code code NOT NULL, mood mood NOT NULL, kind integer);
         ALTER TABLE items REPLICA IDENTITY FULL; ALTER TABLE coded REPLICA IDENTITY FULL;
         CREATE PUBLICATION one FOR TABLE items WHERE (kind = 1), parts WHERE (id % 2 = 0), coded WHERE (kind = 1);
         CREATE PUBLICATION two FOR TABLE items WHERE (kind <> 1), parts WHERE (id % 2 = 1), coded WHERE (kind <> 1);
     """, {"items": "not sound:", "parts": "not sound:", "coded": "not sound:"}, refusing=["coded"],
-        told=["the row (DEFAULT, NULL, DEFAULT)", "OVERRIDING SYSTEM VALUE", "column code is of a domain"]),
+        told=["the row (DEFAULT, NULL, DEFAULT)", "OVERRIDING SYSTEM VALUE",
+              "judge knows no value of the type of column code"]),
     # A constraint that is not read, of the server's functions and of the database's own.
     Case("unread_checks", """
         CREATE FUNCTION is_even(number integer) RETURNS boolean IMMUTABLE LANGUAGE sql AS 'SELECT number % 2 = 0';
