@@ -105,7 +105,7 @@ class Session:
 
     def is_value(self, column, literal):
         """Whether a type of the database's own takes a value."""
-        return literal in ("NULL", "DEFAULT") or self.ask(f"SELECT {literal}::{column['written']} IS NULL") != ""
+        return literal in ("NULL", "DEFAULT") or self.ask(f"SELECT ({literal})::{column['written']} IS NULL") != ""
 
     @staticmethod
     def checks(read):
@@ -118,5 +118,6 @@ class Session:
 
 
 def value_text(column, literal):
+    """A column of the row. Without parentheses the least number would be cast before its minus."""
     collation = f' COLLATE "{column["collation"]}"' if column["collation"] not in (None, "default") else ""
-    return f"{literal}::{column['written']}{collation} AS {column['quoted']}"
+    return f"({literal})::{column['written']}{collation} AS {column['quoted']}"

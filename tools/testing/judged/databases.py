@@ -179,6 +179,12 @@ DATABASES = [
         regions={"names": [
             ("name < 'h'", "a"), ("name >= 'h' AND name < 'q'", "h"), ("name >= 'q'", "q")]},
         rows={"names": "SELECT chr(n) FROM generate_series(32, 126) AS n"}),
+    # The least number of each type is a value like the others.
+    Case("least_numbers", """
+        CREATE TABLE small (id smallint PRIMARY KEY);
+        CREATE TABLE large (id bigint PRIMARY KEY);
+        CREATE PUBLICATION one FOR TABLE small WHERE (id > -32768), large WHERE (id >= -9223372036854775807);
+    """, {"small": "not sound:", "large": "not sound:"}, told=["the row (-32768)", "the row (-9223372036854775808)"]),
     # Two columns of one row, which are ordered one way or the other, or one is NULL.
     Case("two_columns", """
         CREATE TABLE spans (id integer PRIMARY KEY, low integer NOT NULL, high integer NOT NULL);
