@@ -3,6 +3,7 @@
 from judging import printing
 from judging.formulas import Const, both, either, negation, tested
 from judging.printing import name_text
+from judging.rewriting import free_name
 
 # Rows that the server refuses have a subscriber of their own, so that the others need not have them. So have rows that
 # are published to nobody on purpose.
@@ -48,11 +49,12 @@ def table_name(table):
 
 
 def table_text(table, listed):
-    columns = [f"{name_text(KEY)} bigint"]
+    key = name_text(free_name(KEY, {coded.name for coded in listed}))
+    columns = [f"{key} bigint"]
     for coded in listed:
         column = f"{name_text(coded.name)} {coded.printed_type}{' NOT NULL' if coded.not_null else ''}"
         columns.append(column + origin_text(coded))
-    columns.append(f"PRIMARY KEY ({name_text(KEY)})")
+    columns.append(f"PRIMARY KEY ({key})")
     inner = ",\n    ".join(columns)
     return f"CREATE TABLE {table} (\n    {inner}\n);"
 
