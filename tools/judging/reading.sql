@@ -41,7 +41,7 @@ published AS (
         EXISTS (SELECT FROM pg_publication WHERE puballtables)
         OR EXISTS (SELECT FROM pg_publication_rel r WHERE r.prrelid = t.oid OR r.prrelid = ANY (t.ancestors))
         OR EXISTS (SELECT FROM pg_publication_namespace n JOIN pg_class c ON c.relnamespace = n.pnnspid
-                   WHERE c.oid = t.oid OR c.oid = ANY (t.ancestors))
+                   WHERE c.oid = ANY (t.ancestors || t.oid))
     ) AS is_published
     FROM tables t
 ),
