@@ -29,7 +29,8 @@ COLUMNS = {
     "k": ("uuid", forms.UUIDS), "x": ("text", forms.TEXTS),
     "n": ("numeric(6,2)", ["NULL", "-9999.99", "-1", "0", "0.01", "99.99", "100", "100.01", "9999.99", "'NaN'"]),
     "u": ("numeric", ["NULL", "'-Infinity'", "-1", "0", "99.99", "99.995", "100", "1e20", "'Infinity'", "'NaN'"]),
-    "c": ("char(3)", ["NULL", "''", "'a'", "'abc'", "'b'"]), "v": ("varchar(3)", ["NULL", "''", "'a'", "'a  '", "'abc'"]),
+    "c": ("char(3)", ["NULL", "''", "'a'", "'abc'", "'b'"]),
+    "v": ("varchar(3)", ["NULL", "''", "'a'", "'a  '", "'abc'"]),
     "o": ("boolean", forms.TRUTHS),
 }
 FUNCTIONS = ["lower(x) = 'a'", "x LIKE 'a%'", "x NOT LIKE 'a%'", "length(x) >= 2", "lower(x) < 'b'", "length(x) < 2"]
