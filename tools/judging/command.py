@@ -55,7 +55,7 @@ def run(words, help):
         sys.stdout.flush()
         return status
     except Fault as fault:
-        return ended(fault)
+        return ended(fault, is_json="--json" in words)
     except BrokenPipeError:
         # Nothing more can be written, and Python would say so once more at its end.
         os.dup2(os.open(os.devnull, os.O_WRONLY), sys.stdout.fileno())
@@ -63,9 +63,9 @@ def run(words, help):
         return NO_OUTPUT
 
 
-def ended(fault):
+def ended(fault, is_json):
     """Says why there is no judgement."""
-    if fault.status == NOT_READ:
+    if fault.status == NOT_READ and not is_json:
         print(fault.words)
     else:
         sys.stdout.flush()
