@@ -307,10 +307,9 @@ class Ranks(Coding):
         return self.between(low, high)
 
     def between(self, low, high):
-        """A plain value between two neighbours, one of which may be None."""
+        """A plain value between two neighbours, one of which may be None. The least text is the empty one."""
         if isinstance(low if low is not None else high, str):
-            # The least text is the empty one. A text with more at its end is above it; a char drops blanks there.
-            return "" if low is None else low + ("!" if self.subject.type == "bpchar" else " ")
+            return "" if low is None else self.text_above(low)
         if low is None or low == LEAST:
             return Point(0, Fraction(math.floor(high.value) - 1)) if high is not None and high.is_finite else Point(0)
         if high is None or not high.is_finite:
@@ -318,6 +317,14 @@ class Ranks(Coding):
         middle = (low.value + high.value) / 2
         is_whole = self.subject.type == "uuid" or math.floor(middle) > low.value
         return Point(0, Fraction(math.floor(middle))) if is_whole else Point(0, middle)
+
+    def text_above(self, low):
+        """A text with more at its end is above it, and one with a later last letter, where it has no room for more. A
+        char drops blanks at its end."""
+        limit = server_types.length_limit(self.subject.type, self.subject.modifier)
+        if limit is not None and len(low) >= limit:
+            return low[:limit - 1] + chr(ord(low[limit - 1]) + 1)
+        return low + ("!" if self.subject.type == "bpchar" else " ")
 
     def encoded(self, text):
         value = server_types.value_of(self.subject.type, text)

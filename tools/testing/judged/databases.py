@@ -171,11 +171,14 @@ DATABASES = [
         CREATE TABLE names (name text PRIMARY KEY);
         CREATE TABLE gap (name text PRIMARY KEY);
         CREATE TABLE twice (name varchar(20) PRIMARY KEY);
-        CREATE PUBLICATION a FOR TABLE names WHERE (name < 'h'), gap WHERE (name < 'm'), twice WHERE (name <= 'm');
+        CREATE TABLE codes (code varchar(1) PRIMARY KEY);
+        CREATE PUBLICATION a FOR TABLE names WHERE (name < 'h'), gap WHERE (name < 'm'), twice WHERE (name <= 'm'),
+            codes WHERE (code <= 'a');
         CREATE PUBLICATION h FOR TABLE names WHERE (name >= 'h' AND name < 'q'), gap WHERE (name > 'm' AND name <= 'z'),
             twice WHERE (name >= 'm');
         CREATE PUBLICATION q FOR TABLE names WHERE (name >= 'q'), gap WHERE (name > 'z' OR name = 'm');
-    """, {"names": "sound", "gap": "sound", "twice": "not sound: a h"}, told=["the row ('m')"],
+    """, {"names": "sound", "gap": "sound", "twice": "not sound: a h", "codes": "not sound:"},
+        told=["the row ('m')", "the row ('b')"],
         regions={"names": [
             ("name < 'h'", "a"), ("name >= 'h' AND name < 'q'", "h"), ("name >= 'q'", "q")]},
         rows={"names": "SELECT chr(n) FROM generate_series(32, 126) AS n"}),
