@@ -44,7 +44,7 @@ def faithful(node):
 
 
 def side_text(node):
-    """The same, so that an operator may stand beside it."""
+    """The same, with parentheses where an operator comes beside it."""
     text = faithful(node)
     is_alone = kind_of(node) in ("ColumnRef", "A_Const", "FuncCall", "TypeCast")
     return text if is_alone else f"({text})"
