@@ -1,6 +1,6 @@
 -- Both halves of a link are equally far after what was heard is answered, and what was heard of all of a piece was heard of some first frames.
 use Rattle.std.proofs.Common.{◌≡◌, ◌≢◌, ℕ, Bool, true, false, List, [], ◌∷◌, ◌++◌, length, refl, sym, ap, ◌∙◌, subst, inl, inr}
-use Rattle.std.specs.Prelude.{◌⊎◌, Option, Some, None, Result, Ok, Err, IsErrAnd, min, nat_lt}
+use Rattle.std.specs.Prelude.{◌⊎◌, Option, Some, None, Result, Ok, Err, OnOk, OnErr, IsErrAnd, min, nat_lt}
 use Rattle.std.proofs.Math.Seq.{take-length}
 use Rattle.shard_checker.specs.CheckedView.{CheckedOf}
 use Rattle.tables_log.specs.Slots.{end_after}
@@ -13,13 +13,13 @@ use Rattle.copy_frames.specs.declared.status.Status.{Status}
 use Rattle.copy_both.specs.Ears.{ear_phase, ear_started, ear_heard, answer_in, HearLeaves, EarCloses}
 use Rattle.copy_both.specs.Events.{event_of}
 use Rattle.copy_both.specs.Halves.{Waits, Streams, IsOver, streams_by, heard_state, said_state}
-use Rattle.copy_both.specs.Hearing.{HearingOf, Served, is_over, unless_over, with_fault, confirmed_by, event_heard, next_heard, frame_heard, frames_heard, then_fault, link_fault}
+use Rattle.copy_both.specs.Hearing.{HeardOf, HearingOf, heard_told, Served, is_over, unless_over, with_fault, confirmed_by, event_heard, next_heard, frame_heard, frames_heard, then_fault, link_fault}
 use Rattle.copy_both.specs.Links.{begun_stage, ended_stage, stage_by}
 use Rattle.copy_both.specs.Listening.{silence, held_frames, fed, piece_heard, part_heard, Leaves}
 use Rattle.copy_both.specs.Phases.{phase_by, phase_closed}
 use Rattle.copy_both.specs.Sessions.{served_by, hearing_view}
 use Rattle.copy_both.specs.Voices as voices
-use Rattle.copy_both.specs.Voices.{StageOf}
+use Rattle.copy_both.specs.Voices.{StageOf, Says, Closes, voice_stage}
 use Rattle.copy_both.specs.declared.ear.Ear.{Ear}
 use Rattle.copy_both.specs.declared.event.Event.{Event}
 use Rattle.copy_both.specs.declared.event.Event.TheVariants as event
@@ -30,6 +30,7 @@ use Rattle.copy_both.specs.declared.phase.Phase.{Phase}
 use Rattle.copy_both.specs.declared.phase.Phase.TheVariants as phase
 use Rattle.copy_both.specs.declared.session.Session.{Session}
 use Rattle.copy_both.specs.declared.sql_state.SqlState.{SqlState}
+use Rattle.copy_both.specs.declared.voice.Voice.{Voice}
 
 -- ---- a stream that was started stays so
 
@@ -47,19 +48,19 @@ over_started : (over : Bool) (h next : HearingOf) → next.started ≡ h.started
 over_started true h next same = refl
 over_started false h next same = same
 
-frame_started : (served : Served) (h : HearingOf) (frame : Frame) (s : ℕ × ℕ) → h.started ≡ Some s → (frame_heard served h frame).started ≡ Some s
+pub frame_started : (served : Served) (h : HearingOf) (frame : Frame) (s : ℕ × ℕ) → h.started ≡ Some s → (frame_heard served h frame).started ≡ Some s
 frame_started served h frame s is =
     over_started (is_over h) h (next_heard served frame h.started h)
     (ap (λ (o : Option (ℕ × ℕ)). (next_heard served frame o h).started) is
     ∙ event_started served s.0 (event_of frame.kind frame.body) h)
     ∙ is
 
-frames_started : (served : Served) (h : HearingOf) (frames : List Frame) (s : ℕ × ℕ) → h.started ≡ Some s → (frames_heard served h frames).started ≡ Some s
+pub frames_started : (served : Served) (h : HearingOf) (frames : List Frame) (s : ℕ × ℕ) → h.started ≡ Some s → (frames_heard served h frames).started ≡ Some s
 unfolding frames_heard
 frames_started served h [] s is = is
 frames_started served h (frame ∷ frames) s is = frames_started served (frame_heard served h frame) frames s (frame_started served h frame s is)
 
-fault_started : (fault : Option FrameFault) (h : HearingOf) → (then_fault fault h).started ≡ h.started
+pub fault_started : (fault : Option FrameFault) (h : HearingOf) → (then_fault fault h).started ≡ h.started
 fault_started None h = refl
 fault_started (Some fault) h = over_started (is_over h) h (with_fault (link_fault fault) h) refl
 
@@ -124,8 +125,8 @@ closed_by : (ended : Option ℕ) → phase_closed (phase_by ended) ≡ phase.Clo
 closed_by None = refl
 closed_by (Some kind) = refl
 
-together_in : (p : Phase) (checked : CheckedOf) (old new : Ear) (before after : Book) (piece : List ℕ) (sent : ℕ) (heard : Heard) (stage last : StageOf)
-    → answer_in p (ear_heard old before piece sent) ≡ Ok heard → HearLeaves p old new before after piece sent (Ok heard)
+together_in : (p : Phase) (checked : CheckedOf) (old new : Ear) (before after : Book) (piece : List ℕ) (sent : ℕ) (heard : HeardOf) (stage last : StageOf)
+    → answer_in p (ear_heard old before piece sent) ≡ Ok (heard_told heard) → HearLeaves p old new before after piece sent (Ok (heard_told heard))
     → heard_state p (ear_started old) ≡ said_state stage → last ≡ stage_by checked stage (ear_started new) heard
     → heard_state (ear_phase new) (ear_started new) ≡ said_state last
 together_in phase.Open checked old new before after piece sent heard stage last answer left together is =
@@ -137,12 +138,30 @@ together_in phase.Closed checked old new before after piece sent heard stage las
 together_in phase.Lost checked old new before after piece sent heard stage last answer left together is = absurd cc
 
 -- after what was heard was answered
-pub together_after : (checked : CheckedOf) (old new : Ear) (before after : Book) (piece : List ℕ) (sent : ℕ) (heard : Heard) (stage last : StageOf)
-    → answer_in (ear_phase old) (ear_heard old before piece sent) ≡ Ok heard
-    → HearLeaves (ear_phase old) old new before after piece sent (Ok heard) → heard_state (ear_phase old) (ear_started old) ≡ said_state stage
+pub together_after : (checked : CheckedOf) (old new : Ear) (before after : Book) (piece : List ℕ) (sent : ℕ) (heard : HeardOf) (stage last : StageOf)
+    → answer_in (ear_phase old) (ear_heard old before piece sent) ≡ Ok (heard_told heard)
+    → HearLeaves (ear_phase old) old new before after piece sent (Ok (heard_told heard)) → heard_state (ear_phase old) (ear_started old) ≡ said_state stage
     → last ≡ stage_by checked stage (ear_started new) heard → heard_state (ear_phase new) (ear_started new) ≡ said_state last
 together_after checked old new before after piece sent heard stage last =
     together_in (ear_phase old) checked old new before after piece sent heard stage last
+
+-- what was started is what was heard
+started_in : (p : Phase) (old new : Ear) (before after : Book) (piece : List ℕ) (sent : ℕ) (heard : Heard) → answer_in p (ear_heard old before piece sent) ≡ Ok heard
+    → HearLeaves p old new before after piece sent (Ok heard) → ear_started new ≡ (ear_heard old before piece sent).started
+started_in phase.Open old new before after piece sent heard answer left = left.leaves.started
+started_in phase.Closed old new before after piece sent heard answer left = absurd cc
+started_in phase.Lost old new before after piece sent heard answer left = absurd cc
+
+-- so what answers what was heard is said of all that was heard
+module _ (P : Option (ℕ × ℕ) → HeardOf → Type 0) (old new : Ear) (before after : Book) (piece : List ℕ) (heard : HeardOf) (started : Option (ℕ × ℕ)) where
+  pub of_all_heard : (sent its : ℕ) → sent ≡ its → answer_in (ear_phase old) (ear_heard old before piece sent) ≡ Ok (heard_told heard)
+      → HearLeaves (ear_phase old) old new before after piece sent (Ok (heard_told heard)) → heard ≡ (ear_heard old before piece sent).heard → started ≡ ear_started new
+      → P started heard → P (ear_heard old before piece its).started (ear_heard old before piece its).heard
+  of_all_heard sent its same answer left exact is so =
+      let At : ℕ → Type 0 = λ n. P (ear_heard old before piece n).started (ear_heard old before piece n).heard in
+      subst At same
+      (subst (λ (k : HeardOf). P (ear_heard old before piece sent).started k) exact
+      (subst (λ (s : Option (ℕ × ℕ)). P s heard) (is ∙ started_in (ear_phase old) old new before after piece sent (heard_told heard) answer left) so))
 
 -- an ear that has ended hears nothing
 pub ended_answers : (p : Phase) (h : HearingOf) → (p ≡ phase.Closed) ⊎ (p ≡ phase.Lost) → answer_in p h ≡ Err fault.Closed
@@ -150,6 +169,25 @@ ended_answers phase.Open h (inl closed) = absurd cc
 ended_answers phase.Open h (inr lost) = absurd cc
 ended_answers phase.Closed h ended = refl
 ended_answers phase.Lost h ended = refl
+
+-- an ear that met a fault is over
+pub over_after : (p : Phase) (old new : Ear) (before after : Book) (piece : List ℕ) (sent : ℕ) (f : LinkFault) → ear_phase old ≡ p
+    → HearLeaves p old new before after piece sent (Err f) → heard_state (ear_phase new) (ear_started new) ≡ IsOver
+over_after phase.Open old new before after piece sent f is left = ap (λ (q : Phase). heard_state q (ear_started new)) left.phase_is
+over_after phase.Closed old new before after piece sent f is left = ap (λ (q : Phase). heard_state q (ear_started new)) (left.ear.phase_is ∙ is)
+over_after phase.Lost old new before after piece sent f is left = ap (λ (q : Phase). heard_state q (ear_started new)) (left.ear.phase_is ∙ is)
+
+-- the voice is closed, whether memory for the response was refused or not
+pub refused_closed : {E : Type 0} (result : Result (Unit {0}) E) (old new : Voice) (bytes : List ℕ) → OnOk result (Says old new bytes voices.Closed) → OnErr result (Closes old new)
+    → voice_stage new ≡ voices.Closed
+refused_closed (Ok done) old new bytes says closes = says.stage_is
+refused_closed (Err error) old new bytes says closes = closes.stage_is
+
+-- an ear that answers anything else hears
+pub hears_still : (p : Phase) (h : HearingOf) (result : Result Heard LinkFault) → answer_in p h ≡ result → result ≢ Err fault.Closed → p ≡ phase.Open
+hears_still phase.Open h result is other = refl
+hears_still phase.Closed h result is other = absurd (other (sym is))
+hears_still phase.Lost h result is other = absurd (other (sym is))
 
 -- memory for the response was refused
 pub unanswered : (p : Phase) (old new : Ear) (before after : Book) (piece : List ℕ) (sent : ℕ) (state : SqlState)

@@ -1,21 +1,20 @@
 -- What a link says is its stream.
-use Rattle.std.proofs.Common.{◌≡◌, ℕ, zero, suc, false, List, [], ◌∷◌, ◌++◌, take, replicate, refl, sym, ap, subst, ◌∙◌, append_assoc}
+use Rattle.std.proofs.Common.{◌≡◌, ℕ, zero, suc, false, List, [], ◌∷◌, ◌++◌, take, drop, replicate, refl, sym, ap, subst, ◌∙◌, append_assoc}
 use Rattle.std.specs.Prelude.{slice_get, Option, Some, None}
 use Rattle.std.specs.List.{concat}
-use Rattle.std.proofs.lemmas.List.{append-nil}
+use Rattle.std.proofs.lemmas.List.{append-nil, take-append-drop}
 use Rattle.std.proofs.lemmas.List.Folds.{concat-append}
 use Rattle.shard_checker.specs.CheckedView.{CheckedOf}
 use Rattle.tables_log.specs.Commits.{CommitOf}
 use Rattle.copy_frames.specs.Contents.{copy_both_response}
-use Rattle.copy_both.specs.Hearing.{HearingOf}
-use Rattle.copy_both.specs.LinkLaws.{Run, stream_of, with_moves, IsStreaming, replied, started_at, first_run, Goes, Goes_on, Starts, took, LinkHears, LinkEnds, LinkBreaks, LinkStops, LinkTakes, LinkKeeps, LinkPassesOn, LogGrows}
+use Rattle.copy_both.specs.Hearing.{HeardOf, HearingOf}
+use Rattle.copy_both.specs.LinkLaws.{Run, stream_of, with_moves, IsStreaming, replied, started_at, first_run, Goes, Goes_on, Starts, took, LinkHears, LinkEnds, LinkBreaks, LinkStops, LinkTakes, LinkKeeps, LinkPassesOn, LinkRestPassesOn, LinkFrontPassesOn, LogGrows}
 use Rattle.copy_both.specs.Links.{link_checked, link_stage, link_output, frames_by, stage_by, frames_said, closing, ended_stage, next_bytes, next_stage, stage_said}
 use Rattle.copy_both.specs.StreamLaws.{Start, Speaks, first_place}
 use Rattle.copy_both.specs.Streams.{Telling, Place, Move, Take, Keep, keep_bytes, taken_bytes, taken_place, move_bytes, moved}
 use Rattle.copy_both.specs.Tellings.{telling_of}
 use Rattle.copy_both.specs.Voices as voices
-use Rattle.copy_both.specs.Voices.{StageOf, Says, Closes, kept_bytes, voice_output}
-use Rattle.copy_both.specs.declared.heard.Heard.{Heard}
+use Rattle.copy_both.specs.Voices.{StageOf, kept_bytes}
 use Rattle.copy_both.specs.declared.link.Link.{Link}
 use Rattle.copy_both.proofs.StreamLemmas.{starts, takes, keeps, passes, grows}
 
@@ -42,7 +41,7 @@ concat_last : (xss : List (List ℕ)) (xs : List ℕ) → concat (xss ++ xs ∷ 
 concat_last xss xs = concat-append xss (xs ∷ []) ∙ ap (λ (x : List ℕ). concat xss ++ x) (append-nil xs)
 
 -- what is said while it streams
-said_on : (checked : CheckedOf) (place : Place) (started : Option (ℕ × ℕ)) (heard : Heard) (clock : ℕ)
+said_on : (checked : CheckedOf) (place : Place) (started : Option (ℕ × ℕ)) (heard : HeardOf) (clock : ℕ)
     → concat (frames_by checked (voices.Started place) started heard clock)
     ≡ concat (replicate heard.replies (keep_bytes place clock false)) ++ closing (voices.Started place) heard.ended
 said_on checked place started heard clock = concat_last (replicate heard.replies (keep_bytes place clock false)) (closing (voices.Started place) heard.ended)
@@ -217,6 +216,25 @@ passes_on old new run place count streams says =
           subst (λ (o : List ℕ). Speaks telling run.log run.start run.moves (run.passed ++ take count (link_output old)) o place) (sym says.voice.output)
           (passes telling run.log run.start run.moves run.passed (link_output old) place count streams.says);
     }
+
+-- what was passed on and what waits stay together
+passed_more : (passed output rest : List ℕ) (count : ℕ) → rest ≡ drop count output → (passed ++ take count output) ++ rest ≡ passed ++ output
+passed_more passed output rest count is =
+    append_assoc passed (take count output) rest ∙ ap (λ (x : List ℕ). passed ++ (take count output ++ x)) is
+    ∙ ap (λ (x : List ℕ). passed ++ x) (take-append-drop count output)
+
+pub rest_passes_on : LinkRestPassesOn
+rest_passes_on old new run last count over says = record {
+  stage_is = says.voice.stage_is ∙ over.stage_is;
+  bytes = passed_more run.passed (link_output old) (link_output new) count says.voice.output ∙ over.bytes;
+}
+
+pub front_passes_on : LinkFrontPassesOn
+front_passes_on old new run last count begun says = record {
+  stage_is = says.voice.stage_is ∙ begun.stage_is;
+  others = begun.others;
+  bytes = ap (λ (x : List ℕ). x ++ begun.others) (passed_more run.passed (link_output old) (link_output new) count says.voice.output) ∙ begun.bytes;
+}
 
 pub log_grows : LogGrows
 log_grows link run place more streams = record {

@@ -1,12 +1,12 @@
 -- The frames that are held are heard one after another.
-use Rattle.std.proofs.Common.{◌≡◌, ℕ, Bool, true, false, List, [], ◌∷◌, length, refl, sym, ap, ◌∙◌, subst, append-nil}
+use Rattle.std.proofs.Common.{◌≡◌, ℕ, ◌+◌, ◌<◌, ◌≤◌, ◌^◌, Bool, true, false, List, [], ◌∷◌, ◌++◌, length, length-append, refl, sym, ap, ◌∙◌, subst, append-nil, arith}
 use Rattle.std.specs.Prelude.{Option, Some, None, Err, not, is_some}
 use Rattle.shard_checker.specs.CheckedView.{CheckedOf}
 use Rattle.tables_log.specs.BookView.{book_log, book_slots}
 use Rattle.tables_log.specs.Commits.{CommitOf}
 use Rattle.tables_log.specs.Committing.{ChangesSlots}
 use Rattle.tables_log.specs.declared.book.Book.{Book}
-use Rattle.copy_frames.specs.Frames.{Cut, Rest, Bad, Then, cut, frames_of, rest_of}
+use Rattle.copy_frames.specs.Frames.{Cut, Rest, Bad, Then, cut, framed, frames_of, rest_of}
 use Rattle.copy_frames.specs.Inboxes.{Inbox, Gives, GivesFrame, has_frame}
 use Rattle.copy_frames.specs.declared.fault.FrameFault.{FrameFault}
 use Rattle.copy_frames.specs.declared.frame.Frame.{Frame}
@@ -171,6 +171,14 @@ pub stops_at : (f : LinkFault) (served other : Served) (start now new : HearingO
 stops_at f served other start now new first held next found frame listens same going is gives fails =
     heard_fault f served start now new first held next frame listens going (gives_some found frame held next is gives)
     (subst (λ (s : Served). FailsBy f (next_heard s frame now.started now) now new) same fails)
+
+-- each reply that is wanted was in a frame of its own, so that with the bytes that are held they are no more than were held at first
+pub still_counted : (old new : Inbox) (found : Option Frame) (frame : Frame) (before after : ℕ) → found ≡ Some frame → Gives old found new
+    → before + length old.bytes < 2 ^ 63 → after ≤ before + 1 → after + length new.bytes < 2 ^ 63
+still_counted old new found frame before after is gives few more =
+    let given : GivesFrame old frame new = gives_some found frame old new is gives in
+    let shorter : length old.bytes ≡ length (framed frame ++ new.bytes) = ap length given.spelled in
+    omega (arith, shorter, length-append (framed frame) new.bytes, few, more)
 
 -- no end was heard, or one was
 pub is_going : (ended : Option ℕ) (none : Bool) → is_some ended ≡ not none → none ≡ true → is_over_by None ended ≡ false

@@ -12,12 +12,12 @@ use Rattle.copy_both.specs.declared.link_fault.LinkFault.{LinkFault}
 use Rattle.copy_both.proofs.HearingLemmas.{over_stays}
 
 -- without a fault, no response is added
-abbrev IsQuiet : HearingOf → HearingOf → Type 0
+abbrev pub IsQuiet : HearingOf → HearingOf → Type 0
 IsQuiet h next = next.fault ≡ None → next.response ≡ h.response
 
 quiet_begun : (b : BeginOf) (h : HearingOf) → IsQuiet h (begun b h)
 quiet_begun (Begins slot start) h none = refl
-quiet_begun (Refuses state bytes) h none = absurd cc
+quiet_begun (Refuses refusal) h none = absurd cc
 
 quiet_if : (b : Bool) (h one other : HearingOf) → IsQuiet h one → IsQuiet h other → IsQuiet h (if b then one else other)
 quiet_if true h one other first second none = first none
@@ -42,7 +42,7 @@ quiet_over : (b : Bool) (h next : HearingOf) → IsQuiet h next → IsQuiet h (u
 quiet_over true h next quiet none = refl
 quiet_over false h next quiet none = quiet none
 
-quiet_frame : (served : Served) (h : HearingOf) (frame : Frame) → IsQuiet h (frame_heard served h frame)
+pub quiet_frame : (served : Served) (h : HearingOf) (frame : Frame) → IsQuiet h (frame_heard served h frame)
 quiet_frame served h frame = quiet_over (is_over h) h (next_heard served frame h.started h) (quiet_next served frame h.started h)
 
 -- a fault stays

@@ -4,9 +4,9 @@ use Rattle.std.specs.Prelude.{false, Option, Result, Ok, Err, OnErr}
 use Rattle.std.specs.List.{concat}
 use Rattle.std.proofs.lemmas.List.{append-nil, replicate_more, replicate-append-replicate}
 use Rattle.std.proofs.lemmas.List.Folds.{concat-append}
+use Rattle.copy_both.specs.Hearing.{HeardOf}
 use Rattle.copy_both.specs.Links.{SaysFirst, opening, begun_stage, replies, closing, frames_by, stage_by, ended_stage}
 use Rattle.copy_both.specs.Voices.{StageOf, Says, Closes, voice_checked, voice_stage, voice_output, kept_bytes}
-use Rattle.copy_both.specs.declared.heard.Heard.{Heard}
 use Rattle.copy_both.specs.declared.voice.Voice.{Voice}
 
 concat_one : (xs : List ℕ) → concat (xs ∷ []) ≡ xs
@@ -65,7 +65,7 @@ joined first opening closing between =
     ∙ ap (λ (x : List ℕ). first ++ (opening ++ (concat between ++ x))) (sym (concat_one closing))
     ∙ ap (λ (x : List ℕ). first ++ (opening ++ x)) (sym (concat-append between (closing ∷ [])))
 
-pub all_said : (first opened replied last : Voice) (started : Option (ℕ × ℕ)) (heard : Heard) (clock : ℕ)
+pub all_said : (first opened replied last : Voice) (started : Option (ℕ × ℕ)) (heard : HeardOf) (clock : ℕ)
     → Says first opened (opening (voice_stage first) started) (begun_stage (voice_checked first) (voice_stage first) started)
     → Says opened replied (concat (replies (voice_stage opened) heard.replies clock)) (voice_stage opened)
     → Says replied last (closing (voice_stage replied) heard.ended) (ended_stage heard.ended (voice_stage replied))
@@ -94,7 +94,7 @@ not_opened first opened frames closes = record {
   says = record { checked = closes.checked; stage_is = closes.stage_is; output = closes.output ∙ sym (append-nil (voice_output first)) };
 }
 
-pub not_replied : (first opened replied : Voice) (started : Option (ℕ × ℕ)) (heard : Heard) (clock : ℕ)
+pub not_replied : (first opened replied : Voice) (started : Option (ℕ × ℕ)) (heard : HeardOf) (clock : ℕ)
     → Says first opened (opening (voice_stage first) started) (begun_stage (voice_checked first) (voice_stage first) started)
     → SaysFirst opened replied (replies (voice_stage opened) heard.replies clock)
     → SaysFirst first replied (frames_by (voice_checked first) (voice_stage first) started heard clock)
@@ -118,7 +118,7 @@ not_replied first opened replied started heard clock opens some =
       };
     }
 
-pub not_ended : (first opened replied last : Voice) (started : Option (ℕ × ℕ)) (heard : Heard) (clock : ℕ)
+pub not_ended : (first opened replied last : Voice) (started : Option (ℕ × ℕ)) (heard : HeardOf) (clock : ℕ)
     → Says first opened (opening (voice_stage first) started) (begun_stage (voice_checked first) (voice_stage first) started)
     → Says opened replied (concat (replies (voice_stage opened) heard.replies clock)) (voice_stage opened) → Closes replied last
     → SaysFirst first last (frames_by (voice_checked first) (voice_stage first) started heard clock)

@@ -233,5 +233,11 @@ pub refusal_is_sent : (offer : OfferOf) (command : StartCommand) (slot : ℕ) (t
     → IsShortCommand command → Some refusal ≡ slot_refusal offer command slot taken → CanBeSent refusal
 refusal_is_sent offer command slot taken refusal short e = short_is_sent refusal (subst AllShort (sym e) (slot_short offer command slot taken short))
 
+pub ahead_is_sent : CanBeSent Ahead
+ahead_is_sent = short_is_sent Ahead tt
+
+pub in_use_is_sent : (slot : List ℕ) → IsShort slot → CanBeSent (InUse slot)
+in_use_is_sent slot short = short_is_sent (InUse slot) short
+
 pub no_slot_is_sent : (slot : List ℕ) → IsShort slot → CanBeSent (NoSlot slot)
 no_slot_is_sent slot short = short_is_sent (NoSlot slot) short

@@ -1,5 +1,5 @@
 -- What an ear is, the half of a connection's end that hears, and what its calls answer and leave ("55.4. Streaming Replication Protocol").
-use Rattle.std.specs.Prelude.{◌≡◌, ℕ, List, Option, Some, None, Result, Err}
+use Rattle.std.specs.Prelude.{◌≡◌, ℕ, List, ◌++◌, Option, Some, None, Result, Err}
 use Rattle.shard_checker.specs.CheckedView.{CheckedOf}
 use Rattle.tables_log.specs.BookView.{book_slots}
 use Rattle.tables_log.specs.Committing.{ChangesSlots, IsKept}
@@ -9,6 +9,7 @@ use Rattle.tables_log.specs.declared.slots.Slot.{Slot}
 use Rattle.copy_both.specs.Hearing.{HearingOf, answer_of}
 use Rattle.copy_both.specs.Listening.{fed, resting, piece_heard, PieceLeaves}
 use Rattle.copy_both.specs.Phases.{phase_after, phase_closed}
+use Rattle.copy_both.specs.Refusals.{RefusalOf, state_of, error_response}
 use Rattle.copy_both.specs.Sessions.{session_checked}
 use Rattle.copy_both.specs.declared.ear.Ear.{Ear}
 use Rattle.copy_both.specs.declared.heard.Heard.{Heard}
@@ -16,6 +17,7 @@ use Rattle.copy_both.specs.declared.link_fault.LinkFault.{LinkFault}
 use Rattle.copy_both.specs.declared.link_fault.LinkFault.TheVariants as fault
 use Rattle.copy_both.specs.declared.phase.Phase.{Phase}
 use Rattle.copy_both.specs.declared.phase.Phase.TheVariants as phase
+use Rattle.copy_both.specs.declared.sql_state.SqlState.{SqlState}
 
 -- ---- views
 
@@ -81,6 +83,17 @@ HearLeaves phase.Open old new before after piece sent result = HearsPiece old ne
 HearLeaves phase.Closed old new before after piece sent result = AllStays old new before after
 HearLeaves phase.Lost old new before after piece sent result = AllStays old new before after
 
+-- one ErrorResponse with this code was added
+pub record IsResponse (state : SqlState) (before after : List ℕ) : Type 0 where
+  pub refusal : RefusalOf
+  pub state_is : state_of refusal ≡ state
+  pub response_is : after ≡ before ++ error_response refusal
+
+-- a start that is refused is answered by it
+abbrev pub IsAnsweredBy : LinkFault → List ℕ → List ℕ → Type 0
+IsAnsweredBy (fault.BadStart state) before after = IsResponse state before after
+IsAnsweredBy other before after = Unit {0}
+
 -- ---- close, and lose
 
 -- nothing more is heard
@@ -107,3 +120,13 @@ pub record Loses (old new : Ear) (before after : Book) : Type 0 where
   pub started : ear_started new ≡ ear_started old
   pub refusal : ear_refusal new ≡ ear_refusal old
   pub book : ChangesSlots before after (slots_after_loss (ear_phase old) (ear_started old) (book_slots before))
+
+-- ---- laws: nothing of the book changes but its slots
+
+-- whatever was heard
+abbrev pub HearingChangesSlots : Type 0
+HearingChangesSlots = (old new : Ear) (before after : Book) (piece : List ℕ) (sent : ℕ) (result : Result Heard LinkFault)
+    → HearLeaves (ear_phase old) old new before after piece sent result → ChangesSlots before after (book_slots after)
+
+abbrev pub LosingChangesSlots : Type 0
+LosingChangesSlots = (old new : Ear) (before after : Book) → Loses old new before after → ChangesSlots before after (book_slots after)

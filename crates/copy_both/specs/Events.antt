@@ -1,5 +1,5 @@
 -- What a client says while a stream runs: a status in CopyData, or the end by CopyDone, CopyFail or Terminate ("55.4. Streaming Replication Protocol", "55.7. Message Formats").
-use Rattle.std.specs.Prelude.{ℕ, ◌==◌, ◌||◌, if◌then◌else◌, List, slice_get, Option, Some, None, Result, Ok, Err}
+use Rattle.std.specs.Prelude.{ℕ, Bool, ◌==◌, ◌||◌, if◌then◌else◌, List, slice_get, Option, Some, None, Result, Ok, Err}
 use Rattle.copy_frames.specs.Contents.{status_in}
 use Rattle.copy_frames.specs.declared.status.Status.{Status}
 use Rattle.copy_both.specs.declared.event.Event.{Event}
@@ -23,9 +23,13 @@ headed_event (Some byte) body = if byte == 114 then status_event body else Err (
 abbrev pub data_event : List ℕ → Result Event LinkFault
 data_event body = headed_event (slice_get body 0) body
 
--- `d` is CopyData, `c` CopyDone, `f` CopyFail and `X` Terminate
+-- `c` is CopyDone, `f` CopyFail and `X` Terminate
+abbrev pub is_end : ℕ → Bool
+is_end kind = kind == 99 || (kind == 102 || kind == 88)
+
+-- `d` is CopyData
 abbrev pub event_of : ℕ → List ℕ → Result Event LinkFault
 event_of kind body =
     if kind == 100 then data_event body else
-    if kind == 99 || (kind == 102 || kind == 88) then Ok (event.End kind) else
+    if is_end kind then Ok (event.End kind) else
     Err (Unexpected kind)

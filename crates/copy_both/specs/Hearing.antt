@@ -1,5 +1,5 @@
 -- What becomes of the frames that a client sends, one after another: the first one starts a stream or ends the connection; then statuses confirm the log, until another frame ends the stream ("55.4. Streaming Replication Protocol").
-use Rattle.std.specs.Prelude.{ℕ, ◌+◌, ◌^◌, ◌-◌, ◌==◌, min, max, nat_lt, Bool, true, false, if◌then◌else◌, List, [], ◌∷◌, ◌++◌, length, map, replicate, Option, Some, None, Result, Ok, Err}
+use Rattle.std.specs.Prelude.{ℕ, ◌+◌, ◌^◌, ◌-◌, ◌==◌, min, max, nat_lt, Bool, true, false, if◌then◌else◌, List, [], ◌∷◌, ◌++◌, map, Option, Some, None, Result, Ok, Err}
 use Rattle.shard_checker.specs.CheckedView.{CheckedOf}
 use Rattle.tables_log.specs.Slots as slots
 use Rattle.tables_log.specs.Slots.{end_after, confirmed_at, start_fault, confirmed_up_to}
@@ -11,26 +11,30 @@ use Rattle.copy_frames.specs.declared.frame.Frame.{Frame}
 use Rattle.copy_frames.specs.declared.status.Status.{Status}
 use Rattle.copy_frames.specs.Frames.{cut, frames_of, fault_in}
 use Rattle.copy_both.specs.Events.{event_of}
-use Rattle.copy_both.specs.Refusals.{state_of, error_response}
+use Rattle.copy_both.specs.Refusals.{RefusalOf, state_of, error_response}
 use Rattle.copy_both.specs.StartAnswers.{AskedOf, Stream, Refused, asked_of}
-use Rattle.copy_both.specs.StartOrder.{OfferOf}
+use Rattle.copy_both.specs.StartOrder.{OfferOf, slot_name, book_refusal}
 use Rattle.copy_both.specs.declared.event.Event.{Event}
 use Rattle.copy_both.specs.declared.event.Event.TheVariants as event
 use Rattle.copy_both.specs.declared.heard.Heard.{Heard}
 use Rattle.copy_both.specs.declared.link_fault.LinkFault.{LinkFault}
 use Rattle.copy_both.specs.declared.link_fault.LinkFault.TheVariants as fault
-use Rattle.copy_both.specs.declared.sql_state.SqlState.{SqlState}
-use Rattle.copy_both.specs.declared.sql_state.SqlState.TheVariants as state
 
 -- what frames are held against: the catalog, and how many commits the log has
 pub record Served : Type 0 where
   pub checked : CheckedOf
   pub commits : ℕ
 
--- what came of the frames so far: the slot that streams and where the stream starts, what is answered, the sent position, the slots of the book, the response to a start that is refused, and the fault
+-- what is to be answered: where the stream starts, if it does; how many statuses want a reply; and the kind of the frame that ended the connection
+pub record HeardOf : Type 0 where
+  pub started : Option ℕ
+  pub replies : ℕ
+  pub ended : Option ℕ
+
+-- what came of the frames so far: the slot that streams and where the stream starts, what is to be answered, the sent position, the slots of the book, the response to a start that is refused, and the fault
 pub record HearingOf : Type 0 where
   pub started : Option (ℕ × ℕ)
-  pub heard : Heard
+  pub heard : HeardOf
   pub sent : ℕ
   pub slots : List Slot
   pub response : List ℕ
@@ -44,40 +48,32 @@ ended_by kind h = record h { heard = record h.heard { ended = Some kind } }
 
 -- ---- the first frame
 
-abbrev pub offer_in : Served → List Bool → OfferOf
-offer_in served in_use = record {
+-- whether a slot is in use is asked of the book, as the last
+abbrev pub offer_in : Served → OfferOf
+offer_in served = record {
   publications = map (λ p. p.name) served.checked.catalog.publications;
   subscriptions = served.checked.catalog.subscriptions;
   log_end = end_after served.commits;
-  in_use = in_use;
+  in_use = [];
 }
 
--- a stream of this slot starts here, or the start is refused by this error and response
+-- a stream of this slot starts here, or the start is refused
 pub data BeginOf : Type 0 where
   Begins : ℕ → ℕ → BeginOf
-  Refuses : SqlState → List ℕ → BeginOf
+  Refuses : RefusalOf → BeginOf
 
--- refused where the slot can't be had
-abbrev pub refusing : AskedOf → BeginOf
-refusing (Stream slot position) = Refuses state.ObjectInUse []
-refusing (Refused refusal) = Refuses (state_of refusal) (error_response refusal)
+abbrev pub unless_fault : Option StartError → ℕ → ℕ → List ℕ → BeginOf
+unless_fault None slot start name = Begins slot start
+unless_fault (Some error) slot start name = Refuses (book_refusal name error)
 
-abbrev pub unless_fault : Option StartError → ℕ → ℕ → AskedOf → BeginOf
-unless_fault None slot start otherwise = Begins slot start
-unless_fault (Some fault) slot start otherwise = refusing otherwise
-
--- what is asked for where no slot is in use, and otherwise where each is: that the slot is in use is the last of the refusals
-abbrev pub begin_by : List Slot → ℕ → AskedOf → AskedOf → BeginOf
-begin_by slots end (Refused refusal) otherwise = Refuses (state_of refusal) (error_response refusal)
-begin_by slots end (Stream slot position) otherwise =
-    unless_fault (start_fault slots end slot position) slot (max position (confirmed_at slots slot)) otherwise
-
-abbrev pub every_slot : Served → List Bool
-every_slot served = replicate (length served.checked.catalog.subscriptions) true
+abbrev pub begin_by : Served → List Slot → AskedOf → BeginOf
+begin_by served slots (Refused refusal) = Refuses refusal
+begin_by served slots (Stream slot position) =
+    unless_fault (start_fault slots (end_after served.commits) slot position) slot (max position (confirmed_at slots slot))
+    (slot_name served.checked.catalog.subscriptions slot)
 
 unfoldable pub begin_of : Served → List Slot → ℕ → List ℕ → BeginOf
-begin_of served slots kind body =
-    begin_by slots (end_after served.commits) (asked_of (offer_in served []) kind body) (asked_of (offer_in served (every_slot served)) kind body)
+begin_of served slots kind body = begin_by served slots (asked_of (offer_in served) kind body)
 
 -- a stream that has sent nothing has sent up to where it starts, or to 64 where that is 0
 abbrev pub first_sent : ℕ → ℕ
@@ -90,7 +86,7 @@ begun (Begins slot start) h = record h {
   sent = first_sent start;
   slots = slots.started h.slots slot;
 }
-begun (Refuses state bytes) h = record h { response = h.response ++ bytes; fault = Some (fault.BadStart state) }
+begun (Refuses refusal) h = record h { response = h.response ++ error_response refusal; fault = Some (fault.BadStart (state_of refusal)) }
 
 -- Terminate, `X`, ends the connection
 abbrev pub first_heard : Served → Frame → HearingOf → HearingOf
@@ -99,7 +95,7 @@ first_heard served frame h = if frame.kind == 88 then ended_by 88 h else begun (
 -- ---- the next ones
 
 abbrev pub one_more : Bool → ℕ → ℕ
-one_more true replies = min (replies + 1) (2 ^ 32 - 1)
+one_more true replies = replies + 1
 one_more false replies = replies
 
 -- the flushed position is confirmed, if that much was sent and the log reaches there
@@ -159,9 +155,13 @@ bytes_heard served limit bytes h = then_fault (fault_in limit bytes) (frames_hea
 
 -- ---- what is answered
 
+-- as a caller is told of it: a count of 32 bits goes no further than 4,294,967,295
+abbrev pub heard_told : HeardOf → Heard
+heard_told heard = record { started = heard.started; replies = min heard.replies (2 ^ 32 - 1); ended = heard.ended }
+
 abbrev pub answer_by : Option LinkFault → Heard → Result Heard LinkFault
 answer_by None heard = Ok heard
 answer_by (Some fault) heard = Err fault
 
 abbrev pub answer_of : HearingOf → Result Heard LinkFault
-answer_of h = answer_by h.fault h.heard
+answer_of h = answer_by h.fault (heard_told h.heard)

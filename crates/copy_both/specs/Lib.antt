@@ -4,6 +4,7 @@ pub mod Ears
 pub mod Events
 pub mod Framing
 pub mod Halves
+pub mod HeardFrames
 pub mod Hearing
 pub mod LinkLaws
 pub mod Links
@@ -11,6 +12,7 @@ pub mod Listening
 pub mod OptionValues
 pub mod Phases
 pub mod Refusals
+pub mod SeenStreams
 pub mod Sessions
 pub mod ShortNames
 pub mod StartAnswers
@@ -19,4 +21,5 @@ pub mod StreamLaws
 pub mod Streams
 pub mod Tellings
 pub mod TokenPlaces
+pub mod VoiceLaws
 pub mod Voices

@@ -107,6 +107,16 @@ abbrev pub LinkPassesOn : Type 0
 LinkPassesOn = (old new : Link) (run : Run) (place : Place) (count : ℕ) → IsStreaming old run place → LinkPasses old new count
     → IsStreaming new (record run { passed = run.passed ++ take count (link_output old) }) place
 
+-- after the end the rest of what waits may be passed on
+abbrev pub LinkRestPassesOn : Type 0
+LinkRestPassesOn = (old new : Link) (run : Run) (last : List ℕ) (count : ℕ) → HasStreamed old run last → LinkPasses old new count
+    → HasStreamed new (record run { passed = run.passed ++ take count (link_output old) }) last
+
+-- and so it may where memory was refused
+abbrev pub LinkFrontPassesOn : Type 0
+LinkFrontPassesOn = (old new : Link) (run : Run) (last : List ℕ) (count : ℕ) → HasBegun old run last → LinkPasses old new count
+    → HasBegun new (record run { passed = run.passed ++ take count (link_output old) }) last
+
 -- a log that grows changes nothing of it
 abbrev pub LogGrows : Type 0
 LogGrows = (link : Link) (run : Run) (place : Place) (more : List CommitOf) → IsStreaming link run place

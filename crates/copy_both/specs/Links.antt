@@ -1,17 +1,17 @@
 -- What a link is, the publisher's end of a connection, and what its calls answer, say and leave: each is the halves' calls, and what is heard is answered at once ("55.4. Streaming Replication Protocol").
-use Rattle.std.specs.Prelude.{◌≡◌, ℕ, ◌==◌, if◌then◌else◌, unwrap_or, false, List, [], ◌∷◌, ◌++◌, replicate, slice_get, Option, Some, None, Result, Ok, Err}
+use Rattle.std.specs.Prelude.{◌≡◌, ℕ, ◌==◌, if◌then◌else◌, unwrap_or, false, List, [], ◌∷◌, ◌++◌, replicate, slice_get, Option, Some, None, IsSome, Result, Ok, Err}
 use Rattle.std.specs.List.{concat}
 use Rattle.shard_checker.specs.CheckedView.{CheckedOf}
 use Rattle.tables_log.specs.Commits.{CommitOf}
 use Rattle.tables_log.specs.declared.book.Book.{Book}
 use Rattle.copy_frames.specs.Contents.{copy_both_response}
 use Rattle.copy_both.specs.Ears.{ear_checked, ear_phase, ear_started, ear_held, ear_refusal, ear_heard, IsSameEar, EarCloses, Loses}
-use Rattle.copy_both.specs.Hearing.{HearingOf}
+use Rattle.copy_both.specs.Hearing.{HeardOf, HearingOf}
 use Rattle.copy_both.specs.Streams as streams
 use Rattle.copy_both.specs.Streams.{Take, move_bytes, moved}
 use Rattle.copy_both.specs.Tellings.{spelled_for, telling_of}
 use Rattle.copy_both.specs.Voices as voices
-use Rattle.copy_both.specs.Voices.{StageOf, AreReadBack, Says, Closes, Passes, voice_checked, voice_stage, voice_output, first_stage, told_answer, kept_bytes, done_bytes, sent_of}
+use Rattle.copy_both.specs.Voices.{StageOf, AreReadBack, Says, Closes, Passes, voice_checked, voice_stage, voice_output, first_stage, taken_of, kept_bytes, done_bytes, sent_of}
 use Rattle.copy_both.specs.declared.ear.Ear.{Ear}
 use Rattle.copy_both.specs.declared.heard.Heard.{Heard}
 use Rattle.copy_both.specs.declared.link.Link.{Link}
@@ -102,14 +102,14 @@ ended_stage None stage = stage
 ended_stage (Some kind) stage = voices.Closed
 
 -- all of it, frame by frame, and where the link is then; what is not said is an empty frame
-abbrev pub frames_after : StageOf → StageOf → Option (ℕ × ℕ) → Heard → ℕ → List (List ℕ)
+abbrev pub frames_after : StageOf → StageOf → Option (ℕ × ℕ) → HeardOf → ℕ → List (List ℕ)
 frames_after stage begun started heard clock =
     opening stage started ∷ (replies begun heard.replies clock ++ closing begun heard.ended ∷ [])
 
-abbrev pub frames_by : CheckedOf → StageOf → Option (ℕ × ℕ) → Heard → ℕ → List (List ℕ)
+abbrev pub frames_by : CheckedOf → StageOf → Option (ℕ × ℕ) → HeardOf → ℕ → List (List ℕ)
 frames_by checked stage started heard clock = frames_after stage (begun_stage checked stage started) started heard clock
 
-abbrev pub stage_by : CheckedOf → StageOf → Option (ℕ × ℕ) → Heard → StageOf
+abbrev pub stage_by : CheckedOf → StageOf → Option (ℕ × ℕ) → HeardOf → StageOf
 stage_by checked stage started heard = ended_stage heard.ended (begun_stage checked stage started)
 
 abbrev pub frames_said : CheckedOf → StageOf → HearingOf → ℕ → List (List ℕ)
@@ -147,12 +147,18 @@ link_heard link book piece = ear_heard (link_ear link) book piece (link_sent lin
 
 abbrev pub found_answer : CheckedOf → streams.Place → Option CommitOf → Result Taken LinkFault
 found_answer checked place None = Ok taken.Idle
-found_answer checked place (Some commit) = told_answer commit.number (spelled_for checked place.slot place.told commit)
+found_answer checked place (Some commit) = Ok (taken_of commit.number (spelled_for checked place.slot place.told commit))
 
 abbrev pub next_answer : CheckedOf → StageOf → List CommitOf → Result Taken LinkFault
 next_answer checked voices.NotStarted log = Ok taken.NotStarted
 next_answer checked (voices.Started place) log = found_answer checked place (slice_get log place.done)
 next_answer checked voices.Closed log = Err fault.Closed
+
+-- the stream runs, and the log has a commit that was not taken
+abbrev pub HasNext : StageOf → List CommitOf → Type 0
+HasNext voices.NotStarted log = ⊥
+HasNext (voices.Started place) log = IsSome (slice_get log place.done)
+HasNext voices.Closed log = ⊥
 
 abbrev pub next_bytes : CheckedOf → StageOf → List CommitOf → ℕ → List ℕ
 next_bytes checked voices.NotStarted log clock = []

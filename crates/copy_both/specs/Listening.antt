@@ -8,14 +8,14 @@ use Rattle.copy_frames.specs.declared.frame.Frame.{Frame}
 use Rattle.copy_both.specs.Hearing.{HearingOf, Served, with_fault, frames_heard, bytes_heard}
 use Rattle.copy_both.specs.Sessions.{session_checked, served_by, hearing_view}
 use Rattle.copy_both.specs.declared.heard.Heard.{Heard}
+use Rattle.copy_both.specs.declared.hearing.Hearing.{Hearing}
 use Rattle.copy_both.specs.declared.link_fault.LinkFault.{LinkFault}
 use Rattle.copy_both.specs.declared.link_fault.LinkFault.TheVariants as fault
-use Rattle.copy_both.specs.declared.session.Hearing.{Hearing}
 use Rattle.copy_both.specs.declared.session.Session.{Session}
 
 -- nothing was heard of a piece
 abbrev pub silence : ℕ → Hearing
-silence sent = record { heard = record { started = None; replies = 0; ended = None }; sent = sent }
+silence sent = record { started = None; replies = 0; ended = None; sent = sent }
 
 -- ---- frames
 

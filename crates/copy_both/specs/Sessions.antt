@@ -1,19 +1,23 @@
 -- What the frames of a client do to what was agreed with it, and to a book ("55.4. Streaming Replication Protocol").
-use Rattle.std.specs.Prelude.{◌≡◌, ℕ, ◌++◌, Bool, List, length, Option, Some, None, Result, Ok, Err}
+use Rattle.std.specs.Prelude.{◌≡◌, ℕ, ◌++◌, List, length, Option, Some, None, Result, Ok, Err}
 use Rattle.std.specs.Arc.{arc_value}
 use Rattle.shard_checker.specs.CheckedView.{CheckedOf, checked_view}
 use Rattle.tables_log.specs.BookView.{book_log, book_slots}
 use Rattle.tables_log.specs.Committing.{ChangesSlots}
 use Rattle.tables_log.specs.Slots.{started}
 use Rattle.tables_log.specs.declared.book.Book.{Book}
+use Rattle.tables_log.specs.declared.error.StartError.{StartError}
 use Rattle.tables_log.specs.declared.slots.Slot.{Slot}
 use Rattle.copy_frames.specs.declared.frame.Frame.{Frame}
 use Rattle.copy_both.specs.Hearing as h
-use Rattle.copy_both.specs.Hearing.{Served, HearingOf, with_fault, BeginOf, begin_of, offer_in}
+use Rattle.copy_both.specs.Hearing.{Served, HeardOf, HearingOf, heard_told, with_fault, BeginOf, begin_of, offer_in}
+use Rattle.copy_both.specs.Refusals.{RefusalOf, state_of, error_response}
 use Rattle.copy_both.specs.StartAnswers.{AskedOf, asked_of}
+use Rattle.copy_both.specs.StartOrder.{slot_name, book_refusal}
+use Rattle.copy_both.specs.declared.heard.Heard.{Heard}
+use Rattle.copy_both.specs.declared.hearing.Hearing.{Hearing}
 use Rattle.copy_both.specs.declared.link_fault.LinkFault.{LinkFault}
 use Rattle.copy_both.specs.declared.link_fault.LinkFault.TheVariants as fault
-use Rattle.copy_both.specs.declared.session.Hearing.{Hearing}
 use Rattle.copy_both.specs.declared.session.Session.{Session}
 
 abbrev pub session_checked : Session → CheckedOf
@@ -22,10 +26,21 @@ session_checked session = checked_view (arc_value session.checked)
 abbrev pub served_by : Session → Book → Served
 served_by session book = record { checked = session_checked session; commits = length (book_log book) }
 
+abbrev pub heard_view : Hearing → HeardOf
+heard_view hearing = record { started = hearing.started; replies = hearing.replies; ended = hearing.ended }
+
+-- as a caller is told of it
+abbrev pub told_hearing : Hearing → Heard
+told_hearing hearing = heard_told (heard_view hearing)
+
+abbrev pub told_result : Result Hearing LinkFault → Result Heard LinkFault
+told_result (Ok hearing) = Ok (told_hearing hearing)
+told_result (Err fault) = Err fault
+
 abbrev pub hearing_view : Session → Hearing → Book → HearingOf
 hearing_view session hearing book = record {
   started = session.started;
-  heard = hearing.heard;
+  heard = heard_view hearing;
   sent = hearing.sent;
   slots = book_slots book;
   response = session.response.items;
@@ -60,19 +75,23 @@ Hears expected old new (Err fault) = FailsBy fault expected old new
 
 -- ---- the start of a stream
 
-abbrev pub asked_in : Session → Book → Frame → List Bool → AskedOf
-asked_in session book frame in_use = asked_of (offer_in (served_by session book) in_use) frame.kind frame.body
+abbrev pub asked_in : Session → Book → Frame → AskedOf
+asked_in session book frame = asked_of (offer_in (served_by session book)) frame.kind frame.body
 
 abbrev pub begin_in : Session → Book → Frame → BeginOf
 begin_in session book frame = begin_of (served_by session book) (book_slots book) frame.kind frame.body
 
+-- why the book starts no stream from the slot
+abbrev pub refused_by_book : Session → ℕ → StartError → RefusalOf
+refused_by_book session slot error = book_refusal (slot_name (session_checked session).catalog.subscriptions slot) error
+
 abbrev pub refusal_fault : BeginOf → Option LinkFault
 refusal_fault (h.Begins slot start) = None
-refusal_fault (h.Refuses state bytes) = Some (fault.BadStart state)
+refusal_fault (h.Refuses refusal) = Some (fault.BadStart (state_of refusal))
 
 abbrev pub response_after : List ℕ → BeginOf → List ℕ
 response_after before (h.Begins slot start) = before
-response_after before (h.Refuses state bytes) = before ++ bytes
+response_after before (h.Refuses refusal) = before ++ error_response refusal
 
 -- the slot is taken
 pub record TakesSlot (expected : BeginOf) (before after : List Slot) (old new : List ℕ) (begun : ℕ × ℕ) : Type 0 where

@@ -8,6 +8,8 @@ use Rattle.copy_both.specs.declared.start_command.OptionValue.TheVariants.{Wrong
 use Rattle.copy_both.specs.declared.start_command.StartCommand.{StartCommand}
 use Rattle.copy_both.specs.declared.start_command.StartOption.{StartOption}
 use Rattle.copy_both.specs.declared.start_order.Offer.{Offer}
+use Rattle.tables_log.specs.declared.error.StartError.{StartError}
+use Rattle.tables_log.specs.declared.error.StartError.TheVariants as error
 use Rattle.copy_both.specs.Refusals.{RefusalOf, NoSlot, WrongOption, UnsupportedOption, MissingOption, NoPublication, OtherPublications, Ahead, InUse}
 
 -- what a start is held against: the names of the publications, the subscriptions, each with the slot of its name, where the log ends, and which slots are in use
@@ -146,3 +148,19 @@ refusal_at offer command (Some slot) = slot_refusal offer command slot (publicat
 -- the first refusal of a start
 abbrev pub start_refusal : OfferOf → StartCommand → Option RefusalOf
 start_refusal offer command = refusal_at offer command (find_slot command.slot offer.subscriptions)
+
+-- ---- what a book refuses
+
+abbrev pub name_of : Option Subscription → List ℕ
+name_of None = []
+name_of (Some subscription) = subscription.name
+
+-- the name of the slot of this number
+abbrev pub slot_name : List Subscription → ℕ → List ℕ
+slot_name subscriptions slot = name_of (slice_get subscriptions slot)
+
+-- why a book starts no stream from the slot of this name
+abbrev pub book_refusal : List ℕ → StartError → RefusalOf
+book_refusal name error.NoSlot = NoSlot name
+book_refusal name error.Ahead = Ahead
+book_refusal name error.InUse = InUse name

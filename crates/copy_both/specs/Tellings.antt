@@ -1,5 +1,5 @@
 -- What tells a subscriber of the commits of a catalog: the messages of each, as the bytes that spell them ("55.5. Logical Streaming Replication Protocol", "55.9. Logical Replication Message Formats").
-use Rattle.std.specs.Prelude.{ℕ, ◌+◌, nat_le, Bool, List, length, map}
+use Rattle.std.specs.Prelude.{ℕ, Bool, List, map}
 use Rattle.shard_checker.specs.CheckedView.{CheckedOf}
 use Rattle.tables_log.specs.Commits.{CommitOf}
 use Rattle.pgoutput_msgs.specs.Spelling.{spelling_of}
@@ -15,7 +15,3 @@ telling_of checked = record {
   messages = spelled_for checked;
   told_after = msgs.told_after checked;
 }
-
--- the length of its frame, 29 bytes more than its own, is at most 16,777,216
-abbrev pub is_short : List ℕ → Bool
-is_short message = nat_le (length message + 29) 16777216

@@ -1,7 +1,6 @@
 -- What a voice is, the half of a connection's end that sends, and what its calls answer, send and leave ("55.4. Streaming Replication Protocol"). A voice that is closed says no more.
-use Rattle.std.specs.Prelude.{◌≡◌, ℕ, ◌+◌, Bool, true, false, if◌then◌else◌, List, [], ◌∷◌, ◌++◌, All, length, drop, Option, Some, None, Result, Ok, Err}
+use Rattle.std.specs.Prelude.{◌≡◌, ℕ, ◌+◌, Bool, true, false, List, [], ◌∷◌, ◌++◌, All, length, drop, Option, Some, None, Result, Ok, Err}
 use Rattle.std.specs.Arc.{arc_value}
-use Rattle.std.specs.List.{list_all}
 use Rattle.shard_checker.specs.CheckedView.{CheckedOf, checked_view}
 use Rattle.tables_log.specs.Commits.{CommitOf}
 use Rattle.pgoutput_msgs.specs.Sent.{IsSent}
@@ -9,7 +8,7 @@ use Rattle.pgoutput_msgs.specs.Telling.{messages_for}
 use Rattle.copy_frames.specs.Contents.{copy_done}
 use Rattle.copy_both.specs.Streams as streams
 use Rattle.copy_both.specs.Streams.{place_at, place_after, take_bytes, keep_bytes}
-use Rattle.copy_both.specs.Tellings.{spelled_for, telling_of, is_short}
+use Rattle.copy_both.specs.Tellings.{spelled_for, telling_of}
 use Rattle.copy_both.specs.declared.link_fault.LinkFault.{LinkFault}
 use Rattle.copy_both.specs.declared.link_fault.LinkFault.TheVariants as fault
 use Rattle.copy_both.specs.declared.place.Place.{Place}
@@ -43,6 +42,12 @@ voice_stage voice = stage_view voice.stage
 -- what was said and not passed on
 abbrev pub voice_output : Voice → List ℕ
 voice_output voice = voice.out.items
+
+-- the stream runs
+abbrev pub IsStarted : StageOf → Type 0
+IsStarted NotStarted = ⊥
+IsStarted (Started place) = Unit {0}
+IsStarted Closed = ⊥
 
 -- ---- what a call leaves
 
@@ -81,14 +86,14 @@ first_stage checked slot position = Started (place_at slot (length checked.catal
 
 -- ---- a commit is taken up, or nothing is said
 
--- a commit without a message for the subscriber is skipped; one with a message that no frame can carry is not sent
-abbrev pub told_answer : ℕ → List (List ℕ) → Result Taken LinkFault
-told_answer number [] = Ok (taken.Skipped number)
-told_answer number (first ∷ others) = if list_all is_short (first ∷ others) then Ok (taken.Sent number) else Err fault.FrameTooLong
+-- a commit without a message for the subscriber is skipped
+abbrev pub taken_of : ℕ → List (List ℕ) → Taken
+taken_of number [] = taken.Skipped number
+taken_of number (first ∷ others) = taken.Sent number
 
 abbrev pub entry_answer : CheckedOf → StageOf → CommitOf → Result Taken LinkFault
 entry_answer checked NotStarted commit = Ok taken.NotStarted
-entry_answer checked (Started place) commit = told_answer commit.number (spelled_for checked place.slot place.told commit)
+entry_answer checked (Started place) commit = Ok (taken_of commit.number (spelled_for checked place.slot place.told commit))
 entry_answer checked Closed commit = Err fault.Closed
 
 abbrev pub entry_bytes : CheckedOf → StageOf → CommitOf → ℕ → List ℕ

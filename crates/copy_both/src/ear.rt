@@ -3,6 +3,7 @@
 ghost use Rattle.copy_both.specs.Phases.{Fits};
 
 use crate::heard::Heard;
+use crate::hearing::Hearing;
 use crate::link_fault::LinkFault;
 use crate::listening::hear_piece;
 use crate::phase::{Phase, phase_after};
@@ -34,13 +35,15 @@ pub struct Ear {
 }
 
 impl Ear {
-    ghost use Rattle.std.specs.Prelude.{◌≡◌, [], None};
+    ghost use Rattle.std.specs.Prelude.{◌≡◌, [], None, IfOk, IfErr};
     ghost use Rattle.std.specs.Arc.{arc_value};
-    ghost use Rattle.filter_tree.specs.Memory.{Answers};
+    ghost use Rattle.filter_tree.specs.Memory.{Answers, NeedsMemoryOnlyIf};
     ghost use Rattle.shard_checker.specs.CheckedView.{checked_view};
     ghost use Rattle.copy_both.specs.Ears as spec;
-    ghost use Rattle.copy_both.specs.Ears.{EarCloses, HearLeaves, Loses, ear_checked, ear_held, ear_phase, ear_refusal, ear_started};
+    ghost use Rattle.copy_both.specs.Ears.{EarCloses, HearLeaves, IsAnsweredBy, Loses, ear_checked, ear_heard, ear_held, ear_phase, ear_refusal, ear_started};
+    ghost use Rattle.copy_both.specs.Sessions.{heard_view, told_result};
     ghost use Rattle.copy_both.specs.Voices.{told_fault};
+    ghost use Rattle.copy_both.specs.declared.link_fault.LinkFault.TheVariants.{OutOfMemory};
     ghost use Rattle.copy_both.specs.declared.phase.Phase.TheVariants as phase;
 
     /// An ear before the first byte.
@@ -74,13 +77,38 @@ impl Ear {
     /// The first of: `BadStart`, and then `refusal` has the response; `BadLength` for a status that has another length
     /// than 34 bytes; `Unexpected`; `StatusAhead` for a status that has flushed more than was sent; and after all
     /// frames before it `BadLength` and `FrameTooLong` for a length below 4 or above 65,536. Or `OutOfMemory`; then
-    /// some first frames were heard. Each closes it. `Closed` where it was closed before; then nothing changes.
+    /// some first frames were heard. Each closes it. `Closed`, and no other answer, where it was closed before; then
+    /// nothing changes.
     ///
     /// PostgreSQL 15, 55.4. Streaming Replication Protocol, and 55.7. Message Formats.
     pub fn hear(&mut self, piece: &[u8], book: &mut Book, sent: u64) -> Result<Heard, LinkFault>
         ensures answer { Answers (λ heard. heard) told_fault
             (spec.hear_answer self.old book.old piece.now sent) result }
+        ensures memory { NeedsMemoryOnlyIf OutOfMemory (ear_phase self.old ≡ phase.Open) result }
+        ensures refused { IfErr result (λ fault. IsAnsweredBy fault [] (ear_refusal self.new)) }
         ensures left { HearLeaves (ear_phase self.old) self.old self.new book.old book.new piece.now sent result }
+    {
+        match self.listen(piece, book, sent) {
+            Ok(hearing) => Ok(hearing.told()),
+            Err(fault) => Err(fault),
+        }
+    }
+
+    /// Hears the next bytes, as `hear`, and counts all replies that are wanted.
+    pub(crate) fn listen(
+        &mut self,
+        piece: &[u8],
+        book: &mut Book,
+        sent: u64,
+    ) -> Result<Hearing, LinkFault>
+        ensures answer { Answers (λ heard. heard) told_fault
+            (spec.hear_answer self.old book.old piece.now sent) (told_result result) }
+        ensures exact { IfOk result (λ hearing.
+            heard_view hearing ≡ (ear_heard self.old book.old piece.now sent).heard) }
+        ensures memory { NeedsMemoryOnlyIf OutOfMemory (ear_phase self.old ≡ phase.Open) result }
+        ensures refused { IfErr result (λ fault. IsAnsweredBy fault [] (ear_refusal self.new)) }
+        ensures left { HearLeaves (ear_phase self.old) self.old self.new book.old book.new piece.now sent
+            (told_result result) }
     {
         match self.phase {
             Phase::Open => {}

@@ -1,8 +1,14 @@
 //! Laws of streams.
 
+ghost use Rattle.copy_both.specs.Ears.{HearingChangesSlots, LosingChangesSlots};
+ghost use Rattle.copy_both.specs.HeardFrames.{NothingIsHeard, PiecesAreHeard};
 ghost use Rattle.copy_both.specs.LinkLaws as links;
+ghost use Rattle.copy_both.specs.SeenStreams.{StreamsTellTransactions};
 ghost use Rattle.copy_both.specs.StreamLaws.{Starts, Takes, Keeps, Passes, Grows};
 ghost use Rattle.copy_both.specs.Streams.{Telling};
+ghost use Rattle.copy_both.specs.VoiceLaws as voices;
+
+use crate::voice::Voice;
 
 /// A law, and no code, of what a connection sends, whatever it tells of a commit. After CopyBothResponse the stream
 /// grows by each commit that is taken and by each keepalive. What was passed on and what waits are together the stream,
@@ -19,7 +25,8 @@ pub fn streams_grow<C>()
 
 /// A law, and no code, of what a link says while its stream runs. What was passed on and what waits are together the
 /// stream of what it started, took and kept alive, whatever it heard. After the client's CopyDone, CopyDone follows the
-/// stream; after a call that closed the link nothing does. Where memory was refused, it is a first part of that.
+/// stream; after a call that closed the link nothing does. Where memory was refused, it is a first part of that. So it
+/// stays while the rest is passed on.
 ///
 /// PostgreSQL 15, 55.4. Streaming Replication Protocol.
 pub fn links_say_streams()
@@ -30,5 +37,61 @@ pub fn links_say_streams()
     ensures takes { links.LinkTakes }
     ensures keeps { links.LinkKeeps }
     ensures passes { links.LinkPassesOn }
+    ensures rest { links.LinkRestPassesOn }
+    ensures front { links.LinkFrontPassesOn }
     ensures grows { links.LogGrows }
 {}
+
+/// A law, and no code: the stream of a log is said by the log's transactions and by what the subscriber sees of them
+/// alone. After CopyBothResponse a take adds nothing where nothing is seen of the next transaction; otherwise Begin and
+/// Commit with the transaction's number and time, and between them each change, directly after the Relations of those
+/// of its tables that no change of the connection named before. A keepalive carries the end of the last transaction
+/// that was taken; where none was, the start, which is 64 for a start at 0. It holds where a row's identity tells who
+/// gets the row, as in each catalog that was checked, of transactions that were accepted.
+///
+/// PostgreSQL 15, 55.4. Streaming Replication Protocol, and 55.5.3. Logical Replication Protocol Message Flow.
+pub fn streams_tell_transactions()
+    ensures { StreamsTellTransactions }
+{}
+
+/// A law, and no code, of what a voice says since its start. What was passed on and what waits are together the stream
+/// of its moves: of the commits that it took, which follow one another, and of its keepalives, with their clocks. So it
+/// is of each log that has these commits from the start on. CopyDone follows the stream, and after a call that closed
+/// the voice nothing does.
+///
+/// PostgreSQL 15, 55.4. Streaming Replication Protocol.
+pub fn voices_say_streams()
+    ensures starts { voices.VoiceStarts }
+    ensures takes { voices.VoiceTakes }
+    ensures keeps { voices.VoiceKeeps }
+    ensures passes { voices.VoicePassesOn }
+    ensures done { voices.VoiceIsDone }
+    ensures stops { voices.VoiceStops }
+    ensures rest { voices.RestPassesOn }
+{}
+
+/// A law, and no code, of what an ear leaves of a book: whatever it hears, and where it is lost, nothing but slots
+/// changes.
+pub fn ears_change_slots()
+    ensures hear { HearingChangesSlots }
+    ensures lose { LosingChangesSlots }
+{}
+
+/// A law, and no code, of what an ear has heard of all bytes since its first, in whatever pieces they came. It holds
+/// what comes after the last whole frame. Where a stream was started, the first frame is a Query that asks for it, from
+/// a position that is not after where it starts; what was started stays so, and is told once. A fault is that of a
+/// length, of the first frame's start, or of a later frame; and an end is that of a frame of this kind.
+///
+/// PostgreSQL 15, 55.4. Streaming Replication Protocol, and 55.7. Message Formats.
+pub fn frames_are_heard()
+    ensures first { NothingIsHeard }
+    ensures pieces { PiecesAreHeard }
+{}
+
+/// Takes what may go to another thread.
+fn goes_to_another_thread<T: Send>(_value: &T) {}
+
+/// A law, and no code: a voice may go to another thread.
+pub fn voices_go_to_other_threads(voice: &Voice) {
+    goes_to_another_thread(voice);
+}

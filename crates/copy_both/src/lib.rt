@@ -9,6 +9,7 @@ mod event;
 mod framing;
 mod front;
 mod heard;
+mod hearing;
 mod laws;
 mod link;
 mod link_fault;
@@ -30,10 +31,14 @@ mod tokens;
 mod voice;
 
 pub use answer::{Asked, answer_start};
+pub use copy_frames::{Deframer, Frame, FrameFault};
 pub use ear::Ear;
 pub use error_response::append_error_response;
 pub use heard::Heard;
-pub use laws::{links_say_streams, streams_grow};
+pub use laws::{
+    ears_change_slots, frames_are_heard, links_say_streams, streams_grow,
+    streams_tell_transactions, voices_go_to_other_threads, voices_say_streams,
+};
 pub use link::Link;
 pub use link_fault::LinkFault;
 pub use refusal::{Refusal, Words};

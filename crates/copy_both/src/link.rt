@@ -44,15 +44,17 @@ pub struct Link {
 }
 
 impl Link {
-    ghost use Rattle.std.specs.Prelude.{◌≡◌, IfOk, OnOk, OnErr};
+    ghost use Rattle.std.specs.Prelude.{◌≡◌, IfOk, IfErr, OnOk, OnErr};
     ghost use Rattle.std.specs.Arc.{arc_value};
-    ghost use Rattle.filter_tree.specs.Memory.{Answers};
+    ghost use Rattle.filter_tree.specs.Memory.{Answers, NeedsMemoryOnlyIf};
     ghost use Rattle.shard_checker.specs.CheckedView.{checked_view};
     ghost use Rattle.tables_log.specs.BookView.{book_log};
-    ghost use Rattle.copy_both.specs.Ears.{HearLeaves, ear_phase, ear_started, hear_answer};
+    ghost use Rattle.copy_both.specs.Ears.{HearLeaves, IsAnsweredBy, ear_phase, ear_started, hear_answer};
     ghost use Rattle.copy_both.specs.Links as spec;
-    ghost use Rattle.copy_both.specs.Links.{HearSays, IsNewLink, LinkCloses, LinkLoses, LinkPasses, LinkSays, NextIsReadBack, link_checked, link_ear, link_heard, link_output, link_sent, link_stage};
-    ghost use Rattle.copy_both.specs.Voices.{keep_answer, kept_bytes, sent_of, told_fault};
+    ghost use Rattle.copy_both.specs.Links.{HasNext, HearSays, IsNewLink, LinkCloses, LinkLoses, LinkPasses, LinkSays, NextIsReadBack, link_checked, link_ear, link_heard, link_output, link_sent, link_stage};
+    ghost use Rattle.copy_both.specs.Voices.{IsStarted, keep_answer, kept_bytes, sent_of, told_fault};
+    ghost use Rattle.copy_both.specs.declared.link_fault.LinkFault.TheVariants.{OutOfMemory};
+    ghost use Rattle.copy_both.specs.declared.phase.Phase.TheVariants.{Open};
 
     /// A link before the first byte. The only error is that the catalog is shared too often.
     pub fn new(alloc: Global, checked: Arc<Checked, Global>) -> Result<Link, AllocError>
@@ -76,19 +78,21 @@ impl Link {
     /// The first of: `BadStart`; `BadLength` for a status that has another length than 34 bytes; `Unexpected`;
     /// `StatusAhead` for a status that has flushed more than the sent position; and after all frames before it
     /// `BadLength` and `FrameTooLong` for a length below 4 or above 65,536. Or `OutOfMemory`; then some first frames
-    /// were heard, and some first frames said. Each closes it. `Closed` where it was closed before; then nothing
-    /// changes.
+    /// were heard, and some first frames said. Each closes it. `Closed`, and no other answer, where it was closed
+    /// before; then nothing changes.
     ///
     /// PostgreSQL 15, 55.4. Streaming Replication Protocol, and 55.7. Message Formats.
     pub fn hear(&mut self, piece: &[u8], book: &mut Book, now: u64) -> Result<Heard, LinkFault>
         ensures answer { Answers (λ heard. heard) told_fault
             (hear_answer (link_ear self.old) book.old piece.now (link_sent self.old)) result }
+        ensures memory { NeedsMemoryOnlyIf OutOfMemory (ear_phase (link_ear self.old) ≡ Open) result }
         ensures left { HearLeaves (ear_phase (link_ear self.old)) (link_ear self.old) (link_ear self.new)
             book.old book.new piece.now (link_sent self.old) result }
         ensures says { HearSays self.old self.new (link_heard self.old book.old piece.now) now result }
+        ensures refused { IfErr result (λ fault. IsAnsweredBy fault (link_output self.old) (link_output self.new)) }
     {
         let sent = self.voice.sent().unwrap_or(0);
-        let heard = match self.ear.hear(piece, book, sent) {
+        let heard = match self.ear.listen(piece, book, sent) {
             Ok(heard) => heard,
             Err(LinkFault::BadStart(state)) => {
                 self.voice.refuse(self.ear.refusal())?;
@@ -100,7 +104,7 @@ impl Link {
             }
         };
         match answer_heard(&mut self.voice, self.ear.started(), &heard, now) {
-            Ok(()) => Ok(heard),
+            Ok(()) => Ok(heard.told()),
             Err(fault) => {
                 self.ear.close();
                 Err(fault)
@@ -117,13 +121,14 @@ impl Link {
     ///
     /// # Errors
     ///
-    /// `Closed`; `FrameTooLong` where a message has more than 16,777,187 bytes; `OutOfMemory`. Each closes it, and
-    /// nothing of the commit is said.
+    /// `Closed` where it was closed before; `OutOfMemory`, which closes it, only where there is a commit to take.
+    /// Nothing of the commit is said then.
     ///
     /// PostgreSQL 15, 55.5. Logical Streaming Replication Protocol.
     pub fn take(&mut self, book: &Book, now: u64) -> Result<Taken, LinkFault>
         ensures answer { Answers (λ taken. taken) told_fault
             (spec.next_answer (link_checked self.old) (link_stage self.old) (book_log book.now)) result }
+        ensures memory { NeedsMemoryOnlyIf OutOfMemory (HasNext (link_stage self.old) (book_log book.now)) result }
         ensures ok { OnOk result (LinkSays self.old self.new
             (spec.next_bytes (link_checked self.old) (link_stage self.old) (book_log book.now) now)
             (spec.next_stage (link_checked self.old) (link_stage self.old) (book_log book.now) now)) }
@@ -151,11 +156,12 @@ impl Link {
     ///
     /// # Errors
     ///
-    /// `Closed`; `OutOfMemory`, which closes it.
+    /// `Closed` where it was closed before; `OutOfMemory`, which closes it, only while the stream runs.
     ///
     /// PostgreSQL 15, 55.4. Streaming Replication Protocol (Primary keepalive message).
     pub fn keepalive(&mut self, now: u64, want: bool) -> Result<bool, LinkFault>
         ensures answer { Answers (λ said. said) told_fault (keep_answer (link_stage self.old)) result }
+        ensures memory { NeedsMemoryOnlyIf OutOfMemory (IsStarted (link_stage self.old)) result }
         ensures ok { OnOk result (LinkSays self.old self.new (kept_bytes (link_stage self.old) now want)
             (link_stage self.old)) }
         ensures err { OnErr result (LinkCloses self.old self.new) }

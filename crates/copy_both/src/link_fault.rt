@@ -10,7 +10,7 @@ use thiserror::Error;
 /// PostgreSQL 15, 55.4. Streaming Replication Protocol.
 #[derive(Clone, Copy, Debug, PartialEq, Eq, Error)]
 pub enum LinkFault {
-    /// The length of a frame is more than the limit: 65,536 towards the publisher, 16,777,216 towards a subscriber.
+    /// The length of a frame is more than 65,536.
     #[error("a frame is longer than the limit")]
     FrameTooLong,
     /// The length of a frame is less than 4, or a status has another length than 34 bytes.

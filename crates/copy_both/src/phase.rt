@@ -2,8 +2,9 @@
 
 ghost use Rattle.std.specs.Prelude.{◌≡◌};
 ghost use Rattle.copy_both.specs.Phases as spec;
+ghost use Rattle.copy_both.specs.Sessions.{told_result};
 
-use crate::heard::Heard;
+use crate::hearing::Hearing;
 use crate::link_fault::LinkFault;
 
 /// How far an ear is: it hears frames; or it hears no more; or it is lost, and so has given its slot back.
@@ -15,11 +16,11 @@ pub(crate) enum Phase {
 }
 
 /// Where an ear is that heard this.
-pub(crate) fn phase_after(heard: &Result<Heard, LinkFault>) -> Phase
-    ensures { result ≡ spec.phase_after heard.now }
+pub(crate) fn phase_after(heard: &Result<Hearing, LinkFault>) -> Phase
+    ensures { result ≡ spec.phase_after (told_result heard.now) }
 {
     match heard {
-        Ok(Heard { ended: None, .. }) => Phase::Open,
-        Ok(Heard { ended: Some(_), .. }) | Err(_) => Phase::Closed,
+        Ok(Hearing { ended: None, .. }) => Phase::Open,
+        Ok(Hearing { ended: Some(_), .. }) | Err(_) => Phase::Closed,
     }
 }

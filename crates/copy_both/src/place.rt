@@ -3,7 +3,6 @@
 ghost use Rattle.std.specs.Prelude.{◌<◌, ◌^◌};
 
 use crate::framing::append_messages;
-use crate::link_fault::LinkFault;
 use crate::taken::Taken;
 use bytes::BytesMut;
 use copy_frames::XLogData;
@@ -25,11 +24,10 @@ pub(crate) struct Place {
 
 impl Place {
     ghost use Rattle.std.specs.Prelude.{◌≡◌, ◌+◌, ◌++◌, IfOk, OnOk, OnErr};
-    ghost use Rattle.filter_tree.specs.Memory.{Answers};
     ghost use Rattle.shard_checker.specs.CheckedView.{checked_view};
     ghost use Rattle.copy_both.specs.Streams.{place_at, place_after, take_bytes};
     ghost use Rattle.copy_both.specs.Tellings.{spelled_for, telling_of};
-    ghost use Rattle.copy_both.specs.Voices.{AreReadBack, place_view, told_answer, told_fault};
+    ghost use Rattle.copy_both.specs.Voices.{AreReadBack, place_view, taken_of};
 
     /// Where a connection is that starts at the position, before the Relation of any of so many tables was sent.
     pub(crate) fn new(
@@ -50,7 +48,7 @@ impl Place {
         })
     }
 
-    /// Takes the next commit up, whose frames are added to `out`.
+    /// Takes the next commit up, whose frames are added to `out`. The only error is want of memory.
     pub(crate) fn take(
         &mut self,
         alloc: Global,
@@ -58,10 +56,10 @@ impl Place {
         commit: &Commit,
         now: u64,
         out: &mut BytesMut,
-    ) -> Result<Taken, LinkFault>
+    ) -> Result<Taken, AllocError>
         requires { commit.now.number ≡ self.old.done + 1 }
-        ensures answer { Answers (λ taken. taken) told_fault (told_answer commit.now.number
-            (spelled_for (checked_view checked.now) self.old.slot self.old.told.items commit.now)) result }
+        ensures taken { IfOk result (λ taken. taken ≡ taken_of commit.now.number
+            (spelled_for (checked_view checked.now) self.old.slot self.old.told.items commit.now)) }
         ensures place { OnOk result (place_view self.new
             ≡ place_after (telling_of (checked_view checked.now)) (place_view self.old) commit.now) }
         ensures said { OnOk result (out.new.items ≡ out.old.items

@@ -4,11 +4,12 @@ ghost use Rattle.std.specs.Prelude.{◌≡◌, ◌≢◌, OnOk, OnErr, IfErr};
 ghost use Rattle.std.specs.List.{concat};
 ghost use Rattle.copy_both.specs.Links as spec;
 ghost use Rattle.copy_both.specs.Links.{SaysFirst};
+ghost use Rattle.copy_both.specs.Sessions.{heard_view};
 ghost use Rattle.copy_both.specs.Voices as voices;
 ghost use Rattle.copy_both.specs.Voices.{Says, Closes, voice_checked, voice_stage};
 ghost use Rattle.copy_both.specs.declared.link_fault.LinkFault.TheVariants.{OutOfMemory};
 
-use crate::heard::Heard;
+use crate::hearing::Hearing;
 use crate::link_fault::LinkFault;
 use crate::voice::Voice;
 
@@ -27,7 +28,7 @@ fn open(voice: &mut Voice, started: Option<(usize, u64)>) -> Result<(), LinkFaul
 }
 
 /// Says so many keepalives.
-fn reply(voice: &mut Voice, count: u32, now: u64) -> Result<(), LinkFault>
+fn reply(voice: &mut Voice, count: u64, now: u64) -> Result<(), LinkFault>
     requires { voice_stage voice.old ≢ voices.Closed }
     ensures ok { OnOk result (Says voice.old voice.new (concat (spec.replies (voice_stage voice.old) count now))
         (voice_stage voice.old)) }
@@ -63,15 +64,15 @@ fn end(voice: &mut Voice, ended: Option<u8>) -> Result<(), LinkFault>
 pub(crate) fn answer_heard(
     voice: &mut Voice,
     started: Option<(usize, u64)>,
-    heard: &Heard,
+    heard: &Hearing,
     now: u64,
 ) -> Result<(), LinkFault>
     requires { voice_stage voice.old ≢ voices.Closed }
     ensures ok { OnOk result (Says voice.old voice.new (concat (spec.frames_by (voice_checked voice.old)
-        (voice_stage voice.old) started heard.now now))
-        (spec.stage_by (voice_checked voice.old) (voice_stage voice.old) started heard.now)) }
+        (voice_stage voice.old) started (heard_view heard.now) now))
+        (spec.stage_by (voice_checked voice.old) (voice_stage voice.old) started (heard_view heard.now))) }
     ensures err { OnErr result (SaysFirst voice.old voice.new (spec.frames_by (voice_checked voice.old)
-        (voice_stage voice.old) started heard.now now)) }
+        (voice_stage voice.old) started (heard_view heard.now) now)) }
     ensures memory { IfErr result (λ fault. fault ≡ OutOfMemory) }
 {
     open(voice, started)?;

@@ -1,25 +1,27 @@
 //! What the frames of a client do, one after another.
 
-ghost use Rattle.std.specs.Prelude.{◌≡◌, length, IfOk, OnOk, OnErr};
+ghost use Rattle.std.specs.Prelude.{◌≡◌, ◌+◌, ◌<◌, ◌≤◌, ◌^◌, ◌++◌, length, IfOk, OnOk, OnErr};
 ghost use Rattle.tables_log.specs.BookView.{book_log, book_slots};
 ghost use Rattle.tables_log.specs.Slots.{end_after};
 ghost use Rattle.copy_both.specs.Events.{event_of};
 ghost use Rattle.copy_both.specs.Hearing as spec;
-ghost use Rattle.copy_both.specs.Sessions.{served_by, hearing_view, asked_in, begin_in, Hears, Begins, KeepsRest, IsSameBook, IsSameSession};
+ghost use Rattle.copy_both.specs.Refusals.{error_response, state_of};
+ghost use Rattle.copy_both.specs.Sessions.{served_by, hearing_view, asked_in, begin_in, refused_by_book, Hears, Begins, KeepsRest, IsSameBook, IsSameSession};
 ghost use Rattle.copy_both.specs.StartAnswers.{told, sent_after};
 
 use crate::answer::{Asked, answer_start};
+use crate::error_response::append_error_response;
 use crate::event::{Event, event_of};
-use crate::heard::Heard;
+use crate::hearing::Hearing;
 use crate::link_fault::LinkFault;
 use crate::sql_state::SqlState;
-use crate::start_order::Offer;
+use crate::start_order::{Offer, book_refusal};
 use bytes::BytesMut;
 use copy_frames::{Frame, Status};
 use shard_checker::Checked;
 use std::alloc::{AllocError, Global};
 use std::sync::Arc;
-use tables_log::Book;
+use tables_log::{Book, StartError};
 
 /// What was agreed with a client: the slot that streams and where in the log the stream starts, in bytes, or the
 /// response to a start that was refused.
@@ -31,13 +33,6 @@ pub(crate) struct Session {
     pub(crate) response: BytesMut,
 }
 
-/// What was heard in a piece so far, and the sent position.
-#[derive(Clone, Copy)]
-pub(crate) struct Hearing {
-    pub(crate) heard: Heard,
-    pub(crate) sent: u64,
-}
-
 impl Session {
     /// Hears the next frame.
     pub(crate) fn hear(
@@ -46,7 +41,9 @@ impl Session {
         book: &mut Book,
         hearing: &mut Hearing,
     ) -> Result<(), LinkFault>
+        requires { hearing.old.replies < 2 ^ 63 }
         ensures kept { KeepsRest self.old self.new book.old book.new }
+        ensures counted { hearing.new.replies ≤ hearing.old.replies + 1 }
         ensures heard { Hears
             (spec.next_heard (served_by self.old book.old) frame.now self.old.started
             (hearing_view self.old hearing.old book.old))
@@ -64,18 +61,20 @@ impl Session {
         book: &mut Book,
         hearing: &mut Hearing,
     ) -> Result<(), LinkFault>
+        requires { hearing.old.replies < 2 ^ 63 }
         ensures kept { KeepsRest self.old self.new book.old book.new }
+        ensures counted { hearing.new.replies ≤ hearing.old.replies + 1 }
         ensures heard { Hears
             (spec.first_heard (served_by self.old book.old) frame.now (hearing_view self.old hearing.old book.old))
             (hearing_view self.old hearing.old book.old) (hearing_view self.new hearing.new book.new) result }
     {
         if frame.kind == b'X' {
-            hearing.heard.ended = Some(b'X');
+            hearing.ended = Some(b'X');
             return Ok(());
         }
         let (slot, start) = self.begin(frame, book)?;
         self.started = Some((slot, start));
-        hearing.heard.started = Some(start);
+        hearing.started = Some(start);
         hearing.sent = if start == 0 { 64 } else { start };
         Ok(())
     }
@@ -87,36 +86,35 @@ impl Session {
         ensures begun { Begins (begin_in self.old book.old frame.now) (book_slots book.old) (book_slots book.new)
             self.old.response.items self.new.response.items result }
     {
-        match self.ask(frame, book, &[])? {
+        match self.ask(frame, book)? {
             Asked::Refused(state) => Err(LinkFault::BadStart(state)),
             Asked::Stream { slot, position } => match book.start(slot, position) {
                 Ok(start) => Ok((slot, start)),
-                Err(_) => self.refuse(frame, book),
+                Err(error) => Err(LinkFault::BadStart(self.refuse(slot, error)?)),
             },
         }
     }
 
-    /// Refuses a start whose slot can't be had.
-    fn refuse(&mut self, frame: &Frame, book: &Book) -> Result<(usize, u64), LinkFault>
+    /// Adds the response to a start that the book refuses. The only error is want of memory.
+    fn refuse(&mut self, slot: usize, error: StartError) -> Result<SqlState, AllocError>
         ensures kept { IsSameSession self.old self.new }
-        ensures refused { Begins (spec.refusing (asked_in self.old book.now frame.now
-            (spec.every_slot (served_by self.old book.now)))) (book_slots book.now) (book_slots book.now)
-            self.old.response.items self.new.response.items result }
+        ensures state { IfOk result (λ state. state ≡ state_of (refused_by_book self.old slot error)) }
+        ensures ok { OnOk result (self.new.response.items
+            ≡ self.old.response.items ++ error_response (refused_by_book self.old slot error)) }
+        ensures err { OnErr result (self.new.response.items ≡ self.old.response.items) }
     {
-        let slots = self.checked.catalog().subscriptions.len();
-        let in_use = vec![in self.alloc; true; slots]?;
-        match self.ask(frame, book, in_use.as_slice())? {
-            Asked::Refused(state) => Err(LinkFault::BadStart(state)),
-            Asked::Stream { .. } => Err(LinkFault::BadStart(SqlState::ObjectInUse)),
-        }
+        let subscriptions = self.checked.catalog().subscriptions.as_slice();
+        let refusal = book_refusal(subscriptions, slot, error);
+        append_error_response(&mut self.response, &refusal)?;
+        Ok(refusal.state())
     }
 
-    /// What the frame asks for, where these slots are in use.
-    fn ask(&mut self, frame: &Frame, book: &Book, in_use: &[bool]) -> Result<Asked, AllocError>
+    /// What the frame asks for, if no slot is in use.
+    fn ask(&mut self, frame: &Frame, book: &Book) -> Result<Asked, AllocError>
         ensures kept { IsSameSession self.old self.new }
-        ensures asked { IfOk result (λ asked. asked ≡ told (asked_in self.old book.now frame.now in_use.now)) }
+        ensures asked { IfOk result (λ asked. asked ≡ told (asked_in self.old book.now frame.now)) }
         ensures ok { OnOk result (self.new.response.items
-            ≡ sent_after self.old.response.items (asked_in self.old book.now frame.now in_use.now)) }
+            ≡ sent_after self.old.response.items (asked_in self.old book.now frame.now)) }
         ensures err { OnErr result (self.new.response.items ≡ self.old.response.items) }
     {
         let catalog = self.checked.catalog();
@@ -124,7 +122,7 @@ impl Session {
             publications: &catalog.publications,
             subscriptions: &catalog.subscriptions,
             log_end: end_of(book),
-            in_use,
+            in_use: &[],
         };
         Ok(answer_start(
             self.alloc,
@@ -143,7 +141,9 @@ impl Session {
         book: &mut Book,
         hearing: &mut Hearing,
     ) -> Result<(), LinkFault>
+        requires { hearing.old.replies < 2 ^ 63 }
         ensures kept { IsSameBook book.old book.new }
+        ensures counted { hearing.new.replies ≤ hearing.old.replies + 1 }
         ensures heard { Hears
             (spec.event_heard (served_by self.now book.old) slot (event_of frame.now.kind frame.now.body)
             (hearing_view self.now hearing.old book.old))
@@ -152,7 +152,7 @@ impl Session {
         match event_of(frame.kind, frame.body.as_slice())? {
             Event::Status(status) => self.hear_status(slot, &status, book, hearing),
             Event::End(kind) => {
-                hearing.heard.ended = Some(kind);
+                hearing.ended = Some(kind);
                 Ok(())
             }
         }
@@ -166,7 +166,9 @@ impl Session {
         book: &mut Book,
         hearing: &mut Hearing,
     ) -> Result<(), LinkFault>
+        requires { hearing.old.replies < 2 ^ 63 }
         ensures kept { IsSameBook book.old book.new }
+        ensures counted { hearing.new.replies ≤ hearing.old.replies + 1 }
         ensures heard { Hears
             (spec.status_heard (served_by self.now book.old) slot status.now
             (hearing_view self.now hearing.old book.old))
@@ -177,7 +179,7 @@ impl Session {
             return Err(LinkFault::StatusAhead);
         }
         if status.wants_reply {
-            hearing.heard.replies = hearing.heard.replies.saturating_add(1);
+            hearing.replies += 1;
         }
         Ok(())
     }

@@ -11,6 +11,7 @@ use crate::refusal::Refusal;
 use crate::start_command::{OptionValue, StartCommand, StartOption};
 use filter_tree::Text;
 use pub_catalog::{Publication, Subscription};
+use tables_log::StartError;
 
 fn is_wrong(value: &OptionValue) -> bool
     ensures { result ≡ spec.is_wrong value.now }
@@ -281,4 +282,30 @@ pub fn start_refusal<'a>(offer: &Offer<'_>, command: &'a StartCommand) -> Option
 {
     let found = find_slot(offer.subscriptions, command.slot.as_str());
     refusal_at(offer, command, found)
+}
+
+/// The name of the slot of this number; empty where there is none.
+fn slot_name(subscriptions: &[Subscription], slot: usize) -> &str
+    ensures { result.now ≡ spec.slot_name subscriptions.now slot }
+{
+    match subscriptions.get(slot) {
+        None => "",
+        Some(subscription) => subscription.name.as_str(),
+    }
+}
+
+/// Why a start from this slot is refused, which the book refuses by this error.
+pub(crate) fn book_refusal(
+    subscriptions: &[Subscription],
+    slot: usize,
+    error: StartError,
+) -> Refusal<'_>
+    ensures { refusal_view result ≡ spec.book_refusal (spec.slot_name subscriptions.now slot) error }
+{
+    let name = slot_name(subscriptions, slot);
+    match error {
+        StartError::NoSlot => Refusal::NoSlot(name),
+        StartError::Ahead => Refusal::Ahead,
+        StartError::InUse => Refusal::InUse(name),
+    }
 }

@@ -10,6 +10,9 @@ use std::alloc::{AllocError, Global};
 use std::sync::Arc;
 use tables_log::Commit;
 
+/// How much room an output may keep while nothing waits, in bytes.
+const LARGE: usize = 65_536;
+
 /// How far a voice is.
 #[derive(Drop)]
 pub(crate) enum Stage {
@@ -36,11 +39,12 @@ pub struct Voice {
 impl Voice {
     ghost use Rattle.std.specs.Prelude.{◌≡◌, ◌≤◌, ◌++◌, [], length, IfSome, OnOk, OnErr};
     ghost use Rattle.std.specs.Arc.{arc_value};
-    ghost use Rattle.filter_tree.specs.Memory.{Answers};
+    ghost use Rattle.filter_tree.specs.Memory.{Answers, NeedsMemoryOnlyIf};
     ghost use Rattle.shard_checker.specs.CheckedView.{checked_view};
     ghost use Rattle.copy_frames.specs.Contents.{copy_both_response};
     ghost use Rattle.copy_both.specs.Voices as spec;
-    ghost use Rattle.copy_both.specs.Voices.{EntryIsReadBack, Says, Closes, told_fault, voice_checked, voice_stage, voice_output};
+    ghost use Rattle.copy_both.specs.Voices.{EntryIsReadBack, IsStarted, Says, Closes, told_fault, voice_checked, voice_stage, voice_output};
+    ghost use Rattle.copy_both.specs.declared.link_fault.LinkFault.TheVariants.{OutOfMemory};
 
     /// A voice that has not started and has nothing to say.
     pub fn new(alloc: Global, checked: Arc<Checked, Global>) -> Voice
@@ -61,9 +65,10 @@ impl Voice {
     ///
     /// # Errors
     ///
-    /// `Closed` where it was started before; `OutOfMemory`. Each closes it.
+    /// `Closed` where it was started before; `OutOfMemory` only where it was not. Each closes it.
     pub fn start(&mut self, slot: usize, position: u64) -> Result<(), LinkFault>
         ensures answer { Answers (λ done. done) told_fault (spec.start_answer (voice_stage self.old)) result }
+        ensures memory { NeedsMemoryOnlyIf OutOfMemory (voice_stage self.old ≡ spec.NotStarted) result }
         ensures ok { OnOk result (Says self.old self.new copy_both_response
             (spec.first_stage (voice_checked self.old) slot position)) }
         ensures err { OnErr result (Closes self.old self.new) }
@@ -77,6 +82,7 @@ impl Voice {
 
     fn begin(&mut self, slot: usize, position: u64) -> Result<(), LinkFault>
         ensures answer { Answers (λ done. done) told_fault (spec.start_answer (voice_stage self.old)) result }
+        ensures memory { NeedsMemoryOnlyIf OutOfMemory (voice_stage self.old ≡ spec.NotStarted) result }
         ensures ok { OnOk result (Says self.old self.new copy_both_response
             (spec.first_stage (voice_checked self.old) slot position)) }
         ensures checked { voice_checked self.new ≡ voice_checked self.old }
@@ -102,12 +108,13 @@ impl Voice {
     ///
     /// # Errors
     ///
-    /// `Closed`; `FrameTooLong` where a message has more than 16,777,187 bytes; `OutOfMemory`. Each closes it, and
-    /// nothing of the commit is said.
+    /// `Closed` where it was closed before; `OutOfMemory`, which closes it, only while the stream runs. Nothing of the
+    /// commit is said then.
     pub fn take_entry(&mut self, commit: &Commit, now: u64) -> Result<Taken, LinkFault>
         requires { IfSome (spec.next_of (voice_stage self.old)) (λ next. commit.now.number ≡ next) }
         ensures answer { Answers (λ taken. taken) told_fault
             (spec.entry_answer (voice_checked self.old) (voice_stage self.old) commit.now) result }
+        ensures memory { NeedsMemoryOnlyIf OutOfMemory (IsStarted (voice_stage self.old)) result }
         ensures ok { OnOk result (Says self.old self.new
             (spec.entry_bytes (voice_checked self.old) (voice_stage self.old) commit.now now)
             (spec.entry_stage (voice_checked self.old) (voice_stage self.old) commit.now)) }
@@ -126,6 +133,7 @@ impl Voice {
         requires { IfSome (spec.next_of (voice_stage self.old)) (λ next. commit.now.number ≡ next) }
         ensures answer { Answers (λ taken. taken) told_fault
             (spec.entry_answer (voice_checked self.old) (voice_stage self.old) commit.now) result }
+        ensures memory { NeedsMemoryOnlyIf OutOfMemory (IsStarted (voice_stage self.old)) result }
         ensures ok { OnOk result (Says self.old self.new
             (spec.entry_bytes (voice_checked self.old) (voice_stage self.old) commit.now now)
             (spec.entry_stage (voice_checked self.old) (voice_stage self.old) commit.now)) }
@@ -138,7 +146,7 @@ impl Voice {
             Stage::NotStarted => Ok(Taken::NotStarted),
             Stage::Closed => Err(LinkFault::Closed),
             Stage::Started(place) => {
-                place.take(self.alloc, &self.checked, commit, now, &mut self.out)
+                Ok(place.take(self.alloc, &self.checked, commit, now, &mut self.out)?)
             }
         }
     }
@@ -148,9 +156,10 @@ impl Voice {
     ///
     /// # Errors
     ///
-    /// `Closed`; `OutOfMemory`, which closes it.
+    /// `Closed` where it was closed before; `OutOfMemory`, which closes it, only while the stream runs.
     pub fn keepalive(&mut self, now: u64, want: bool) -> Result<bool, LinkFault>
         ensures answer { Answers (λ said. said) told_fault (spec.keep_answer (voice_stage self.old)) result }
+        ensures memory { NeedsMemoryOnlyIf OutOfMemory (IsStarted (voice_stage self.old)) result }
         ensures ok { OnOk result (Says self.old self.new (spec.kept_bytes (voice_stage self.old) now want)
             (voice_stage self.old)) }
         ensures err { OnErr result (Closes self.old self.new) }
@@ -164,6 +173,7 @@ impl Voice {
 
     fn keep(&mut self, now: u64, want: bool) -> Result<bool, LinkFault>
         ensures answer { Answers (λ said. said) told_fault (spec.keep_answer (voice_stage self.old)) result }
+        ensures memory { NeedsMemoryOnlyIf OutOfMemory (IsStarted (voice_stage self.old)) result }
         ensures ok { OnOk result (Says self.old self.new (spec.kept_bytes (voice_stage self.old) now want)
             (voice_stage self.old)) }
         ensures checked { voice_checked self.new ≡ voice_checked self.old }
@@ -187,9 +197,10 @@ impl Voice {
     ///
     /// # Errors
     ///
-    /// `Closed`; `OutOfMemory`.
+    /// `Closed` where it was closed before; `OutOfMemory` only while the stream runs.
     pub fn done(&mut self) -> Result<(), LinkFault>
         ensures answer { Answers (λ done. done) told_fault (spec.done_answer (voice_stage self.old)) result }
+        ensures memory { NeedsMemoryOnlyIf OutOfMemory (IsStarted (voice_stage self.old)) result }
         ensures ok { OnOk result (Says self.old self.new (spec.done_bytes (voice_stage self.old)) spec.Closed) }
         ensures err { OnErr result (Closes self.old self.new) }
     {
@@ -200,6 +211,7 @@ impl Voice {
 
     fn end(&mut self) -> Result<(), LinkFault>
         ensures answer { Answers (λ done. done) told_fault (spec.done_answer (voice_stage self.old)) result }
+        ensures memory { NeedsMemoryOnlyIf OutOfMemory (IsStarted (voice_stage self.old)) result }
         ensures checked { voice_checked self.new ≡ voice_checked self.old }
         ensures ok { OnOk result (voice_output self.new
             ≡ voice_output self.old ++ spec.done_bytes (voice_stage self.old)) }
@@ -256,12 +268,15 @@ impl Voice {
         self.out.as_slice()
     }
 
-    /// Drops so many of the first bytes that wait, or all where fewer wait, without a copy of the others.
+    /// Drops so many of the first bytes that wait, or all where fewer wait, without a copy of the others. Where nothing
+    /// waits any more, the room of a large output is given back.
     pub fn passed(&mut self, count: usize)
         ensures { spec.Passes self.old self.new count }
     {
         if count < self.out.len() {
             self.out.advance(count);
+        } else if LARGE < self.out.capacity() {
+            self.out = BytesMut::new(self.alloc);
         } else {
             self.out.clear();
         }

@@ -1,6 +1,6 @@
 //! Bytes of a connection, cut into frames.
 
-ghost use Rattle.std.specs.Prelude.{◌≡◌, IfOk, OnErr, None};
+ghost use Rattle.std.specs.Prelude.{◌≡◌, ◌<◌, ◌^◌, length, IfOk, OnErr, None};
 ghost use Rattle.copy_frames.specs.Inboxes.{empty_inbox, answer_of, IsFed, Gives};
 ghost use Rattle.copy_frames.specs.Scans.{Reaches, Scans};
 
@@ -22,6 +22,7 @@ pub struct Deframer {
 }
 
 impl Model for Deframer {
+    ghost use Rattle.std.specs.Prelude.{◌<◌, ◌^◌, length};
     ghost use Rattle.copy_frames.specs.Inboxes.{Inbox};
     ghost use Rattle.copy_frames.specs.Scans.{Reaches};
 
@@ -29,7 +30,7 @@ impl Model for Deframer {
 
     ghost view = { λ d. record { limit = d.limit; bytes = d.bytes.items; fault = d.fault } };
 
-    ghost invariant = { λ d. Reaches d.limit d.bytes.items d.whole };
+    ghost invariant = { λ d. Reaches d.limit d.bytes.items d.whole × (length d.bytes.items < 2 ^ 63) };
 }
 
 /// Goes over the frames from `start` on, to the first that is not whole or has a length that no frame may have.
@@ -71,6 +72,7 @@ impl Deframer {
     pub fn feed(&mut self, piece: &[u8]) -> Result<(), FrameFault>
         ensures fed { IsFed self.old piece.now self.new }
         ensures answer { result ≡ answer_of self.new.fault }
+        ensures counted { length self.new.bytes < 2 ^ 63 }
     {
         if self.fault.is_none() {
             self.keep(piece);

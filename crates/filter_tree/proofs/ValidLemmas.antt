@@ -1,21 +1,23 @@
 -- A row has no fault exactly if it is valid.
-use Rattle.std.proofs.Common.{◌≡◌, ℕ, zero, suc, ◌+◌, ◌≤◌, ℤ, Bool, true, false, ◌&&◌, List, [], ◌∷◌, length, refl, sym, subst, arith}
+use Rattle.std.proofs.Common.{◌≡◌, ℕ, zero, suc, ◌+◌, ◌≤◌, ℤ, Bool, true, false, ◌&&◌, List, [], ◌∷◌, length, refl, sym, subst, ◌∙◌, arith}
 use Rattle.std.specs.Prelude.{Option, Some, None, IfSome, if◌then◌else◌, slice_get, Contains, int_le, nat_le, ◌==◌, T}
 use Rattle.std.specs.List.{list_any}
 use Rattle.std.proofs.lemmas.Map.Views.{list_any-from_Contains, Contains-from_any}
 use Rattle.std.proofs.lemmas.Bool.{eqb-true, leb-true}
+use Rattle.std.specs.Str.{IsUtf8, is_utf8}
+use Rattle.std.proofs.lemmas.Str.{IsUtf8-from_is_utf8, is_utf8-from_IsUtf8}
 use Rattle.std.specs.Bool.{Decides, passes}
 use Rattle.std.proofs.lemmas.Bool.Decides.{nat_tests}
 use Rattle.std.specs.Cmp.{decided, unsigned_Decides}
 use Rattle.std.specs.Int.Signed.{le_z_yes}
 use Rattle.filter_tree.specs.Datum.{Constant, Number, Truth, Bytes, Datum, Missing, Known, value_at}
 use Rattle.filter_tree.specs.Range.{least_of, greatest_of}
-use Rattle.filter_tree.specs.Valid.{IsWithin, IsText, IsOf, Fits, IsValid, number_fault, text_fault, constant_fault, value_fault, first_of, columns_fault, row_fault}
+use Rattle.filter_tree.specs.Valid.{IsWithin, IsText, IsOf, Fits, IsValid, number_fault, text_fault, bytes_fault, constant_fault, value_fault, first_of, columns_fault, row_fault}
 use Rattle.filter_tree.specs.declared.table.ColType.{ColType}
 use Rattle.filter_tree.specs.declared.table.ColType.TheVariants.{SmallInt, Integer, BigInt, Boolean, Text}
 use Rattle.filter_tree.specs.declared.table.Column.{Column}
 use Rattle.filter_tree.specs.declared.validity.RowFault.{RowFault}
-use Rattle.filter_tree.specs.declared.validity.RowFault.TheVariants.{Width, NullInNotNull}
+use Rattle.filter_tree.specs.declared.validity.RowFault.TheVariants.{Width, NullInNotNull, WrongType}
 
 -- what holds in both cases of a test
 by_test : {P : Type 0} (b : Bool) → (b ≡ true → P) → (b ≡ false → P) → P
@@ -74,12 +76,29 @@ fits_text k bytes h = by_test (list_any (λ byte. byte == 0) bytes)
     (λ found. absurd (h.no_zero (zero_in bytes found)))
     (λ missed. let short = at_most (length bytes) 65535 h.short in rw (missed, short) refl)
 
+-- a test that decides whether there is another fault
+unless_fault : (b : Bool) (later : Option RowFault) (fault : RowFault) → (if b then later else Some fault) ≡ None → (b ≡ true) × (later ≡ None)
+unless_fault true later fault h = (refl, h)
+unless_fault false later fault h = absurd cc
+
+-- of bytes that are UTF-8 only the text's fault is left
+pub utf8_fault : (k : ℕ) (bytes : List ℕ) → IsUtf8 bytes → bytes_fault k bytes ≡ text_fault k bytes
+utf8_fault k bytes utf8 = rw (is_utf8-from_IsUtf8 bytes utf8) refl
+
+bytes_fit : (k : ℕ) (bytes : List ℕ) → bytes_fault k bytes ≡ None → IsUtf8 bytes × IsText bytes
+bytes_fit k bytes h =
+    let both = unless_fault (is_utf8 bytes) (text_fault k bytes) (WrongType k) h in
+    (IsUtf8-from_is_utf8 bytes both.0, text_fits k bytes both.1)
+
+fits_bytes : (k : ℕ) (bytes : List ℕ) → IsUtf8 bytes × IsText bytes → bytes_fault k bytes ≡ None
+fits_bytes k bytes h = utf8_fault k bytes h.0 ∙ fits_text k bytes h.1
+
 constant_fits : (k : ℕ) (kind : ColType) (constant : Constant) → constant_fault k kind constant ≡ None → IsOf kind constant
 constant_fits k SmallInt (Number n) h = number_fits k SmallInt n h
 constant_fits k Integer (Number n) h = number_fits k Integer n h
 constant_fits k BigInt (Number n) h = number_fits k BigInt n h
 constant_fits k Boolean (Truth b) h = tt
-constant_fits k Text (Bytes bytes) h = text_fits k bytes h
+constant_fits k Text (Bytes bytes) h = bytes_fit k bytes h
 constant_fits k Boolean (Number n) h = cc
 constant_fits k Text (Number n) h = cc
 constant_fits k SmallInt (Truth b) h = cc
@@ -96,7 +115,7 @@ fits_constant k SmallInt (Number n) h = fits_number k SmallInt n h
 fits_constant k Integer (Number n) h = fits_number k Integer n h
 fits_constant k BigInt (Number n) h = fits_number k BigInt n h
 fits_constant k Boolean (Truth b) h = refl
-fits_constant k Text (Bytes bytes) h = fits_text k bytes h
+fits_constant k Text (Bytes bytes) h = fits_bytes k bytes h
 fits_constant k Boolean (Number n) h = absurd h
 fits_constant k Text (Number n) h = absurd h
 fits_constant k SmallInt (Truth b) h = absurd h

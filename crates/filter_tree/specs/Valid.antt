@@ -1,6 +1,7 @@
--- Which rows fit a table, and the first fault of one that doesn't: the columns' types and NOT NULL of "CREATE TABLE", the ranges of "8.1 Numeric Types", and the longest text that is taken.
+-- Which rows fit a table, and the first fault of one that doesn't: the columns' types and NOT NULL of "CREATE TABLE", the ranges of "8.1 Numeric Types", texts in UTF-8 of "24.3. Character Set Support", and the longest text that is taken.
 use Rattle.std.specs.Prelude.{◌≡◌, ℕ, ◌+◌, ◌≤◌, ℤ, ◌≤ℤ◌, int_le, false, ◌&&◌, List, [], ◌∷◌, length, Contains, if◌then◌else◌, ◌==◌, nat_le, Option, Some, None, Result, Ok, Err, IfSome, slice_get}
 use Rattle.std.specs.List.{list_any}
+use Rattle.std.specs.Str.{IsUtf8, is_utf8}
 use Rattle.filter_tree.specs.Datum.{Constant, Number, Truth, Bytes, Datum, Missing, Known, value_at}
 use Rattle.filter_tree.specs.Range.{least_of, greatest_of}
 use Rattle.filter_tree.specs.declared.table.ColType.{ColType}
@@ -19,13 +20,13 @@ pub record IsText (bytes : List ℕ) : Type 0 where
   pub no_zero : ¬ Contains bytes 0
   pub short : length bytes ≤ 65535
 
--- the constant is a value of the type
+-- the constant is a value of the type; bytes that are not UTF-8 are no text
 abbrev pub IsOf : ColType → Constant → Type 0
 IsOf SmallInt (Number number) = IsWithin SmallInt number
 IsOf Integer (Number number) = IsWithin Integer number
 IsOf BigInt (Number number) = IsWithin BigInt number
 IsOf Boolean (Truth truth) = Unit {0}
-IsOf Text (Bytes bytes) = IsText bytes
+IsOf Text (Bytes bytes) = IsUtf8 bytes × IsText bytes
 IsOf _ _ = ⊥
 
 -- the column takes the value: null unless the column is NOT NULL, or a value of its type
@@ -49,12 +50,16 @@ text_fault column bytes =
     if list_any (λ byte. byte == 0) bytes then Some (NulInText column)
     else (if nat_le (length bytes) 65535 then None else Some (TextTooLong column))
 
+-- bytes that are not UTF-8 are of no column's type
+abbrev pub bytes_fault : ℕ → List ℕ → Option RowFault
+bytes_fault column bytes = if is_utf8 bytes then text_fault column bytes else Some (WrongType column)
+
 abbrev pub constant_fault : ℕ → ColType → Constant → Option RowFault
 constant_fault column SmallInt (Number number) = number_fault column SmallInt number
 constant_fault column Integer (Number number) = number_fault column Integer number
 constant_fault column BigInt (Number number) = number_fault column BigInt number
 constant_fault column Boolean (Truth truth) = None
-constant_fault column Text (Bytes bytes) = text_fault column bytes
+constant_fault column Text (Bytes bytes) = bytes_fault column bytes
 constant_fault column _ _ = Some (WrongType column)
 
 -- the fault of the value of the column of this number

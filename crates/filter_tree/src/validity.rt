@@ -1,7 +1,7 @@
 ghost use Rattle.std.specs.Prelude.{◌≡◌, IsOk};
 ghost use Rattle.filter_tree.specs.Values.{datum_view};
 ghost use Rattle.filter_tree.specs.Datum.{value_at};
-ghost use Rattle.filter_tree.specs.Valid.{IsValid, row_fault, verdict_of, value_fault, number_fault, text_fault};
+ghost use Rattle.filter_tree.specs.Valid.{IsValid, row_fault, verdict_of, value_fault, number_fault, bytes_fault};
 
 use crate::table::{ColType, Column, Table};
 use crate::text::Text;
@@ -36,9 +36,9 @@ pub enum RowFault {
 pub const MAX_TEXT_BYTES: usize = 65_535;
 
 /// Tells whether the row fits the table, or the first fault: the width goes first, and then the columns in their order.
-/// Of a text with both faults the zero byte is told.
+/// Of a text with both faults the zero byte is told. A text is UTF-8 by its type, so that what fits has texts in UTF-8.
 ///
-/// PostgreSQL 15, 8.1 Numeric Types, and 5.4 Constraints.
+/// PostgreSQL 15, 8.1 Numeric Types, 5.4 Constraints, and 24.3 Character Set Support.
 #[tactic(auto, using(crate::proofs::ValidLemmas::valid_from_no_fault, crate::proofs::ValidLemmas::no_fault_from_valid))]
 pub fn valid<R: Allocator>(table: &Table, row: &Row<R>) -> Result<(), RowFault>
     ensures exact { result ≡ verdict_of (row_fault table.now.columns row.now) }
@@ -103,9 +103,11 @@ fn fault_of_number(number: usize, kind: ColType, int: i64) -> Option<RowFault>
     }
 }
 
+#[tactic(auto, using(crate::proofs::ValidLemmas::utf8_fault))]
 fn fault_of_text<R: Allocator>(number: usize, text: &Text<R>) -> Option<RowFault>
-    ensures { result ≡ text_fault number text.now }
+    ensures { result ≡ bytes_fault number text.now }
 {
+    let text = text.as_str();
     if text.as_bytes().contains(&0) {
         Some(RowFault::NulInText(number))
     } else if text.len() > MAX_TEXT_BYTES {

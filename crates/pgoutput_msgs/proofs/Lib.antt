@@ -17,6 +17,7 @@ pub mod SentLemmas
 pub mod SpellingLaws
 pub mod TellingLemmas
 pub mod TextLemmas
+pub mod TransactionLemmas
 pub mod TupleRules
 pub mod ValueLemmas
 pub mod Writing

@@ -35,7 +35,7 @@ short_constant BigInt (Number z) h =
     short_number z 9223372036854775807 9223372036854775807 (lit< tt) (lit< tt) h.above_least h.below_greatest
 short_constant Boolean (Truth true) h = omega arith
 short_constant Boolean (Truth false) h = omega arith
-short_constant Text (Bytes bytes) h = omega (arith, h.short)
+short_constant Text (Bytes bytes) h = omega (arith, h.1.short)
 short_constant Text (Number _) h = absurd h
 short_constant Text (Truth _) h = absurd h
 short_constant Boolean (Number _) h = absurd h

@@ -10,7 +10,7 @@ use Rattle.filter_tree.specs.declared.table.Table.{Table}
 use Rattle.shard_checker.specs.CheckedView.{CheckedOf, setting_in}
 use Rattle.table_changes.specs.Outs.{got, as_recorded}
 use Rattle.table_changes.specs.Records as r
-use Rattle.table_changes.specs.Records.{part_by, part_of, record_of}
+use Rattle.table_changes.specs.Records.{part_by, part_of}
 use Rattle.table_changes.specs.Seen as s
 use Rattle.table_changes.specs.Seen.{Seen, seen}
 use Rattle.table_changes.specs.Setting.{Setting, Recorded, Columns, Whole, Nowhere}
@@ -109,13 +109,13 @@ one_gone setting covered table old Columns h = refl
 one_gone setting covered table old Whole h = refl
 one_gone setting covered table old Nowhere h = absurd (covered.recorded table h)
 
-one_seen : (setting : Setting) → Covered setting → (one : Seen) → length (seen_message setting one) ≡ 1
+pub one_seen : (setting : Setting) → Covered setting → (one : Seen) → length (seen_message setting one) ≡ 1
 one_seen setting covered (s.Insert table new) = refl
 one_seen setting covered (s.Update table old new) = refl
 one_seen setting covered (s.Delete table old) = one_gone setting covered table old (setting.recorded table) refl
 one_seen setting covered (s.Truncate numbers) = refl
 
-as_message : (setting : Setting) (one : Seen) → message_of (as_recorded setting one) ≡ seen_message setting one
+pub as_message : (setting : Setting) (one : Seen) → message_of (as_recorded setting one) ≡ seen_message setting one
 as_message setting (s.Insert table new) = refl
 as_message setting (s.Update table old new) = refl
 as_message setting (s.Delete table old) = by_part (part_of setting table old None)

@@ -8,4 +8,5 @@ pub mod SeenMessages
 pub mod Sent
 pub mod Spelling
 pub mod Telling
+pub mod Transactions
 pub mod ValueText

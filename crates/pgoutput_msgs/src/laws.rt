@@ -4,6 +4,7 @@ ghost use Rattle.pgoutput_msgs.specs.Introducing.{CommitsIntroduce, CommitsInTur
 ghost use Rattle.pgoutput_msgs.specs.ReadBack.{RowsReadBack, ValidRowsReadBack, RecordedRowsReadBack};
 ghost use Rattle.pgoutput_msgs.specs.SeenMessages.{MessagesTellWhatIsSeen};
 ghost use Rattle.pgoutput_msgs.specs.Sent.{MessagesAreReadBack};
+ghost use Rattle.pgoutput_msgs.specs.Transactions.{CommitsTellTransactions};
 ghost use Rattle.pgoutput_msgs.specs.Laws.{NoneIsProperPrefix, EachSpellsOne, SpellingsAreDecoded, DecodedAreSpellings, NothingMayFollow};
 
 /// A law, and no code: no message's spelling is a proper prefix of another's, and no two messages are spelled alike.
@@ -61,4 +62,15 @@ pub fn relations_come_once()
 /// PostgreSQL 15, "Logical Replication", 31.3.3 UPDATE Transformations.
 pub fn messages_tell_what_is_seen()
     ensures { MessagesTellWhatIsSeen }
+{}
+
+/// A law, and no code: the messages of a commit are said by what the subscriber sees of the commit's commands and by
+/// the tables that the connection named before, alone. Begin and Commit carry the commit's number and time; between
+/// them is each change, in the order of the commands, and directly before a change are the Relations of those of its
+/// tables that no change of the connection named before. It holds where a row's identity tells who gets the row, as in
+/// each catalog that was checked.
+///
+/// PostgreSQL 15, 55.5.3. Logical Replication Protocol Message Flow.
+pub fn commits_tell_transactions()
+    ensures { CommitsTellTransactions }
 {}

@@ -1,9 +1,9 @@
 //! Changes of tables as they are recorded.
 
-ghost use Rattle.std.specs.Prelude.{◌≡◌, IfOk};
+ghost use Rattle.std.specs.Prelude.{◌≡◌, ◌≢◌, IfOk, MatchBool};
 ghost use Rattle.replica_identity.specs.ChangeView.{part_view, change_view};
 
-use filter_tree::{Row, copy_row};
+use filter_tree::{Row, copy_row, same_row};
 use std::alloc::{AllocError, Global};
 
 /// What is recorded of an old row: nothing, the row with nulls outside the columns of the replica identity, or the
@@ -26,6 +26,19 @@ impl OldPart {
             OldPart::None => Ok(OldPart::None),
             OldPart::Key(part) => Ok(OldPart::Key(copy_row(alloc, part)?)),
             OldPart::Full(old) => Ok(OldPart::Full(copy_row(alloc, old)?)),
+        }
+    }
+
+    /// Whether the parts are equal: both are nothing, or equal rows of one kind.
+    pub fn same(&self, other: &OldPart) -> bool
+        ensures { MatchBool result
+            (part_view self.now ≡ part_view other.now) (part_view self.now ≢ part_view other.now) }
+    {
+        match (self, other) {
+            (OldPart::None, OldPart::None) => true,
+            (OldPart::Key(part), OldPart::Key(other_part)) => same_row(part, other_part),
+            (OldPart::Full(old), OldPart::Full(other_old)) => same_row(old, other_old),
+            (OldPart::None | OldPart::Key(_) | OldPart::Full(_), _) => false,
         }
     }
 }
@@ -76,6 +89,49 @@ impl Change {
             Change::Truncate { tables } => Ok(Change::Truncate {
                 tables: Vec::from_slice(alloc, tables.as_slice())?,
             }),
+        }
+    }
+    /// Whether the changes are equal: of one kind, with equal tables, parts and rows.
+    pub fn same(&self, other: &Change) -> bool
+        ensures { MatchBool result
+            (change_view self.now ≡ change_view other.now) (change_view self.now ≢ change_view other.now) }
+    {
+        match (self, other) {
+            (
+                Change::Insert { table, new },
+                Change::Insert {
+                    table: other_table,
+                    new: other_new,
+                },
+            ) => table == other_table && same_row(new, other_new),
+            (
+                Change::Update { table, old, new },
+                Change::Update {
+                    table: other_table,
+                    old: other_old,
+                    new: other_new,
+                },
+            ) => table == other_table && old.same(other_old) && same_row(new, other_new),
+            (
+                Change::Delete { table, old },
+                Change::Delete {
+                    table: other_table,
+                    old: other_old,
+                },
+            ) => table == other_table && old.same(other_old),
+            (
+                Change::Truncate { tables },
+                Change::Truncate {
+                    tables: other_tables,
+                },
+            ) => tables.as_slice() == other_tables.as_slice(),
+            (
+                Change::Insert { .. }
+                | Change::Update { .. }
+                | Change::Delete { .. }
+                | Change::Truncate { .. },
+                _,
+            ) => false,
         }
     }
 }

@@ -9,8 +9,8 @@ use Rattle.tables_log.specs.Commits.{CommitOf}
 use Rattle.tables_log.specs.StandsFor.{Transaction}
 use Rattle.copy_both.specs.Streams.{Place, count_before, end_of}
 use Rattle.shard_world.specs.CatchingUp.{next_peer, sent_by, caught_up, SubscribersCatchUp}
-use Rattle.shard_world.specs.Following.{IsPublished}
-use Rattle.shard_world.specs.Sayable.{IsSayable}
+use Rattle.stream_laws.specs.Following.{IsPublished}
+use Rattle.stream_laws.specs.Sayable.{IsSayable}
 use Rattle.shard_world.specs.World.{position_now, Asks, Connection, Peer, World, PeerEvent, Open, Hear, Take, Keep, Deliver, Report, Lose, Event, Commit, On, Answer, first_world, spelled_up, heard_of, hears, place_of, takes, take_step, keep_step, open_step, shut_step, peer_step, broken, with_peer, with_transaction, StepsOn, Steps, Leads}
 use Rattle.shard_world.proofs.EndLemmas.{IsEnd}
 use Rattle.shard_world.proofs.EndSteps.{now_end, peer_end, take_many_end, take_many_good, ends_at}
@@ -132,9 +132,9 @@ end_of_count position count ends counts some = elim ends [
 ]
 
 pub subscribers_catch_up : SubscribersCatchUp
-subscribers_catch_up checked most publisher events texts world leads subscriber now timed c is =
-    let sayable = can_be_said checked most publisher events texts world leads in
-    let good = good_at checked publisher.covered publisher.apart most events (all_timed events texts) world leads sayable in
+subscribers_catch_up checked most publisher events times world leads subscriber now timed c is =
+    let sayable = can_be_said checked most publisher events times world leads in
+    let good = good_at checked publisher.covered publisher.apart most events (all_timed events times) world leads sayable in
     let public = published checked publisher.covered publisher.apart world good in
     let caught = catches_up checked world.transactions public sayable subscriber now timed (world.peers subscriber) c is
     (subst (IsAskedAt checked subscriber (world.peers subscriber).position) is (leads_asked checked most events first_world world leads (λ other. tt) subscriber))
@@ -142,7 +142,7 @@ subscribers_catch_up checked most publisher events texts world leads subscriber 
     end_of_count (position_now checked world.transactions subscriber (caught_up checked world.transactions subscriber now (world.peers subscriber))) (length world.transactions)
     (now_end checked world.transactions subscriber (caught_up checked world.transactions subscriber now (world.peers subscriber)) caught.good
     (all_ends world.transactions public sayable (world.peers subscriber) (good.peers subscriber)
-    (ends_at checked publisher.covered publisher.apart most events (all_timed events texts) world leads sayable subscriber)))
+    (ends_at checked publisher.covered publisher.apart most events (all_timed events times) world leads sayable subscriber)))
     caught.counts caught.some
   where
     all_ends : (transactions : List Transaction) → IsPublished checked transactions → IsSayable checked transactions → (peer : Peer) → IsGood checked transactions subscriber peer → IsEnd peer.position

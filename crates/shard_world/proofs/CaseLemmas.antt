@@ -7,26 +7,26 @@ use Rattle.tables_log.specs.declared.slots.Slot.{Slot}
 use Rattle.copy_both.specs.declared.link.Link.{Link}
 use Rattle.test_subscriber.specs.Machine.{Machine}
 use Rattle.test_subscriber.specs.declared.subscriber.Subscriber.{Subscriber}
-use Rattle.shard_world.specs.Asking.{IsAsking}
-use Rattle.shard_world.specs.Following.{Follows, IsPublished}
+use Rattle.stream_laws.specs.Asking.{IsAsking}
+use Rattle.stream_laws.specs.Following.{Follows, IsPublished}
 use Rattle.shard_world.specs.Joined.{PeerOf, IsApart, IsLinked, IsAt}
 use Rattle.shard_world.specs.PeerSteps.{Case, IsCase, peer_of, StandsIn}
-use Rattle.shard_world.specs.Sayable.{IsSayable}
+use Rattle.stream_laws.specs.Sayable.{IsSayable}
 use Rattle.shard_world.specs.World.{Connection, position_now, machine_now}
-use Rattle.shard_world.proofs.StartLengths.{subscribers_can_ask}
+use Rattle.stream_laws.proofs.StartLengths.{subscribers_can_ask}
 use Rattle.shard_world.proofs.WorldLemmas.{all_timed, can_be_said, good_at, published}
 use Rattle.shard_world.proofs.WorldPeers.{IsGood, good_follows}
 
 module _ (case : Case) (is : IsCase case) where
   pub case_sayable : IsSayable case.checked case.world.transactions
-  case_sayable = can_be_said case.checked case.most is.publisher case.events is.texts case.world is.leads
+  case_sayable = can_be_said case.checked case.most is.publisher case.events is.times case.world is.leads
 
   pub case_published : IsPublished case.checked case.world.transactions
   case_published = published case.checked is.publisher.covered is.publisher.apart case.world
-      (good_at case.checked is.publisher.covered is.publisher.apart case.most case.events (all_timed case.events is.texts) case.world is.leads case_sayable)
+      (good_at case.checked is.publisher.covered is.publisher.apart case.most case.events (all_timed case.events is.times) case.world is.leads case_sayable)
 
   pub case_good : IsGood case.checked case.world.transactions case.number (peer_of case)
-  case_good = (good_at case.checked is.publisher.covered is.publisher.apart case.most case.events (all_timed case.events is.texts) case.world is.leads case_sayable).peers case.number
+  case_good = (good_at case.checked is.publisher.covered is.publisher.apart case.most case.events (all_timed case.events is.times) case.world is.leads case_sayable).peers case.number
 
   pub case_follows : Follows case.checked case.world.transactions case.number
       (position_now case.checked case.world.transactions case.number (peer_of case)) (machine_now case.checked case.world.transactions case.number (peer_of case))

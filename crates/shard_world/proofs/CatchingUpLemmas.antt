@@ -9,16 +9,16 @@ use Rattle.shard_checker.specs.CheckedView.{CheckedOf, setting_in}
 use Rattle.tables_log.specs.Commits.{CommitOf}
 use Rattle.tables_log.specs.StandsFor.{Transaction, AreAccepted}
 use Rattle.copy_both.specs.Streams as s
-use Rattle.copy_both.specs.Streams.{Place, Move, count_before, end_of, place_at, moved, taken_place, all_moved}
+use Rattle.copy_both.specs.Streams.{Place, Move, count_before, place_at, moved, taken_place, all_moved}
 use Rattle.copy_both.specs.Tellings.{telling_of}
 use Rattle.shard_world.specs.CatchingUp.{next_peer, sent_by, sent_to, take_many, delivered_all, caught_up}
-use Rattle.shard_world.specs.Cutting.{if_whole, whole_in}
-use Rattle.shard_world.specs.Following.{raised_by, position_after, IsPublished, log_of}
-use Rattle.shard_world.specs.Items.{Item, Response, Alive, spelled, stream_items}
-use Rattle.shard_world.specs.Sayable.{IsSayable}
+use Rattle.stream_laws.specs.Cutting.{if_whole, whole_in}
+use Rattle.stream_laws.specs.Following.{raised_by, position_after, IsPublished, log_of}
+use Rattle.stream_laws.specs.Items.{Item, Response, Alive, spelled, stream_items}
+use Rattle.stream_laws.specs.Sayable.{IsSayable}
 use Rattle.shard_world.specs.World.{Up, Asks, Says, Connection, Peer, PeerEvent, Hear, Take, Keep, Deliver, Session, down_items, down_bytes, position_now, spelled_up, whole_up, ups_of, start_at, hear_up, newly, heard_of, hears, delivers, as_many, place_of, takes, take_step, keep_step, moves_on, open_step, peer_step}
-use Rattle.shard_world.proofs.EntryLemmas.{entry_at, entries_length}
-use Rattle.shard_world.proofs.FollowingLemmas.{first_sent}
+use Rattle.stream_laws.proofs.EntryLemmas.{entry_at, entries_length}
+use Rattle.stream_laws.proofs.FollowingLemmas.{first_sent}
 use Rattle.shard_world.proofs.WorldItems.{items_append}
 use Rattle.shard_world.proofs.WorldPeers.{IsGood, bytes_of_items, good_follows}
 use Rattle.shard_world.proofs.WorldSteps.{peer_good}

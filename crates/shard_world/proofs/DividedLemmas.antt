@@ -9,12 +9,12 @@ use Rattle.shard_checker.specs.CheckedView.{CheckedOf, setting_in}
 use Rattle.table_changes.specs.Standing.{Sound}
 use Rattle.table_changes.specs.Tables.{holds}
 use Rattle.copy_both.specs.Streams.{count_before}
-use Rattle.shard_world.specs.Finding.{in_shard}
+use Rattle.stream_laws.specs.Finding.{in_shard}
 use Rattle.shard_world.specs.Seeing.{AllAt}
 use Rattle.shard_world.specs.Viewing.{AreRows, DividesShown, ShowsRow, ShowsSubscriber, shown_rows, tables_after}
 use Rattle.shard_world.specs.World as w
 use Rattle.shard_world.specs.World.{Event, Leads, first_world}
-use Rattle.shard_world.specs.WorldLaws.{Divides, HaveApplied, IsPublisher, IsTextEvent, has_row}
+use Rattle.shard_world.specs.WorldLaws.{Divides, HaveApplied, IsPublisher, IsTimedEvent, has_row}
 use Rattle.shard_world.specs.declared.view.SubscriberView.{SubscriberView}
 use Rattle.shard_world.specs.declared.view.View.{View}
 use Rattle.shard_world.proofs.WorldLemmas.{worlds_divide_rows, worlds_hold_exactly}
@@ -101,9 +101,9 @@ module _ (checked : CheckedOf) (world : w.World) (shown : View)
 
   -- ---- all together
 
-  pub divides_shown : (most : ℕ) → IsPublisher checked most → Sound (setting_in checked) → (events : List (ℕ × Event)) → All IsTextEvent events → Leads checked most events first_world world
+  pub divides_shown : (most : ℕ) → IsPublisher checked most → Sound (setting_in checked) → (events : List (ℕ × Event)) → All IsTimedEvent events → Leads checked most events first_world world
       → DividesShown checked world.transactions count shown
-  divides_shown most publisher sound events texts leads = record {
+  divides_shown most publisher sound events times leads = record {
     somewhere = λ table row fits there.
         let one = divides.somewhere table row there in
         record {
@@ -119,9 +119,9 @@ module _ (checked : CheckedOf) (world : w.World) (shown : View)
   }
     where
       divides : Divides checked world count
-      divides = worlds_divide_rows checked most publisher sound events texts world leads count have_applied
+      divides = worlds_divide_rows checked most publisher sound events times world leads count have_applied
 
       has_as : (number : ℕ) → number < length checked.plan → (table : ℕ) (row : List Datum)
           → has_row checked world number table row ≡ in_shard (setting_in checked) number (tables_after checked world.transactions count) table row
-      has_as number one table row = (worlds_hold_exactly checked most publisher events texts world leads number table).each row
+      has_as number one table row = (worlds_hold_exactly checked most publisher events times world leads number table).each row
           ∙ ap (λ n. in_shard (setting_in checked) number (tables_after checked world.transactions n) table row) (have_applied number one)

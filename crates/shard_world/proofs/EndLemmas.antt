@@ -13,11 +13,11 @@ use Rattle.pgoutput_msgs.specs.Telling.{relation_at, introduced, relation_once, 
 use Rattle.pgoutput_msgs.specs.declared.message.Msg.{Msg}
 use Rattle.pgoutput_msgs.specs.declared.message.Msg.TheVariants as m
 use Rattle.copy_both.specs.Streams as s
-use Rattle.copy_both.specs.Streams.{Place, Move, count_before, end_of, place_at, place_after, taken_place, moved}
+use Rattle.copy_both.specs.Streams.{Place, Move, count_before, end_of, place_at, place_after, taken_place}
 use Rattle.copy_both.specs.Tellings.{telling_of}
-use Rattle.shard_world.specs.Cutting.{if_whole, whole_in}
-use Rattle.shard_world.specs.Following.{raised_by_message, raised_by, position_after}
-use Rattle.shard_world.specs.Items.{Item, Response, Carries, Alive, spelled, head_of, take_items, all_items, stream_items}
+use Rattle.stream_laws.specs.Cutting.{if_whole, whole_in}
+use Rattle.stream_laws.specs.Following.{raised_by_message, raised_by, position_after}
+use Rattle.stream_laws.specs.Items.{Item, Response, Carries, Alive, spelled, head_of, take_items, all_items, stream_items}
 
 -- ---- positions
 

@@ -10,9 +10,9 @@ use Rattle.tables_log.specs.Commits.{CommitOf}
 use Rattle.tables_log.specs.StandsFor.{Transaction}
 use Rattle.copy_both.specs.Streams.{Place}
 use Rattle.shard_world.specs.CatchingUp.{next_peer, take_many}
-use Rattle.shard_world.specs.Cutting.{whole_in}
-use Rattle.shard_world.specs.Following.{position_after, IsPublished, log_of}
-use Rattle.shard_world.specs.Sayable.{IsSayable}
+use Rattle.stream_laws.specs.Cutting.{whole_in}
+use Rattle.stream_laws.specs.Following.{position_after, IsPublished, log_of}
+use Rattle.stream_laws.specs.Sayable.{IsSayable}
 use Rattle.shard_world.specs.World.{Connection, Peer, World, PeerEvent, Open, Hear, Take, Keep, Deliver, Report, Lose, Event, Commit, On, Answer, first_world, down_items, down_bytes, position_in, position_now, ups_of, spelled_up, hears, delivers, as_many, place_of, takes, take_step, keep_step, open_step, shut_step, peer_step, broken, with_peer, with_transaction, StepsOn, Steps, Leads}
 use Rattle.shard_world.proofs.EndLemmas.{IsEnd, stream_end}
 use Rattle.shard_world.proofs.WorldHearing.{hears_good}

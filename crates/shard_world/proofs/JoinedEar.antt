@@ -16,7 +16,7 @@ use Rattle.copy_frames.specs.Inboxes.{Inbox}
 use Rattle.copy_frames.specs.declared.status.Status.{Status}
 use Rattle.copy_frames.proofs.PieceLemmas.{frames_before, no_fault_after, rest_after}
 use Rattle.copy_both.specs.Ears.{HearLeaves, HearsPiece, Holds, ear_phase, hear_answer, answer_in}
-use Rattle.copy_both.specs.Hearing.{HearingOf, answer_by, answer_of, bytes_heard, frames_heard, then_fault, first_sent, is_over, is_over_by}
+use Rattle.copy_both.specs.Hearing.{HearingOf, answer_by, answer_of, heard_told, bytes_heard, frames_heard, then_fault, first_sent, is_over, is_over_by}
 use Rattle.copy_both.specs.LinkLaws.{IsStreaming, Goes_on, Starts, with_moves, first_run, started_at}
 use Rattle.copy_both.specs.Links.{HearSays, closing, ended_stage, link_checked, link_ear, link_heard, link_output, link_sent, link_stage, frames_said, stage_said, frames_by, stage_by}
 use Rattle.copy_both.specs.Listening.{Leaves, fed, resting, silence}
@@ -37,8 +37,8 @@ use Rattle.test_subscriber.specs.Machine.{opened}
 use Rattle.test_subscriber.specs.Subscribers.{sub_machine, sub_output, Passes}
 use Rattle.test_subscriber.specs.declared.subscriber.Subscriber.{Subscriber}
 use Rattle.shard_world.specs.Connections.{HearsOn, HearsStep, front_of}
-use Rattle.shard_world.specs.Cutting.{whole_in}
-use Rattle.shard_world.specs.Following.{log_of, position_after}
+use Rattle.stream_laws.specs.Cutting.{whole_in}
+use Rattle.stream_laws.specs.Following.{log_of, position_after}
 use Rattle.shard_world.specs.Joined.{AlikeBut, HasSlot, PeerOf, IsAsked, IsLinked, IsOneStatus, IsSilent, Speaks, run_of, stream_of, up_bytes, down_of}
 use Rattle.shard_world.specs.PeerSteps.{Case, IsCase, HasLog, peer_of, StandsIn}
 use Rattle.shard_world.specs.UpsHeard.{IsWithin}
@@ -46,12 +46,11 @@ use Rattle.shard_world.specs.World as w
 use Rattle.shard_world.specs.World.{Asks, Says, Connection, Session, hear_up, as_many, down_bytes, down_items, heard_of, newly, place_of, position_now, spelled_up, up_frame, ups_of}
 use Rattle.shard_world.proofs.CaseLemmas.{Open, case_good, case_published, is_open, now_small}
 use Rattle.shard_world.proofs.CatchingUpLemmas.{HasStart, start_stays, starts_by}
-use Rattle.shard_world.proofs.CuttingLemmas.{IsPiece, pieces_are_cut}
-use Rattle.shard_world.proofs.EntryLemmas.{entry_at, entries_length}
+use Rattle.stream_laws.proofs.CuttingLemmas.{IsPiece, pieces_are_cut}
+use Rattle.stream_laws.proofs.EntryLemmas.{entry_at, entries_length}
 use Rattle.shard_world.proofs.JoinedFeeding.{Connected, connected, stays_within}
 use Rattle.shard_world.proofs.JoinedHearing.{After, Before, Command, NewOf, Nothing, Statuses, heard_after, sent_limit, some_of, served_of, ups_are_frames, what_is_new}
 use Rattle.shard_world.proofs.JoinedSteps.{ok_of, steps_to, still_named}
-use Rattle.shard_world.proofs.ReportLemmas.{few_reports}
 use Rattle.shard_world.proofs.SentLemmas.{first_reached, reached_is_sent, sent_is_there}
 use Rattle.shard_world.proofs.WorldPeers.{IsReported, StartsAt}
 
@@ -115,10 +114,10 @@ module _ (case : Case) (is : IsCase case) (c : Connection) (some : (peer_of case
 
 -- ---- what is heard
 
-pub not_over : (h : HearingOf) → is_over h ≡ false → answer_of h ≡ Ok h.heard
+pub not_over : (h : HearingOf) → is_over h ≡ false → answer_of h ≡ Ok (heard_told h.heard)
 not_over h goes_on = by_both h.fault h.heard.ended goes_on
   where
-    by_both : (fault : Option LinkFault) (ended : Option ℕ) → is_over_by fault ended ≡ false → answer_by fault h.heard ≡ Ok h.heard
+    by_both : (fault : Option LinkFault) (ended : Option ℕ) → is_over_by fault ended ≡ false → answer_by fault (heard_told h.heard) ≡ Ok (heard_told h.heard)
     by_both None None e = refl
     by_both None (Some kind) e = absurd cc
     by_both (Some fault) ended e = absurd cc
@@ -321,7 +320,6 @@ module _ (case : Case) (is : IsCase case) (before after : Book) (old : PeerOf) (
     slot = linked.slot;
     asked = linked.hears.asked;
     starts = λ none. subst (λ n. (peer_of case).confirmed ≤ n) (unstarted none) at.is.confirmed_is;
-    few = omega (arith, is.few, few_reports case.checked case.most case.events case.world is.leads case.number connection here.some);
     low = λ limit e. statuses_within case is connection here.some (min limit (end_after commits)) at.reached (reached_small case is connection here.some at)
         (subst (λ n. at.reached ≤ min n (end_after commits)) e (subst (λ n. at.reached ≤ min (sent_limit connection.start (peer_of case).position (link_sent link)) (end_after n)) (sym commits_are)
         (sent_by case is connection here.some at connection.start (link_sent link) refl sent_is)))
@@ -403,8 +401,8 @@ module _ (case : Case) (is : IsCase case) (before after : Book) (old : PeerOf) (
     goes_on : heard_all.heard.ended ≡ None
     goes_on = not_ended heard_all known.hears.goes_on
 
-    same_heard : heard ≡ heard_all.heard
-    same_heard = ok_of heard heard_all.heard
+    same_heard : heard ≡ heard_told heard_all.heard
+    same_heard = ok_of heard (heard_told heard_all.heard)
         (answer ∙ ap (λ phase. answer_in phase (link_heard link before piece)) linked.hears.phase_is ∙ ap answer_of heard_is ∙ not_over heard_all known.hears.goes_on)
 
     says_all : HearSays link new heard_all case.now (Ok heard)

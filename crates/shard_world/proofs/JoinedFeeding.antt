@@ -19,14 +19,14 @@ use Rattle.test_subscriber.specs.Subscribers.{sub_held, sub_machine, fed_cut, fe
 use Rattle.test_subscriber.specs.declared.subscriber.Subscriber.{Subscriber}
 use Rattle.test_subscriber.proofs.FeedingLemmas.{while_open, hears_open, hears_no_fault, hears_more}
 use Rattle.shard_world.specs.Connections.{DeliversStep, front_of}
-use Rattle.shard_world.specs.Items.{frame_in}
+use Rattle.stream_laws.specs.Items.{frame_in}
 use Rattle.shard_world.specs.Joined.{AlikeBut, Speaks, run_of, down_of}
 use Rattle.shard_world.specs.PeerSteps.{Case, IsCase, peer_of}
 use Rattle.shard_world.specs.World as w
 use Rattle.shard_world.specs.World.{Connection, as_many, down_items, down_bytes, place_of}
 use Rattle.shard_world.proofs.CaseLemmas.{case_good, case_published, case_sayable, is_open}
-use Rattle.shard_world.proofs.CuttingLemmas.{IsPiece, pieces_are_cut}
-use Rattle.shard_world.proofs.FollowingBytesLemmas.{item_frames}
+use Rattle.stream_laws.proofs.CuttingLemmas.{IsPiece, pieces_are_cut}
+use Rattle.stream_laws.proofs.FollowingBytesLemmas.{item_frames}
 use Rattle.shard_world.proofs.JoinedSteps.{steps_to, still_named}
 use Rattle.shard_world.proofs.WantsLemmas.{HeardBut, cut_but}
 use Rattle.shard_world.proofs.WorldPeers.{IsConnected, IsConnectedAt, bytes_of_items, down_sent, delivered_followed}

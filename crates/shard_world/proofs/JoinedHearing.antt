@@ -1,5 +1,5 @@
 -- The publisher hears a subscriber as in the world: which frames a piece brings, and what they do.
-use Rattle.std.proofs.Common.{◌≡◌, ℕ, zero, suc, ◌+◌, ◌-◌, ◌<◌, ◌≤◌, ◌≢◌, ◌^◌, min, max, Bool, true, false, List, [], ◌∷◌, ◌++◌, drop, length, map, replicate, refl, sym, ap, subst, ◌∙◌, arith, append-nil, length-append, length-drop}
+use Rattle.std.proofs.Common.{◌≡◌, ℕ, zero, suc, ◌+◌, ◌-◌, ◌<◌, ◌≤◌, ◌≢◌, min, max, Bool, true, false, List, [], ◌∷◌, ◌++◌, drop, length, map, replicate, refl, sym, ap, subst, ◌∙◌, arith, append-nil, length-append}
 use Rattle.std.specs.Prelude.{Option, Some, None, All, fold, is_some, nat_le, nat_lt, slice_get, if◌then◌else◌}
 use Rattle.std.proofs.lemmas.Bool.{le-leb, leb-true, leb-false, ltb-true}
 use Rattle.std.proofs.lemmas.Option.{slice_get_within}
@@ -14,7 +14,7 @@ use Rattle.copy_frames.specs.declared.frame.Frame.{Frame}
 use Rattle.copy_frames.specs.declared.status.Status.{Status}
 use Rattle.copy_both.specs.Hearing.{HearingOf, Served, Begins, begun, first_sent, frame_heard, frames_heard, is_over}
 use Rattle.copy_both.specs.Streams.{Move, Keep}
-use Rattle.shard_world.specs.Cutting.{if_whole, whole_by}
+use Rattle.stream_laws.specs.Cutting.{if_whole, whole_by}
 use Rattle.shard_world.specs.Joined.{HasSlot, IsAsked, stream_of}
 use Rattle.shard_world.specs.PeerSteps.{Case, IsCase, peer_of}
 use Rattle.shard_world.specs.UpsHeard.{IsHearing, IsOwn, IsWithin, session_of, start_in}
@@ -117,19 +117,6 @@ pub some_all : (checked : CheckedOf) (number : ℕ) (P : Status → Type 0) (don
 some_all checked number P done count statuses all =
     All-drop P done (whole_by (λ status. up_frame checked number (Says status)) count statuses) (whole_all P (λ status. up_frame checked number (Says status)) count statuses all)
 
-if_few : (whole : Bool) (status : Status) (others statuses : List Status) → length others ≤ length statuses → length (if_whole whole status others) ≤ suc (length statuses)
-if_few true status others statuses h = omega (arith, h)
-if_few false status others statuses h = omega arith
-
-whole_few : (frame : Status → Frame) (count : ℕ) (statuses : List Status) → length (whole_by frame count statuses) ≤ length statuses
-whole_few frame count [] = omega arith
-whole_few frame count (status ∷ statuses) =
-    if_few (nat_le (length (framed (frame status))) count) status (whole_by frame (count - length (framed (frame status))) statuses) statuses (whole_few frame (count - length (framed (frame status))) statuses)
-
-pub some_few : (checked : CheckedOf) (number done count : ℕ) (statuses : List Status) → length (some_of checked number done count statuses) ≤ length statuses
-some_few checked number done count statuses =
-    omega (arith, length-drop done (whole_by (λ status. up_frame checked number (Says status)) count statuses), whole_few (λ status. up_frame checked number (Says status)) count statuses)
-
 -- ---- what the new frames do
 
 -- how much of what a status says may be confirmed, before the log's end: what was sent, or where the stream starts now
@@ -167,7 +154,6 @@ module _ (case : Case) (is : IsCase case) (c : Connection) (commits : ℕ) (h : 
     pub slot : HasSlot h.slots case.number (peer_of case).confirmed (is_some c.start)
     pub asked : IsAsked c.heard (length (spelled_up case.checked case.number (Asks (peer_of case).position))) c.start
     pub starts : c.start ≡ None → (peer_of case).confirmed ≤ (peer_of case).position
-    pub few : length c.reports < 2 ^ 32
     pub low : (limit : ℕ) → sent_limit c.start (peer_of case).position h.sent ≡ limit → All (IsWithin (min limit (end_after commits))) c.reports
 
   module _ (before : Before) (more : ℕ) where
@@ -214,12 +200,12 @@ module _ (case : Case) (is : IsCase case) (c : Connection) (commits : ℕ) (h : 
       };
     }
 
-    statuses_come : (at : ℕ) → c.start ≡ Some at → (statuses : List Status) → All (IsWithin (min h.sent (end_after commits))) statuses → length statuses < 2 ^ 32
+    statuses_come : (at : ℕ) → c.start ≡ Some at → (statuses : List Status) → All (IsWithin (min h.sent (end_after commits))) statuses
         → Comes (map Says statuses) (frames_heard served_of h (map (up_frame case.checked case.number) (map Says statuses)))
-    statuses_come at start statuses within few =
+    statuses_come at start statuses within =
         let started : h.started ≡ Some (case.number, at) = before.started ∙ ap (stream_of case.number) start in
         let last = frames_heard served_of h (map (up_frame case.checked case.number) (map Says statuses)) in
-        let heard = statuses_are_heard served_of case.number at case.now c.moves statuses h hearing started within (omega (arith, before.replies, few)) in
+        let heard = statuses_are_heard served_of case.number at case.now c.moves statuses h hearing started within in
         let goes = statuses_go served_of case.number at case.now c.moves statuses h hearing started within in
         let still : start_in last.started ≡ c.start =
         ap (λ (session : Session). session.start) heard.session_is ∙ start_stays_so statuses (session_of case.number case.now c.moves h) ∙ ap (λ (session : Session). session.start) session_before in
@@ -244,10 +230,10 @@ module _ (case : Case) (is : IsCase case) (c : Connection) (commits : ℕ) (h : 
         above : (a b : ℕ) → b ≤ a → nat_lt a b ≡ false
         above a b le = by_test (nat_lt a b) (λ less. absurd (let k = ltb-true a b less in omega (arith, k, le))) (λ not. not)
 
-    command_comes : c.start ≡ None → (statuses : List Status) → All (IsWithin (min (first_sent (peer_of case).position) (end_after commits))) statuses → length statuses < 2 ^ 32
+    command_comes : c.start ≡ None → (statuses : List Status) → All (IsWithin (min (first_sent (peer_of case).position) (end_after commits))) statuses
         → Comes (Asks (peer_of case).position ∷ map Says statuses) (frames_heard served_of h (map (up_frame case.checked case.number) (Asks (peer_of case).position ∷ map Says statuses)))
     unfolding frames_heard
-    command_comes none statuses within few =
+    command_comes none statuses within =
         let position = (peer_of case).position in
         let idle : h.started ≡ None = before.started ∙ ap (stream_of case.number) none in
         let begun_at : max position (confirmed_at h.slots case.number) ≡ position =
@@ -258,10 +244,9 @@ module _ (case : Case) (is : IsCase case) (c : Connection) (commits : ℕ) (h : 
         let one = starts_are_heard served_of case.number position case.now (case_asks case is).subscription c.moves h (case_asks case is).asks (opened_small case is) (free none) hearing idle in
         let started : first.started ≡ Some (case.number, position) = ap (λ (its : HearingOf). its.started) step in
         let sent : first.sent ≡ first_sent position = ap (λ (its : HearingOf). its.sent) step in
-        let replies : first.heard.replies ≡ 0 = ap (λ (its : HearingOf). its.heard.replies) step ∙ before.replies in
         let slots : first.slots ≡ change_at h.slots case.number (with_stream true) = ap (λ (its : HearingOf). its.slots) step in
         let low : All (IsWithin (min first.sent (end_after commits))) statuses = subst (λ n. All (IsWithin (min n (end_after commits))) statuses) (sym sent) within in
-        let heard = statuses_are_heard served_of case.number position case.now c.moves statuses first one.0.hearing started low (omega (arith, replies, few)) in
+        let heard = statuses_are_heard served_of case.number position case.now c.moves statuses first one.0.hearing started low in
         let goes = statuses_go served_of case.number position case.now c.moves statuses first one.0.hearing started low in
         let last = frames_heard served_of first (map (up_frame case.checked case.number) (map Says statuses)) in
         let same_session : fold (hear_up case.now) (session_of case.number case.now c.moves first) (map Says statuses) ≡ fold (hear_up case.now) first_session (Asks position ∷ map Says statuses) =
@@ -287,9 +272,6 @@ module _ (case : Case) (is : IsCase case) (c : Connection) (commits : ℕ) (h : 
     some_within : (done count limit : ℕ) → All (IsWithin limit) c.reports → All (IsWithin limit) (some_of case.checked case.number done count c.reports)
     some_within done count limit all = some_all case.checked case.number (IsWithin limit) done count c.reports all
 
-    some_less : (done count : ℕ) → length (some_of case.checked case.number done count c.reports) < 2 ^ 32
-    some_less done count = omega (arith, before.few, some_few case.checked case.number done count c.reports)
-
     comes_by : (ups : List Up) → newly case.checked case.number (peer_of case) c more ≡ ups
         → Comes ups (frames_heard served_of h (map (up_frame case.checked case.number) ups))
         → Comes (newly case.checked case.number (peer_of case) c more) heard_now
@@ -302,12 +284,10 @@ module _ (case : Case) (is : IsCase case) (c : Connection) (commits : ℕ) (h : 
     new_comes (Command none long count e) = comes_by (Asks (peer_of case).position ∷ map Says (some_of case.checked case.number 0 count c.reports)) e
         (command_comes none (some_of case.checked case.number 0 count c.reports)
         (some_within 0 count (min (first_sent (peer_of case).position) (end_after commits))
-        (before.low (first_sent (peer_of case).position) (ap (λ start. sent_limit start (peer_of case).position h.sent) none)))
-        (some_less 0 count))
+        (before.low (first_sent (peer_of case).position) (ap (λ start. sent_limit start (peer_of case).position h.sent) none))))
     new_comes (Statuses at start long done count e) = comes_by (map Says (some_of case.checked case.number done count c.reports)) e
         (statuses_come at start (some_of case.checked case.number done count c.reports)
-        (some_within done count (min h.sent (end_after commits)) (before.low h.sent (ap (λ start. sent_limit start (peer_of case).position h.sent) start)))
-        (some_less done count))
+        (some_within done count (min h.sent (end_after commits)) (before.low h.sent (ap (λ start. sent_limit start (peer_of case).position h.sent) start))))
 
     -- what was heard is as in the world
     pub record After : Type 0 where

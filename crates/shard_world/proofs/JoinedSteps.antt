@@ -1,7 +1,7 @@
 -- A subscriber connects, sends its position, and is sent commits and keepalives as in the world.
 use Rattle.std.proofs.Common.{◌≡◌, ℕ, ◌≤◌, Bool, true, false, List, [], ◌∷◌, ◌++◌, drop, length, map, take, refl, sym, ap, subst, ◌∙◌, arith, length-append}
-use Rattle.std.specs.Prelude.{Option, Some, None, Result, Ok, Err, nat_lt, slice_get, if◌then◌else◌}
-use Rattle.std.specs.List.{flat_map, list_all}
+use Rattle.std.specs.Prelude.{Option, Some, None, Result, Ok, Err, nat_lt, slice_get}
+use Rattle.std.specs.List.{flat_map}
 use Rattle.std.proofs.lemmas.Bool.{ltb-true}
 use Rattle.std.proofs.lemmas.Grind.{flat_map-append}
 use Rattle.std.proofs.lemmas.List.{append-nil, take-append-le, drop-append-le}
@@ -20,9 +20,9 @@ use Rattle.copy_both.specs.LinkLaws as links
 use Rattle.copy_both.specs.LinkLaws.{IsStreaming, with_moves}
 use Rattle.copy_both.specs.Links.{LinkSays, link_checked, link_ear, link_output, link_stage, found_answer, next_answer, next_bytes, next_stage}
 use Rattle.copy_both.specs.Streams as s
-use Rattle.copy_both.specs.Streams.{Place, Move, place_at, moved, taken_place}
-use Rattle.copy_both.specs.Tellings.{is_short, telling_of}
-use Rattle.copy_both.specs.Voices.{keep_answer, kept_bytes, told_answer}
+use Rattle.copy_both.specs.Streams.{Move, place_at, moved, taken_place}
+use Rattle.copy_both.specs.Tellings.{spelled_for, telling_of}
+use Rattle.copy_both.specs.Voices.{keep_answer, kept_bytes, taken_of}
 use Rattle.copy_both.specs.declared.link.Link.{Link}
 use Rattle.copy_both.specs.declared.link_fault.LinkFault.TheVariants as fault
 use Rattle.copy_both.specs.declared.taken.Taken.{Taken}
@@ -36,15 +36,15 @@ use Rattle.test_subscriber.specs.Subscribers.{sub_machine, sub_output, sub_publi
 use Rattle.test_subscriber.specs.declared.fault.SubFault.{SubFault}
 use Rattle.test_subscriber.specs.declared.subscriber.Subscriber.{Subscriber}
 use Rattle.shard_world.specs.Connections.{OpensStep, TakesStep, KeepsStep, ReportsStep, answer_of, kept_or_not}
-use Rattle.shard_world.specs.Following.{log_of}
-use Rattle.shard_world.specs.Items.{spelled}
+use Rattle.stream_laws.specs.Following.{log_of}
+use Rattle.stream_laws.specs.Items.{spelled}
 use Rattle.shard_world.specs.Joined.{PeerOf, AlikeBut, StaysAlike, IsNamed, IsSilent, IsOneStatus, Hears, IsLinked, IsAt, PeerIs, Speaks, run_of, up_bytes, down_of}
 use Rattle.shard_world.specs.PeerSteps.{Case, IsCase, peer_of, StepsTo}
 use Rattle.shard_world.specs.World as w
 use Rattle.shard_world.specs.World.{Answer, Opened, Reported, Connection, PeerEvent, start_of, spelled_up, with_connection, moves_on, place_of, position_now, down_items, down_bytes, took, keep_step, take_step, peer_step}
 use Rattle.shard_world.proofs.CaseLemmas.{case_asks, case_good, case_follows, opened_small, Open, is_shut, is_open}
 use Rattle.shard_world.proofs.CatchingUpLemmas.{moved_append}
-use Rattle.shard_world.proofs.CuttingLemmas.{cut_nothing}
+use Rattle.stream_laws.proofs.CuttingLemmas.{cut_nothing}
 use Rattle.shard_world.proofs.WorldPeers.{bytes_of_items, grows}
 
 pub ok_of : {A E : Type 0} (one other : A) → ◌≡◌ {A = Result A E} (Ok one) (Ok other) → one ≡ other
@@ -321,12 +321,9 @@ keeps case slots old link new want stands some says said answer =
 
 -- ---- commits
 
-took_is : (case : Case) (place : Place) (commit : CommitOf) (number : ℕ) (messages : List Msg) (found : Taken)
-    → Ok found ≡ told_answer number (map spelling_of messages) → answer_of found ≡ took number messages
-took_is case place commit number [] found e = ap answer_of (ok_of found (taken.Skipped number) e)
-took_is case place commit number (message ∷ messages) found e = by_test (list_all is_short (map spelling_of (message ∷ messages)))
-    (λ short. ap answer_of (ok_of found (taken.Sent number) (e ∙ ap (λ b. if b then Ok (taken.Sent number) else Err fault.FrameTooLong) short)))
-    (λ long. absurd (let wrong : Ok found ≡ Err fault.FrameTooLong = e ∙ ap (λ b. if b then Ok (taken.Sent number) else Err fault.FrameTooLong) long in cc))
+took_is : (number : ℕ) (messages : List Msg) → answer_of (taken_of number (map spelling_of messages)) ≡ took number messages
+took_is number [] = refl
+took_is number (message ∷ messages) = refl
 
 takes_by : (case : Case) (slots : List Slot) (old : PeerOf) (link new : Link) (c : Connection) (start : ℕ) → IsNamed case.checked case.number old.subscriber
     → (peer_of case).connection ≡ Some c → c.start ≡ Some start → IsLinked case.checked case.world.transactions case.number slots link old.subscriber (peer_of case) c
@@ -353,7 +350,8 @@ takes_by case slots old link new c start named some at linked says found answer 
     answered None e = ap answer_of (ok_of found taken.Idle e)
     answered (Some commit) e =
         let place = place_of case.checked case.world.transactions case.number start c.moves in
-        took_is case place commit commit.number (messages_for case.checked place.slot place.told commit) found e
+        ap answer_of (ok_of found (taken_of commit.number (spelled_for case.checked place.slot place.told commit)) e)
+        ∙ took_is commit.number (messages_for case.checked place.slot place.told commit)
 
     left : (its : Option CommitOf) → slice_get (log_of case.checked case.world.transactions) (place_of case.checked case.world.transactions case.number start c.moves).done ≡ its
         → IsStreaming new (with_moves (run_of case.checked case.world.transactions case.number start c.moves c.delivered) (links.took (slice_get (log_of case.checked case.world.transactions) (place_of case.checked case.world.transactions case.number start c.moves).done) case.now))

@@ -20,7 +20,7 @@ use Rattle.shard_world.specs.Openings.{IsFirstPeer, AreFirstPeers}
 use Rattle.shard_world.specs.World as w
 use Rattle.shard_world.specs.World.{first_peer, first_world}
 use Rattle.shard_world.specs.WorldCalls.{PeerAt, IsWorldBy}
-use Rattle.shard_world.specs.WorldLaws.{IsPublisher, IsTextEvent}
+use Rattle.shard_world.specs.WorldLaws.{IsPublisher, IsTimedEvent}
 use Rattle.shard_world.proofs.PublisherLemmas.{checked_publish}
 
 -- ---- one more
@@ -89,7 +89,7 @@ module _ (publisher : Checked) (most : ℕ) (book : Book) (peers : List PeerOf) 
       let planned : length checked.plan ≡ length checked.catalog.subscriptions = ap length known.own ∙ length-map checked.catalog.subscriptions (shares_for checked.catalog) in
       record {
         publisher = known;
-        texts = All-nil IsTextEvent;
+        times = All-nil IsTimedEvent;
         leads = refl;
         checked_is = new.checked_is;
         limit_is = new.limit_is;

@@ -11,13 +11,13 @@ use Rattle.copy_both.specs.Streams as s
 use Rattle.copy_both.specs.Streams.{Place}
 use Rattle.pgoutput_msgs.specs.declared.message.Msg.{Msg}
 use Rattle.shard_world.specs.CatchingUp.{next_peer}
-use Rattle.shard_world.specs.Following.{IsPublished, log_of}
+use Rattle.stream_laws.specs.Following.{IsPublished, log_of}
 use Rattle.shard_world.specs.Pumping.{EndsIdle, GoesOn, all_bytes}
-use Rattle.shard_world.specs.Sayable.{IsSayable}
+use Rattle.stream_laws.specs.Sayable.{IsSayable}
 use Rattle.shard_world.specs.World.{Asks, Says, Connection, Peer, Answer, Idle, PeerEvent, Hear, Take, Keep, Deliver, Report, down_bytes, position_in, position_now, spelled_up, ups_of, hears, as_many, place_of, took, takes, take_step, moves_on, peer_step}
 use Rattle.shard_world.proofs.AskingLemmas.{IsAskedAt}
 use Rattle.shard_world.proofs.CatchingUpLemmas.{CountsAll, IsLeft, as_step, hears_start, keeps_on, next_good, past_end, reaches_end, take_next}
-use Rattle.shard_world.proofs.EntryLemmas.{entries_length}
+use Rattle.stream_laws.proofs.EntryLemmas.{entries_length}
 use Rattle.shard_world.proofs.PumpSteps.{PeerRuns}
 use Rattle.shard_world.proofs.WorldHearing.{hears_stay}
 use Rattle.shard_world.proofs.WorldPeers.{IsGood}

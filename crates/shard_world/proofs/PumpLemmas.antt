@@ -1,16 +1,16 @@
 -- Events on one connection, one after another.
-use Rattle.std.proofs.Common.{◌≡◌, ℕ, zero, suc, ◌<◌, ◌^◌, inl, inr, List, [], ◌∷◌, ◌++◌, length, map, replicate, refl, sym, ap, subst, ◌∙◌, append_assoc}
+use Rattle.std.proofs.Common.{◌≡◌, ℕ, zero, suc, ◌<◌, inl, inr, List, [], ◌∷◌, ◌++◌, length, map, replicate, refl, sym, ap, subst, ◌∙◌, append_assoc}
 use Rattle.std.specs.Prelude.{All, false}
 use Rattle.std.proofs.lemmas.List.Elements.{All-nil, All-cons, All-append}
 use mathlib.Core.List.{map-append}
 use Rattle.shard_checker.specs.CheckedView.{CheckedOf}
 use Rattle.tables_log.specs.BookView.{book_log}
-use Rattle.shard_world.specs.Pumping.{EndsWalk, GoesOn, WalksAll, WalksSome, TakesAll, TakesSome, PumpsAll, PumpsSome, all_bytes, on_clock}
+use Rattle.shard_world.specs.Pumping.{EndsWalk, GoesOn, WalksAll, WalksSome, TakesAll, TakesSome, PumpsSome, all_bytes, on_clock, pump_events}
 use Rattle.shard_world.specs.World as w
-use Rattle.shard_world.specs.World.{Answer, Event, Idle, PeerEvent, Hear, Take, Keep, Deliver, Report, statuses_in}
+use Rattle.shard_world.specs.World.{Answer, Event, Idle, PeerEvent, Hear, Take, Keep, Deliver, Report}
 use Rattle.shard_world.specs.WorldCalls.{IsWorld, StepsOn, Runs, RunsInto, RunsOn, world_book, world_checked}
 use Rattle.shard_world.specs.declared.world.World.{World}
-use Rattle.shard_world.proofs.RunLemmas.{first_few, runs_none, runs_more}
+use Rattle.shard_world.proofs.RunLemmas.{runs_none, runs_more}
 
 -- ---- runs after one another
 
@@ -24,10 +24,10 @@ runs_append checked most (first ∷ asked) more [] later world between next runs
 
 runs_then : (before between after : World) (asked more : List (ℕ × Event)) (answers later : List Answer) → RunsOn before between asked answers → RunsOn between after more later
     → RunsOn before after (asked ++ more) (answers ++ later)
-runs_then before between after asked more answers later runs then most events world is few =
-    let first : RunsInto before between most events world asked answers = runs most events world is (first_few events asked more few) in
+runs_then before between after asked more answers later runs then most events world is =
+    let first : RunsInto before between most events world asked answers = runs most events world is in
     let second : RunsInto between after most (events ++ asked) first.next more later =
-    then most (events ++ asked) first.next first.is (subst (λ all. statuses_in all < 2 ^ 32) (sym (append_assoc events asked more)) few) in
+    then most (events ++ asked) first.next first.is in
     record {
       next = second.next;
       runs = runs_append (world_checked before) most asked more answers later world first.next second.next first.runs
@@ -173,10 +173,15 @@ module _ (now subscriber : ℕ) where
         (walks_then before between later (Hear all_bytes ∷ []) (replicate takes.takes Take) hears takes.walks) walks;
   }
 
-  pub pump_goes_through : (before between later after : World) → WalksAll before between now subscriber (Hear all_bytes ∷ []) → TakesAll between later now subscriber
-      → WalksAll later after now subscriber last_events → PumpsAll before after now subscriber
-  pump_goes_through before between later after hears takes walks = record {
-    takes = takes.takes;
-    all = walks_then before later after (Hear all_bytes ∷ replicate takes.takes Take) last_events
-        (walks_then before between later (Hear all_bytes ∷ []) (replicate takes.takes Take) hears takes.walks) walks;
-  }
+  pub pump_goes_through : (before between later after : World) → WalksAll before between now subscriber (Hear all_bytes ∷ []) → (takes : TakesAll between later now subscriber)
+      → WalksAll later after now subscriber last_events → WalksAll before after now subscriber (pump_events takes.takes)
+  unfolding walks_then
+  pump_goes_through before between later after hears takes walks =
+      walks_then before later after (Hear all_bytes ∷ replicate takes.takes Take) last_events
+      (walks_then before between later (Hear all_bytes ∷ []) (replicate takes.takes Take) hears takes.walks) walks
+
+  -- as they are answered one after another
+  pub pump_answers : (before between later after : World) (hears : WalksAll before between now subscriber (Hear all_bytes ∷ [])) (takes : TakesAll between later now subscriber)
+      (walks : WalksAll later after now subscriber last_events) → (pump_goes_through before between later after hears takes walks).answers ≡ hears.answers ++ (takes.walks.answers ++ walks.answers)
+  unfolding walks_then pump_goes_through
+  pump_answers before between later after hears takes walks = append_assoc hears.answers takes.walks.answers walks.answers

@@ -1,27 +1,25 @@
 -- A pump of a program's world ends where the log does, or for want of memory.
-use Rattle.std.proofs.Common.{◌≡◌, ℕ, zero, suc, ◌+◌, ◌<◌, ◌≤◌, ◌^◌, List, [], ◌∷◌, ◌++◌, length, map, replicate, sym, ap, subst, ◌∙◌, append_assoc, arith, inl, inr}
+use Rattle.std.proofs.Common.{◌≡◌, ℕ, zero, suc, ◌+◌, ◌<◌, ◌≤◌, ◌^◌, List, [], ◌∷◌, ◌++◌, length, map, replicate, refl, sym, ap, subst, ◌∙◌, arith, inl, inr}
 use Rattle.std.specs.Prelude.{All, ◌⊎◌, false, Result, Ok, Err}
-use Rattle.std.proofs.lemmas.List.{map-append}
+use Rattle.std.proofs.lemmas.List.{length-map}
 use Rattle.std.proofs.lemmas.List.Elements.{All-nil, All-cons, All-head, All-tail}
 use Rattle.table_changes.specs.Tables.{no_rows}
 use Rattle.shard_checker.specs.CheckedView.{CheckedOf, setting_in}
 use Rattle.tables_log.specs.BookView.{book_log}
 use Rattle.tables_log.specs.StandsFor.{Transaction}
 use Rattle.copy_both.specs.Streams.{count_before, end_of}
-use Rattle.shard_world.specs.Following.{log_of}
-use Rattle.shard_world.specs.Pumping.{EndsIdle, IsPosition, IsEndOfLog, ReachesEnd, WantsMemory, WalksAll, TakesAll, PumpsAll, PumpsSome, PumpsThrough, Walks, all_bytes, on_clock, pump_events}
+use Rattle.stream_laws.specs.Following.{log_of}
+use Rattle.shard_world.specs.Pumping.{EndsIdle, IsPosition, IsEndOfLog, InEach, ReachesEnd, TakesEnough, WantsMemory, WalksAll, TakesAll, PumpsAll, PumpsSome, PumpsThrough, Walks, all_bytes, on_clock, pump_events}
 use Rattle.shard_world.specs.World as w
-use Rattle.shard_world.specs.World.{Answer, Connection, Event, OutOfMemory, Peer, PeerEvent, Hear, Take, Keep, Deliver, Report, position_now, first_world, statuses_in}
+use Rattle.shard_world.specs.World.{Answer, Event, Peer, PeerEvent, Hear, Take, Keep, Deliver, Report, position_now, first_world}
 use Rattle.shard_world.specs.WorldCalls.{IsWorld, Runs, RunsInto, world_book, world_checked, world_peers}
 use Rattle.shard_world.specs.declared.world.World.{World}
 use Rattle.shard_world.proofs.AskingLemmas.{end_of_count, leads_asked}
 use Rattle.shard_world.proofs.EndSteps.{ends_at, now_end}
-use Rattle.shard_world.proofs.EntryLemmas.{entries_length}
+use Rattle.stream_laws.proofs.EntryLemmas.{entries_length}
 use Rattle.shard_world.proofs.PumpEndLemmas.{hears_all, takes_all, tells_all}
-use Rattle.shard_world.proofs.PumpLemmas.{last_events, pump_ends_late, pump_goes_through}
+use Rattle.shard_world.proofs.PumpLemmas.{last_events, pump_answers, pump_ends_late, pump_goes_through}
 use Rattle.shard_world.proofs.PumpSteps.{KeepsOpen, PeerRuns, RunsAs, last_answer, runs_as}
-use Rattle.shard_world.proofs.RunLemmas.{first_few}
-use Rattle.shard_world.proofs.SaidLemmas.{part_few, pump_few}
 use Rattle.shard_world.proofs.WorldLemmas.{all_timed, can_be_said, good_at, published}
 use Rattle.shard_world.proofs.WorldPeers.{good_follows}
 use Rattle.shard_world.proofs.WorldStepLemmas.{log_there}
@@ -44,10 +42,9 @@ first_open [] others all = All-nil KeepsOpen
 first_open (event ∷ done) others all = All-cons KeepsOpen event done (All-head KeepsOpen event (done ++ others) all) (first_open done others (All-tail KeepsOpen event (done ++ others) all))
 
 pub wants_memory : (before after : World) (now subscriber : ℕ) (answer : Answer) → PumpsSome before after now subscriber answer → WantsMemory before subscriber answer
-wants_memory before after now subscriber answer pumps there most events world is few c connected =
+wants_memory before after now subscriber answer pumps there most events world is c connected =
     let part = pumps.some in
-    let said = part_few events now subscriber pumps.takes part.done part.others part.are in
-    let into = part.runs most events world is (omega (arith, few, said)) in
+    let into = part.runs most events world is in
     last_answer (world_checked before) most subscriber now there part.done part.answers answer world into.next
     (first_open part.done part.others (subst (All KeepsOpen) (sym part.are) (pump_open pumps.takes))) part.go_on part.ends into.runs c connected
 
@@ -55,8 +52,8 @@ wants_memory before after now subscriber answer pumps there most events world is
 
 pub end_of_log : (before after : World) (subscriber position : ℕ) → ReachesEnd before after subscriber → IsPosition after subscriber position
     → IsEndOfLog before subscriber position
-end_of_log before after subscriber position reaches at there most events world is few =
-    let end = reaches there most events world is few in
+end_of_log before after subscriber position reaches at there most events world is =
+    let end = reaches there most events world is in
     at (subst (λ (c : CheckedOf). subscriber < length c.plan) (sym end.checked) there) most end.events end.world end.is ∙ end.position_is
 
 -- a position that counts all commits, and isn't 0
@@ -69,11 +66,11 @@ past_is_end : (code : World) (subscriber most : ℕ) (events : List (ℕ × Even
     → position_now (world_checked code) world.transactions subscriber (world.peers subscriber) ≡ end_of (length world.transactions)
 past_is_end code subscriber most events world is past =
     let checked : CheckedOf = world_checked code in
-    let sayable = can_be_said checked most is.publisher events is.texts world is.leads in
-    let good = good_at checked is.publisher.covered is.publisher.apart most events (all_timed events is.texts) world is.leads sayable in
+    let sayable = can_be_said checked most is.publisher events is.times world is.leads in
+    let good = good_at checked is.publisher.covered is.publisher.apart most events (all_timed events is.times) world is.leads sayable in
     let public = published checked is.publisher.covered is.publisher.apart world good in
     let end = now_end checked world.transactions subscriber (world.peers subscriber) (good.peers subscriber)
-    (ends_at checked is.publisher.covered is.publisher.apart most events (all_timed events is.texts) world is.leads sayable subscriber) in
+    (ends_at checked is.publisher.covered is.publisher.apart most events (all_timed events is.times) world is.leads sayable subscriber) in
     let follows = good_follows checked world.transactions public sayable subscriber (world.peers subscriber) (good.peers subscriber) in
     let count : length (log_of checked world.transactions) ≡ length world.transactions = entries_length (setting_in checked) no_rows 1 world.transactions in
     end_of_count (position_now checked world.transactions subscriber (world.peers subscriber)) (length world.transactions) end
@@ -96,15 +93,17 @@ module _ (before between later after : World) (now subscriber : ℕ) (timed : no
   abbrev telling : List (ℕ × Event)
   telling = on last_events
 
-  all_few : (events : List (ℕ × Event)) → statuses_in events + 1 < 2 ^ 32 → statuses_in (((events ++ hearing) ++ taking) ++ telling) < 2 ^ 32
-  all_few events few =
-      let said : statuses_in (events ++ on (pump_events takes.takes)) ≤ statuses_in events + 1 = pump_few events now subscriber takes.takes in
-      let parts : on (pump_events takes.takes) ≡ hearing ++ (taking ++ telling) =
-      ap (λ rest. on_clock now subscriber (Hear all_bytes) ∷ rest) (map-append (on_clock now subscriber) (replicate takes.takes Take) last_events) in
-      let same : events ++ on (pump_events takes.takes) ≡ ((events ++ hearing) ++ taking) ++ telling =
-      ap (λ rest. events ++ rest) parts ∙ sym (append_assoc events hearing (taking ++ telling)) ∙ sym (append_assoc (events ++ hearing) taking telling) in
-      let count : statuses_in (((events ++ hearing) ++ taking) ++ telling) ≤ statuses_in events + 1 = subst (λ its. statuses_in its ≤ statuses_in events + 1) same said in
-      omega (arith, count, few)
+  -- the takes go on until there is no commit, or there are more of them than commits
+  enough : (most : ℕ) (events : List (ℕ × Event)) (world : w.World) → IsWorld between most events world → (transactions : List Transaction) → world.transactions ≡ transactions
+      → EndsIdle takes.walks.answers ⊎ (length transactions < takes.takes)
+  enough most events world is transactions same = elim takes.enough [
+    | inl idle ↦ inl idle
+    | inr many ↦ inr (
+        let log = log_there (world_checked between) most (world_book between) (world_peers between) events world is subscriber now in
+        let count : length (book_log (world_book between)) ≡ length world.transactions = ap length log.log_is ∙ entries_length (setting_in (world_checked between)) no_rows 1 world.transactions in
+        let all : length world.transactions ≡ length transactions = ap length same in
+        omega (arith, many, count, all))
+  ]
 
   -- in the world after it
   told_past : (most : ℕ) (events : List (ℕ × Event)) (world : w.World) → subscriber < length (world_checked before).plan → IsWorld before most events world
@@ -115,8 +114,8 @@ module _ (before between later after : World) (now subscriber : ℕ) (timed : no
   told_past most events world there is heard taken told =
       let checked : CheckedOf = world_checked before in
       let transactions : List Transaction = world.transactions in
-      let sayable = can_be_said checked most is.publisher events is.texts world is.leads in
-      let good = good_at checked is.publisher.covered is.publisher.apart most events (all_timed events is.texts) world is.leads sayable in
+      let sayable = can_be_said checked most is.publisher events is.times world is.leads in
+      let good = good_at checked is.publisher.covered is.publisher.apart most events (all_timed events is.times) world is.leads sayable in
       let public = published checked is.publisher.covered is.publisher.apart world good in
       let heard_as : RunsAs checked transactions subscriber now (Hear all_bytes ∷ []) hears.answers (world.peers subscriber) heard.next =
       runs_as checked most subscriber now there (Hear all_bytes ∷ []) hears.answers world heard.next hears.go_on heard.runs in
@@ -135,26 +134,12 @@ module _ (before between later after : World) (now subscriber : ℕ) (timed : no
       let past = tells_all checked transactions public sayable subscriber now timed started.start (taken.next.peers subscriber) (told.next.peers subscriber) tells.answers
       (subst (λ its. PeerRuns checked its subscriber now last_events tells.answers (taken.next.peers subscriber) (told.next.peers subscriber)) same_taken told_as.runs) tells.go_on left in
       (record { all = past.all; some = past.some }, told_as.transactions_are ∙ same_taken)
-    where
-      enough : (most : ℕ) (events : List (ℕ × Event)) (world : w.World) → IsWorld between most events world → (transactions : List Transaction) → world.transactions ≡ transactions
-          → EndsIdle takes.walks.answers ⊎ (length transactions < takes.takes)
-      enough most events world is transactions same = elim takes.enough [
-        | inl idle ↦ inl idle
-        | inr many ↦ inr (
-            let log = log_there (world_checked between) most (world_book between) (world_peers between) events world is subscriber now in
-            let count : length (book_log (world_book between)) ≡ length world.transactions = ap length log.log_is ∙ entries_length (setting_in (world_checked between)) no_rows 1 world.transactions in
-            let all : length world.transactions ≡ length transactions = ap length same in
-            omega (arith, many, count, all))
-      ]
 
   pub reaches_end_of_log : ReachesEnd before after subscriber
-  reaches_end_of_log there most events world is few =
-      let all = all_few events few in
-      let most_few : statuses_in ((events ++ hearing) ++ taking) < 2 ^ 32 =
-      first_few (events ++ hearing) taking telling (subst (λ its. statuses_in its < 2 ^ 32) (append_assoc (events ++ hearing) taking telling) all) in
-      let heard = hears.runs most events world is (first_few events hearing taking (subst (λ its. statuses_in its < 2 ^ 32) (append_assoc events hearing taking) most_few)) in
-      let taken = takes.walks.runs most (events ++ hearing) heard.next heard.is most_few in
-      let told = tells.runs most ((events ++ hearing) ++ taking) taken.next taken.is all in
+  reaches_end_of_log there most events world is =
+      let heard = hears.runs most events world is in
+      let taken = takes.walks.runs most (events ++ hearing) heard.next heard.is in
+      let told = tells.runs most ((events ++ hearing) ++ taking) taken.next taken.is in
       let past = told_past most events world there is heard taken told in
       let same : world_checked after ≡ world_checked before = told.checked ∙ taken.checked ∙ heard.checked in
       record {
@@ -168,8 +153,35 @@ module _ (before between later after : World) (now subscriber : ℕ) (timed : no
             ∙ ap end_of (ap length past.1);
       }
 
+  takes_enough : InEach before subscriber (λ most world. TakesEnough takes.takes (length world.transactions) (pump_goes_through now subscriber before between later after hears takes tells).answers)
+  takes_enough there most events world is =
+      let heard = hears.runs most events world is in
+      let taken = takes.walks.runs most (events ++ hearing) heard.next heard.is in
+      let heard_as : RunsAs (world_checked before) world.transactions subscriber now (Hear all_bytes ∷ []) hears.answers (world.peers subscriber) heard.next =
+      runs_as (world_checked before) most subscriber now there (Hear all_bytes ∷ []) hears.answers world heard.next hears.go_on heard.runs in
+      record {
+        heard = hears.answers;
+        taken = takes.walks.answers;
+        told = tells.answers;
+        are = pump_answers now subscriber before between later after hears takes tells;
+        one = as_many_answers (world_checked before) most hearing hears.answers world heard.next heard.runs;
+        as_many = as_many_answers (world_checked between) most taking takes.walks.answers heard.next taken.next taken.runs
+            ∙ length-map (replicate takes.takes Take) (on_clock now subscriber) ∙ length-replicate takes.takes;
+        enough = enough most (events ++ hearing) heard.next heard.is world.transactions heard_as.transactions_are;
+      }
+    where
+      length-replicate : (count : ℕ) → length (replicate count Take) ≡ count
+      length-replicate zero = refl
+      length-replicate (suc count) = ap suc (length-replicate count)
+
+      as_many_answers : (checked : CheckedOf) (most : ℕ) (asked : List (ℕ × Event)) (answers : List Answer) (world last : w.World) → Runs checked most asked answers world last → length answers ≡ length asked
+      as_many_answers checked most [] [] world last runs = refl
+      as_many_answers checked most (event ∷ asked) (answer ∷ answers) world last runs = ap suc (as_many_answers checked most asked answers runs.0 last runs.2)
+      as_many_answers checked most [] (answer ∷ answers) world last runs = absurd runs
+      as_many_answers checked most (event ∷ asked) [] world last runs = absurd runs
+
   pub pumps_through : PumpsAll before after now subscriber × ReachesEnd before after subscriber
-  pumps_through = (pump_goes_through now subscriber before between later after hears takes tells, reaches_end_of_log)
+  pumps_through = (record { takes = takes.takes; all = pump_goes_through now subscriber before between later after hears takes tells; enough = takes_enough }, reaches_end_of_log)
 
 -- as the last events are answered
 pub pumped_by : (before between later after : World) (now subscriber : ℕ) → now < 2 ^ 64 → WalksAll before between now subscriber (Hear all_bytes ∷ []) → TakesAll between later now subscriber

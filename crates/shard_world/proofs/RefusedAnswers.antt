@@ -1,25 +1,17 @@
 -- What the calls on a connection answer is no fault.
-use Rattle.std.proofs.Common.{◌≡◌, ℕ, ◌+◌, true, false, ◌&&◌, List, [], ◌∷◌, length, map, take, refl, sym, ap, subst, ◌∙◌, arith}
-use Rattle.std.specs.Prelude.{Option, Some, None, Result, Ok, Err, All, slice_get, if◌then◌else◌}
-use Rattle.std.specs.List.{list_all}
-use Rattle.std.proofs.lemmas.Bool.{le-leb}
-use Rattle.std.proofs.lemmas.List.Elements.{All-head, All-tail}
+use Rattle.std.proofs.Common.{◌≡◌, ℕ, true, false, List, take, refl, sym, ap, subst, ◌∙◌}
+use Rattle.std.specs.Prelude.{Option, Some, None, Result, slice_get}
 use Rattle.filter_tree.specs.Memory.{TellsFault}
 use Rattle.tables_log.specs.BookView.{book_slots}
 use Rattle.tables_log.specs.Commits.{CommitOf}
 use Rattle.tables_log.specs.declared.slots.Slot.{Slot}
-use Rattle.pgoutput_msgs.specs.Sent.{IsSent}
-use Rattle.pgoutput_msgs.specs.Spelling.{spelling_of}
-use Rattle.pgoutput_msgs.specs.Telling.{messages_for}
-use Rattle.pgoutput_msgs.specs.declared.message.Msg.{Msg}
 use Rattle.copy_frames.specs.Frames.{cut}
 use Rattle.copy_both.specs.Ears.{answer_in}
-use Rattle.copy_both.specs.Hearing.{answer_of}
+use Rattle.copy_both.specs.Hearing.{answer_of, heard_told}
 use Rattle.copy_both.specs.Links.{found_answer, link_heard, link_stage, next_answer}
 use Rattle.copy_both.specs.Streams.{Place}
-use Rattle.copy_both.specs.Tellings.{is_short}
-use Rattle.copy_both.specs.Voices.{keep_answer, told_answer, told_fault}
-use Rattle.copy_both.specs.declared.heard.Heard.{Heard}
+use Rattle.copy_both.specs.Tellings.{spelled_for}
+use Rattle.copy_both.specs.Voices.{keep_answer, taken_of, told_fault}
 use Rattle.copy_both.specs.declared.link.Link.{Link}
 use Rattle.copy_both.specs.declared.link_fault.LinkFault.{LinkFault}
 use Rattle.copy_both.specs.declared.link_fault.LinkFault.TheVariants as fault
@@ -31,13 +23,13 @@ use Rattle.test_subscriber.specs.declared.phase.Phase.{Phase}
 use Rattle.test_subscriber.specs.declared.phase.Phase.TheVariants.{Shut, Waiting, Idle, Busy}
 use Rattle.test_subscriber.specs.declared.subscriber.Subscriber.{Subscriber}
 use Rattle.test_subscriber.proofs.FeedingLemmas.{IsOpen, cut_open}
-use Rattle.shard_world.specs.Following.{log_of}
+use Rattle.stream_laws.specs.Following.{log_of}
 use Rattle.shard_world.specs.Joined.{IsLinked, Speaks, down_of}
 use Rattle.shard_world.specs.PeerSteps.{Case, peer_of}
 use Rattle.shard_world.specs.Refusals.{IsAnswered, HearsAreAnswered, KeepsAreAnswered, OpensAreAnswered, ReportsAreAnswered, TakesAreAnswered}
 use Rattle.shard_world.specs.World as w
 use Rattle.shard_world.specs.World.{Connection, place_of, spelled_up}
-use Rattle.shard_world.proofs.CaseLemmas.{case_sayable, is_open, is_shut}
+use Rattle.shard_world.proofs.CaseLemmas.{is_open, is_shut}
 use Rattle.shard_world.proofs.JoinedEar.{commits, connection, heard_all, heard_before, heard_is, linked, more, not_over, piece, start_view}
 use Rattle.shard_world.proofs.JoinedHearing.{heard_after}
 use Rattle.shard_world.proofs.JoinedSteps.{asked_bytes}
@@ -59,20 +51,6 @@ keeps_are_answered case slots old link stands some =
 
 -- ---- take
 
-all_short : (messages : List Msg) → All IsSent messages → list_all is_short (map spelling_of messages) ≡ true
-all_short [] sent = refl
-all_short (message ∷ messages) sent =
-    let short = (All-head IsSent message messages sent).short in
-    ap (λ b. b && list_all is_short (map spelling_of messages)) (le-leb (length (spelling_of message) + 29) 16777216 (omega (arith, short)))
-    ∙ all_short messages (All-tail IsSent message messages sent)
-
-told_answered : (number : ℕ) (messages : List Msg) → All IsSent messages → IsAnswered (told_answer number (map spelling_of messages))
-told_answered number [] sent = record { value = taken.Skipped number; is = refl }
-told_answered number (message ∷ messages) sent = record {
-  value = taken.Sent number;
-  is = ap (λ b. if b then Ok (taken.Sent number) else Err fault.FrameTooLong) (all_short (message ∷ messages) sent);
-}
-
 pub takes_are_answered : TakesAreAnswered
 takes_are_answered case is slots old link stands some =
     let here = is_open case slots old link stands some in
@@ -81,8 +59,7 @@ takes_are_answered case is slots old link stands some =
   where
     found : (place : Place) (its : Option CommitOf) → slice_get (log_of case.checked case.world.transactions) place.done ≡ its → IsAnswered (found_answer case.checked place its)
     found place None e = record { value = taken.Idle; is = refl }
-    found place (Some commit) e =
-        told_answered commit.number (messages_for case.checked place.slot place.told commit) ((case_sayable case is).said place.slot place.told place.done commit e)
+    found place (Some commit) e = record { value = taken_of commit.number (spelled_for case.checked place.slot place.told commit); is = refl }
 
     by_start : (c : Connection) (start : Option ℕ) → Speaks case.checked case.world.transactions case.number link c.moves c.delivered start
         → IsAnswered (next_answer case.checked (link_stage link) (log_of case.checked case.world.transactions))
@@ -119,13 +96,13 @@ hears_are_answered case is book old link count log stands some =
     let known = heard_after case is (connection case is book book old link count log stands some) (commits case is book book old link count log stands some)
     (start_view case is book book old link count log stands some) (heard_before case is book book old link count log stands some) (more case is book book old link count log stands some) in
     record {
-      value = all.heard;
+      value = heard_told all.heard;
       is = ap (λ phase. answer_in phase (link_heard link book (piece case is book book old link count log stands some))) at.linked.hears.phase_is
           ∙ ap answer_of (heard_is case is book book old link count log stands some) ∙ not_over all known.hears.goes_on;
     }
 
 -- an error says that memory was refused
-pub only_memory : (error : LinkFault) (answer : Result Heard LinkFault) → TellsFault (told_fault error) answer → IsAnswered answer → error ≡ fault.OutOfMemory
+pub only_memory : {A : Type 0} (error : LinkFault) (answer : Result A LinkFault) → TellsFault (told_fault error) answer → IsAnswered answer → error ≡ fault.OutOfMemory
 only_memory fault.OutOfMemory answer tells good = refl
 only_memory fault.FrameTooLong answer tells good = absurd (let e = sym tells ∙ good.is in cc)
 only_memory fault.BadLength answer tells good = absurd (let e = sym tells ∙ good.is in cc)

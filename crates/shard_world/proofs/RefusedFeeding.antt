@@ -17,14 +17,14 @@ use Rattle.test_subscriber.specs.declared.fault.SubFault.{SubFault}
 use Rattle.test_subscriber.specs.declared.subscriber.Subscriber.{Subscriber}
 use Rattle.test_subscriber.proofs.FeedingLemmas.{hears_open}
 use Rattle.shard_world.specs.Connections.{front_of}
-use Rattle.shard_world.specs.Items.{Item, frame_in}
+use Rattle.stream_laws.specs.Items.{Item, frame_in}
 use Rattle.shard_world.specs.Joined.{IsLinked, PeerOf, down_of}
 use Rattle.shard_world.specs.PeerSteps.{Case, Halts, HasStreamBy, IsCase, IsHalf, StandsIn, peer_of}
 use Rattle.shard_world.specs.Refusals.{DeliverHalts, DeliversAreAnswered}
 use Rattle.shard_world.specs.World as w
 use Rattle.shard_world.specs.World.{Connection, as_many, delivers, down_items}
 use Rattle.shard_world.proofs.CaseLemmas.{is_open}
-use Rattle.shard_world.proofs.FollowingBytesLemmas.{FirstFrames, first_frames}
+use Rattle.stream_laws.proofs.FollowingBytesLemmas.{FirstFrames, first_frames}
 use Rattle.shard_world.proofs.JoinedFeeding.{down_piece, makes, output_by, stays_within}
 use Rattle.shard_world.proofs.JoinedSteps.{still_named}
 use Rattle.shard_world.proofs.PrefixLemmas.{first_part, new_in}

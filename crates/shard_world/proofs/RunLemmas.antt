@@ -1,12 +1,11 @@
 -- Several events, one after another.
-use Rattle.std.proofs.Common.{ℕ, ◌<◌, ◌≤◌, ◌^◌, List, [], ◌∷◌, ◌++◌, refl, sym, subst, ◌∙◌, arith, append_assoc}
+use Rattle.std.proofs.Common.{ℕ, List, [], ◌∷◌, ◌++◌, refl, sym, subst, ◌∙◌, append_assoc}
 use Rattle.std.proofs.lemmas.List.{append-nil}
 use Rattle.shard_checker.specs.CheckedView.{CheckedOf}
 use Rattle.shard_world.specs.World as w
-use Rattle.shard_world.specs.World.{Answer, Event, Steps, statuses_in}
+use Rattle.shard_world.specs.World.{Answer, Event, Steps}
 use Rattle.shard_world.specs.WorldCalls.{IsWorld, StepsInto, StepsOn, Runs, RunsInto, RunsOn, world_checked}
 use Rattle.shard_world.specs.declared.world.World.{World}
-use Rattle.shard_world.proofs.ReportLemmas.{statuses_first}
 
 runs_one_more : (checked : CheckedOf) (most : ℕ) (asked : List (ℕ × Event)) (answers : List Answer) (world between next : w.World) (event : ℕ × Event) (answer : Answer)
     → Runs checked most asked answers world between → Steps checked most between event.0 event.1 answer next → Runs checked most (asked ++ event ∷ []) (answers ++ answer ∷ []) world next
@@ -17,17 +16,8 @@ runs_one_more checked most (first ∷ asked) (one ∷ answers) world between nex
 runs_one_more checked most [] (one ∷ answers) world between next event answer runs steps = absurd runs
 runs_one_more checked most (first ∷ asked) [] world between next event answer runs steps = absurd runs
 
--- those before the last ones say fewer than 2^32 statuses too
-pub first_few : (events asked more : List (ℕ × Event)) → statuses_in (events ++ (asked ++ more)) < 2 ^ 32 → statuses_in (events ++ asked) < 2 ^ 32
-first_few events asked more few =
-    below (statuses_in (events ++ asked)) (statuses_in ((events ++ asked) ++ more)) (statuses_first (events ++ asked) more)
-    (subst (λ all. statuses_in all < 2 ^ 32) (sym (append_assoc events asked more)) few)
-  where
-    below : (a b : ℕ) → a ≤ b → b < 2 ^ 32 → a < 2 ^ 32
-    below a b h k = omega (arith, h, k)
-
 pub runs_none : (world : World) → RunsOn world world [] []
-runs_none code most events world is few = record {
+runs_none code most events world is = record {
   next = world;
   runs = refl;
   is = subst (λ all. IsWorld code most all world) (sym (append-nil events)) is;
@@ -36,10 +26,10 @@ runs_none code most events world is few = record {
 
 pub runs_more : (before between after : World) (asked : List (ℕ × Event)) (answers : List Answer) (now : ℕ) (event : Event) (answer : Answer) → RunsOn before between asked answers
     → StepsOn between after now event answer → RunsOn before after (asked ++ (now, event) ∷ []) (answers ++ answer ∷ [])
-runs_more before between after asked answers now event answer runs steps most events world is few =
-    let first : RunsInto before between most events world asked answers = runs most events world is (first_few events asked ((now, event) ∷ []) few) in
+runs_more before between after asked answers now event answer runs steps most events world is =
+    let first : RunsInto before between most events world asked answers = runs most events world is in
     let then : StepsInto between after most (events ++ asked) first.next now event answer =
-    steps most (events ++ asked) first.next first.is (first_few events asked ((now, event) ∷ []) few) in
+    steps most (events ++ asked) first.next first.is in
     record {
       next = then.next;
       runs = runs_one_more (world_checked before) most asked answers world first.next then.next (now, event) answer first.runs

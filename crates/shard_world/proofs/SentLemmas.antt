@@ -13,9 +13,9 @@ use Rattle.copy_both.specs.StreamLaws.{AllThere}
 use Rattle.copy_both.specs.Streams.{Place, Move, count_before, end_of, place_at, place_after, taken_place, moved, all_moved}
 use Rattle.copy_both.specs.Tellings.{telling_of}
 use Rattle.copy_frames.specs.Frames.{framed}
-use Rattle.shard_world.specs.Cutting.{if_whole, whole_in}
-use Rattle.shard_world.specs.Following.{raised_by_message, raised_by, position_after}
-use Rattle.shard_world.specs.Items.{Item, Response, Carries, Alive, frame_in, head_of, take_items, all_items, stream_items}
+use Rattle.stream_laws.specs.Cutting.{if_whole, whole_in}
+use Rattle.stream_laws.specs.Following.{raised_by_message, raised_by, position_after}
+use Rattle.stream_laws.specs.Items.{Item, Response, Carries, Alive, frame_in, head_of, take_items, all_items, stream_items}
 use Rattle.shard_world.proofs.EndLemmas.{TellsBy, messages_tell}
 
 -- ---- items that tell of no more than a position

@@ -4,19 +4,21 @@ use Rattle.std.proofs.Common.{inl, inr}
 use Rattle.std.specs.Prelude.{Option, Some, None, Err, slice_get}
 use Rattle.filter_tree.specs.Memory.{TellsFault}
 use Rattle.shard_checker.specs.CheckedView.{CheckedOf}
-use Rattle.tables_log.specs.BookView.{book_slots}
+use Rattle.tables_log.specs.BookView.{book_log, book_slots}
 use Rattle.tables_log.specs.Committing.{IsKept}
 use Rattle.tables_log.specs.declared.book.Book.{Book}
 use Rattle.tables_log.specs.declared.slots.Slot.{Slot}
 use Rattle.copy_both.specs.Ears.{HearLeaves, ear_phase, hear_answer}
-use Rattle.copy_both.specs.Links.{LinkCloses, link_ear, link_output, link_sent}
-use Rattle.copy_both.specs.Voices.{told_fault}
+use Rattle.copy_both.specs.Links.{HasNext, LinkCloses, link_checked, link_ear, link_output, link_sent, link_stage, next_answer}
+use Rattle.copy_both.specs.Voices.{IsStarted, keep_answer, told_fault}
 use Rattle.copy_both.specs.declared.link.Link.{Link}
 use Rattle.copy_both.specs.declared.link_fault.LinkFault.{LinkFault}
+use Rattle.copy_both.specs.declared.link_fault.LinkFault.TheVariants as fault
 use Rattle.test_subscriber.specs.Subscribers.{FeedStops, Loses, sub_output}
 use Rattle.test_subscriber.specs.declared.fault.SubFault.{SubFault}
 use Rattle.test_subscriber.specs.declared.subscriber.Subscriber.{Subscriber}
 use Rattle.shard_world.specs.Connections.{front_of}
+use Rattle.stream_laws.specs.Following.{log_of}
 use Rattle.shard_world.specs.Joined.{PeerOf, PeerIs, IsAt}
 use Rattle.shard_world.specs.PeerCalls.{Makes, IsStopped, Stops, LosesIfThere, Drops, Moves}
 use Rattle.shard_world.specs.PeerSteps.{Case, ChangesOwn, Halts, peer_of}
@@ -25,6 +27,8 @@ use Rattle.shard_world.specs.World as w
 use Rattle.shard_world.specs.World.{Answer, Connection, PeerEvent, Open, Hear, Take, Keep, Deliver, Report, broken}
 use Rattle.shard_world.proofs.CallLemmas.{kept_own}
 use Rattle.shard_world.proofs.JoinedSteps.{still_named}
+use Rattle.shard_world.proofs.NeedsLemmas.{open_needs, hear_needs, take_needs, keep_needs, deliver_needs, report_needs}
+use Rattle.shard_world.proofs.RefusedAnswers.{keeps_are_answered, only_memory, takes_are_answered}
 use Rattle.shard_world.proofs.RefusedFeeding.{deliver_halts}
 use Rattle.shard_world.proofs.RefusedHearing.{hear_halts}
 use Rattle.shard_world.proofs.RefusedSteps.{open_stays, open_breaks, take_halts, keep_halts, report_halts, loss_breaks, stays_lost}
@@ -32,52 +36,73 @@ use Rattle.shard_world.proofs.RefusedSteps.{open_stays, open_breaks, take_halts,
 -- ---- open
 
 pub open_stays_shut : (checked : CheckedOf) (now : ℕ) (book : Book) (old : PeerOf) → old.link ≡ None → Stops checked now Open book book old old
-open_stays_shut checked now book old none case stands =
-    subst (IsStopped case Open book book old) (sym none)
-    (record { breaks = open_stays case (book_slots book) old stands.peer none; own = kept_own case.number book })
+open_stays_shut checked now book old none case stands = record {
+  needed = open_needs case (book_slots book) old stands.peer none;
+  stopped = subst (IsStopped case Open book book old) (sym none)
+      (record { breaks = open_stays case (book_slots book) old stands.peer none; own = kept_own case.number book });
+}
 
 pub open_is_refused : (checked : CheckedOf) (now : ℕ) (book : Book) (old : PeerOf) (after : Subscriber) → old.link ≡ None → Loses old.subscriber after
     → Stops checked now Open book book old (record { link = old.link; subscriber = after })
-open_is_refused checked now book old after none loses case stands =
-    subst (λ link. IsStopped case Open book book (record { link = link; subscriber = after }) link) (sym none)
-    (record { breaks = open_breaks case (book_slots book) old after stands.peer none loses; own = kept_own case.number book })
+open_is_refused checked now book old after none loses case stands = record {
+  needed = open_needs case (book_slots book) old stands.peer none;
+  stopped = subst (λ link. IsStopped case Open book book (record { link = link; subscriber = after }) link) (sym none)
+      (record { breaks = open_breaks case (book_slots book) old after stands.peer none loses; own = kept_own case.number book });
+}
 
 -- ---- with a connection
 
 halts_so : (case : Case) (event : PeerEvent) (book : Book) (new : PeerOf) → Halts case event (book_slots book) new → HaltsOn case event book book new
 halts_so case event book new halts = record { halts = halts; own = kept_own case.number book }
 
-pub take_stops : (checked : CheckedOf) (now : ℕ) (book : Book) (old : PeerOf) (link new : Link) → old.link ≡ Some link → LinkCloses link new
+pub take_stops : (checked : CheckedOf) (now : ℕ) (book : Book) (old : PeerOf) (link new : Link) (error : LinkFault) → old.link ≡ Some link → LinkCloses link new
+    → TellsFault (told_fault error) (next_answer (link_checked link) (link_stage link) (book_log book)) → (error ≡ fault.OutOfMemory → HasNext (link_stage link) (book_log book))
     → Stops checked now Take book book old (record { link = Some new; subscriber = old.subscriber })
-take_stops checked now book old link new some closes case stands =
-    halts_so case Take book (record { link = Some new; subscriber = old.subscriber }) (take_halts case (book_slots book) old link new stands.peer some closes)
+take_stops checked now book old link new error some closes told memory case stands = record {
+  needed =
+      let answered = takes_are_answered case stands.is (book_slots book) old link stands.peer some in
+      let wanted = memory (only_memory error (next_answer (link_checked link) (link_stage link) (log_of case.checked case.world.transactions))
+      (subst (λ log. TellsFault (told_fault error) (next_answer (link_checked link) (link_stage link) log)) stands.log.log_is told) answered) in
+      take_needs case (book_slots book) old link stands.peer some (subst (HasNext (link_stage link)) stands.log.log_is wanted);
+  stopped = halts_so case Take book (record { link = Some new; subscriber = old.subscriber }) (take_halts case (book_slots book) old link new stands.peer some closes);
+}
 
-pub keep_stops : (checked : CheckedOf) (now : ℕ) (book : Book) (old : PeerOf) (link new : Link) (want : Bool) → old.link ≡ Some link → LinkCloses link new
+pub keep_stops : (checked : CheckedOf) (now : ℕ) (book : Book) (old : PeerOf) (link new : Link) (want : Bool) (error : LinkFault) → old.link ≡ Some link → LinkCloses link new
+    → TellsFault (told_fault error) (keep_answer (link_stage link)) → (error ≡ fault.OutOfMemory → IsStarted (link_stage link))
     → Stops checked now (Keep want) book book old (record { link = Some new; subscriber = old.subscriber })
-keep_stops checked now book old link new want some closes case stands =
-    halts_so case (Keep want) book (record { link = Some new; subscriber = old.subscriber }) (keep_halts case (book_slots book) old link new want stands.peer some closes)
+keep_stops checked now book old link new want error some closes told memory case stands = record {
+  needed = keep_needs case (book_slots book) old link want stands.peer some
+      (memory (only_memory error (keep_answer (link_stage link)) told (keeps_are_answered case (book_slots book) old link stands.peer some)));
+  stopped = halts_so case (Keep want) book (record { link = Some new; subscriber = old.subscriber }) (keep_halts case (book_slots book) old link new want stands.peer some closes);
+}
 
 pub report_stops : (checked : CheckedOf) (now : ℕ) (book : Book) (old : PeerOf) (link : Link) (after : Subscriber) (want : Bool) → old.link ≡ Some link → Loses old.subscriber after
     → Stops checked now (Report want) book book old (record { link = old.link; subscriber = after })
-report_stops checked now book old link after want some loses case stands =
-    subst (IsStopped case (Report want) book book (record { link = old.link; subscriber = after })) (sym some)
-    (halts_so case (Report want) book (record { link = old.link; subscriber = after }) (report_halts case (book_slots book) old link after want stands.peer some loses))
+report_stops checked now book old link after want some loses case stands = record {
+  needed = report_needs case (book_slots book) old link want stands.peer some;
+  stopped = subst (IsStopped case (Report want) book book (record { link = old.link; subscriber = after })) (sym some)
+      (halts_so case (Report want) book (record { link = old.link; subscriber = after }) (report_halts case (book_slots book) old link after want stands.peer some loses));
+}
 
 pub hear_stops : (checked : CheckedOf) (now : ℕ) (before after : Book) (old : PeerOf) (link new : Link) (count : ℕ) (error : LinkFault) (piece : List ℕ) → old.link ≡ Some link
     → piece ≡ front_of count (sub_output old.subscriber) → TellsFault (told_fault error) (hear_answer (link_ear link) before piece (link_sent link))
     → HearLeaves (ear_phase (link_ear link)) (link_ear link) (link_ear new) before after piece (link_sent link) (Err error)
     → Stops checked now (Hear count) before after old (record { link = Some new; subscriber = old.subscriber })
-hear_stops checked now before after old link new count error piece some is told leaves case stands =
-    hear_halts case stands.is before after old link count stands.log stands.peer some new error
-    (subst (λ p. TellsFault (told_fault error) (hear_answer (link_ear link) before p (link_sent link))) is told)
-    (subst (λ p. HearLeaves (ear_phase (link_ear link)) (link_ear link) (link_ear new) before after p (link_sent link) (Err error)) is leaves)
+hear_stops checked now before after old link new count error piece some is told leaves case stands = record {
+  needed = hear_needs case (book_slots before) old link count stands.peer some;
+  stopped = hear_halts case stands.is before after old link count stands.log stands.peer some new error
+      (subst (λ p. TellsFault (told_fault error) (hear_answer (link_ear link) before p (link_sent link))) is told)
+      (subst (λ p. HearLeaves (ear_phase (link_ear link)) (link_ear link) (link_ear new) before after p (link_sent link) (Err error)) is leaves);
+}
 
 pub deliver_stops : (checked : CheckedOf) (now : ℕ) (book : Book) (old : PeerOf) (link : Link) (after : Subscriber) (count : ℕ) (error : SubFault) (piece : List ℕ) → old.link ≡ Some link
     → piece ≡ front_of count (link_output link) → FeedStops old.subscriber piece error after → Stops checked now (Deliver count) book book old (record { link = Some link; subscriber = after })
-deliver_stops checked now book old link after count error piece some is fed case stands =
-    halts_so case (Deliver count) book (record { link = Some link; subscriber = after })
-    (subst (λ its. Halts case (Deliver count) (book_slots book) (record { link = its; subscriber = after })) some
-    (deliver_halts case stands.is (book_slots book) old link after count error stands.peer some (subst (λ p. FeedStops old.subscriber p error after) is fed)))
+deliver_stops checked now book old link after count error piece some is fed case stands = record {
+  needed = deliver_needs case (book_slots book) old link count stands.peer some;
+  stopped = halts_so case (Deliver count) book (record { link = Some link; subscriber = after })
+      (subst (λ its. Halts case (Deliver count) (book_slots book) (record { link = its; subscriber = after })) some
+      (deliver_halts case stands.is (book_slots book) old link after count error stands.peer some (subst (λ p. FeedStops old.subscriber p error after) is fed)));
+}
 
 -- ---- the connection is dropped
 
@@ -132,9 +157,10 @@ module _ (case : Case) (event : PeerEvent) (before between after : Book) (subscr
 pub drops_connection : (checked : CheckedOf) (now : ℕ) (event : PeerEvent) (before between after : Book) (old middle new : PeerOf) → Stops checked now event before between old middle
     → Drops middle new between after → Moves checked now event before after old new w.OutOfMemory
 drops_connection checked now event before between after old middle new stops drops case stands = inr (record {
+  needed = (stops case stands).needed;
   answer_is = refl;
   on = subst (λ link. BreaksOn case event before after (record { link = link; subscriber = new.subscriber })) (sym drops.none)
-      (breaks_dropped case event before between after new.subscriber middle.link middle.subscriber (stops case stands) drops.subscriber drops.link);
+      (breaks_dropped case event before between after new.subscriber middle.link middle.subscriber (stops case stands).stopped drops.subscriber drops.link);
 })
 
 pub makes_moves : (checked : CheckedOf) (now : ℕ) (event : PeerEvent) (before after : Book) (old new : PeerOf) (answer : Answer) → Makes checked now event before after old new answer

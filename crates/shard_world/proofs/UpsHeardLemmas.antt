@@ -1,5 +1,5 @@
 -- The frames that a subscriber sends are heard as they are in the world.
-use Rattle.std.proofs.Common.{◌≡◌, ℕ, zero, suc, ◌+◌, ◌-◌, ◌^◌, ◌<◌, ◌≤◌, ◌≢◌, min, max, Bool, true, false, List, [], ◌∷◌, ◌++◌, length, map, replicate, Option, Some, None, refl, sym, ap, ◌∙◌, subst, arith, append_assoc, append-nil}
+use Rattle.std.proofs.Common.{◌≡◌, ℕ, zero, suc, ◌+◌, ◌-◌, ◌^◌, ◌<◌, ◌≢◌, min, max, Bool, true, false, List, [], ◌∷◌, ◌++◌, length, map, replicate, Option, Some, None, refl, sym, ap, ◌∙◌, subst, arith, append_assoc, append-nil}
 use Rattle.std.specs.Prelude.{fold, nat_lt, slice_get, All}
 use Rattle.std.proofs.Math.ListN.{length-set}
 use Rattle.std.proofs.lemmas.Bool.Decides.{nat_tests}
@@ -13,12 +13,12 @@ use Rattle.copy_frames.specs.declared.status.Status.{Status}
 use Rattle.copy_both.specs.Events.{read_event}
 use Rattle.copy_both.specs.Hearing.{HearingOf, Served, Begins, begun, one_more, confirmed_by, event_heard, next_heard, unless_over, frame_heard, frames_heard, is_over}
 use Rattle.copy_both.specs.Streams.{Move, Keep}
-use Rattle.shard_world.specs.Asking.{CanAsk}
+use Rattle.stream_laws.specs.Asking.{CanAsk}
 use Rattle.shard_world.specs.UpsHeard.{start_in, session_of, IsBegun, IsHearing, IsWithin, IsHeard, StartsAreHeard, StatusesAreHeard}
 use Rattle.shard_world.specs.World.{Asks, Says, Session, start_at, replied, hear_up, up_frame}
 use Rattle.shard_world.specs.Joined.{HasSlot}
 use Rattle.shard_world.proofs.SlotLemmas.{others_stay, raised_slot}
-use Rattle.shard_world.proofs.StartAnswered.{starts_are_answered}
+use Rattle.stream_laws.proofs.StartAnswered.{starts_are_answered}
 
 -- ---- slots
 
@@ -47,13 +47,11 @@ kept_at (slot ∷ slots) (suc number) = ap confirmed_of (one_later slot slots nu
 abbrev session : ℕ → Option ℕ → List Move → Session
 session confirmed start moves = record { confirmed = confirmed; start = start; moves = moves }
 
-replies_more : (wants : Bool) (replies now : ℕ) (moves : List Move) → replies + 1 < 2 ^ 32
+replies_more : (wants : Bool) (replies now : ℕ) (moves : List Move)
     → moves ++ replicate (one_more wants replies) (Keep now false) ≡ (moves ++ replicate replies (Keep now false)) ++ replied wants now
-replies_more false replies now moves few = sym (append-nil (moves ++ replicate replies (Keep now false)))
-replies_more true replies now moves few =
-    let one : min (replies + 1) (2 ^ 32 - 1) ≡ replies + 1 = omega (arith, few) in
-    ap (λ n. moves ++ replicate n (Keep now false)) one
-    ∙ ap (λ more. moves ++ more) (sym (replicate-append-replicate replies 1 (Keep now false)))
+replies_more false replies now moves = sym (append-nil (moves ++ replicate replies (Keep now false)))
+replies_more true replies now moves =
+    ap (λ more. moves ++ more) (sym (replicate-append-replicate replies 1 (Keep now false)))
     ∙ sym (append_assoc moves (replicate replies (Keep now false)) (Keep now false ∷ []))
 
 module _ (served : Served) (subscriber start now : ℕ) (moves : List Move) where
@@ -69,11 +67,11 @@ module _ (served : Served) (subscriber start now : ℕ) (moves : List Move) wher
       ∙ ap (λ found. event_heard served subscriber (read_event found) h) (status_is_read status within.written within.flushed within.applied within.clock)
       ∙ ap (λ ahead. confirmed_by ahead subscriber status h) reached
 
-  status_session : (status : Status) (h : HearingOf) → subscriber < length h.slots → h.heard.replies + 1 < 2 ^ 32
+  status_session : (status : Status) (h : HearingOf) → subscriber < length h.slots
       → session_of subscriber now moves (after status h) ≡ hear_up now (session_of subscriber now moves h) (Says status)
-  status_session status h there few =
+  status_session status h there =
       ap (λ confirmed. session confirmed (start_in h.started) (moves ++ replicate (one_more status.wants_reply h.heard.replies) (Keep now false))) (raised_at h.slots subscriber status.flushed there)
-      ∙ ap (session (max (confirmed_at h.slots subscriber) status.flushed) (start_in h.started)) (replies_more status.wants_reply h.heard.replies now moves few)
+      ∙ ap (session (max (confirmed_at h.slots subscriber) status.flushed) (start_in h.started)) (replies_more status.wants_reply h.heard.replies now moves)
 
   still_hearing : (status : Status) (h : HearingOf) → IsHearing subscriber h → IsHearing subscriber (after status h)
   still_hearing status h hearing = record {
@@ -82,27 +80,22 @@ module _ (served : Served) (subscriber start now : ℕ) (moves : List Move) wher
     goes_on = hearing.goes_on;
   }
 
-  no_more_replies : (wants : Bool) (replies : ℕ) → one_more wants replies ≤ replies + 1
-  no_more_replies true replies = omega arith
-  no_more_replies false replies = omega arith
-
   all_heard : (statuses : List Status) (h : HearingOf) → IsHearing subscriber h → h.started ≡ Some (subscriber, start)
-      → All (IsWithin (min h.sent (end_after served.commits))) statuses → h.heard.replies + length statuses < 2 ^ 32
+      → All (IsWithin (min h.sent (end_after served.commits))) statuses
       → IsHeard subscriber now moves (frames_heard served h (map (up_frame served.checked subscriber) (map Says statuses)))
       (fold (hear_up now) (session_of subscriber now moves h) (map Says statuses))
   unfolding frames_heard
-  all_heard [] h hearing is within few = record { hearing = hearing; session_is = refl }
-  all_heard (status ∷ statuses) h hearing is within few =
+  all_heard [] h hearing is within = record { hearing = hearing; session_is = refl }
+  all_heard (status ∷ statuses) h hearing is within =
       let step = status_step status h hearing.goes_on is (All-head (IsWithin (min h.sent (end_after served.commits))) status statuses within) in
-      let same = status_session status h hearing.is_there (omega (arith, few)) in
-      let later = all_heard statuses (after status h) (still_hearing status h hearing) is (All-tail (IsWithin (min h.sent (end_after served.commits))) status statuses within)
-      (omega (arith, few, no_more_replies status.wants_reply h.heard.replies)) in
+      let same = status_session status h hearing.is_there in
+      let later = all_heard statuses (after status h) (still_hearing status h hearing) is (All-tail (IsWithin (min h.sent (end_after served.commits))) status statuses within) in
       subst (λ next. IsHeard subscriber now moves (frames_heard served next (map (up_frame served.checked subscriber) (map Says statuses)))
       (fold (hear_up now) (hear_up now (session_of subscriber now moves h) (Says status)) (map Says statuses))) (sym step)
       (subst (λ its. IsHeard subscriber now moves (frames_heard served (after status h) (map (up_frame served.checked subscriber) (map Says statuses))) (fold (hear_up now) its (map Says statuses))) same later)
 
 pub statuses_are_heard : StatusesAreHeard
-statuses_are_heard served subscriber start now moves statuses h hearing is within few = all_heard served subscriber start now moves statuses h hearing is within few
+statuses_are_heard served subscriber start now moves statuses h hearing is within = all_heard served subscriber start now moves statuses h hearing is within
 
 -- ---- the start
 

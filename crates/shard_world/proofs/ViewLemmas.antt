@@ -1,12 +1,13 @@
 -- What is shown of a subscriber and of the publisher's tables.
-use Rattle.std.proofs.Common.{◌≡◌, ℕ, zero, suc, ◌<◌, ◌≤◌, Bool, List, [], ◌∷◌, ◌++◌, length, refl, sym, ap, subst, ◌∙◌, arith}
+use Rattle.std.proofs.Common.{◌≡◌, ℕ, zero, suc, ◌<◌, ◌≤◌, Bool, ◌&&◌, List, [], ◌∷◌, ◌++◌, length, refl, sym, ap, subst, ◌∙◌, arith}
 use Rattle.std.specs.Prelude.{IfSome, Option, Some, None, slice_get}
 use Rattle.std.proofs.lemmas.Option.{slice_get_within}
 use Rattle.filter_tree.specs.Datum.{Datum}
+use Rattle.replica_identity.proofs.PassingLemmas.{takes_what_passes}
 use Rattle.shard_checker.specs.CheckedView.{CheckedOf, setting_in}
 use Rattle.table_changes.specs.Keys.{key_at}
 use Rattle.table_changes.specs.Standing.{Sound}
-use Rattle.table_changes.specs.Tables.{SameTables, Stands, found_at, holds, is_row}
+use Rattle.table_changes.specs.Tables.{Tables, SameTables, Stands, found_at, holds, is_row}
 use Rattle.table_changes.proofs.GrowingLemmas.{are_alike}
 use Rattle.table_changes.proofs.TableLemmas.{row_found}
 use Rattle.tables_log.specs.BookView.{book_checked, book_listed, book_rows, book_slots}
@@ -21,11 +22,11 @@ use Rattle.tables_log.specs.Slots.{confirmed_at}
 use Rattle.copy_both.specs.Streams.{count_before}
 use Rattle.copy_both.specs.declared.link.Link.{Link}
 use Rattle.test_subscriber.specs.Subscribers.{sub_listed, sub_machine}
-use Rattle.shard_world.specs.Finding.{FindsRows, in_shard}
-use Rattle.shard_world.specs.Following.{Follows, own_key}
+use Rattle.stream_laws.specs.Finding.{FindsRows, in_shard}
+use Rattle.stream_laws.specs.Following.{Follows, own_key}
 use Rattle.shard_world.specs.Joined.{PeerOf, PeerIs, IsAt, StaysAlike}
 use Rattle.shard_world.specs.Seeing.{AllAt, FoundIn, FoundBy, IsSeen, SeenAt, AreSeen}
-use Rattle.shard_world.specs.Viewing.{AreRows, ShowsSubscriber, ShowsWorld, tables_after}
+use Rattle.shard_world.specs.Viewing.{AreRows, ShowsSubscriber, ShowsWorld, is_let_through, tables_after}
 use Rattle.shard_world.specs.World as w
 use Rattle.shard_world.specs.World.{Connection, Event, machine_in, machine_now, position_now}
 use Rattle.shard_world.specs.Pumping.{IsPosition}
@@ -34,7 +35,7 @@ use Rattle.shard_world.specs.declared.world.World.{World}
 use Rattle.shard_world.specs.declared.view.SubscriberView.{SubscriberView}
 use Rattle.shard_world.specs.declared.view.View.{View}
 use Rattle.shard_world.proofs.DividedLemmas.{divides_shown}
-use Rattle.shard_world.proofs.SwapLemmas.{is_it}
+use Rattle.stream_laws.proofs.SwapLemmas.{is_it}
 use Rattle.shard_world.proofs.WorldLemmas.{all_timed, can_be_said, good_at, published}
 use Rattle.shard_world.proofs.WorldPeers.{good_follows}
 
@@ -50,6 +51,14 @@ are_rows key_of found test listed rows finds lists in_order =
           sym (finds.each row) ∙ is_it (found (key_of row)) row (ap found (finds.keyed here.0 row here.1) ∙ here.1);
       ascending = are.ascending;
     }
+
+-- tests that agree on every row have the same rows
+are_rows_alike : (test other : List Datum → Bool) (rows : List (List Datum)) → ((row : List Datum) → other row ≡ test row) → AreRows test rows → AreRows other rows
+are_rows_alike test other rows same are = record {
+  all = λ row is. are.all row (sym (same row) ∙ is);
+  only = λ row has. same row ∙ are.only row has;
+  ascending = are.ascending;
+}
 
 finds_alike : (key_of : List Datum → List Datum) (found other : List Datum → Option (List Datum)) (test : List Datum → Bool) → ((key : List Datum) → other key ≡ found key)
     → FindsRows key_of found test → FindsRows key_of other test
@@ -137,8 +146,8 @@ module _ (checked : CheckedOf) (most : ℕ) (book : Book) (peers : List PeerOf) 
   follows_at : (number : ℕ) → Follows checked world.transactions number
       (position_now checked world.transactions number (world.peers number)) (machine_now checked world.transactions number (world.peers number))
   follows_at number =
-      let sayable = can_be_said checked most is.publisher events is.texts world is.leads in
-      let good = good_at checked is.publisher.covered is.publisher.apart most events (all_timed events is.texts) world is.leads sayable in
+      let sayable = can_be_said checked most is.publisher events is.times world is.leads in
+      let good = good_at checked is.publisher.covered is.publisher.apart most events (all_timed events is.times) world is.leads sayable in
       good_follows checked world.transactions (published checked is.publisher.covered is.publisher.apart world good) sayable number (world.peers number) (good.peers number)
 
   -- it has its shard after as many commits as are shown
@@ -151,22 +160,35 @@ module _ (checked : CheckedOf) (most : ℕ) (book : Book) (peers : List PeerOf) 
       (in_shard (setting_in checked) number (tables_after checked world.transactions (count_before (position_now checked world.transactions number (world.peers number)))) table)
       (λ key. alike.rows (oid_of table) key) ((follows_at number).rows table))
 
+  -- what a subscriber's share of a table takes is what its publications let through
+  lets_through : (number : ℕ) (tables : Tables) (table : ℕ) → table < length checked.catalog.tables → (rows : List (List Datum))
+      → AreRows (in_shard (setting_in checked) number tables table) rows → AreRows (is_let_through checked number tables table) rows
+  lets_through number tables table within rows are =
+      are_rows_alike (in_shard (setting_in checked) number tables table) (is_let_through checked number tables table) rows
+      (λ row. ap (λ (passes : Bool). holds (setting_in checked).keys tables table row && passes)
+      (sym ((takes_what_passes checked.catalog checked.plan is.publisher.own).same number table within row))) are
+
   shows_subscriber : (tables number : ℕ) → tables ≡ length checked.catalog.tables → (code : PeerOf) (shown : SubscriberView)
       → PeerIs checked world.transactions number (book_slots book) code (world.peers number) → IsSeen book tables number code.subscriber shown
       → ShowsSubscriber checked world.transactions number (world.peers number) shown
   shows_subscriber tables number width code shown stands seen =
       let alike = stays_at number code stands in
       let position : shown.position ≡ position_now checked world.transactions number (world.peers number) = seen.position_is ∙ alike.position ∙ (follows_at number).position_is in
+      let shard = at_also (λ table rows. FoundBy code.subscriber table rows.items)
+      (λ table rows. AreRows (in_shard (setting_in checked) number (tables_after checked world.transactions shown.applied) table) rows.items) shown.rows.items seen.rows
+      (λ table rows there found. are_rows (own_key checked table) ((sub_machine code.subscriber).rows (oid_of table))
+      (in_shard (setting_in checked) number (tables_after checked world.transactions shown.applied) table) (sub_listed code.subscriber (oid_of table)) rows.items
+      (finds_shown number shown.applied table code (seen.applied_is ∙ ap count_before position) alike) found.lists found.in_order) in
       record {
         position_is = position;
         applied_is = seen.applied_is;
         confirmed_is = seen.confirmed_is ∙ slot_at number code stands;
         tables = seen.width ∙ width;
-        rows = at_also (λ table rows. FoundBy code.subscriber table rows.items)
-            (λ table rows. AreRows (in_shard (setting_in checked) number (tables_after checked world.transactions shown.applied) table) rows.items) shown.rows.items seen.rows
-            (λ table rows there found. are_rows (own_key checked table) ((sub_machine code.subscriber).rows (oid_of table))
-            (in_shard (setting_in checked) number (tables_after checked world.transactions shown.applied) table) (sub_listed code.subscriber (oid_of table)) rows.items
-            (finds_shown number shown.applied table code (seen.applied_is ∙ ap count_before position) alike) found.lists found.in_order);
+        rows = shard;
+        let_through = at_also (λ table rows. AreRows (in_shard (setting_in checked) number (tables_after checked world.transactions shown.applied) table) rows.items)
+            (λ table rows. AreRows (is_let_through checked number (tables_after checked world.transactions shown.applied) table) rows.items) shown.rows.items shard
+            (λ table rows there are. lets_through number (tables_after checked world.transactions shown.applied) table
+            (subst (λ n. table < n) (seen.width ∙ width) (slice_get_within shown.rows.items table rows there)) rows.items are);
       }
 
   -- a subscriber that is shown is there
@@ -185,7 +207,7 @@ module _ (checked : CheckedOf) (most : ℕ) (book : Book) (peers : List PeerOf) 
         (λ table rows there found. publisher_rows checked book world.transactions is.checked_is is.stands table rows.items found.lists found.in_order);
     count = seen.count ∙ is.count;
     each = shows_each;
-    divided = λ count applied. divides_shown checked world shown shows_each (seen.count ∙ is.count) count applied most is.publisher sound events is.texts is.leads;
+    divided = λ count applied. divides_shown checked world shown shows_each (seen.count ∙ is.count) count applied most is.publisher sound events is.times is.leads;
   }
     where
       within_plan : (number : ℕ) → number < length shown.subscribers.items → number < length checked.plan

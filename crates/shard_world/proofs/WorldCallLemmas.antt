@@ -18,11 +18,11 @@ use Rattle.test_subscriber.specs.Frames.{hear_cut}
 use Rattle.test_subscriber.specs.Machine.{opened}
 use Rattle.test_subscriber.specs.Subscribers.{sub_machine}
 use Rattle.test_subscriber.specs.declared.subscriber.Subscriber.{Subscriber}
-use Rattle.shard_world.specs.Following.{log_of}
+use Rattle.stream_laws.specs.Following.{log_of}
 use Rattle.shard_world.specs.Joined.{PeerOf, PeerIs, IsAt, IsLinked, AlikeBut, Speaks, run_of}
-use Rattle.shard_world.specs.Items.{spelled}
+use Rattle.stream_laws.specs.Items.{spelled}
 use Rattle.shard_world.specs.World as w
-use Rattle.shard_world.specs.World.{Connection, Event, Answer, Steps, Leads, down_bytes, machine_in, place_of}
+use Rattle.shard_world.specs.World.{Connection, Event, Answer, Steps, Leads, down_bytes, place_of}
 use Rattle.shard_world.proofs.WorldHearing.{down_longer}
 use Rattle.shard_world.proofs.WorldItems.{log_goes_on, moved_longer}
 use Rattle.shard_world.proofs.WorldPeers.{StartsAt, IsConnected, IsConnectedAt, IsGood, bytes_of_items}

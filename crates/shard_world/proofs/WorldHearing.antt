@@ -11,11 +11,11 @@ use Rattle.copy_both.specs.StreamLaws.{IsThere, AllThere}
 use Rattle.copy_both.specs.Streams.{Place, Move, Take, Keep, place_at, moved}
 use Rattle.copy_both.specs.Tellings.{telling_of}
 use Rattle.copy_frames.specs.declared.status.Status.{Status}
-use Rattle.shard_world.specs.Cutting.{if_whole, whole_in}
-use Rattle.shard_world.specs.Following.{position_after, log_of}
-use Rattle.shard_world.specs.Items.{Item, Response, spelled, all_items}
+use Rattle.stream_laws.specs.Cutting.{if_whole, whole_in}
+use Rattle.stream_laws.specs.Following.{position_after, log_of}
+use Rattle.stream_laws.specs.Items.{Item, Response, spelled, all_items}
 use Rattle.shard_world.specs.World.{Up, Asks, Says, Connection, Peer, Session, down_items, position_in, position_now, spelled_up, whole_up, ups_of, start_at, replied, hear_up, newly, heard_of, hears}
-use Rattle.shard_world.proofs.FollowingBytesLemmas.{follows_longer}
+use Rattle.stream_laws.proofs.FollowingBytesLemmas.{follows_longer}
 use Rattle.shard_world.proofs.WorldItems.{none_in_nothing, moved_longer, items_longer, log_goes_on}
 use Rattle.shard_world.proofs.WorldPeers.{StartsAt, IsReported, IsConnected, IsConnectedAt, IsGood, moves_connected}
 

@@ -21,12 +21,12 @@ use Rattle.pgoutput_msgs.specs.declared.message.Msg.TheVariants as m
 use Rattle.copy_both.specs.StreamLaws.{IsThere, AllThere}
 use Rattle.copy_both.specs.Streams.{Place, Move, Take, Keep, count_before, place_at, place_after, taken_place, moved, all_moved}
 use Rattle.copy_both.specs.Tellings.{telling_of}
-use Rattle.shard_world.specs.Cutting.{if_whole, whole_in}
-use Rattle.shard_world.specs.Following.{raised_by_message, raised_by, position_after, log_of, IsSentItem}
-use Rattle.shard_world.specs.Items.{Item, Response, Carries, Alive, spelled, head_of, take_items, move_items, all_items, stream_items}
-use Rattle.shard_world.specs.Sayable.{IsSayable}
-use Rattle.shard_world.proofs.EntryLemmas.{entry_at}
-use Rattle.shard_world.proofs.FollowingLemmas.{first_sent}
+use Rattle.stream_laws.specs.Cutting.{if_whole, whole_in}
+use Rattle.stream_laws.specs.Following.{raised_by_message, raised_by, position_after, log_of, IsSentItem}
+use Rattle.stream_laws.specs.Items.{Item, Response, Carries, Alive, spelled, head_of, take_items, move_items, all_items, stream_items}
+use Rattle.stream_laws.specs.Sayable.{IsSayable}
+use Rattle.stream_laws.proofs.EntryLemmas.{entry_at}
+use Rattle.stream_laws.proofs.FollowingLemmas.{first_sent}
 
 -- ---- items that are whole
 

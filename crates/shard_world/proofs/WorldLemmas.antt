@@ -17,15 +17,15 @@ use Rattle.replica_identity.specs.Shares.{ShareOf, Nothing, takes}
 use Rattle.shard_checker.specs.CheckedView.{CheckedOf, setting_in}
 use Rattle.table_changes.specs.Setting.{Setting}
 use Rattle.tables_log.specs.StandsFor.{Transaction, left_by, after, IsAccepted, AreAccepted}
-use Rattle.shard_world.specs.Finding.{in_shard}
-use Rattle.shard_world.specs.Following.{IsPublished}
+use Rattle.stream_laws.specs.Finding.{in_shard}
+use Rattle.stream_laws.specs.Following.{IsPublished}
 use Rattle.shard_world.specs.World.{Connection, Peer, World, Event, Commit, On, Answer, first_world, peer_step, broken, with_peer, with_transaction, StepsOn, Steps, Leads}
-use Rattle.shard_world.specs.Sayable.{IsTextTransaction, IsSayable}
-use Rattle.shard_world.specs.WorldLaws.{IsPublisher, BringsTexts, IsTextEvent, HoldsExactly, WorldsHoldExactly, IsStartedAsAsked, WorldsStartAsAsked, has_row, WorldsDivideRows}
-use Rattle.shard_world.proofs.CommandSteps.{IsRight}
-use Rattle.shard_world.proofs.EntryLemmas.{right_at}
-use Rattle.shard_world.proofs.FollowingBytesLemmas.{first_follows}
-use Rattle.shard_world.proofs.SayableLemmas.{logs_can_be_said}
+use Rattle.stream_laws.specs.Sayable.{IsTimedTransaction, IsSayable}
+use Rattle.shard_world.specs.WorldLaws.{IsPublisher, HasTime, IsTimedEvent, HoldsExactly, WorldsHoldExactly, IsStartedAsAsked, WorldsStartAsAsked, has_row, WorldsDivideRows}
+use Rattle.stream_laws.proofs.CommandSteps.{IsRight}
+use Rattle.stream_laws.proofs.EntryLemmas.{right_at}
+use Rattle.stream_laws.proofs.FollowingBytesLemmas.{first_follows}
+use Rattle.stream_laws.proofs.SayableLemmas.{logs_can_be_said}
 use Rattle.shard_world.proofs.WorldHearing.{longer_good}
 use Rattle.shard_world.proofs.WorldItems.{sayable_first}
 use Rattle.shard_world.proofs.WorldPeers.{IsConnectedAt, IsGood, good_follows}
@@ -153,65 +153,65 @@ module _ (checked : CheckedOf) (covered : Covered (setting_in checked)) (keeps :
 
 -- ---- what is told of the log has room
 
--- transactions that were accepted and are texts, at most so many
-record IsTextLog (checked : CheckedOf) (most : ℕ) (transactions : List Transaction) : Type 0 where
+-- transactions that were accepted, whose times have 64 bits, at most so many
+record IsTimedLog (checked : CheckedOf) (most : ℕ) (transactions : List Transaction) : Type 0 where
   accepted : AreAccepted (setting_in checked) no_rows transactions
-  texts : All IsTextTransaction transactions
+  timed : All IsTimedTransaction transactions
   few : length transactions ≤ most
 
-same_log : (checked : CheckedOf) (most : ℕ) (one other : List Transaction) → one ≡ other → IsTextLog checked most other → IsTextLog checked most one
-same_log checked most one other e so = subst (IsTextLog checked most) (sym e) so
+same_log : (checked : CheckedOf) (most : ℕ) (one other : List Transaction) → one ≡ other → IsTimedLog checked most other → IsTimedLog checked most one
+same_log checked most one other e so = subst (IsTimedLog checked most) (sym e) so
 
-step_texts : (checked : CheckedOf) (most : ℕ) (world : World) (event : ℕ × Event) (answer : Answer) (next : World) → IsTextEvent event → Steps checked most world event.0 event.1 answer next
-    → IsTextLog checked most world.transactions → IsTextLog checked most next.transactions
-step_texts checked most world event answer next text steps so = by_event event.1 text.1 steps
+step_timed : (checked : CheckedOf) (most : ℕ) (world : World) (event : ℕ × Event) (answer : Answer) (next : World) → IsTimedEvent event → Steps checked most world event.0 event.1 answer next
+    → IsTimedLog checked most world.transactions → IsTimedLog checked most next.transactions
+step_timed checked most world event answer next timed steps so = by_event event.1 timed.1 steps
   where
-    stays_so : next.transactions ≡ world.transactions → IsTextLog checked most next.transactions
+    stays_so : next.transactions ≡ world.transactions → IsTimedLog checked most next.transactions
     stays_so e = same_log checked most next.transactions world.transactions e so
 
-    by_event : (one : Event) → BringsTexts one → Steps checked most world event.0 one answer next → IsTextLog checked most next.transactions
-    by_event (Commit commands time) brings step = elim step [
+    by_event : (one : Event) → HasTime one → Steps checked most world event.0 one answer next → IsTimedLog checked most next.transactions
+    by_event (Commit commands time) fits step = elim step [
       | inl commits ↦ same_log checked most next.transactions (with_transaction world commands time).transactions (transactions_of next (with_transaction world commands time) commits.next_is) (record {
         accepted = accepted_more (setting_in checked) no_rows world.transactions (record { commands = commands; time = time }) so.accepted commits.accepted;
-        texts = All-append IsTextTransaction world.transactions (record { commands = commands; time = time } ∷ []) so.texts
-            (All-cons IsTextTransaction (record { commands = commands; time = time }) [] (record { timed = brings.0; texts = brings.1 }) (All-nil IsTextTransaction));
+        timed = All-append IsTimedTransaction world.transactions (record { commands = commands; time = time } ∷ []) so.timed
+            (All-cons IsTimedTransaction (record { commands = commands; time = time }) [] fits (All-nil IsTimedTransaction));
         few = omega (arith, commits.room, length-append world.transactions (record { commands = commands; time = time } ∷ []));
       })
       | inr refuses ↦ stays_so (transactions_of next world refuses.next_is)
     ]
-    by_event (On subscriber peer_event) brings step = by_number (nat_lt subscriber (length checked.plan)) step
+    by_event (On subscriber peer_event) fits step = by_number (nat_lt subscriber (length checked.plan)) step
       where
-        by_number : (known : Bool) → StepsOn known checked world subscriber event.0 peer_event answer next → IsTextLog checked most next.transactions
+        by_number : (known : Bool) → StepsOn known checked world subscriber event.0 peer_event answer next → IsTimedLog checked most next.transactions
         by_number false moved = stays_so (transactions_of next world moved.1)
         by_number true moved = elim moved [
           | inl moves ↦ stays_so (transactions_of next (with_peer world subscriber _) moves.next_is)
           | inr breaks ↦ stays_so (transactions_of next (with_peer world subscriber _) breaks.next_is)
         ]
 
-leads_texts : (checked : CheckedOf) (most : ℕ) (events : List (ℕ × Event)) → All IsTextEvent events → (world last : World) → Leads checked most events world last
-    → IsTextLog checked most world.transactions → IsTextLog checked most last.transactions
-leads_texts checked most [] texts world last leads so = same_log checked most last.transactions world.transactions (transactions_of last world leads) so
-leads_texts checked most (event ∷ events) texts world last leads so =
-    leads_texts checked most events (All-tail IsTextEvent event events texts) leads.1 last leads.3
-    (step_texts checked most world event leads.0 leads.1 (All-head IsTextEvent event events texts) leads.2 so)
+leads_timed : (checked : CheckedOf) (most : ℕ) (events : List (ℕ × Event)) → All IsTimedEvent events → (world last : World) → Leads checked most events world last
+    → IsTimedLog checked most world.transactions → IsTimedLog checked most last.transactions
+leads_timed checked most [] timed world last leads so = same_log checked most last.transactions world.transactions (transactions_of last world leads) so
+leads_timed checked most (event ∷ events) timed world last leads so =
+    leads_timed checked most events (All-tail IsTimedEvent event events timed) leads.1 last leads.3
+    (step_timed checked most world event leads.0 leads.1 (All-head IsTimedEvent event events timed) leads.2 so)
 
-pub all_timed : (events : List (ℕ × Event)) → All IsTextEvent events → All IsTimed events
-all_timed [] texts = All-nil IsTimed
-all_timed (event ∷ events) texts = All-cons IsTimed event events (All-head IsTextEvent event events texts).0 (all_timed events (All-tail IsTextEvent event events texts))
+pub all_timed : (events : List (ℕ × Event)) → All IsTimedEvent events → All IsTimed events
+all_timed [] timed = All-nil IsTimed
+all_timed (event ∷ events) timed = All-cons IsTimed event events (All-head IsTimedEvent event events timed).0 (all_timed events (All-tail IsTimedEvent event events timed))
 
-pub can_be_said : (checked : CheckedOf) (most : ℕ) → IsPublisher checked most → (events : List (ℕ × Event)) → All IsTextEvent events → (world : World) → Leads checked most events first_world world
+pub can_be_said : (checked : CheckedOf) (most : ℕ) → IsPublisher checked most → (events : List (ℕ × Event)) → All IsTimedEvent events → (world : World) → Leads checked most events first_world world
     → IsSayable checked world.transactions
-can_be_said checked most publisher events texts world leads =
-    let log = leads_texts checked most events texts first_world world leads (record { accepted = tt; texts = All-nil IsTextTransaction; few = omega arith }) in
-    logs_can_be_said checked publisher.covered publisher.limited world.transactions log.accepted log.texts (omega (arith, log.few, publisher.most_is))
+can_be_said checked most publisher events timed world leads =
+    let log = leads_timed checked most events timed first_world world leads (record { accepted = tt; timed = All-nil IsTimedTransaction; few = omega arith }) in
+    logs_can_be_said checked publisher.covered publisher.limited world.transactions log.accepted log.timed (omega (arith, log.few, publisher.most_is))
 
 pub worlds_hold_exactly : WorldsHoldExactly
-worlds_hold_exactly checked most publisher events texts world leads =
-    hold_exactly checked publisher.covered publisher.apart most events (all_timed events texts) world leads (can_be_said checked most publisher events texts world leads)
+worlds_hold_exactly checked most publisher events timed world leads =
+    hold_exactly checked publisher.covered publisher.apart most events (all_timed events timed) world leads (can_be_said checked most publisher events timed world leads)
 
 pub worlds_start_as_asked : WorldsStartAsAsked
-worlds_start_as_asked checked most publisher events texts world leads subscriber =
-    let good = good_at checked publisher.covered publisher.apart most events (all_timed events texts) world leads (can_be_said checked most publisher events texts world leads) in
+worlds_start_as_asked checked most publisher events timed world leads subscriber =
+    let good = good_at checked publisher.covered publisher.apart most events (all_timed events timed) world leads (can_be_said checked most publisher events timed world leads) in
     asked (world.peers subscriber) (world.peers subscriber).connection (good.peers subscriber).connected
   where
     asked : (peer : Peer) (connection : Option Connection) → IsConnectedAt checked world.transactions subscriber peer connection → IsStartedAsAsked peer connection
@@ -237,9 +237,9 @@ left_of true q h = refl
 left_of false q h = absurd cc
 
 pub worlds_divide_rows : WorldsDivideRows
-worlds_divide_rows checked most publisher sound events texts world leads count applied = record {
+worlds_divide_rows checked most publisher sound events timed world leads count applied = record {
   somewhere = λ table row there.
-      let owner = sound.one_owner table row ((tables_right checked publisher.covered publisher.apart most events (all_timed events texts) world leads (can_be_said checked most publisher events texts world leads) count).fit table row there) in
+      let owner = sound.one_owner table row ((tables_right checked publisher.covered publisher.apart most events (all_timed events timed) world leads (can_be_said checked most publisher events timed world leads) count).fit table row there) in
       let is_one = taker_is_one checked owner.owner table row owner.takes_it in
       record {
         owner = owner.owner;
@@ -255,7 +255,7 @@ worlds_divide_rows checked most publisher sound events texts world leads count a
     has_as : (subscriber : ℕ) → subscriber < length checked.plan → (table : ℕ) (row : List Datum)
         → has_row checked world subscriber table row ≡ in_shard (setting_in checked) subscriber (after (setting_in checked) (take count world.transactions)) table row
     has_as subscriber is_one table row =
-        (hold_exactly checked publisher.covered publisher.apart most events (all_timed events texts) world leads (can_be_said checked most publisher events texts world leads) subscriber table).each row
+        (hold_exactly checked publisher.covered publisher.apart most events (all_timed events timed) world leads (can_be_said checked most publisher events timed world leads) subscriber table).each row
         ∙ ap (λ n. in_shard (setting_in checked) subscriber (after (setting_in checked) (take n world.transactions)) table row) (applied subscriber is_one)
 
     both : {p q : Bool} → p ≡ true → q ≡ true → (p && q) ≡ true

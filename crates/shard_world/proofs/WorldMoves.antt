@@ -1,23 +1,23 @@
 -- What each event does to a program's world.
 use Rattle.std.proofs.Common.{◌≡◌, ℕ, ◌<◌, ◌≤◌, ◌^◌, true, List, [], ◌∷◌, ◌++◌, length, refl, sym, subst, ◌∙◌, arith, inl, inr}
-use Rattle.std.specs.Prelude.{Some, All, nat_lt, slice_get, slice_set}
+use Rattle.std.specs.Prelude.{Some, nat_lt, slice_get, slice_set}
 use Rattle.std.proofs.lemmas.Bool.{lt-ltb, le-ltb}
 use Rattle.std.proofs.lemmas.Option.{slice_get_within}
 use Rattle.table_changes.specs.Commands.{Command}
 use Rattle.tables_log.specs.BookView.{book_slots}
 use Rattle.tables_log.specs.Committing as c
-use Rattle.tables_log.specs.Committing.{IsKept, RefusedBy}
+use Rattle.tables_log.specs.Committing.{HasRoomFor, IsKept, RefusedBy}
 use Rattle.tables_log.specs.declared.error.CommitError.{CommitError}
+use Rattle.tables_log.specs.declared.error.CommitError.TheVariants as e
 use Rattle.tables_log.proofs.StandLemmas.{slots_keep_it}
 use Rattle.shard_world.specs.Joined.{PeerOf, PeerIs}
 use Rattle.shard_world.specs.PeerCalls.{Made, Breaks, Moves}
 use Rattle.shard_world.specs.PeerSteps.{Case, HasLog, IsCase}
-use Rattle.shard_world.specs.Sayable.{IsTextCommand}
 use Rattle.shard_world.specs.World as w
 use Rattle.shard_world.specs.World.{Answer, Event, PeerEvent, Commit, On, Committed, Refused, NoSubscriber, Steps, with_peer, with_transaction}
 use Rattle.shard_world.specs.WorldCalls.{PeerAt, IsWorldBy, IsWorld, StepsOn, world_book, world_checked, world_peers}
 use Rattle.shard_world.specs.declared.world.World.{World}
-use Rattle.shard_world.proofs.WorldStepLemmas.{commit_after, commit_steps, refused_after, refusal_steps, world_after, log_there, one_text}
+use Rattle.shard_world.proofs.WorldStepLemmas.{commit_after, commit_steps, refused_after, refusal_steps, world_after, log_there, one_timed}
 use Rattle.shard_world.proofs.WorldCallLemmas.{leads_one_more}
 
 module _ (before after : World) (same : world_checked after ≡ world_checked before) where
@@ -30,27 +30,27 @@ module _ (before after : World) (same : world_checked after ≡ world_checked be
 
   -- ---- commits
 
-  pub commits_one : (commands : List Command) (time number now : ℕ) → now < 2 ^ 64 → time < 2 ^ 64 → All IsTextCommand commands → world_peers after ≡ world_peers before
+  pub commits_one : (commands : List Command) (time number now : ℕ) → now < 2 ^ 64 → time < 2 ^ 64 → world_peers after ≡ world_peers before
       → c.Commits (world_book before) (world_book after) commands time number → StepsOn before after now (Commit commands time) (Committed number)
-  commits_one commands time number now timed time_fits texts peers commits most events world is few =
+  commits_one commands time number now timed time_fits peers commits most events world is =
       let steps = commit_steps (world_checked before) most (world_book before) (world_peers before) events world is (world_book after) commands time number now commits in
       record {
         next = with_transaction world commands time;
         steps = steps;
         is = as_world most (events ++ (now, Commit commands time) ∷ []) (with_transaction world commands time) (world_peers before) peers
-            (commit_after (world_checked before) most (world_book before) (world_peers before) events world is (world_book after) commands time number now timed time_fits texts commits steps);
+            (commit_after (world_checked before) most (world_book before) (world_peers before) events world is (world_book after) commands time number now timed time_fits commits steps);
         checked = same;
       }
 
-  pub refuses_one : (commands : List Command) (time now : ℕ) (error : CommitError) → now < 2 ^ 64 → time < 2 ^ 64 → All IsTextCommand commands → world_peers after ≡ world_peers before
-      → RefusedBy (world_book before) commands error → IsKept (world_book before) (world_book after) → StepsOn before after now (Commit commands time) (Refused error)
-  refuses_one commands time now error timed time_fits texts peers refused kept most events world is few =
-      let steps = refusal_steps (world_checked before) most (world_book before) (world_peers before) events world is commands time now error refused in
+  pub refuses_one : (commands : List Command) (time now : ℕ) (error : CommitError) → now < 2 ^ 64 → time < 2 ^ 64 → world_peers after ≡ world_peers before
+      → RefusedBy (world_book before) commands error → (error ≡ e.OutOfMemory → HasRoomFor (world_book before) commands) → IsKept (world_book before) (world_book after) → StepsOn before after now (Commit commands time) (Refused error)
+  refuses_one commands time now error timed time_fits peers refused memory kept most events world is =
+      let steps = refusal_steps (world_checked before) most (world_book before) (world_peers before) events world is commands time now error refused memory in
       record {
         next = world;
         steps = steps;
         is = as_world most (events ++ (now, Commit commands time) ∷ []) world (world_peers before) peers
-            (refused_after (world_checked before) most (world_book before) (world_peers before) events world is (world_book after) commands time now error timed time_fits texts kept steps);
+            (refused_after (world_checked before) most (world_book before) (world_peers before) events world is (world_book after) commands time now error timed time_fits kept steps);
         checked = same;
       }
 
@@ -59,7 +59,7 @@ module _ (before after : World) (same : world_checked after ≡ world_checked be
   pub moves_one : (number now : ℕ) (event : PeerEvent) (old new : PeerOf) (answer : Answer) → now < 2 ^ 64 → slice_get (world_peers before) number ≡ Some old
       → world_peers after ≡ slice_set (world_peers before) number new → Moves (world_checked before) now event (world_book before) (world_book after) old new answer
       → StepsOn before after now (On number event) answer
-  moves_one number now event old new answer timed at peers moves most events world is few =
+  moves_one number now event old new answer timed at peers moves most events world is =
       elim (moves case (record { is = is_case; checked_is = refl; now_is = refl; log = log; peer = peer_there })) [
         | inl made ↦ record {
           next = with_peer world number (w.peer_step (world_checked before) world.transactions number now event (world.peers number) (world.peers number).connection).1;
@@ -99,7 +99,7 @@ module _ (before after : World) (same : world_checked after ≡ world_checked be
       peer_there = subst (PeerAt (world_checked before) world.transactions number (book_slots (world_book before)) (world.peers number)) at (is.each number there)
 
       is_case : IsCase case
-      is_case = record { publisher = is.publisher; texts = is.texts; few = few; leads = is.leads; there = there; timed = timed }
+      is_case = record { publisher = is.publisher; times = is.times; leads = is.leads; there = there; timed = timed }
 
       known : nat_lt number (length (world_checked before).plan) ≡ true
       known = lt-ltb number (length (world_checked before).plan) there
@@ -116,13 +116,13 @@ module _ (before after : World) (same : world_checked after ≡ world_checked be
           (with_peer world number (w.broken (world_checked before) world.transactions number now event (world.peers number) broke.on.breaks.some (world.peers number).connection))
       broke_steps broke = subst (λ its. w.StepsOn its (world_checked before) world number now event answer
           (with_peer world number (w.broken (world_checked before) world.transactions number now event (world.peers number) broke.on.breaks.some (world.peers number).connection))) (sym known)
-          (inr (record { some = broke.on.breaks.some; answer_is = broke.answer_is; next_is = refl }))
+          (inr (record { needed = broke.needed; some = broke.on.breaks.some; answer_is = broke.answer_is; next_is = refl }))
 
   -- ---- no such subscriber
 
   pub none_there : (number now : ℕ) (event : PeerEvent) → now < 2 ^ 64 → length (world_peers before) ≤ number → world_peers after ≡ world_peers before → IsKept (world_book before) (world_book after)
       → StepsOn before after now (On number event) NoSubscriber
-  none_there number now event timed past peers kept most events world is few =
+  none_there number now event timed past peers kept most events world is =
       let steps = nobody_steps most events world is in
       record {
         next = world;
@@ -139,7 +139,7 @@ module _ (before after : World) (same : world_checked after ≡ world_checked be
           → IsWorldBy (world_checked before) most (world_book after) (world_peers before) (events ++ (now, On number event) ∷ []) world
       nobody_after most events world is steps = record {
         publisher = is.publisher;
-        texts = one_text (world_checked before) most (world_book before) (world_peers before) events world is now (On number event) (timed, tt);
+        times = one_timed (world_checked before) most (world_book before) (world_peers before) events world is now (On number event) (timed, tt);
         leads = leads_one_more (world_checked before) most events w.first_world world now (On number event) NoSubscriber world is.leads steps;
         checked_is = kept.checked ∙ is.checked_is;
         limit_is = kept.limit ∙ is.limit_is;

@@ -15,16 +15,16 @@ use Rattle.copy_frames.specs.declared.status.Status.{Status}
 use Rattle.test_subscriber.specs.Feeding.{limit}
 use Rattle.test_subscriber.specs.Frames.{hear_cut}
 use Rattle.test_subscriber.specs.Machine.{Machine, lost, opened}
-use Rattle.shard_world.specs.Cutting.{whole_in}
-use Rattle.shard_world.specs.Following.{position_after, Follows, IsPublished, log_of, IsSentItem}
-use Rattle.shard_world.specs.FollowingBytes.{IsFollowed}
-use Rattle.shard_world.specs.Items.{Item, Response, spelled, move_items}
-use Rattle.shard_world.specs.Sayable.{IsSayable}
+use Rattle.stream_laws.specs.Cutting.{whole_in}
+use Rattle.stream_laws.specs.Following.{position_after, Follows, IsPublished, log_of, IsSentItem}
+use Rattle.stream_laws.specs.FollowingBytes.{IsFollowed}
+use Rattle.stream_laws.specs.Items.{Item, Response, spelled, move_items}
+use Rattle.stream_laws.specs.Sayable.{IsSayable}
 use Rattle.shard_world.specs.World.{Connection, Peer, down_items, down_bytes, position_in, machine_in, position_now, machine_now, loses}
 pub use Rattle.shard_world.specs.WorldLaws.{StartsAt}
-use Rattle.shard_world.proofs.CuttingLemmas.{cut_nothing}
-use Rattle.shard_world.proofs.FollowingBytesLemmas.{follows_alike, opened_followed}
-use Rattle.shard_world.proofs.ItemLemmas.{streams_are_items}
+use Rattle.stream_laws.proofs.CuttingLemmas.{cut_nothing}
+use Rattle.stream_laws.proofs.FollowingBytesLemmas.{follows_alike, opened_followed}
+use Rattle.stream_laws.proofs.ItemLemmas.{streams_are_items}
 use Rattle.shard_world.proofs.WorldItems.{whole_more, more_raise, items_append, IsClocked, stream_sent}
 
 -- ---- what is so of a connection

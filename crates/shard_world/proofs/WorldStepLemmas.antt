@@ -11,7 +11,7 @@ use Rattle.table_changes.proofs.GrowingLemmas.{are_alike}
 use Rattle.table_changes.proofs.TableLemmas.{by_test}
 use Rattle.tables_log.specs.BookView.{book_log, book_rows, book_setting, book_slots}
 use Rattle.tables_log.specs.Committing as c
-use Rattle.tables_log.specs.Committing.{ChangesSlots, IsKept, RefusedBy}
+use Rattle.tables_log.specs.Committing.{HasRoomFor, IsKept, RefusedBy}
 use Rattle.tables_log.specs.StandsFor.{Transaction, after}
 use Rattle.tables_log.specs.declared.book.Book.{Book}
 use Rattle.tables_log.specs.declared.error.CommitError.{CommitError}
@@ -19,14 +19,13 @@ use Rattle.tables_log.specs.declared.error.CommitError.TheVariants as e
 use Rattle.tables_log.specs.declared.slots.Slot.{Slot}
 use Rattle.tables_log.proofs.PlaceLemmas.{get_set_here, get_set_beside}
 use Rattle.tables_log.proofs.StandLemmas.{slots_keep_it, commits_add_one, each_is_logged}
-use Rattle.shard_world.specs.Following.{log_of}
+use Rattle.stream_laws.specs.Following.{log_of}
 use Rattle.shard_world.specs.Joined.{PeerOf, PeerIs}
 use Rattle.shard_world.specs.PeerSteps.{ChangesOwn, HasLog}
-use Rattle.shard_world.specs.Sayable.{IsTextCommand}
 use Rattle.shard_world.specs.World as w
-use Rattle.shard_world.specs.World.{Answer, Event, PeerEvent, Commit, On, Committed, Refused, RefusedFor, Steps, StepsOn, Leads, first_world, peer_step, broken, with_peer, with_transaction}
+use Rattle.shard_world.specs.World.{Answer, Event, PeerEvent, Commit, On, Committed, Refused, RefusedFor, Steps, first_world, with_peer, with_transaction}
 use Rattle.shard_world.specs.WorldCalls.{PeerAt, IsWorldBy}
-use Rattle.shard_world.specs.WorldLaws.{IsTextEvent}
+use Rattle.shard_world.specs.WorldLaws.{IsTimedEvent}
 use Rattle.shard_world.proofs.WorldCallLemmas.{leads_one_more, is_elsewhere, is_longer}
 use Rattle.shard_world.proofs.WorldLemmas.{all_timed, can_be_said, good_at}
 use Rattle.shard_world.proofs.WorldPeers.{IsGood}
@@ -50,8 +49,8 @@ set_length (first ∷ xs) (suc i) x = ap suc (set_length xs i x)
 
 module _ (checked : CheckedOf) (most : ℕ) (book : Book) (peers : List PeerOf) (events : List (ℕ × Event)) (world : w.World) (is : IsWorldBy checked most book peers events world) where
   good_peer : (number : ℕ) → IsGood checked world.transactions number (world.peers number)
-  good_peer number = (good_at checked is.publisher.covered is.publisher.apart most events (all_timed events is.texts) world is.leads
-      (can_be_said checked most is.publisher events is.texts world is.leads)).peers number
+  good_peer number = (good_at checked is.publisher.covered is.publisher.apart most events (all_timed events is.times) world is.leads
+      (can_be_said checked most is.publisher events is.times world is.leads)).peers number
 
   pub log_there : (number now : ℕ) → HasLog (record { checked = checked; most = most; events = events; world = world; number = number; now = now }) book
   log_there number now = record {
@@ -59,8 +58,8 @@ module _ (checked : CheckedOf) (most : ℕ) (book : Book) (peers : List PeerOf) 
     log_is = is.stands.log ∙ ap (λ its. log_of its world.transactions) is.checked_is;
   }
 
-  pub one_text : (now : ℕ) (event : Event) → IsTextEvent (now, event) → All IsTextEvent (events ++ (now, event) ∷ [])
-  one_text now event text = All-append IsTextEvent events ((now, event) ∷ []) is.texts (All-cons IsTextEvent (now, event) [] text (All-nil IsTextEvent))
+  pub one_timed : (now : ℕ) (event : Event) → IsTimedEvent (now, event) → All IsTimedEvent (events ++ (now, event) ∷ [])
+  one_timed now event time = All-append IsTimedEvent events ((now, event) ∷ []) is.times (All-cons IsTimedEvent (now, event) [] time (All-nil IsTimedEvent))
 
   -- ---- a step on a connection
 
@@ -95,7 +94,7 @@ module _ (checked : CheckedOf) (most : ℕ) (book : Book) (peers : List PeerOf) 
         → IsWorldBy checked most after (slice_set peers number new) (events ++ (now, On number event) ∷ []) (with_peer world number peer)
     world_after event answer peer new_is steps = record {
       publisher = is.publisher;
-      texts = one_text now (On number event) (timed, tt);
+      times = one_timed now (On number event) (timed, tt);
       leads = leads_one_more checked most events first_world world now (On number event) answer (with_peer world number peer) is.leads steps;
       checked_is = own.book.checked ∙ is.checked_is;
       limit_is = own.book.limit ∙ is.limit_is;
@@ -106,12 +105,12 @@ module _ (checked : CheckedOf) (most : ℕ) (book : Book) (peers : List PeerOf) 
 
   -- ---- a commit
 
-  pub commit_after : (after_it : Book) (commands : List Command) (time number now : ℕ) → now < 2 ^ 64 → time < 2 ^ 64 → All IsTextCommand commands → c.Commits book after_it commands time number
+  pub commit_after : (after_it : Book) (commands : List Command) (time number now : ℕ) → now < 2 ^ 64 → time < 2 ^ 64 → c.Commits book after_it commands time number
       → Steps checked most world now (Commit commands time) (Committed number) (with_transaction world commands time)
       → IsWorldBy checked most after_it peers (events ++ (now, Commit commands time) ∷ []) (with_transaction world commands time)
-  commit_after after_it commands time number now timed time_fits texts commits steps = record {
+  commit_after after_it commands time number now timed time_fits commits steps = record {
     publisher = is.publisher;
-    texts = one_text now (Commit commands time) (timed, (time_fits, texts));
+    times = one_timed now (Commit commands time) (timed, time_fits);
     leads = leads_one_more checked most events first_world world now (Commit commands time) (Committed number) (with_transaction world commands time) is.leads steps;
     checked_is = commits.checked ∙ is.checked_is;
     limit_is = commits.limit ∙ is.limit_is;
@@ -143,20 +142,21 @@ module _ (checked : CheckedOf) (most : ℕ) (book : Book) (peers : List PeerOf) 
 
   -- ---- a refusal
 
-  refused_for : (commands : List Command) (error : CommitError) → RefusedBy book commands error → RefusedFor checked most world commands error
-  refused_for commands e.EmptyTransaction refused = refused
-  refused_for commands e.TooManyCommands refused = refused
-  refused_for commands e.LogFull refused = (refused.transaction, sym logged ∙ refused.full ∙ is.limit_is)
-  refused_for commands (e.At number fault) refused =
+  refused_for : (commands : List Command) (error : CommitError) → RefusedBy book commands error → (error ≡ e.OutOfMemory → HasRoomFor book commands)
+      → RefusedFor checked most world commands error
+  refused_for commands e.EmptyTransaction refused memory = refused
+  refused_for commands e.TooManyCommands refused memory = refused
+  refused_for commands e.LogFull refused memory = (refused.transaction, sym logged ∙ refused.full ∙ is.limit_is)
+  refused_for commands (e.At number fault) refused memory =
       (refused.transaction, omega (arith, refused.room, logged, is.limit_is), first_is commands ∙ refused.first)
-  refused_for commands e.OutOfMemory refused = tt
+  refused_for commands e.OutOfMemory refused memory = let has = memory refl in (has.transaction, omega (arith, has.room, logged, is.limit_is))
 
-  pub refused_after : (after_it : Book) (commands : List Command) (time now : ℕ) (error : CommitError) → now < 2 ^ 64 → time < 2 ^ 64 → All IsTextCommand commands → IsKept book after_it
+  pub refused_after : (after_it : Book) (commands : List Command) (time now : ℕ) (error : CommitError) → now < 2 ^ 64 → time < 2 ^ 64 → IsKept book after_it
       → Steps checked most world now (Commit commands time) (Refused error) world
       → IsWorldBy checked most after_it peers (events ++ (now, Commit commands time) ∷ []) world
-  refused_after after_it commands time now error timed time_fits texts kept steps = record {
+  refused_after after_it commands time now error timed time_fits kept steps = record {
     publisher = is.publisher;
-    texts = one_text now (Commit commands time) (timed, (time_fits, texts));
+    times = one_timed now (Commit commands time) (timed, time_fits);
     leads = leads_one_more checked most events first_world world now (Commit commands time) (Refused error) world is.leads steps;
     checked_is = kept.checked ∙ is.checked_is;
     limit_is = kept.limit ∙ is.limit_is;
@@ -165,5 +165,6 @@ module _ (checked : CheckedOf) (most : ℕ) (book : Book) (peers : List PeerOf) 
     each = λ other within. subst (λ slots. PeerAt checked world.transactions other slots (world.peers other) (slice_get peers other)) (sym kept.slots_are) (is.each other within);
   }
 
-  pub refusal_steps : (commands : List Command) (time now : ℕ) (error : CommitError) → RefusedBy book commands error → Steps checked most world now (Commit commands time) (Refused error) world
-  refusal_steps commands time now error refused = inr (record { error = error; refused = refused_for commands error refused; answer_is = refl; next_is = refl })
+  pub refusal_steps : (commands : List Command) (time now : ℕ) (error : CommitError) → RefusedBy book commands error → (error ≡ e.OutOfMemory → HasRoomFor book commands)
+      → Steps checked most world now (Commit commands time) (Refused error) world
+  refusal_steps commands time now error refused memory = inr (record { error = error; refused = refused_for commands error refused memory; answer_is = refl; next_is = refl })

@@ -9,12 +9,12 @@ use Rattle.tables_log.specs.Commits.{CommitOf}
 use Rattle.tables_log.specs.StandsFor.{Transaction}
 use Rattle.copy_both.specs.StreamLaws.{IsThere}
 use Rattle.copy_both.specs.Streams as s
-use Rattle.copy_both.specs.Streams.{Place, Move, count_before, place_at}
-use Rattle.shard_world.specs.Following.{IsPublished, log_of}
-use Rattle.shard_world.specs.Items.{spelled}
-use Rattle.shard_world.specs.World.{Connection, Peer, World, PeerEvent, Open, Hear, Take, Keep, Deliver, Report, Lose, Event, Commit, On, Answer, down_items, down_bytes, position_now, ups_of, spelled_up, first_peer, first_world, first_connection, with_connection, as_many, hears, delivers, loses, moves_on, place_of, take_step, keep_step, open_step, shut_step, peer_step, broken, with_peer, with_transaction, Commits, Refuses, Moves, Breaks, StepsOn, Steps, Leads}
+use Rattle.copy_both.specs.Streams.{Place, Move}
+use Rattle.stream_laws.specs.Following.{IsPublished, log_of}
+use Rattle.stream_laws.specs.Items.{spelled}
+use Rattle.shard_world.specs.World.{Connection, Peer, PeerEvent, Open, Hear, Take, Keep, Deliver, Report, Lose, down_items, down_bytes, ups_of, spelled_up, as_many, hears, delivers, moves_on, place_of, take_step, keep_step, open_step, shut_step, peer_step, broken}
 use Rattle.shard_world.specs.World as w
-use Rattle.shard_world.specs.Sayable.{IsSayable}
+use Rattle.stream_laws.specs.Sayable.{IsSayable}
 use Rattle.shard_world.proofs.WorldHearing.{hears_good}
 use Rattle.shard_world.proofs.WorldItems.{IsClocked}
 use Rattle.shard_world.proofs.WorldPeers.{StartsAt, IsReported, IsConnectedAt, IsGood, bytes_of_items, loses_good, moves_connected, delivers_connected, reports_connected}

@@ -5,7 +5,7 @@ use Rattle.shard_checker.specs.CheckedView.{CheckedOf}
 use Rattle.tables_log.specs.StandsFor.{Transaction}
 use Rattle.copy_both.specs.Streams.{end_of}
 use Rattle.shard_world.specs.World.{Connection, Peer, World, PeerEvent, Hear, Take, Keep, Deliver, Event, first_world, spelled_up, ups_of, down_bytes, position_now, peer_step, Leads}
-use Rattle.shard_world.specs.WorldLaws.{IsPublisher, IsTextEvent}
+use Rattle.shard_world.specs.WorldLaws.{IsPublisher, IsTimedEvent}
 
 -- after an event for which there was memory
 abbrev pub next_peer : CheckedOf → List Transaction → ℕ → ℕ → PeerEvent → Peer → Peer
@@ -35,6 +35,6 @@ caught_up checked transactions subscriber now peer =
 
 -- Each subscriber with a connection, in each world that events lead to, is where the last commit of the log ends afterwards, so that it has applied all of them.
 abbrev pub SubscribersCatchUp : Type 0
-SubscribersCatchUp = (checked : CheckedOf) (most : ℕ) → IsPublisher checked most → (events : List (ℕ × Event)) → All IsTextEvent events
+SubscribersCatchUp = (checked : CheckedOf) (most : ℕ) → IsPublisher checked most → (events : List (ℕ × Event)) → All IsTimedEvent events
     → (world : World) → Leads checked most events first_world world → (subscriber now : ℕ) → now < 2 ^ 64 → (c : Connection) → (world.peers subscriber).connection ≡ Some c
     → position_now checked world.transactions subscriber (caught_up checked world.transactions subscriber now (world.peers subscriber)) ≡ end_of (length world.transactions)

@@ -12,7 +12,7 @@ use Rattle.copy_both.specs.declared.taken.Taken.{Taken}
 use Rattle.copy_both.specs.declared.taken.Taken.TheVariants as taken
 use Rattle.test_subscriber.specs.Subscribers.{Feeds, Loses, Opens, Passes, Reports, sub_output}
 use Rattle.test_subscriber.specs.declared.subscriber.Subscriber.{Subscriber}
-use Rattle.shard_world.specs.Following.{log_of}
+use Rattle.stream_laws.specs.Following.{log_of}
 use Rattle.shard_world.specs.Joined.{PeerOf}
 use Rattle.shard_world.specs.PeerSteps.{Case, ChangesOwn, HasLog, IsCase, StandsIn, StepsTo}
 use Rattle.shard_world.specs.World.{Answer, Delivered, Idle, Kept, Lost, NotStarted, Opened, Reported, Sent, Skipped, Open, Hear, Take, Keep, Deliver, Report, Lose}

@@ -18,7 +18,7 @@ use Rattle.test_subscriber.specs.Feeding.{limit}
 use Rattle.test_subscriber.specs.Machine.{Machine}
 use Rattle.test_subscriber.specs.Subscribers.{sub_held, sub_machine, sub_output, sub_publications, sub_slot}
 use Rattle.test_subscriber.specs.declared.subscriber.Subscriber.{Subscriber}
-use Rattle.shard_world.specs.Following.{log_of}
+use Rattle.stream_laws.specs.Following.{log_of}
 use Rattle.shard_world.specs.World as w
 use Rattle.shard_world.specs.declared.peer.Peer.{Peer}
 use Rattle.shard_world.specs.World.{Connection, spelled_up, ups_of, down_bytes, machine_in}

@@ -8,9 +8,9 @@ use Rattle.copy_both.specs.Links.{LinkLoses}
 use Rattle.copy_both.specs.declared.link.Link.{Link}
 use Rattle.test_subscriber.specs.Subscribers.{Loses}
 use Rattle.shard_world.specs.Joined.{PeerOf}
-use Rattle.shard_world.specs.PeerSteps.{Case, ChangesOwn, HasLog, IsCase, StandsIn, StepsTo}
+use Rattle.shard_world.specs.PeerSteps.{Case, ChangesOwn, HasLog, IsCase, StandsIn, StepsTo, stepped}
 use Rattle.shard_world.specs.Refusals.{BreaksOn, HaltsOn}
-use Rattle.shard_world.specs.World.{Answer, Heard, Delivered, OutOfMemory, PeerEvent}
+use Rattle.shard_world.specs.World.{Answer, AsksMemory, Heard, Delivered, OutOfMemory, PeerEvent}
 
 -- ---- memory is not refused
 
@@ -37,8 +37,13 @@ abbrev pub IsStopped : Case → PeerEvent → Book → Book → PeerOf → Optio
 IsStopped case event before after new None = BreaksOn case event before after new
 IsStopped case event before after new (Some link) = HaltsOn case event before after new
 
+-- the step would have done something
+pub record StopsIn (case : Case) (event : PeerEvent) (before after : Book) (new : PeerOf) : Type 0 where
+  pub needed : AsksMemory (stepped case event).0
+  pub stopped : IsStopped case event before after new new.link
+
 abbrev pub Stops : CheckedOf → ℕ → PeerEvent → Book → Book → PeerOf → PeerOf → Type 0
-Stops checked now event before after old new = (case : Case) → Stands checked now before old case → IsStopped case event before after new new.link
+Stops checked now event before after old new = (case : Case) → Stands checked now before old case → StopsIn case event before after new
 
 -- the connection's end at the publisher is lost
 pub record LosesLink (link : Link) (before after : Book) : Type 0 where
@@ -58,6 +63,7 @@ pub record Drops (old new : PeerOf) (before after : Book) : Type 0 where
 -- ---- the step of the world, or what want of memory leaves
 
 pub record Breaks (case : Case) (event : PeerEvent) (answer : Answer) (before after : Book) (new : PeerOf) : Type 0 where
+  pub needed : AsksMemory (stepped case event).0
   pub answer_is : answer ≡ OutOfMemory
   pub on : BreaksOn case event before after new
 

@@ -11,11 +11,11 @@ use Rattle.copy_both.specs.declared.link.Link.{Link}
 use Rattle.copy_both.specs.declared.phase.Phase.TheVariants.{Lost}
 use Rattle.test_subscriber.specs.Subscribers.{sub_machine}
 use Rattle.test_subscriber.specs.declared.subscriber.Subscriber.{Subscriber}
-use Rattle.shard_world.specs.Following.{log_of}
+use Rattle.stream_laws.specs.Following.{log_of}
 use Rattle.shard_world.specs.Joined.{HasSlot, IsNamed, PeerOf, PeerIs, StaysAlike, up_bytes, down_of}
 use Rattle.shard_world.specs.World as w
-use Rattle.shard_world.specs.World.{Answer, Connection, Event, PeerEvent, Open, Hear, Take, Keep, Deliver, Report, Lose, Leads, first_world, as_many, hears, delivers, machine_now, peer_step, statuses_in}
-use Rattle.shard_world.specs.WorldLaws.{IsPublisher, IsTextEvent}
+use Rattle.shard_world.specs.World.{Answer, Connection, Event, PeerEvent, Open, Hear, Take, Keep, Deliver, Report, Lose, Leads, first_world, as_many, hears, delivers, machine_now, peer_step}
+use Rattle.shard_world.specs.WorldLaws.{IsPublisher, IsTimedEvent}
 
 -- ---- in which world
 
@@ -34,8 +34,7 @@ peer_of case = case.world.peers case.number
 -- the subscriber is there
 pub record IsCase (case : Case) : Type 0 where
   pub publisher : IsPublisher case.checked case.most
-  pub texts : All IsTextEvent case.events
-  pub few : statuses_in case.events < 2 ^ 32
+  pub times : All IsTimedEvent case.events
   pub leads : Leads case.checked case.most case.events first_world case.world
   pub there : case.number < length case.checked.plan
   pub timed : case.now < 2 ^ 64

@@ -4,7 +4,7 @@ use Rattle.copy_both.specs.Streams.{end_of}
 use Rattle.tables_log.specs.BookView.{book_log}
 use Rattle.shard_world.specs.PeerCalls.{IsCounted}
 use Rattle.shard_world.specs.World as w
-use Rattle.shard_world.specs.World.{Answer, At, Connection, Event, Idle, NoSubscriber, NotOpen, On, OutOfMemory, PeerEvent, Hear, Take, Keep, Deliver, Report, position_now, statuses_in}
+use Rattle.shard_world.specs.World.{Answer, At, Connection, Event, Idle, NoSubscriber, NotOpen, On, OutOfMemory, PeerEvent, Hear, Take, Keep, Deliver, Report, position_now}
 use Rattle.shard_world.specs.WorldCalls.{IsWorld, RunsOn, world_book, world_checked}
 use Rattle.shard_world.specs.declared.world.World.{World}
 
@@ -82,21 +82,31 @@ IsPosition code subscriber position =
     subscriber < length (world_checked code).plan → (most : ℕ) (events : List (ℕ × Event)) (world : w.World) → IsWorld code most events world
     → position ≡ position_now (world_checked code) world.transactions subscriber (world.peers subscriber)
 
+-- after what was heard is answered, the answers to so many takes: the last says that there is no further commit, or there are more takes than commits
+pub record TakesEnough (takes commits : ℕ) (answers : List Answer) : Type 0 where
+  pub heard : List Answer
+  pub taken : List Answer
+  pub told : List Answer
+  pub are : answers ≡ heard ++ (taken ++ told)
+  pub one : length heard ≡ 1
+  pub as_many : length taken ≡ takes
+  pub enough : EndsIdle taken ⊎ (commits < takes)
+
+-- in each world that the program's matches, and which has this subscriber
+abbrev pub InEach : World → ℕ → (ℕ → w.World → Type 0) → Type 0
+InEach before subscriber Holds =
+    subscriber < length (world_checked before).plan → (most : ℕ) (events : List (ℕ × Event)) (world : w.World) → IsWorld before most events world → Holds most world
+
 pub record PumpsAll (before after : World) (now subscriber : ℕ) : Type 0 where
   pub takes : ℕ
   pub all : WalksAll before after now subscriber (pump_events takes)
+  pub enough : InEach before subscriber (λ most world. TakesEnough takes (length world.transactions) all.answers)
 
 pub record PumpsSome (before after : World) (now subscriber : ℕ) (answer : Answer) : Type 0 where
   pub takes : ℕ
   pub some : WalksSome before after now subscriber (pump_events takes) answer
 
 -- ---- where a pump ends
-
--- in each world that the program's matches, and which has this subscriber; with the status of the pump fewer than 2^32 were said
-abbrev pub InEach : World → ℕ → (ℕ → w.World → Type 0) → Type 0
-InEach before subscriber Holds =
-    subscriber < length (world_checked before).plan → (most : ℕ) (events : List (ℕ × Event)) (world : w.World) → IsWorld before most events world → statuses_in events + 1 < 2 ^ 32
-    → Holds most world
 
 -- the subscriber is where the last of so many commits ends, in a world that the program's matches
 pub record IsAtEnd (before after : World) (subscriber count most : ℕ) : Type 0 where

@@ -14,7 +14,7 @@ use Rattle.test_subscriber.specs.Subscribers.{FeedStops, Loses, fed_heard, statu
 use Rattle.test_subscriber.specs.declared.fault.SubFault.{SubFault}
 use Rattle.test_subscriber.specs.declared.subscriber.Subscriber.{Subscriber}
 use Rattle.shard_world.specs.Connections.{front_of}
-use Rattle.shard_world.specs.Following.{log_of}
+use Rattle.stream_laws.specs.Following.{log_of}
 use Rattle.shard_world.specs.Joined.{PeerIs, PeerOf}
 use Rattle.shard_world.specs.PeerSteps.{Case, ChangesOwn, Halts, HasLog, IsCase, StandsIn, peer_of}
 use Rattle.shard_world.specs.World.{PeerEvent, Open, Hear, Take, Keep, Deliver, Report, broken}

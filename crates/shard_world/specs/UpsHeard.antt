@@ -5,7 +5,7 @@ use Rattle.tables_log.specs.Slots.{end_after, confirmed_at, start_fault}
 use Rattle.copy_frames.specs.declared.status.Status.{Status}
 use Rattle.copy_both.specs.Hearing.{HearingOf, Served, first_sent, frame_heard, frames_heard, is_over}
 use Rattle.copy_both.specs.Streams.{Move, Keep}
-use Rattle.shard_world.specs.Asking.{CanAsk}
+use Rattle.stream_laws.specs.Asking.{CanAsk}
 use Rattle.shard_world.specs.World.{Asks, Says, Session, hear_up, up_frame}
 
 abbrev pub start_in : Option (ℕ × ℕ) → Option ℕ
@@ -53,10 +53,9 @@ StartsAreHeard = (served : Served) (subscriber position now : ℕ) (subscription
     → IsHeard subscriber now moves (frame_heard served h (up_frame served.checked subscriber (Asks position))) (hear_up now (session_of subscriber now moves h) (Asks position))
     × IsBegun subscriber (max position (confirmed_at h.slots subscriber)) (frame_heard served h (up_frame served.checked subscriber (Asks position)))
 
--- Statuses, which say no more than what was sent and what the log has. Replies are counted up to 4,294,967,295, and there is room for one to each.
+-- Statuses, which say no more than what was sent and what the log has. Each that wants a reply has one.
 abbrev pub StatusesAreHeard : Type 0
 StatusesAreHeard = (served : Served) (subscriber start now : ℕ) (moves : List Move) (statuses : List Status) (h : HearingOf)
     → IsHearing subscriber h → h.started ≡ Some (subscriber, start) → All (IsWithin (min h.sent (end_after served.commits))) statuses
-    → h.heard.replies + length statuses < 2 ^ 32
     → IsHeard subscriber now moves (frames_heard served h (map (up_frame served.checked subscriber) (map Says statuses)))
     (fold (hear_up now) (session_of subscriber now moves h) (map Says statuses))

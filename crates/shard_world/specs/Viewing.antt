@@ -1,13 +1,14 @@
 -- What is shown of a publisher and its subscribers: each has its shard, and where all have applied the same commits each row is at exactly one of them. PostgreSQL 15, "Logical Replication", 31.2 Subscription and 31.3 Row Filters; 7.5 Sorting Rows.
-use Rattle.std.specs.Prelude.{◌≡◌, ◌<◌, ℕ, Bool, true, List, take, length, map, Contains, Some, slice_get}
+use Rattle.std.specs.Prelude.{◌≡◌, ◌<◌, ℕ, Bool, true, ◌&&◌, List, take, length, map, Contains, Some, slice_get}
 use Rattle.std.specs.List.Sorted.{IsStrictlySortedBy}
 use Rattle.filter_tree.specs.Datum.{Datum}
 use Rattle.filter_tree.specs.Order.{row_cmp}
+use Rattle.replica_identity.specs.Passes.{passes}
 use Rattle.shard_checker.specs.CheckedView.{CheckedOf, setting_in}
 use Rattle.table_changes.specs.Tables.{Tables, holds}
 use Rattle.tables_log.specs.StandsFor.{Transaction, after}
 use Rattle.copy_both.specs.Streams.{count_before}
-use Rattle.shard_world.specs.Finding.{in_shard}
+use Rattle.stream_laws.specs.Finding.{in_shard}
 use Rattle.shard_world.specs.Seeing.{AllAt}
 use Rattle.shard_world.specs.World as w
 use Rattle.shard_world.specs.World.{position_now}
@@ -24,13 +25,18 @@ pub record AreRows (test : List Datum → Bool) (rows : List (List Datum)) : Typ
 abbrev pub tables_after : CheckedOf → List Transaction → ℕ → Tables
 tables_after checked transactions count = after (setting_in checked) (take count transactions)
 
--- A subscriber's position, how many commits that counts, and its rows: those of its shard of the publisher's tables after these commits.
+-- the row is in the table, and some publication that the subscriber takes carries it, whole or by a filter that is true
+abbrev pub is_let_through : CheckedOf → ℕ → Tables → ℕ → List Datum → Bool
+is_let_through checked number tables table row = holds (setting_in checked).keys tables table row && passes checked.catalog number table row
+
+-- A subscriber's position, how many commits that counts, and its rows: those of its shard of the publisher's tables after these commits, which are those that its publications let through.
 pub record ShowsSubscriber (checked : CheckedOf) (transactions : List Transaction) (number : ℕ) (peer : w.Peer) (shown : SubscriberView) : Type 0 where
   pub position_is : shown.position ≡ position_now checked transactions number peer
   pub applied_is : shown.applied ≡ count_before shown.position
   pub confirmed_is : shown.confirmed ≡ peer.confirmed
   pub tables : length shown.rows.items ≡ length checked.catalog.tables
   pub rows : AllAt (λ table rows. AreRows (in_shard (setting_in checked) number (tables_after checked transactions shown.applied) table) rows.items) shown.rows.items
+  pub let_through : AllAt (λ table rows. AreRows (is_let_through checked number (tables_after checked transactions shown.applied) table) rows.items) shown.rows.items
 
 -- ---- all together
 

@@ -4,15 +4,10 @@ use Rattle.std.specs.List.{flat_map}
 use Rattle.copy_both.specs.Streams as s
 use Rattle.copy_both.specs.Streams.{Place, Move, place_at, all_moved, stream}
 use Rattle.copy_both.specs.Tellings.{telling_of}
-use Rattle.copy_frames.specs.Contents.{status_body}
-use Rattle.copy_frames.specs.Frames.{cut, framed}
-use Rattle.copy_frames.specs.declared.frame.Frame.{Frame}
+use Rattle.copy_frames.specs.Frames.{cut}
 use Rattle.copy_frames.specs.declared.status.Status.{Status}
 use Rattle.pgoutput_msgs.specs.Telling.{messages_for}
 use Rattle.pgoutput_msgs.specs.declared.message.Msg.{Msg}
-use Rattle.pub_catalog.specs.Catalogs.{CatalogOf, PublicationOf}
-use Rattle.filter_tree.specs.Expr.{Expr}
-use Rattle.pub_catalog.specs.declared.catalog.Subscription.{Subscription}
 use Rattle.shard_checker.specs.CheckedView.{CheckedOf, setting_in}
 use Rattle.table_changes.specs.Commands.{Command, first_fault, command_view}
 use Rattle.tables_log.specs.Commits.{CommitOf}
@@ -24,54 +19,18 @@ use Rattle.tables_log.specs.declared.error.CommitError.TheVariants as e
 use Rattle.test_subscriber.specs.Feeding.{limit}
 use Rattle.test_subscriber.specs.Frames.{hear_cut}
 use Rattle.test_subscriber.specs.Machine.{Machine, lost, opened}
-use Rattle.test_subscriber.specs.StartQuery.{start_text}
 use Rattle.test_subscriber.specs.Subscribers.{first_machine, status_at}
-use Rattle.shard_world.specs.Cutting.{whole_by, whole_in}
-use Rattle.shard_world.specs.Following.{log_of, position_after}
-use Rattle.shard_world.specs.FollowingBytes.{items_from}
-use Rattle.shard_world.specs.Items.{Item}
+use Rattle.stream_laws.specs.Cutting.{whole_in}
+use Rattle.stream_laws.specs.Following.{log_of, position_after}
+use Rattle.stream_laws.specs.FollowingBytes.{items_from}
+use Rattle.stream_laws.specs.Items.{Item}
+pub use Rattle.stream_laws.specs.Ups.{Up, Asks, Says, subscription_name, publications_taken, publication_name, start_of, up_frame, spelled_up, whole_up}
 pub use Rattle.shard_world.specs.declared.answer.Answer.{Answer}
 pub use Rattle.shard_world.specs.declared.answer.Answer.TheVariants.{Committed, Refused, NoSubscriber, NotOpen, AlreadyOpen, Opened, Heard, NotStarted, Idle, Skipped, Sent, Kept, Delivered, Reported, Lost, At, OutOfMemory}
 pub use Rattle.shard_world.specs.declared.event.PeerEvent.{PeerEvent}
 pub use Rattle.shard_world.specs.declared.event.PeerEvent.TheVariants.{Open, Hear, Take, Keep, Deliver, Report, Lose}
 use Rattle.shard_world.specs.declared.event.Event as d
 use Rattle.shard_world.specs.declared.event.Event.TheVariants as v
-
--- ---- what a subscriber sends
-
--- the command that asks for its stream at a position, and statuses
-pub data Up : Type 0 where
-  Asks : ℕ → Up
-  Says : Status → Up
-
-abbrev pub subscription_name : Option Subscription → List ℕ
-subscription_name None = []
-subscription_name (Some subscription) = subscription.name
-
-abbrev pub publications_taken : Option Subscription → List ℕ
-publications_taken None = []
-publications_taken (Some subscription) = subscription.publications
-
-abbrev pub publication_name : Option (PublicationOf Expr) → List ℕ
-publication_name None = []
-publication_name (Some publication) = publication.name
-
--- by the name of its slot, which is that of its subscription, and its publications
-abbrev pub start_of : CatalogOf Expr → ℕ → ℕ → List ℕ
-start_of catalog subscriber position =
-    start_text (subscription_name (slice_get catalog.subscriptions subscriber))
-    (map (λ number. publication_name (slice_get catalog.publications number)) (publications_taken (slice_get catalog.subscriptions subscriber))) position
-
-abbrev pub up_frame : CheckedOf → ℕ → Up → Frame
-up_frame checked subscriber (Asks position) = record { kind = 81; body = start_of checked.catalog subscriber position ++ (0 ∷ []) }
-up_frame checked subscriber (Says status) = record { kind = 100; body = status_body status }
-
-abbrev pub spelled_up : CheckedOf → ℕ → Up → List ℕ
-spelled_up checked subscriber up = framed (up_frame checked subscriber up)
-
--- those whose frames are whole in so many bytes
-abbrev pub whole_up : CheckedOf → ℕ → ℕ → List Up → List Up
-whole_up checked subscriber count ups = whole_by (up_frame checked subscriber) count ups
 
 -- ---- the state
 
@@ -142,24 +101,6 @@ event_view (v.On subscriber event) = On subscriber event
 -- at its clock
 abbrev pub timed_view : ℕ × d.Event → ℕ × Event
 timed_view event = (event.0, event_view event.1)
-
--- how many statuses were said, after so many and this event
-abbrev pub said_after : PeerEvent → ℕ → ℕ
-said_after Open count = count
-said_after (Hear bytes) count = count
-said_after Take count = count
-said_after (Keep want) count = count
-said_after (Deliver bytes) count = count
-said_after (Report want) count = count + 1
-said_after Lose count = count
-
-abbrev pub statuses_after : Event → ℕ → ℕ
-statuses_after (Commit commands time) count = count
-statuses_after (On subscriber event) count = said_after event count
-
--- how many of the events say a status
-abbrev pub statuses_in : List (ℕ × Event) → ℕ
-statuses_in events = fold (λ count event. statuses_after event.1 count) 0 events
 
 -- ---- what the publisher hears
 
@@ -289,14 +230,14 @@ with_peer world subscriber peer = record world { peers = λ other. if other == s
 abbrev pub with_transaction : World → List Command → ℕ → World
 with_transaction world commands time = record world { transactions = world.transactions ++ record { commands = commands; time = time } ∷ [] }
 
--- why a list of commands is refused
+-- why a list of commands is refused; memory is asked for where the log has room for a transaction
 abbrev pub RefusedFor : CheckedOf → ℕ → World → List Command → CommitError → Type 0
 RefusedFor checked most world commands e.EmptyTransaction = commands ≡ []
 RefusedFor checked most world commands e.TooManyCommands = 1000 < length commands
 RefusedFor checked most world commands e.LogFull = IsTransaction commands × (length world.transactions ≡ most)
 RefusedFor checked most world commands (e.At number fault) = IsTransaction commands × (length world.transactions < most)
     × (first_fault (setting_in checked) (after (setting_in checked) world.transactions) 1 commands ≡ Some (number, fault_view fault))
-RefusedFor checked most world commands e.OutOfMemory = Unit {0}
+RefusedFor checked most world commands e.OutOfMemory = IsTransaction commands × (length world.transactions < most)
 
 -- it is accepted, or refused and nothing changes; the log takes at most so many
 pub record Commits (checked : CheckedOf) (most : ℕ) (world : World) (commands : List Command) (time : ℕ) (answer : Answer) (next : World) : Type 0 where
@@ -316,7 +257,17 @@ pub record Moves (checked : CheckedOf) (world : World) (subscriber now : ℕ) (e
   pub answer_is : answer ≡ (peer_step checked world.transactions subscriber now event (world.peers subscriber) (world.peers subscriber).connection).0
   pub next_is : next ≡ with_peer world subscriber (peer_step checked world.transactions subscriber now event (world.peers subscriber) (world.peers subscriber).connection).1
 
+-- memory is asked for where the step has something to do, and so not in place of these answers
+abbrev pub AsksMemory : Answer → Type 0
+AsksMemory AlreadyOpen = ⊥
+AsksMemory NotOpen = ⊥
+AsksMemory NotStarted = ⊥
+AsksMemory Idle = ⊥
+AsksMemory Lost = ⊥
+AsksMemory answer = Unit {0}
+
 pub record Breaks (checked : CheckedOf) (world : World) (subscriber now : ℕ) (event : PeerEvent) (answer : Answer) (next : World) : Type 0 where
+  pub needed : AsksMemory (peer_step checked world.transactions subscriber now event (world.peers subscriber) (world.peers subscriber).connection).0
   pub some : ℕ
   pub answer_is : answer ≡ OutOfMemory
   pub next_is : next ≡ with_peer world subscriber (broken checked world.transactions subscriber now event (world.peers subscriber) some (world.peers subscriber).connection)

@@ -1,5 +1,5 @@
 -- Which world of the model a program's world matches, and what its calls do there: PostgreSQL 15, 31.2. Subscription, and 55.4. Streaming Replication Protocol.
-use Rattle.std.specs.Prelude.{◌≡◌, ◌<◌, ◌^◌, ℕ, List, [], ◌∷◌, ◌++◌, All, length, slice_get, Option, Some, None}
+use Rattle.std.specs.Prelude.{◌≡◌, ◌<◌, ℕ, List, [], ◌∷◌, ◌++◌, All, length, slice_get, Option, Some, None}
 use Rattle.std.specs.Arc.{arc_value}
 use Rattle.shard_checker.specs.CheckedView.{CheckedOf, checked_view}
 use Rattle.tables_log.specs.BookView.{book_checked, book_limit, book_slots}
@@ -8,8 +8,8 @@ use Rattle.tables_log.specs.declared.book.Book.{Book}
 use Rattle.tables_log.specs.declared.slots.Slot.{Slot}
 use Rattle.shard_world.specs.Joined.{PeerOf, PeerIs}
 use Rattle.shard_world.specs.World as w
-use Rattle.shard_world.specs.World.{Answer, Event, first_world, statuses_in, Steps, Leads}
-use Rattle.shard_world.specs.WorldLaws.{IsPublisher, IsTextEvent}
+use Rattle.shard_world.specs.World.{Answer, Event, first_world, Steps, Leads}
+use Rattle.shard_world.specs.WorldLaws.{IsPublisher, IsTimedEvent}
 use Rattle.shard_world.specs.declared.world.World.{World}
 
 -- ---- views
@@ -34,7 +34,7 @@ PeerAt checked transactions number slots peer (Some code) = PeerIs checked trans
 -- A book and subscribers match those of a world that these events led to. The log takes at most so many commits.
 pub record IsWorldBy (checked : CheckedOf) (most : ℕ) (book : Book) (peers : List PeerOf) (events : List (ℕ × Event)) (world : w.World) : Type 0 where
   pub publisher : IsPublisher checked most
-  pub texts : All IsTextEvent events
+  pub times : All IsTimedEvent events
   pub leads : Leads checked most events first_world world
   pub checked_is : book_checked book ≡ checked
   pub limit_is : book_limit book ≡ most
@@ -54,10 +54,10 @@ pub record StepsInto (before after : World) (most : ℕ) (events : List (ℕ × 
   pub is : IsWorld after most (events ++ (now, event) ∷ []) next
   pub checked : world_checked after ≡ world_checked before
 
--- in each world that it matches, where fewer than 2^32 of the events that led there said a status
+-- in each world that it matches
 abbrev pub StepsOn : World → World → ℕ → Event → Answer → Type 0
 StepsOn before after now event answer =
-    (most : ℕ) (events : List (ℕ × Event)) (world : w.World) → IsWorld before most events world → statuses_in events < 2 ^ 32 → StepsInto before after most events world now event answer
+    (most : ℕ) (events : List (ℕ × Event)) (world : w.World) → IsWorld before most events world → StepsInto before after most events world now event answer
 
 -- ---- several events
 
@@ -74,8 +74,8 @@ pub record RunsInto (before after : World) (most : ℕ) (events : List (ℕ × E
   pub is : IsWorld after most (events ++ asked) next
   pub checked : world_checked after ≡ world_checked before
 
--- in each world that it matches, where with these fewer than 2^32 events said a status
+-- in each world that it matches
 abbrev pub RunsOn : World → World → List (ℕ × Event) → List Answer → Type 0
 RunsOn before after asked answers =
-    (most : ℕ) (events : List (ℕ × Event)) (world : w.World) → IsWorld before most events world → statuses_in (events ++ asked) < 2 ^ 32
+    (most : ℕ) (events : List (ℕ × Event)) (world : w.World) → IsWorld before most events world
     → RunsInto before after most events world asked answers

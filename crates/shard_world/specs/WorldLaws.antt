@@ -11,8 +11,7 @@ use Rattle.shard_checker.specs.declared.checked.Checked.{Checked}
 use Rattle.tables_log.specs.StandsFor.{after}
 use Rattle.pgoutput_msgs.specs.Telling.{oid_of}
 use Rattle.copy_both.specs.Streams.{count_before}
-use Rattle.shard_world.specs.Following.{own_key, HasShard}
-use Rattle.shard_world.specs.Sayable.{IsTextCommand}
+use Rattle.stream_laws.specs.Following.{own_key, HasShard}
 use Rattle.shard_world.specs.World.{Connection, Peer, World, Event, Commit, On, first_world, position_now, machine_now, Leads}
 
 -- ---- what is asked of the publisher and of events
@@ -30,13 +29,13 @@ pub record IsPublisher (checked : CheckedOf) (most : ℕ) : Type 0 where
 abbrev pub CheckedPublish : Type 0
 CheckedPublish = (checked : Checked) (most : ℕ) → most ≤ 1000000000 → IsPublisher (checked_view checked) most
 
--- times have 64 bits, and rows are texts
-abbrev pub BringsTexts : Event → Type 0
-BringsTexts (Commit commands time) = (time < 2 ^ 64) × All IsTextCommand commands
-BringsTexts (On subscriber event) = Unit {0}
+-- times have 64 bits: that of a commit, and the clock of an event
+abbrev pub HasTime : Event → Type 0
+HasTime (Commit commands time) = time < 2 ^ 64
+HasTime (On subscriber event) = Unit {0}
 
-abbrev pub IsTextEvent : ℕ × Event → Type 0
-IsTextEvent event = (event.0 < 2 ^ 64) × BringsTexts event.1
+abbrev pub IsTimedEvent : ℕ × Event → Type 0
+IsTimedEvent event = (event.0 < 2 ^ 64) × HasTime event.1
 
 -- ---- where streams start
 
@@ -51,7 +50,7 @@ IsStartedAsAsked peer None = Unit {0}
 IsStartedAsAsked peer (Some c) = StartsAt peer.position c.start
 
 abbrev pub WorldsStartAsAsked : Type 0
-WorldsStartAsAsked = (checked : CheckedOf) (most : ℕ) → IsPublisher checked most → (events : List (ℕ × Event)) → All IsTextEvent events
+WorldsStartAsAsked = (checked : CheckedOf) (most : ℕ) → IsPublisher checked most → (events : List (ℕ × Event)) → All IsTimedEvent events
     → (world : World) → Leads checked most events first_world world → (subscriber : ℕ) → IsStartedAsAsked (world.peers subscriber) (world.peers subscriber).connection
 
 -- ---- each has its shard
@@ -65,7 +64,7 @@ HoldsExactly checked world = (subscriber : ℕ)
     → HasShard checked subscriber (machine_now checked world.transactions subscriber (world.peers subscriber)) (after (setting_in checked) (take (applied_in checked world subscriber) world.transactions))
 
 abbrev pub WorldsHoldExactly : Type 0
-WorldsHoldExactly = (checked : CheckedOf) (most : ℕ) → IsPublisher checked most → (events : List (ℕ × Event)) → All IsTextEvent events
+WorldsHoldExactly = (checked : CheckedOf) (most : ℕ) → IsPublisher checked most → (events : List (ℕ × Event)) → All IsTimedEvent events
     → (world : World) → Leads checked most events first_world world → HoldsExactly checked world
 
 -- ---- all together have the tables
@@ -92,5 +91,5 @@ pub record Divides (checked : CheckedOf) (world : World) (count : ℕ) : Type 0 
       → holds (setting_in checked).keys (after (setting_in checked) (take count world.transactions)) table row ≡ true
 
 abbrev pub WorldsDivideRows : Type 0
-WorldsDivideRows = (checked : CheckedOf) (most : ℕ) → IsPublisher checked most → Sound (setting_in checked) → (events : List (ℕ × Event)) → All IsTextEvent events
+WorldsDivideRows = (checked : CheckedOf) (most : ℕ) → IsPublisher checked most → Sound (setting_in checked) → (events : List (ℕ × Event)) → All IsTimedEvent events
     → (world : World) → Leads checked most events first_world world → (count : ℕ) → HaveApplied checked world count → Divides checked world count

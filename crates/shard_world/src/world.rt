@@ -4,7 +4,6 @@ use crate::answer::Answer;
 use crate::event::{Event, PeerEvent};
 use crate::opening::first_peers;
 use crate::peer::Peer;
-use crate::texts::commands_are_text;
 use crate::view::{View, seen};
 use shard_checker::Checked;
 use std::alloc::{AllocError, Global};
@@ -76,7 +75,6 @@ impl World {
         ensures { (now : ℕ) → now < 2 ^ 64
             → StepsOn self.old self.new now (w.Commit (map command_view commands.now) time) result }
     {
-        commands_are_text(commands);
         match self.book.commit(commands, time) {
             Ok(number) => Answer::Committed(number),
             Err(error) => Answer::Refused(error),

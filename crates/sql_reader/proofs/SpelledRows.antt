@@ -206,7 +206,7 @@ is_read_again text row e is = ap row_of e ∙ row_again row is
 
 constant_readable : (kind : ColType) (constant : Constant) → IsOf kind constant → Known constant ≢ least → IsReadable (Known constant)
 constant_readable kind (Truth truth) is other = tt
-constant_readable Text (Bytes text) is other = is
+constant_readable Text (Bytes text) is other = is.1
 constant_readable SmallInt (Number n) is other = (omega (arith, ints, is.above_least), omega (arith, ints, is.below_greatest))
 constant_readable Integer (Number n) is other = (omega (arith, ints, is.above_least), omega (arith, ints, is.below_greatest))
 constant_readable BigInt (Number n) is other = by_lt_z (least_of BigInt) n (λ above. (above, is.below_greatest)) (λ below. let same : n ≡ least_of BigInt = omega (arith, ints, is.above_least) in absurd (other (ap (λ n. Known (Number n)) same)))

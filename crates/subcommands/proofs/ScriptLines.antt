@@ -1,5 +1,5 @@
 -- The lines of the steps of a script are written, step after step.
-use Rattle.std.proofs.Common.{◌≡◌, ℕ, ◌+◌, ◌<◌, ◌≤◌, inl, inr, ◌⊎◌, List, [], ◌∷◌, ◌++◌, length, map, drop, get_or, Option, refl, sym, ap, subst, ◌∙◌, append_assoc, arith}
+use Rattle.std.proofs.Common.{◌≡◌, ℕ, ◌+◌, ◌<◌, ◌≤◌, inl, inr, ◌⊎◌, List, [], ◌∷◌, ◌++◌, length, map, drop, get_or, Option, refl, sym, ap, subst, ◌∙◌, append_assoc}
 use Rattle.std.specs.Prelude.{IsErrAnd, Result, Ok, Err}
 use Rattle.std.proofs.lemmas.List.{at_drop_all, at_drop_more, length_push}
 use Rattle.std.proofs.lemmas.List.Concat.{flat_map-append}
@@ -10,7 +10,6 @@ use Rattle.pub_reader.specs.ScriptView.{line_view}
 use Rattle.pub_reader.specs.declared.script.Line.{Line}
 use Rattle.shard_checker.specs.CheckedView.{CheckedOf}
 use Rattle.shard_world.specs.World as w
-use Rattle.shard_world.specs.World.{statuses_in}
 use Rattle.shard_world.specs.WorldCalls.{IsWorld, world_checked}
 use Rattle.shard_world.specs.declared.world.World.{World}
 use Rattle.subcommands.proofs.Writing.{first_after, unwritten}
@@ -42,7 +41,6 @@ module _ (checked : CheckedOf) (most : ℕ) where
     pub counted : length first ≡ count
     pub are : AreSteps checked most first lines world
     pub is_world : IsWorld code most events world
-    pub few : statuses_in events ≤ count
     pub same : world_checked code ≡ checked
     pub appends : Appends old new (text_of lines)
 
@@ -57,7 +55,6 @@ module _ (checked : CheckedOf) (most : ℕ) where
     counted = sym none;
     are = NoStep;
     is_world = stands;
-    few = omega (arith, none);
     same = same;
     appends = Appends-nil known;
   }
@@ -71,7 +68,6 @@ module _ (checked : CheckedOf) (most : ℕ) where
     pub next : w.World
     pub are : AreSteps checked most (first ++ step ∷ []) (lines ++ own) next
     pub is_world : IsWorld after most (events ++ happened) next
-    pub few : statuses_in (events ++ happened) ≤ statuses_in events + 1
     pub same : world_checked after ≡ checked
     pub text_is : text ≡ text_of own
 
@@ -79,7 +75,7 @@ module _ (checked : CheckedOf) (most : ℕ) where
       → (now : IsSoFar steps left count before old new) → MakesOn before after (count + 1) step.step text → count < 100000
       → IsMade now.first now.lines now.world before after now.events step text
   made_after steps left count before after old new step text now makes room =
-      let into : MakesInto before after most now.events now.world (count + 1) step.step text = makes most now.events now.world now.is_world (omega (arith, now.few, room)) in
+      let into : MakesInto before after most now.events now.world (count + 1) step.step text = makes most now.events now.world now.is_world in
       let is_step : IsStep checked most (length now.first + 1) step.step now.world into.lines into.next =
       subst (λ (c : CheckedOf). IsStep c most (length now.first + 1) step.step now.world into.lines into.next) now.same
       (subst (λ (clock : ℕ). IsStep (world_checked before) most clock step.step now.world into.lines into.next) (ap (λ n. n + 1) (sym now.counted)) into.is_step) in
@@ -89,7 +85,6 @@ module _ (checked : CheckedOf) (most : ℕ) where
         next = into.next;
         are = OneMore now.first step now.lines into.lines now.world into.next now.are is_step;
         is_world = into.is_world;
-        few = into.few;
         same = into.checked ∙ now.same;
         text_is = into.text_is;
       }
@@ -114,7 +109,6 @@ module _ (checked : CheckedOf) (most : ℕ) where
         counted = length_push now.first step ∙ ap (λ n. n + 1) now.counted ∙ sym next_is;
         are = made.are;
         is_world = made.is_world;
-        few = omega (arith, made.few, now.few, next_is);
         same = made.same;
         appends = subst (λ (t : List ℕ). Appends old newer t) (lines_text now.lines made.own text made.text_is) (Appends-trans old new newer (text_of now.lines) text now.appends grows);
       }

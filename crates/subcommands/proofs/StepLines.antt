@@ -1,20 +1,15 @@
 -- What a step of a script does to the program's world, from what the world's own calls do.
-use Rattle.std.proofs.Common.{◌≡◌, ℕ, ◌+◌, ◌<◌, ◌≤◌, inl, inr, List, [], ◌∷◌, ◌++◌, length, map, refl, sym, ap, subst, ◌∙◌, append-nil, arith}
+use Rattle.std.proofs.Common.{◌≡◌, ℕ, ◌+◌, ◌<◌, inl, inr, List, [], ◌∷◌, ◌++◌, length, map, refl, sym, ap, subst, ◌∙◌, append-nil}
 use Rattle.filter_tree.specs.Expr.{Expr}
 use Rattle.pub_catalog.specs.Catalogs.{CatalogOf}
 use Rattle.pub_reader.specs.Steps.{StepOf}
 use Rattle.shard_checker.specs.CheckedView.{CheckedOf}
-use Rattle.shard_world.proofs.ReportLemmas.{statuses_append}
-use Rattle.shard_world.proofs.SaidLemmas.{part_few, pump_few}
 use Rattle.shard_world.specs.Pumping.{on_clock, pump_events, IsEndOfLog, IsPosition, PumpsAll, PumpsOn, PumpsSome, WantsMemory, Pumped, Ended}
 use Rattle.shard_world.specs.Viewing.{ShowsWorld}
 use Rattle.shard_world.specs.World as w
-use Rattle.shard_world.specs.World.{statuses_in, statuses_after, said_after}
 use Rattle.shard_world.specs.WorldCalls.{IsWorld, StepsOn, world_checked}
 use Rattle.shard_world.specs.declared.answer.Answer.{Answer}
 use Rattle.shard_world.specs.declared.answer.Answer.TheVariants.{At}
-use Rattle.shard_world.specs.declared.event.PeerEvent.{PeerEvent}
-use Rattle.shard_world.specs.declared.event.PeerEvent.TheVariants as p
 use Rattle.shard_world.specs.declared.view.View.{View}
 use Rattle.shard_world.specs.declared.world.World.{World}
 use Rattle.subcommands.specs.Output.{text_of}
@@ -25,24 +20,6 @@ use Rattle.subcommands.specs.Simulate.Steps.{IsDone}
 use Rattle.subcommands.specs.Simulate.Views.{view_lines}
 use Rattle.subcommands.specs.Simulate.WorldSteps.{MakesOn}
 
--- ---- how many statuses are said
-
-said_by_peer : (event : PeerEvent) (count : ℕ) → said_after event count ≤ count + 1
-said_by_peer p.Open count = omega arith
-said_by_peer (p.Hear bytes) count = omega arith
-said_by_peer p.Take count = omega arith
-said_by_peer (p.Keep want) count = omega arith
-said_by_peer (p.Deliver bytes) count = omega arith
-said_by_peer (p.Report want) count = omega arith
-said_by_peer p.Lose count = omega arith
-
-said_by_one : (event : w.Event) (count : ℕ) → statuses_after event count ≤ count + 1
-said_by_one (w.Commit commands time) count = omega arith
-said_by_one (w.On subscriber event) count = said_by_peer event count
-
-event_few : (events : List (ℕ × w.Event)) (now : ℕ) (event : w.Event) → statuses_in (events ++ (now, event) ∷ []) ≤ statuses_in events + 1
-event_few events now event = omega (arith, statuses_append events ((now, event) ∷ []) 0, said_by_one event (statuses_in events))
-
 -- ---- a step
 
 module _ (before after : World) (now : ℕ) (step : StepOf) (text : List ℕ) where
@@ -51,25 +28,23 @@ module _ (before after : World) (now : ℕ) (step : StepOf) (text : List ℕ) wh
   asked_step most asked world lines next is done = subst (λ (a : AskedOf). IsDone (world_checked before) most now a world lines next) is done
 
   pub event_made : (event : w.Event) (answer : Answer) → a.Event event ≡ asked_of now step → StepsOn before after now event answer → text ≡ text_of (answer_line answer ∷ []) → MakesOn before after now step text
-  event_made event answer is steps text_is = λ most events world stands few.
-      let into = steps most events world stands (omega (arith, few)) in
+  event_made event answer is steps text_is = λ most events world stands.
+      let into = steps most events world stands in
       record {
         lines = answer_line answer ∷ [];
         happened = (now, event) ∷ [];
         next = into.next;
         is_step = asked_step most (a.Event event) world (answer_line answer ∷ []) into.next is (record { answer = answer; steps = into.steps; are = refl });
         is_world = into.is;
-        few = event_few events now event;
         checked = into.checked;
         text_is = text_is;
       }
 
   all_pumped : (subscriber position : ℕ) → a.Pump subscriber ≡ asked_of now step → PumpsAll before after now subscriber → IsPosition after subscriber position
       → IsEndOfLog before subscriber position → text ≡ text_of (answer_line (At position) ∷ []) → MakesOn before after now step text
-  all_pumped subscriber position is pumps at end text_is = λ most events world stands few.
+  all_pumped subscriber position is pumps at end text_is = λ most events world stands.
       let asked : List (ℕ × w.Event) = map (on_clock now subscriber) (pump_events pumps.takes) in
-      let said : statuses_in (events ++ asked) ≤ statuses_in events + 1 = pump_few events now subscriber pumps.takes in
-      let into = pumps.all.runs most events world stands (omega (arith, few, said)) in
+      let into = pumps.all.runs most events world stands in
       record {
         lines = answer_line (At position) ∷ [];
         happened = asked;
@@ -84,22 +59,20 @@ module _ (before after : World) (now : ℕ) (step : StepOf) (text : List ℕ) wh
               position_is = λ there.
                   subst (λ (c : CheckedOf). position ≡ w.position_now c into.next.transactions subscriber (into.next.peers subscriber)) into.checked
                   (at (subst (λ (c : CheckedOf). subscriber < length c.plan) (sym into.checked) there) most (events ++ asked) into.next into.is);
-              at_end = λ there. end there most events world stands (omega (arith, few));
+              at_end = λ there. end there most events world stands;
               are = refl;
             }));
         is_world = into.is;
-        few = said;
         checked = into.checked;
         text_is = text_is;
       }
 
   part_pumped : (subscriber : ℕ) (answer : Answer) → a.Pump subscriber ≡ asked_of now step → PumpsSome before after now subscriber answer
       → WantsMemory before subscriber answer → text ≡ text_of (answer_line answer ∷ []) → MakesOn before after now step text
-  part_pumped subscriber answer is pumps refused text_is = λ most events world stands few.
+  part_pumped subscriber answer is pumps refused text_is = λ most events world stands.
       let part = pumps.some in
       let asked : List (ℕ × w.Event) = map (on_clock now subscriber) part.done in
-      let said : statuses_in (events ++ asked) ≤ statuses_in events + 1 = part_few events now subscriber pumps.takes part.done part.others part.are in
-      let into = part.runs most events world stands (omega (arith, few, said)) in
+      let into = part.runs most events world stands in
       record {
         lines = answer_line answer ∷ [];
         happened = asked;
@@ -115,11 +88,10 @@ module _ (before after : World) (now : ℕ) (step : StepOf) (text : List ℕ) wh
               go_on = part.go_on;
               ends = part.ends;
               runs = into.runs;
-              refused = λ there c connected. refused there most events world stands (omega (arith, few)) c connected;
+              refused = λ there c connected. refused there most events world stands c connected;
               are = refl;
             }));
         is_world = into.is;
-        few = said;
         checked = into.checked;
         text_is = text_is;
       }
@@ -132,7 +104,7 @@ module _ (before after : World) (now : ℕ) (step : StepOf) (text : List ℕ) wh
 pub view_made : (code : World) (now : ℕ) (step : StepOf) (catalog : CatalogOf Expr) (view : View) (text : List ℕ) → a.View ≡ asked_of now step → catalog ≡ (world_checked code).catalog
     → ((most : ℕ) (events : List (ℕ × w.Event)) (world : w.World) → IsWorld code most events world → ShowsWorld (world_checked code) world view)
     → text ≡ text_of (view_lines catalog view) → MakesOn code code now step text
-view_made code now step catalog view text is named shows text_is = λ most events world stands few.
+view_made code now step catalog view text is named shows text_is = λ most events world stands.
     let lines : List (List ℕ) = view_lines (world_checked code).catalog view in
     record {
       lines = lines;
@@ -140,7 +112,6 @@ view_made code now step catalog view text is named shows text_is = λ most event
       next = world;
       is_step = asked_step code code now step text most a.View world lines world is (record { view = view; shows = shows most events world stands; are = refl; stays = refl });
       is_world = subst (λ (happened : List (ℕ × w.Event)). IsWorld code most happened world) (sym (append-nil events)) stands;
-      few = omega (arith, ap statuses_in (append-nil events));
       checked = refl;
       text_is = text_is ∙ ap (λ (c : CatalogOf Expr). text_of (view_lines c view)) named;
     }

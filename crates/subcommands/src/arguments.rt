@@ -46,7 +46,7 @@ const INPUT_HELP: &str =
     "The input comes from the standard input. Its parts are separated by lines that are exactly %%:
 eval takes a catalog and rows, check a catalog and certificates, make a catalog alone,
 simulate a catalog, certificates and a script.
-A catalog is SQL: CREATE SCHEMA, TABLE, PUBLICATION and SUBSCRIPTION, and ALTER TABLE .. REPLICA IDENTITY.
+A catalog is SQL: CREATE SCHEMA, TABLE, UNIQUE INDEX, PUBLICATION and SUBSCRIPTION, and ALTER TABLE .. REPLICA IDENTITY.
 
 Exit status:
   0  it is answered, and the answer is no refusal

@@ -1,16 +1,16 @@
 -- Lists of commands go on, and tables with the same rows stay alike.
-use Rattle.std.proofs.Common.{◌≡◌, ℕ, zero, suc, ◌+◌, Bool, true, false, ◌&&◌, List, [], ◌∷◌, ◌++◌, length, refl, sym, ◌∙◌, ap, subst, arith}
+use Rattle.std.proofs.Common.{◌≡◌, ℕ, suc, ◌+◌, ◌&&◌, List, [], ◌∷◌, ◌++◌, length, refl, sym, ◌∙◌, ap, subst, arith}
 use Rattle.std.specs.Prelude.{Option, Some, None, ◌==◌, is_none, is_some, if◌then◌else◌}
 use Rattle.std.specs.List.{list_any}
 use Rattle.filter_tree.specs.Datum.{Datum}
-use Rattle.table_changes.specs.Commands.{Command, Insert, Update, Delete, Truncate, CommandFault, NoTable, NoSuchRow, DuplicateKey, unless, unless_unfit, named, all_known, fault_of, applied, all_applied, numbered, first_fault}
+use Rattle.table_changes.specs.Commands.{Command, Insert, Update, Delete, Truncate, CommandFault, NoTable, NoSuchRow, DuplicateKey, unless, unless_unfit, named, fault_of, applied, all_applied, numbered, first_fault}
 use Rattle.table_changes.specs.Growing.{AreAlike}
 use Rattle.table_changes.specs.Keys.{UniqueKey, Keys, key_at}
 use Rattle.table_changes.specs.Records.{change_of, record_of, part_found}
 use Rattle.table_changes.specs.Records as r
 use Rattle.table_changes.specs.Seen.{seen_of, seen_each, seen_rows, passing}
 use Rattle.table_changes.specs.Setting.{Setting}
-use Rattle.table_changes.specs.Tables.{Tables, SameTables, is_row, is_own, put, put_in, take_out, without, emptied, found_at, is_free_from, is_free, holds, Stands}
+use Rattle.table_changes.specs.Tables.{Tables, SameTables, is_row, is_own, put, without, emptied, found_at, is_free_from, is_free, holds, Stands}
 
 -- ---- tables with the same rows
 

@@ -1,3 +1,4 @@
+pub mod AlwaysLemmas
 pub mod ChangeLemmas
 pub mod GrowingLemmas
 pub mod ShowingLemmas

@@ -1,12 +1,12 @@
 -- Whoever follows the record of commands gets what it sees of the commands.
-use Rattle.std.proofs.Common.{◌≡◌, ◌≢◌, ℕ, ◌+◌, Bool, true, false, ◌||◌, List, [], ◌∷◌, map, refl, sym, ◌∙◌, ap, subst}
+use Rattle.std.proofs.Common.{◌≡◌, ℕ, ◌+◌, Bool, true, false, List, [], ◌∷◌, map, refl, sym, ◌∙◌, ap, subst}
 use Rattle.std.specs.Prelude.{Option, Some, None, nat_eq, filter, filter_map, option_map, if◌then◌else◌}
 use Rattle.std.specs.List.{list_any, cons_option}
 use Rattle.filter_tree.specs.Datum.{Datum}
 use Rattle.filter_tree.specs.Lists.{distinct}
 use Rattle.filter_tree.specs.Same.{same_row}
 use Rattle.filter_tree.proofs.SameLemmas.{equal_from_same_row}
-use Rattle.table_changes.specs.Commands.{Command, Insert, Update, Delete, Truncate, named, fault_of, applied, first_fault}
+use Rattle.table_changes.specs.Commands.{Command, Insert, Update, Delete, Truncate, fault_of, applied, first_fault}
 use Rattle.table_changes.specs.Outs as o
 use Rattle.table_changes.specs.Outs.{asked, out_by, out_gone, stands_for, got, as_recorded}
 use Rattle.table_changes.specs.Records as r

@@ -1,5 +1,6 @@
 //! Laws of what commands do to tables.
 
+ghost use Rattle.table_changes.specs.Always.{FaultsOfCommandsStay};
 ghost use Rattle.table_changes.specs.Setting.{Setting};
 ghost use Rattle.table_changes.specs.Changes.{RowComes, RowGoes, TablesAreEmptied, OthersStay, OneRowForKey};
 ghost use Rattle.table_changes.specs.Changes.{RowsStand, RowsStayKeyed, RowsStayFit, RowsStayApart, BeginsWell};
@@ -49,6 +50,16 @@ pub fn commands_come_one_by_one()
     ensures first { FirstFaultStays }
     ensures left { LeftByOneMore }
     ensures recorded { RecordOfOneMore }
+{}
+
+/// A law, and no code, of the faults that a command has by itself: a table that isn't there, and a row that doesn't fit
+/// its table. A list that is refused on any tables for such a fault of a command has that fault, whatever rows there
+/// are.
+///
+/// PostgreSQL 15, Chapter 6 Data Manipulation, and SQL Commands, TRUNCATE.
+#[tactic(auto, using(crate::proofs::AlwaysLemmas::faults_of_commands_stay))]
+pub fn faults_of_commands_stay()
+    ensures { FaultsOfCommandsStay }
 {}
 
 /// A law, and no code, of what is recorded of commands without a fault, where a row's identity tells who gets it. A

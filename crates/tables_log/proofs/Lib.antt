@@ -1,11 +1,13 @@
 pub mod BookLemmas
 pub mod CommandLemmas
+pub mod Crossing
 pub mod LayerLemmas
 pub mod ListLemmas
 pub mod ListingLemmas
 pub mod NumberLemmas
 pub mod PassLemmas
 pub mod PlaceLemmas
+pub mod SameLemmas
 pub mod SendableLemmas
 pub mod StandLemmas
 pub mod TruncateLemmas

@@ -41,7 +41,7 @@ text_sendable SmallInt bytes h = absurd h
 text_sendable Integer bytes h = absurd h
 text_sendable BigInt bytes h = absurd h
 text_sendable Boolean bytes h = absurd h
-text_sendable Text bytes h = h.short
+text_sendable Text bytes h = h.1.short
 
 value_sendable : (column : Column) (value : Datum) → Fits column value → IsSendableValue value
 value_sendable column Missing h = tt

@@ -39,6 +39,11 @@ pub record IsTransaction (commands : List Command) : Type 0 where
   pub some : 1 ≤ length commands
   pub few : length commands ≤ 1000
 
+-- The log has room for the commands, which are a transaction: whether they are accepted depends on the tables.
+pub record HasRoomFor (book : Book) (commands : List Command) : Type 0 where
+  pub transaction : IsTransaction commands
+  pub room : length (book_log book) < book_limit book
+
 -- The commands are accepted, each on what the earlier ones leave: the tables are what they leave, and the log has what is recorded of them as its last entry.
 pub record Commits (old new : Book) (commands : List Command) (time number : ℕ) : Type 0 where
   pub transaction : IsTransaction commands

@@ -33,6 +33,7 @@ pub struct Book {
     tables: Vec<TableRows>,
     log: Vec<Arc<Commit, Global>>,
     slots: Vec<Slot>,
+    ghost some: { 1 ≤ limit },
     ghost within: { limit ≤ 1000000000 },
     ghost room: { length log.items ≤ limit },
     ghost numbered: { IsNumbered (map (λ commit. arc_value commit) log.items) },
@@ -44,10 +45,11 @@ impl Book {
     ghost use Rattle.std.specs.Prelude.{◌≡◌, ◌+◌, ◌*◌, ◌<◌, ◌≤◌, max, length, map, slice_get, IfOk, IfErr, IfSome, IsSome, OnOk, OnErr};
     ghost use Rattle.std.specs.Arc.{arc_value};
     ghost use Rattle.std.specs.Option.{option_map, option_copied};
+    ghost use Rattle.filter_tree.specs.Memory.{NeedsMemoryOnlyIf};
     ghost use Rattle.shard_checker.specs.CheckedView.{checked_view};
     ghost use Rattle.table_changes.specs.Commands.{command_view};
     ghost use Rattle.tables_log.specs.BookView.{book_limit, book_log, book_rows, book_listed, book_slots};
-    ghost use Rattle.tables_log.specs.Committing.{IsNew, Commits, IsKept, ChangesSlots, RefusedBy};
+    ghost use Rattle.tables_log.specs.Committing.{IsNew, Commits, HasRoomFor, IsKept, ChangesSlots, RefusedBy};
     ghost use Rattle.tables_log.specs.Listing.{ListsFound};
     ghost use Rattle.tables_log.specs.Logs.{entry_at, IsNumbered};
     ghost use Rattle.tables_log.specs.Places.{IsInOrder};
@@ -86,14 +88,16 @@ impl Book {
     /// # Errors
     ///
     /// The first of `EmptyTransaction`, `TooManyCommands` (more than 1,000), `LogFull`, and `At` with the number, from
-    /// 1, of the first command that has a fault, and the fault; or `OutOfMemory` in place of any of them where an
-    /// allocation was refused.
+    /// 1, of the first command that has a fault, and the fault; or `OutOfMemory` in place of such a fault where an
+    /// allocation was refused. The others take no memory.
     ///
     /// PostgreSQL 15, 3.4. Transactions, and Chapter 6 Data Manipulation.
     #[tactic(auto, using(crate::proofs::BookLemmas::refused_by, crate::proofs::BookLemmas::count_refused, crate::proofs::BookLemmas::is_transaction, crate::proofs::ListLemmas::map_more))]
     pub fn commit(&mut self, commands: &[Command], time: u64) -> Result<u32, CommitError>
         ensures ok { IfOk result (λ number. Commits self.old self.new (map command_view commands.now) time number) }
         ensures refused { IfErr result (RefusedBy self.old (map command_view commands.now)) }
+        ensures memory { NeedsMemoryOnlyIf CommitError.OutOfMemory
+            (HasRoomFor self.old (map command_view commands.now)) result }
         ensures err { OnErr result (IsKept self.old self.new) }
     {
         check_count(commands.len())?;
@@ -113,6 +117,15 @@ impl Book {
         )?;
         self.log.push_reserved(commit);
         Ok(number)
+    }
+
+    /// How many commits the log may have, from 1 to 1,000,000,000, as it was given to `Book::new`.
+    pub fn limit(&self) -> u32
+        ensures shows { result ≡ book_limit self.now }
+        ensures some { 1 ≤ result }
+        ensures within { result ≤ 1000000000 }
+    {
+        self.limit
     }
 
     /// The number of commits in the log, which is also the number of the last one.

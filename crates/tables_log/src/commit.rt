@@ -1,6 +1,6 @@
 //! Commits: the entries of the log.
 
-ghost use Rattle.std.specs.Prelude.{◌≡◌, IfOk, map};
+ghost use Rattle.std.specs.Prelude.{◌≡◌, ◌≢◌, IfOk, MatchBool, map};
 ghost use Rattle.replica_identity.specs.ChangeView.{change_view};
 ghost use Rattle.tables_log.specs.Commits.{commit_of};
 ghost use Rattle.tables_log.specs.Sendable.{IsSendable};
@@ -43,6 +43,22 @@ fn copy_changes(alloc: Global, changes: &[Change]) -> Result<Vec<Change>, AllocE
         copies.push(change.copy(alloc)?)?;
     }
     Ok(copies)
+}
+
+/// Whether the lists have equal changes in the same order.
+fn same_changes(one: &[Change], other: &[Change]) -> bool
+    ensures { MatchBool result
+        (map change_view one.now ≡ map change_view other.now) (map change_view one.now ≢ map change_view other.now) }
+{
+    if one.len() != other.len() {
+        return false;
+    }
+    for (place, change) in one.iter().enumerate() {
+        if !change.same(&other[place]) {
+            return false;
+        }
+    }
+    true
 }
 
 impl Commit {
@@ -91,5 +107,13 @@ impl Commit {
             time: self.time,
             changes,
         })
+    }
+    /// Whether the commits are equal: they have one number, one time, and equal changes in the same order.
+    pub fn same(&self, other: &Commit) -> bool
+        ensures { MatchBool result (self.now ≡ other.now) (self.now ≢ other.now) }
+    {
+        self.number == other.number
+            && self.time == other.time
+            && same_changes(self.changes.as_slice(), other.changes.as_slice())
     }
 }

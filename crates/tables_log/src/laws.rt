@@ -2,6 +2,8 @@
 
 ghost use Rattle.tables_log.specs.StandsFor.{NewStands, CommitsAddOne, SlotsKeepIt, EachIsLogged, BooksAreRight, ListedAreRows};
 
+use crate::book::Book;
+
 /// A law, and no code, of the list of transactions that a book is of. A new book is of none (`new`); after a commit it
 /// is of one more (`commits`); and whatever else happens to its slots, or is refused, it is of the same (`kept`). Its
 /// log has an entry for each (`logged`). Each row is where each of its unique keys has it and fits its table, and where
@@ -24,3 +26,11 @@ pub fn books_stand_for_transactions()
 pub fn listed_rows_are_the_table()
     ensures { ListedAreRows }
 {}
+
+/// Takes what may go to another thread.
+fn goes_to_another_thread<T: Send>(_value: &T) {}
+
+/// A law, and no code: a book may go to another thread.
+pub fn books_go_to_other_threads(book: &Book) {
+    goes_to_another_thread(book);
+}

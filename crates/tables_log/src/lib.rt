@@ -19,5 +19,7 @@ mod truncating;
 pub use book::Book;
 pub use commit::Commit;
 pub use error::{CommandFault, CommitError, StartError, StatusAhead};
-pub use laws::{books_stand_for_transactions, listed_rows_are_the_table};
+pub use laws::{
+    books_go_to_other_threads, books_stand_for_transactions, listed_rows_are_the_table,
+};
 pub use staged::Staged;

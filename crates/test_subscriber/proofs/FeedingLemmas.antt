@@ -17,7 +17,7 @@ use Rattle.table_changes.proofs.TableLemmas.{by_test}
 use Rattle.test_subscriber.specs.Answers.{SameOutcome}
 use Rattle.test_subscriber.specs.Copies.{told}
 use Rattle.test_subscriber.specs.Feeding.{limit, hear_while, next_heard, hear_frames, StaysOf, StopsAmong, StopsFor}
-use Rattle.test_subscriber.specs.FeedingLaws.{PiecesAreFedAsOne, StopsComeAtOnce}
+use Rattle.test_subscriber.specs.FeedingLaws.{PiecesAreFedAsOne, StopsComeAtOnce, StopsBeyond, FirstPiecesStay}
 use Rattle.test_subscriber.specs.Frames.{Heard, heard_then, hear_start, hear_keepalive, hear_decoded, hear_data, hear_content, hear_stream, hear_frame_in, hear_frame, hear_cut}
 use Rattle.test_subscriber.specs.Hearing.{Outcome, Change, table_of, change_of, staged, emptied, hear_empty, empty_rest, hear_truncate, learn_new, learn_as, hear_idle, hear_busy, hear_in}
 use Rattle.test_subscriber.specs.Machine.{Machine, Alike, stopped}
@@ -321,30 +321,33 @@ module _ (old between : Subscriber) (first second : List ℕ) (one : Feeds old f
     names = record { slot = two.names.slot ∙ one.names.slot; publications = two.names.publications ∙ one.names.publications };
   }
 
-  among : (new : Machine) → StopsAmong (fed_cut between second) (sub_machine between) new → StopsAmong (fed_cut old (first ++ second)) (sub_machine old) new
-  among new stops = record {
-    frames = frames_of whole ++ stops.frames;
+  beyond : (new : Subscriber) → StopsAmong (fed_cut between second) (sub_machine between) (sub_machine new) → StopsBeyond old first second new
+  beyond new stops = record {
+    more = stops.frames;
     rest = stops.rest;
-    first = after_append (frames_of whole) stops.frames stops.rest ∙ ap (after_frames (frames_of whole)) (stops.first ∙ next_cut)
+    among = after_append (frames_of whole) stops.frames stops.rest ∙ ap (after_frames (frames_of whole)) (stops.first ∙ next_cut)
         ∙ sym (more_after limit second whole (hears_no_fault whole (sub_machine old) good)) ∙ sym all_cut;
-    stays = subst (λ outcome. StaysOf outcome new)
+    stays = subst (λ outcome. StaysOf outcome (sub_machine new))
         (sym (frames_append (frames_of whole) stops.frames (sub_machine old) ∙ ap (λ outcome. next_heard outcome (hear_frames stops.frames)) (hears_frames whole (sub_machine old) good)))
-        (stays_alike (hear_frames stops.frames (sub_machine between)) (hear_frames stops.frames heard.machine) new
+        (stays_alike (hear_frames stops.frames (sub_machine between)) (hear_frames stops.frames heard.machine) (sub_machine new)
         (frames_alike stops.frames (sub_machine between) heard.machine machine_alike) stops.stays);
   }
 
-  stops_for : (fault : Option SubFault) (new : Machine) → StopsFor fault (fed_heard between second) (fed_cut between second) (sub_machine between) new
-      → StopsFor fault (fed_heard old (first ++ second)) (fed_cut old (first ++ second)) (sub_machine old) new
+  among : (new : Subscriber) → StopsAmong (fed_cut between second) (sub_machine between) (sub_machine new) → StopsAmong (fed_cut old (first ++ second)) (sub_machine old) (sub_machine new)
+  among new stops = let its = beyond new stops in record { frames = frames_of whole ++ its.more; rest = its.rest; first = its.among; stays = its.stays }
+
+  stops_for : (fault : Option SubFault) (new : Subscriber) → StopsFor fault (fed_heard between second) (fed_cut between second) (sub_machine between) (sub_machine new)
+      → StopsFor fault (fed_heard old (first ++ second)) (fed_cut old (first ++ second)) (sub_machine old) (sub_machine new)
   stops_for None new stops = among new stops
   stops_for (Some fault) new stops = record {
     fault_is = sym heard_alike.fault ∙ stops.fault_is;
-    stays = alike_both new (stopped (fed_heard between second).machine) (stopped (fed_heard old (first ++ second)).machine) stops.stays
+    stays = alike_both (sub_machine new) (stopped (fed_heard between second).machine) (stopped (fed_heard old (first ++ second)).machine) stops.stays
         (stopped_alike (fed_heard between second).machine (fed_heard old (first ++ second)).machine heard_alike.machine);
   }
 
   stop_as_one : (new : Subscriber) (error : SubFault) → FeedStops between second error new → FeedStops old (first ++ second) error new
   stop_as_one new error stops = record {
-    machine = stops_for (told error) (sub_machine new) stops.machine;
+    machine = stops_for (told error) new stops.machine;
     cleared = record {
       held = stops.cleared.held;
       output = stops.cleared.output;
@@ -360,3 +363,7 @@ pieces_are_fed_as_one old between new first second one two = fed_as_one old betw
 
 pub stops_come_at_once : StopsComeAtOnce
 stops_come_at_once old between new first second error one stops = stop_as_one old between first second one new error stops
+
+pub first_pieces_stay : FirstPiecesStay
+first_pieces_stay old between new first second error one stops memory = beyond old between first second one new
+    (subst (λ fault. StopsFor fault (fed_heard between second) (fed_cut between second) (sub_machine between) (sub_machine new)) memory stops.machine)

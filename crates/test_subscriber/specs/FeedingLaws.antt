@@ -1,6 +1,10 @@
 -- That a subscriber makes the same of pieces that are fed one after another and of the pieces as one ("55.7. Message Formats").
-use Rattle.std.specs.Prelude.{ℕ, List, ◌++◌}
-use Rattle.test_subscriber.specs.Subscribers.{Feeds, FeedStops}
+use Rattle.std.specs.Prelude.{◌≡◌, ℕ, List, ◌++◌, None}
+use Rattle.copy_frames.specs.Frames.{Cut, after_frames, frames_of}
+use Rattle.copy_frames.specs.declared.frame.Frame.{Frame}
+use Rattle.test_subscriber.specs.Copies.{told}
+use Rattle.test_subscriber.specs.Feeding.{hear_frames, StaysOf}
+use Rattle.test_subscriber.specs.Subscribers.{Feeds, FeedStops, fed_cut, sub_machine}
 use Rattle.test_subscriber.specs.declared.fault.SubFault.{SubFault}
 use Rattle.test_subscriber.specs.declared.subscriber.Subscriber.{Subscriber}
 
@@ -12,3 +16,15 @@ PiecesAreFedAsOne = (old between new : Subscriber) (first second : List ℕ) →
 abbrev pub StopsComeAtOnce : Type 0
 StopsComeAtOnce = (old between new : Subscriber) (first second : List ℕ) (error : SubFault)
     → Feeds old first between → FeedStops between second error new → FeedStops old (first ++ second) error new
+
+-- all whole frames of the first one are heard, and then some first frames of the second
+pub record StopsBeyond (old : Subscriber) (first second : List ℕ) (new : Subscriber) : Type 0 where
+  pub more : List Frame
+  pub rest : Cut
+  pub among : after_frames (frames_of (fed_cut old first) ++ more) rest ≡ fed_cut old (first ++ second)
+  pub stays : StaysOf (hear_frames (frames_of (fed_cut old first) ++ more) (sub_machine old)) (sub_machine new)
+
+-- where memory is refused to the second one, what is left comes of these
+abbrev pub FirstPiecesStay : Type 0
+FirstPiecesStay = (old between new : Subscriber) (first second : List ℕ) (error : SubFault)
+    → Feeds old first between → FeedStops between second error new → told error ≡ None → StopsBeyond old first second new

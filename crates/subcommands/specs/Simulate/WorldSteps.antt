@@ -1,10 +1,9 @@
 -- What a step of a script does to the program's own world, and what a script writes.
-use Rattle.std.specs.Prelude.{◌≡◌, ◌<◌, ◌≤◌, ℕ, ◌+◌, ◌^◌, ◌⊎◌, List, [], ◌++◌, Option, Result}
+use Rattle.std.specs.Prelude.{◌≡◌, ℕ, ◌+◌, ◌⊎◌, List, [], ◌++◌, Option, Result}
 use Rattle.pub_reader.specs.Scripts.{LineOf}
 use Rattle.pub_reader.specs.Steps.{StepOf}
 use Rattle.shard_checker.specs.CheckedView.{CheckedOf}
 use Rattle.shard_world.specs.World as w
-use Rattle.shard_world.specs.World.{statuses_in}
 use Rattle.shard_world.specs.WorldCalls.{IsWorld, world_checked}
 use Rattle.shard_world.specs.declared.world.World.{World}
 use Rattle.subcommands.specs.Output.{Writes, text_of}
@@ -15,21 +14,20 @@ use Rattle.subcommands.specs.declared.failure.Status.TheVariants.{Done}
 
 -- ---- one step
 
--- The step is made in the world that the program's matches, the text is its lines, and the program's world matches what is left. One status is said, or none.
+-- The step is made in the world that the program's matches, the text is its lines, and the program's world matches what is left.
 pub record MakesInto (before after : World) (most : ℕ) (events : List (ℕ × w.Event)) (world : w.World) (now : ℕ) (step : StepOf) (text : List ℕ) : Type 0 where
   pub lines : List (List ℕ)
   pub happened : List (ℕ × w.Event)
   pub next : w.World
   pub is_step : IsStep (world_checked before) most now step world lines next
   pub is_world : IsWorld after most (events ++ happened) next
-  pub few : statuses_in (events ++ happened) ≤ statuses_in events + 1
   pub checked : world_checked after ≡ world_checked before
   pub text_is : text ≡ text_of lines
 
--- in each world that it matches, where fewer than 2^32 - 1 of the events that led there said a status
+-- in each world that it matches
 abbrev pub MakesOn : World → World → ℕ → StepOf → List ℕ → Type 0
 MakesOn before after now step text =
-    (most : ℕ) (events : List (ℕ × w.Event)) (world : w.World) → IsWorld before most events world → statuses_in events + 1 < 2 ^ 32 → MakesInto before after most events world now step text
+    (most : ℕ) (events : List (ℕ × w.Event)) (world : w.World) → IsWorld before most events world → MakesInto before after most events world now step text
 
 -- ---- a script
 

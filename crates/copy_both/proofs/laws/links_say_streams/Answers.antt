@@ -22,5 +22,11 @@ returns-clause-keeps c = lemmas.keeps_on
 pub returns-clause-passes : goal.returns-clause-passes
 returns-clause-passes c = lemmas.passes_on
 
+pub returns-clause-rest : goal.returns-clause-rest
+returns-clause-rest c = lemmas.rest_passes_on
+
+pub returns-clause-front : goal.returns-clause-front
+returns-clause-front c = lemmas.front_passes_on
+
 pub returns-clause-grows : goal.returns-clause-grows
 returns-clause-grows c = lemmas.log_grows

@@ -1,5 +1,5 @@
 use Rattle.shard_world.proofs.PublisherLemmas.{checked_publish}
-use Rattle.shard_world.proofs.StartLengths.{subscribers_can_ask}
+use Rattle.stream_laws.proofs.StartLengths.{subscribers_can_ask}
 use Rattle.shard_world.proofs.laws.checked_catalogs_publish.Goals as goal
 
 pub returns-clause-publish : goal.returns-clause-publish

@@ -6,3 +6,6 @@ returns-clause-fed c = lemmas.pieces_are_fed_as_one
 
 pub returns-clause-stopped : goal.returns-clause-stopped
 returns-clause-stopped c = lemmas.stops_come_at_once
+
+pub returns-clause-stays : goal.returns-clause-stays
+returns-clause-stays c = lemmas.first_pieces_stay

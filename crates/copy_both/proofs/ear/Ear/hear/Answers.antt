@@ -1,11 +1,11 @@
-use Rattle.std.proofs.Common.{rules}
-use Rattle.copy_both.specs.Ears.{ear_phase, ear_heard}
-use Rattle.copy_both.proofs.LinkLemmas.{ended_answers}
+use Rattle.std.proofs.Common.{Ok, ap, sym, ◌∙◌}
 use Rattle.copy_both.proofs.ear.Ear.hear.Goals as goal
 
--- nothing more is heard after an end
-pub returns-in-Closed : goal.returns-in-Closed
-returns-in-Closed c = record {
-  answer = ended_answers (ear_phase c.args.self.now) (ear_heard c.args.self.now c.args.book.now c.args.piece.now c.args.sent) c.in-Closed.is;
-  left = search rules;
-}
+pub returns-in-Ok-clause-answer : goal.returns-in-Ok-clause-answer
+returns-in-Ok-clause-answer c = c.in-Ok.ensures.answer ∙ ap Ok (sym c.told.ensures)
+
+pub returns-in-Err-clause-answer : goal.returns-in-Err-clause-answer
+returns-in-Err-clause-answer c = c.in-Err.ensures.answer
+
+pub returns-in-Err-clause-left : goal.returns-in-Err-clause-left
+returns-in-Err-clause-left c = c.in-Err.ensures.left

@@ -16,7 +16,7 @@ returns-clause-said c =
     let framed : ℕ → List (List ℕ) → List ℕ = λ n messages. flat_map (sent_at (64 * n) c.args.now) messages in
     let number : ℕ = c.from-lsn.result in
     c.in_ok-extend_from_slice.ensures.ok
-    ∙ ap (λ (x : List ℕ). out ++ x) (c.as_slice.ensures ∙ c.in_ok-append_messages.ensures.ok
+    ∙ ap (λ (x : List ℕ). out ++ x) (c.as_slice.ensures ∙ c.in_ok-append_messages.ensures
     ∙ ap (λ (x : List ℕ). x ++ framed number (map spelling_of c.deref.result.now)) c.new-frames.ensures.items
     ∙ ap (λ (x : List Msg). framed number (map spelling_of x)) (c.deref.ensures.value ∙ c.in_ok-messages.ensures.exact
     ∙ ap (λ (told : List Bool). messages_for (checked_view c.args.checked.now) c.args.self.now.slot told c.args.commit.now) c.as_mut_slice.ensures.value)

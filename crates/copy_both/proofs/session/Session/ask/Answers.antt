@@ -16,9 +16,9 @@ returns-clause-asked c =
     c.catalog-catalog.ensures.shows ∙ ap (λ (checked : Checked). (checked_view checked).catalog) c.deref.ensures in
     c.in_ok-answer_start.ensures.asked
     ∙ ap (λ (o : OfferOf). told (asked_of o c.args.frame.now.kind c.as_slice.result.now))
-    (offer_is c.catalog-catalog.result.now served c.deref-2.result.now c.deref-3.result.now c.end_of.result c.args.in_use.now
+    (offer_is c.catalog-catalog.result.now served c.deref-2.result.now c.deref-3.result.now c.end_of.result
     c.deref-2.ensures.value c.deref-3.ensures.value c.end_of.ensures shown)
-    ∙ ap (λ (x : List ℕ). told (asked_of (offer_in served c.args.in_use.now) c.args.frame.now.kind x)) c.as_slice.ensures
+    ∙ ap (λ (x : List ℕ). told (asked_of (offer_in served) c.args.frame.now.kind x)) c.as_slice.ensures
 
 pub returns-clause-ok : goal.returns-clause-ok
 returns-clause-ok c =
@@ -28,6 +28,6 @@ returns-clause-ok c =
     c.catalog-catalog.ensures.shows ∙ ap (λ (checked : Checked). (checked_view checked).catalog) c.deref.ensures in
     c.in_ok-answer_start.ensures.ok
     ∙ ap (λ (o : OfferOf). sent_after old (asked_of o c.args.frame.now.kind c.as_slice.result.now))
-    (offer_is c.catalog-catalog.result.now served c.deref-2.result.now c.deref-3.result.now c.end_of.result c.args.in_use.now
+    (offer_is c.catalog-catalog.result.now served c.deref-2.result.now c.deref-3.result.now c.end_of.result
     c.deref-2.ensures.value c.deref-3.ensures.value c.end_of.ensures shown)
-    ∙ ap (λ (x : List ℕ). sent_after old (asked_of (offer_in served c.args.in_use.now) c.args.frame.now.kind x)) c.as_slice.ensures
+    ∙ ap (λ (x : List ℕ). sent_after old (asked_of (offer_in served) c.args.frame.now.kind x)) c.as_slice.ensures

@@ -7,6 +7,7 @@ use Rattle.tables_log.proofs.book.Book.commit.Goals as goal
 
 pub invariant_of-self : goal.invariant_of-self
 invariant_of-self c = record {
+  some = c.args.self.now.some;
   within = c.args.self.now.within;
   room = grind (arith, common_steps);
   numbered = grind (arith, common_steps);
@@ -16,6 +17,7 @@ invariant_of-self c = record {
 
 pub invariant_of-self-in-Break-branch-3 : goal.invariant_of-self-in-Break-branch-3
 invariant_of-self-in-Break-branch-3 c = record {
+  some = c.args.self.now.some;
   within = search rules;
   room = grind (arith, common_steps);
   numbered = grind (arith, common_steps);
@@ -31,6 +33,7 @@ invariant_of-self-in-Break-branch-3 c = record {
 
 pub invariant_of-self-2 : goal.invariant_of-self-2
 invariant_of-self-2 c = record {
+  some = c.args.self.now.some;
   within = search rules;
   room = grind (arith, common_steps);
   numbered = grind (arith, common_steps, numbered_pushed);
@@ -43,3 +46,7 @@ invariant_of-self-2 c = record {
   };
   bounded = grind (arith, common_steps, bounded_more);
 }
+
+-- a full log is told without memory
+pub returns-then-count-self-clause-memory : goal.returns-then-count-self-clause-memory
+returns-then-count-self-clause-memory c = λ same. absurd cc

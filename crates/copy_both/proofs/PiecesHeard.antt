@@ -1,0 +1,293 @@
+-- What an ear has heard of all bytes since its first, after a further piece.
+use Rattle.std.proofs.Common.{◌≡◌, ℕ, min, Bool, true, false, List, [], ◌∷◌, ◌++◌, length, take, drop, refl, sym, ap, subst, ◌∙◌, append_assoc, inl, inr}
+use Rattle.std.specs.Prelude.{Option, Some, None, Result, Ok, Err}
+use Rattle.std.proofs.lemmas.List.{take-append-drop}
+use Rattle.filter_tree.specs.Memory.{Answers}
+use Rattle.shard_checker.specs.CheckedView.{CheckedOf}
+use Rattle.tables_log.specs.BookView.{book_log}
+use Rattle.tables_log.specs.Slots.{end_after}
+use Rattle.tables_log.specs.declared.book.Book.{Book}
+use Rattle.copy_frames.specs.Frames.{Cut, cut, after_frames, fault_of, frames_of, rest_of, fault_in}
+use Rattle.copy_frames.specs.declared.fault.FrameFault.{FrameFault}
+use Rattle.copy_frames.specs.declared.fault.FrameFault.TheVariants as frame
+use Rattle.copy_frames.specs.declared.frame.Frame.{Frame}
+use Rattle.copy_frames.proofs.PieceLemmas.{cut_more, more_after, rest_after}
+use Rattle.copy_both.specs.Ears.{ear_checked, ear_started, ear_heard, answer_in, HearLeaves, HearsPiece, Holds}
+use Rattle.copy_both.specs.HeardFrames.{TellsStart, start_told, frames_in, AsksIfStarted, IsStartedBy, HasHeard, HasEnd, HasBadFrame, HasFault, sent_then, reach_of, GoesOnOrEnds, Explains, HasHeardOn, NothingIsHeard, PiecesAreHeard}
+use Rattle.copy_both.specs.Hearing.{HearingOf, Served, answer_by, answer_of, frames_heard, heard_told, is_over, is_over_by, link_fault, then_fault, unless_over, with_fault}
+use Rattle.copy_both.specs.Listening.{silence, Leaves, fed, resting, part_heard}
+use Rattle.copy_both.specs.Phases.{IsReady, phase_after, phase_by}
+use Rattle.copy_both.specs.Sessions.{served_by, hearing_view}
+use Rattle.copy_both.specs.Voices.{told_fault}
+use Rattle.copy_both.specs.declared.ear.Ear.{Ear}
+use Rattle.copy_both.specs.declared.heard.Heard.{Heard}
+use Rattle.copy_both.specs.declared.link_fault.LinkFault.{LinkFault}
+use Rattle.copy_both.specs.declared.link_fault.LinkFault.TheVariants as fault
+use Rattle.copy_both.specs.declared.phase.Phase.TheVariants as phase
+use Rattle.copy_both.proofs.FrameRuns.{fault_over, end_over, event_fault, IsEventFault, asks_if_more, Comes, Comes_on, Comes_bad, Comes_refused, Comes_ahead, Comes_ended, Ran, runs_on}
+use Rattle.copy_both.proofs.LinkLemmas.{fault_started, frames_started}
+use Rattle.copy_both.proofs.StartsTold.{all_told}
+
+-- ---- more bytes
+
+frames_after : (frames : List Frame) (last : Cut) → frames_of (after_frames frames last) ≡ frames ++ frames_of last
+frames_after [] last = refl
+frames_after (first ∷ frames) last = ap (λ (x : List Frame). first ∷ x) (frames_after frames last)
+
+fault_after : (frames : List Frame) (last : Cut) → fault_of (after_frames frames last) ≡ fault_of last
+fault_after [] last = refl
+fault_after (first ∷ frames) last = fault_after frames last
+
+-- ---- the answer
+
+ok_faultless : (f : Option LinkFault) (heard told : Heard) → answer_by f heard ≡ Ok told → (f ≡ None) × (heard ≡ told)
+ok_faultless None heard told is = (refl, cc)
+ok_faultless (Some f) heard told is = absurd cc
+
+err_faulty : (f : Option LinkFault) (heard : Heard) (g : LinkFault) → answer_by f heard ≡ Err g → f ≡ Some g
+err_faulty None heard g is = absurd cc
+err_faulty (Some f) heard g is = let same : f ≡ g = cc in ap Some same
+
+-- a fault stays, and so does an end
+fault_stays : (f : Option FrameFault) (last : HearingOf) (g : LinkFault) → last.fault ≡ Some g → (then_fault f last).fault ≡ Some g
+fault_stays None last g is = is
+fault_stays (Some f) last g is =
+    let over : is_over last ≡ true = ap (λ (x : Option LinkFault). is_over_by x last.heard.ended) is in
+    ap (λ (b : Bool). (unless_over b last (with_fault (link_fault f) last)).fault) over ∙ is
+
+end_stays : (f : Option FrameFault) (last : HearingOf) (kind : ℕ) → last.fault ≡ None → last.heard.ended ≡ Some kind → then_fault f last ≡ last
+end_stays None last kind none is = refl
+end_stays (Some f) last kind none is =
+    let over : is_over last ≡ true =
+    ap (λ (x : Option LinkFault). is_over_by x last.heard.ended) none ∙ ap (λ (x : Option ℕ). is_over_by None x) is in
+    ap (λ (b : Bool). unless_over b last (with_fault (link_fault f) last)) over
+
+-- the fault of a length comes last
+length_fault : (f : FrameFault) (last : HearingOf) → is_over last ≡ false → (then_fault (Some f) last).fault ≡ Some (link_fault f)
+length_fault f last going = ap (λ (b : Bool). (unless_over b last (with_fault (link_fault f) last)).fault) going
+
+-- what is answered where nothing went wrong
+data Answered (checked : CheckedOf) (frames : List Frame) (f : Option FrameFault) (last : HearingOf) (ended : Option ℕ) : Type 0 where
+  Answered_on : f ≡ None → IsStartedBy checked frames last.started → ended ≡ None → Answered checked frames f last ended
+  Answered_end : (kind : ℕ) → HasEnd frames kind → ended ≡ Some kind → Answered checked frames f last ended
+
+some_is : (f : Option LinkFault) (g : LinkFault) → f ≡ Some g → f ≡ None → ⊥
+some_is f g some none = let clash : Some g ≡ None = sym some ∙ none in cc
+
+module _ (checked : CheckedOf) (frames : List Frame) (reach : ℕ) (last : HearingOf) where
+  ok_on : (f : Option FrameFault) (told : Heard) → is_over last ≡ false → IsStartedBy checked frames last.started → answer_of (then_fault f last) ≡ Ok told
+      → Answered checked frames f last told.ended
+  ok_on None told going started is =
+      let same = (ok_faultless last.fault (heard_told last.heard) told is).1 in
+      Answered_on refl started (sym (ap (λ (x : Heard). x.ended) same) ∙ end_over last.fault last.heard.ended going)
+  ok_on (Some f) told going started is =
+      absurd (some_is (then_fault (Some f) last).fault (link_fault f) (length_fault f last going)
+      (ok_faultless (then_fault (Some f) last).fault (heard_told (then_fault (Some f) last).heard) told is).0)
+
+  wrong : (f : Option FrameFault) (told : Heard) (g : LinkFault) → last.fault ≡ Some g → answer_of (then_fault f last) ≡ Ok told → ⊥
+  wrong f told g some is = some_is (then_fault f last).fault g (fault_stays f last g some) (ok_faultless (then_fault f last).fault (heard_told (then_fault f last).heard) told is).0
+
+  ok_comes : (f : Option FrameFault) (told : Heard) → Comes checked frames reach last → answer_of (then_fault f last) ≡ Ok told → Answered checked frames f last told.ended
+  ok_comes f told (Comes_on going started) is = ok_on f told going started is
+  ok_comes f told (Comes_bad g bad some) is = absurd (wrong f told g some is)
+  ok_comes f told (Comes_refused state refused some) is = absurd (wrong f told (fault.BadStart state) some is)
+  ok_comes f told (Comes_ahead says some) is = absurd (wrong f told fault.StatusAhead some is)
+  ok_comes f told (Comes_ended kind ends none some) is =
+      let stays : then_fault f last ≡ last = end_stays f last kind none some in
+      let same = (ok_faultless last.fault (heard_told last.heard) told (sym (ap answer_of stays) ∙ is)).1 in
+      Answered_end kind ends (sym (ap (λ (x : Heard). x.ended) same) ∙ some)
+
+module _ (checked : CheckedOf) (bytes : List ℕ) (reach : ℕ) (last : HearingOf) where
+  by_length : (f : FrameFault) → fault_in 65536 bytes ≡ Some f → HasFault checked bytes reach (link_fault f)
+  by_length frame.BadLength is = inl is
+  by_length frame.FrameTooLong is = is
+  by_length frame.OutOfMemory is = tt
+
+  by_frame : (g : LinkFault) → IsEventFault g → HasBadFrame (frames_in bytes) g → HasFault checked bytes reach g
+  by_frame fault.FrameTooLong so bad = absurd so
+  by_frame fault.BadLength so bad = inr bad
+  by_frame (fault.Unexpected byte) so bad = bad
+  by_frame (fault.BadStart state) so bad = absurd so
+  by_frame fault.StatusAhead so bad = absurd so
+  by_frame fault.Closed so bad = absurd so
+  by_frame fault.OutOfMemory so bad = absurd so
+
+  same_fault : (f : Option LinkFault) (one other : LinkFault) → f ≡ Some one → f ≡ Some other → one ≡ other
+  same_fault f one other first second = let both : Some one ≡ Some other = sym first ∙ second in cc
+
+  err_on : (f : Option FrameFault) (g : LinkFault) → fault_in 65536 bytes ≡ f → is_over last ≡ false → (then_fault f last).fault ≡ Some g → HasFault checked bytes reach g
+  err_on None g is going some = absurd (some_is last.fault g some (fault_over last.fault last.heard.ended going))
+  err_on (Some f) g is going some =
+      subst (HasFault checked bytes reach) (same_fault (then_fault (Some f) last).fault (link_fault f) g (length_fault f last going) some) (by_length f is)
+
+  err_comes : (f : Option FrameFault) (g : LinkFault) → fault_in 65536 bytes ≡ f → Comes checked (frames_in bytes) reach last → (then_fault f last).fault ≡ Some g
+      → HasFault checked bytes reach g
+  err_comes f g is (Comes_on going started) some = err_on f g is going some
+  err_comes f g is (Comes_bad other bad fails) some =
+      subst (HasFault checked bytes reach) (same_fault (then_fault f last).fault other g (fault_stays f last other fails) some)
+      (by_frame other (event_fault bad.frame other bad.fails) bad)
+  err_comes f g is (Comes_refused state refused fails) some =
+      subst (HasFault checked bytes reach) (same_fault (then_fault f last).fault (fault.BadStart state) g (fault_stays f last (fault.BadStart state) fails) some) refused
+  err_comes f g is (Comes_ahead says fails) some =
+      subst (HasFault checked bytes reach) (same_fault (then_fault f last).fault fault.StatusAhead g (fault_stays f last fault.StatusAhead fails) some) says
+  err_comes f g is (Comes_ended kind ends none so) some =
+      absurd (some_is last.fault g (sym (ap (λ (x : HearingOf). x.fault) (end_stays f last kind none so)) ∙ some) none)
+
+-- ---- a piece
+
+module _ (bytes piece : List ℕ) (old new : Ear) (before after : Book) (sent : ℕ) (has : HasHeard (ear_checked old) bytes old) where
+  abbrev all : List ℕ
+  all = bytes ++ piece
+
+  abbrev limit : ℕ
+  limit = old.frames.limit
+
+  abbrev whole : Cut
+  whole = cut limit (old.frames.bytes ++ piece)
+
+  ready : IsReady old.frames old.session.response.items
+  ready = old.fits has.phase_is
+
+  cut_is : cut 65536 all ≡ after_frames (frames_in bytes) whole
+  cut_is =
+      cut_more 65536 bytes piece has.good ∙ more_after 65536 piece (cut 65536 bytes) has.good
+      ∙ ap (λ (held : List ℕ). after_frames (frames_in bytes) (cut 65536 (held ++ piece))) (sym has.held)
+      ∙ ap (λ (most : ℕ). after_frames (frames_in bytes) (cut most (old.frames.bytes ++ piece))) (sym ready.limit)
+
+  all_frames : frames_in all ≡ frames_in bytes ++ frames_of whole
+  all_frames = ap frames_of cut_is ∙ frames_after (frames_in bytes) whole
+
+  all_fault : fault_in 65536 all ≡ fault_of whole
+  all_fault = ap fault_of cut_is ∙ fault_after (frames_in bytes) whole
+
+  abbrev served : Served
+  served = served_by old.session before
+
+  abbrev start : HearingOf
+  start = hearing_view old.session (silence sent) before
+
+  abbrev last : HearingOf
+  last = frames_heard served start (frames_of whole)
+
+  abbrev reached : Option (ℕ × ℕ) → ℕ
+  reached now = min (sent_then (ear_started old) sent now) (end_after (length (book_log before)))
+
+  ran : Ran (ear_checked old) (frames_in all) (reached last.started) last
+  ran = subst (λ (x : List Frame). Ran (ear_checked old) x (reached last.started) last) (sym all_frames)
+      (runs_on served (frames_in bytes) (frames_of whole) start refl has.started)
+
+  total_started : (ear_heard old before piece sent).started ≡ last.started
+  total_started = fault_started (fault_of whole) last
+
+  hears_on : (heard : Heard) → HearsPiece old new before after piece sent (Ok heard) → heard.ended ≡ None → fault_of whole ≡ None
+      → IsStartedBy (ear_checked old) (frames_in all) last.started → HasHeard (ear_checked old) all new
+  hears_on heard left none good started =
+      let opens : phase_after (Ok heard) ≡ phase.Open = ap phase_by none in
+      let rests : new.frames ≡ resting (fed old.frames piece) = subst (λ p. Holds p old new piece) opens left.holds in
+      record {
+        checked_is = left.leaves.checked;
+        phase_is = left.phase_is ∙ opens;
+        held = ap (λ i. i.bytes) rests ∙ sym (ap rest_of cut_is ∙ rest_after (frames_in bytes) whole);
+        good = all_fault ∙ good;
+        started = subst (IsStartedBy (ear_checked old) (frames_in all)) (sym (left.leaves.started ∙ total_started)) started;
+      }
+
+  ok_explained : (heard : Heard) → HearsPiece old new before after piece sent (Ok heard) → Answered (ear_checked old) (frames_in all) (fault_of whole) last heard.ended
+      → GoesOnOrEnds (ear_checked old) all new heard.ended
+  ok_explained heard left (Answered_on good started none) =
+      subst (GoesOnOrEnds (ear_checked old) all new) (sym none) (hears_on heard left none good started)
+  ok_explained heard left (Answered_end kind ends some) = subst (GoesOnOrEnds (ear_checked old) all new) (sym some) ends
+
+  -- all of the piece was heard
+  by_whole : ear_started new ≡ last.started → (result : Result Heard LinkFault) → TellsStart (ear_started old) (ear_started new) result
+      → Explains (ear_checked old) all new (reach_of old new before sent) result → HasHeardOn (ear_checked old) all old new before sent result
+  by_whole is result tells explains = record {
+    stays = λ s so. is ∙ frames_started served start (frames_of whole) s so;
+    asks = subst (AsksIfStarted (ear_checked old) (frames_in all)) (sym is) ran.asks;
+    tells = tells;
+    explains = explains;
+  }
+
+  -- the start that is told
+  ok_tells : (heard : Heard) → ear_started new ≡ last.started → answer_of (ear_heard old before piece sent) ≡ Ok heard
+      → heard.started ≡ start_told (ear_started old) (ear_started new)
+  ok_tells heard is answer =
+      let total : HearingOf = ear_heard old before piece sent in
+      sym (ap (λ (x : Heard). x.started) (ok_faultless total.fault (heard_told total.heard) heard answer).1)
+      ∙ all_told served (frames_of whole) start (fault_of whole) refl refl ∙ sym (ap (start_told (ear_started old)) is)
+
+  reach_is : ear_started new ≡ last.started → reached last.started ≡ reach_of old new before sent
+  reach_is is = ap reached (sym is)
+
+  err_whole : (g : LinkFault) → Leaves old.session new.session before after (ear_heard old before piece sent) → answer_of (ear_heard old before piece sent) ≡ Err g
+      → HasHeardOn (ear_checked old) all old new before sent (Err g)
+  err_whole g leaves is =
+      let same : ear_started new ≡ last.started = leaves.started ∙ total_started in
+      let some : (then_fault (fault_of whole) last).fault ≡ Some g =
+      err_faulty (then_fault (fault_of whole) last).fault (heard_told (then_fault (fault_of whole) last).heard) g is in
+      by_whole same (Err g) tt
+      (subst (λ (n : ℕ). HasFault (ear_checked old) all n g) (reach_is same)
+      (err_comes (ear_checked old) all (reached last.started) last (fault_of whole) g all_fault ran.comes some))
+
+  -- memory was refused after some first frames
+  err_memory : (count : ℕ) × Leaves old.session new.session before after (part_heard count old.session before old.frames piece sent)
+      → HasHeardOn (ear_checked old) all old new before sent (Err fault.OutOfMemory)
+  err_memory (count, leaves) =
+      let some : List Frame = take count (frames_of whole) in
+      let part : Ran (ear_checked old) (frames_in bytes ++ some) (reached (frames_heard served start some).started) (frames_heard served start some) =
+      runs_on served (frames_in bytes) some start refl has.started in
+      let left : List Frame = drop count (frames_of whole) in
+      let split : (frames_in bytes ++ some) ++ left ≡ frames_in all =
+      append_assoc (frames_in bytes) some left ∙ ap (λ (x : List Frame). frames_in bytes ++ x) (take-append-drop count (frames_of whole)) ∙ sym all_frames in
+      record {
+        stays = λ s so. leaves.started ∙ frames_started served start some s so;
+        asks =
+            subst (λ (x : List Frame). AsksIfStarted (ear_checked old) x (ear_started new)) split
+            (asks_if_more (ear_checked old) (frames_in bytes ++ some) left (ear_started new)
+            (subst (AsksIfStarted (ear_checked old) (frames_in bytes ++ some)) (sym leaves.started) part.asks));
+        tells = tt;
+        explains = tt;
+      }
+
+  by_result : (result : Result Heard LinkFault) → Answers (λ heard. heard) told_fault (answer_of (ear_heard old before piece sent)) result
+      → HearsPiece old new before after piece sent result → HasHeardOn (ear_checked old) all old new before sent result
+  by_result (Ok heard) is left =
+      by_whole (left.leaves.started ∙ total_started) (Ok heard) (ok_tells heard (left.leaves.started ∙ total_started) is)
+      (ok_explained heard left (ok_comes (ear_checked old) (frames_in all) (reached last.started) last (fault_of whole) heard ran.comes is))
+  by_result (Err fault.OutOfMemory) is left = err_memory left.leaves
+  by_result (Err fault.FrameTooLong) is left = err_whole fault.FrameTooLong left.leaves is
+  by_result (Err fault.BadLength) is left = err_whole fault.BadLength left.leaves is
+  by_result (Err (fault.Unexpected byte)) is left = err_whole (fault.Unexpected byte) left.leaves is
+  by_result (Err (fault.BadStart state)) is left = err_whole (fault.BadStart state) left.leaves is
+  by_result (Err fault.StatusAhead) is left = err_whole fault.StatusAhead left.leaves is
+  by_result (Err fault.Closed) is left = err_whole fault.Closed left.leaves is
+
+pub pieces_are_heard : PiecesAreHeard
+pieces_are_heard checked bytes piece old new before after sent result has answer left =
+    let Goal : CheckedOf → Type 0 = λ k. HasHeard k bytes old → HasHeardOn k (bytes ++ piece) old new before sent result in
+    let own : Goal (ear_checked old) = λ known.
+    by_result bytes piece old new before after sent known result
+    (subst (λ p. Answers (λ heard. heard) told_fault (answer_in p (ear_heard old before piece sent)) result) known.phase_is answer)
+    (subst (λ p. HearLeaves p old new before after piece sent result) known.phase_is left) in
+    subst Goal has.checked_is own has
+
+nothing_rests : rest_of (cut 65536 []) ≡ []
+unfolding cut
+nothing_rests = refl
+
+nothing_wrong : fault_in 65536 [] ≡ None
+unfolding cut
+nothing_wrong = refl
+
+nothing_cut : frames_in [] ≡ []
+unfolding cut
+nothing_cut = refl
+
+pub nothing_is_heard : NothingIsHeard
+nothing_is_heard ear opens none held = record {
+  checked_is = refl;
+  phase_is = opens;
+  held = held ∙ sym nothing_rests;
+  good = nothing_wrong;
+  started = subst (IsStartedBy (ear_checked ear) (frames_in [])) (sym none) nothing_cut;
+}

@@ -1,0 +1,154 @@
+-- What a voice says is its stream.
+use Rattle.std.proofs.Common.{◌≡◌, ℕ, suc, ◌+◌, Bool, List, [], ◌∷◌, ◌++◌, length, take, refl, sym, ap, subst, ◌∙◌, append_assoc, arith, length-append}
+use Rattle.std.specs.Prelude.{slice_get, Some}
+use Rattle.std.proofs.lemmas.List.{append-nil, take-append-drop}
+use Rattle.shard_checker.specs.CheckedView.{CheckedOf}
+use Rattle.tables_log.specs.Commits.{CommitOf}
+use Rattle.copy_frames.specs.Contents.{copy_both_response}
+use Rattle.copy_both.specs.LinkLaws.{started_at}
+use Rattle.copy_both.specs.StreamLaws.{Start, Speaks, first_place}
+use Rattle.copy_both.specs.Streams.{Telling, Place, Move, Take, Keep, keep_bytes, place_after, take_bytes, stream}
+use Rattle.copy_both.specs.Tellings.{telling_of}
+use Rattle.copy_both.specs.VoiceLaws.{AreAt, Follow, takes_in, first_of, VoiceStarts, VoiceTakes, VoiceKeeps, VoicePassesOn, VoiceIsDone, VoiceStops, RestPassesOn}
+use Rattle.copy_both.specs.Voices as voices
+use Rattle.copy_both.specs.Voices.{StageOf, voice_checked, voice_stage, voice_output, entry_bytes, entry_stage, kept_bytes, done_bytes}
+use Rattle.copy_both.proofs.StreamLemmas.{starts, takes, keeps, passes}
+
+-- ---- one commit more
+
+first_ones : (log : List CommitOf) (place : ℕ) (commits : List CommitOf) (commit : CommitOf) → AreAt log place (commits ++ commit ∷ []) → AreAt log place commits
+first_ones log place [] commit are = tt
+first_ones log place (first ∷ commits) commit are = (are.0, first_ones log (suc place) commits commit are.1)
+
+last_one : (log : List CommitOf) (place : ℕ) (commits : List CommitOf) (commit : CommitOf) → AreAt log place (commits ++ commit ∷ [])
+    → slice_get log (place + length commits) ≡ Some commit
+last_one log place [] commit are = let same : place + 0 ≡ place = omega arith in ap (slice_get log) same ∙ are.0
+last_one log place (first ∷ commits) commit are =
+    let same : place + suc (length commits) ≡ suc place + length commits = omega arith in
+    ap (slice_get log) same ∙ last_one log (suc place) commits commit are.1
+
+follow_on : (count : ℕ) (commits : List CommitOf) (commit : CommitOf) → Follow count commits → commit.number ≡ suc (count + length commits)
+    → Follow count (commits ++ commit ∷ [])
+follow_on count [] commit follow is = let same : suc (count + 0) ≡ suc count = omega arith in (is ∙ same, tt)
+follow_on count (first ∷ commits) commit follow is =
+    let same : suc (count + suc (length commits)) ≡ suc (suc count + length commits) = omega arith in
+    (follow.0, follow_on (suc count) commits commit follow.1 (is ∙ same))
+
+takes_more : (moves : List Move) (clock : ℕ) → takes_in (moves ++ Take clock ∷ []) ≡ suc (takes_in moves)
+takes_more [] clock = refl
+takes_more (Take other ∷ moves) clock = ap suc (takes_more moves clock)
+takes_more (Keep other want ∷ moves) clock = takes_more moves clock
+
+takes_kept : (moves : List Move) (clock : ℕ) (want : Bool) → takes_in (moves ++ Keep clock want ∷ []) ≡ takes_in moves
+takes_kept [] clock want = refl
+takes_kept (Take other ∷ moves) clock want = ap suc (takes_kept moves clock want)
+takes_kept (Keep other wanted ∷ moves) clock want = takes_kept moves clock want
+
+length-push : (commits : List CommitOf) (commit : CommitOf) → length (commits ++ commit ∷ []) ≡ suc (length commits)
+length-push commits commit = let grown = length-append commits (commit ∷ []) in omega (arith, grown)
+
+-- ---- calls
+
+pub voice_starts : VoiceStarts
+voice_starts old new slot position waits silent says = record {
+  checked_is = says.checked;
+  place = first_place (started_at (voice_checked old) (slot, position));
+  stage_is = says.stage_is;
+  done = omega arith;
+  follow = tt;
+  takes = refl;
+  speaks = λ log are.
+      let start : Start = started_at (voice_checked old) (slot, position) in
+      subst (λ (o : List ℕ). Speaks (telling_of (voice_checked old)) log start [] [] o (first_place start))
+      (sym (says.output ∙ ap (λ (o : List ℕ). o ++ copy_both_response) silent)) (starts (telling_of (voice_checked old)) log start);
+}
+
+pub voice_takes : VoiceTakes
+voice_takes old new told commit clock telling number says =
+    let place : Place = telling.place in
+    let telling_is : Telling CommitOf = telling_of told.checked in
+    let stage_is : voice_stage new ≡ voices.Started (place_after telling_is place commit) =
+    says.stage_is ∙ ap (λ (s : StageOf). entry_stage (voice_checked old) s commit) telling.stage_is
+    ∙ ap (λ (k : CheckedOf). voices.Started (place_after (telling_of k) place commit)) telling.checked_is in
+    let output_is : voice_output new ≡ voice_output old ++ take_bytes telling_is place commit clock =
+    says.output ∙ ap (λ (s : StageOf). voice_output old ++ entry_bytes (voice_checked old) s commit clock) telling.stage_is
+    ∙ ap (λ (k : CheckedOf). voice_output old ++ take_bytes (telling_of k) place commit clock) telling.checked_is in
+    record {
+      checked_is = says.checked ∙ telling.checked_is;
+      place = place_after telling_is place commit;
+      stage_is = stage_is;
+      done = omega (arith, telling.done, length-push told.taken commit);
+      follow = follow_on (first_of told) told.taken commit telling.follow number;
+      takes = takes_more told.moves clock ∙ ap suc telling.takes ∙ sym (length-push told.taken commit);
+      speaks = λ log are.
+          let found : slice_get log place.done ≡ Some commit = ap (slice_get log) telling.done ∙ last_one log (first_of told) told.taken commit are in
+          subst (λ (o : List ℕ). Speaks telling_is log told.start (told.moves ++ Take clock ∷ []) told.passed o (place_after telling_is place commit)) (sym output_is)
+          (takes telling_is log told.start told.moves told.passed (voice_output old) place commit clock
+          (telling.speaks log (first_ones log (first_of told) told.taken commit are)) found);
+    }
+
+pub voice_keeps : VoiceKeeps
+voice_keeps old new told clock want telling says =
+    let place : Place = telling.place in
+    let output_is : voice_output new ≡ voice_output old ++ keep_bytes place clock want =
+    says.output ∙ ap (λ (s : StageOf). voice_output old ++ kept_bytes s clock want) telling.stage_is in
+    record {
+      checked_is = says.checked ∙ telling.checked_is;
+      place = place;
+      stage_is = says.stage_is ∙ telling.stage_is;
+      done = telling.done;
+      follow = telling.follow;
+      takes = takes_kept told.moves clock want ∙ telling.takes;
+      speaks = λ log are.
+          subst (λ (o : List ℕ). Speaks (telling_of told.checked) log told.start (told.moves ++ Keep clock want ∷ []) told.passed o place) (sym output_is)
+          (keeps (telling_of told.checked) log told.start told.moves told.passed (voice_output old) place clock want (telling.speaks log are));
+    }
+
+pub voice_passes_on : VoicePassesOn
+voice_passes_on old new told count telling passed = record {
+  checked_is = passed.checked ∙ telling.checked_is;
+  place = telling.place;
+  stage_is = passed.stage_is ∙ telling.stage_is;
+  done = telling.done;
+  follow = telling.follow;
+  takes = telling.takes;
+  speaks = λ log are.
+      subst (λ (o : List ℕ). Speaks (telling_of told.checked) log told.start told.moves (told.passed ++ take count (voice_output old)) o telling.place)
+      (sym passed.output)
+      (passes (telling_of told.checked) log told.start told.moves told.passed (voice_output old) telling.place count (telling.speaks log are));
+}
+
+-- ---- the end
+
+pub voice_is_done : VoiceIsDone
+voice_is_done old new told telling says = record {
+  stage_is = says.stage_is;
+  follow = telling.follow;
+  takes = telling.takes;
+  bytes = λ log are.
+      let last : List ℕ = done_bytes (voice_stage old) in
+      ap (λ (x : List ℕ). told.passed ++ x) says.output ∙ sym (append_assoc told.passed (voice_output old) last)
+      ∙ ap (λ (x : List ℕ). x ++ last) (telling.speaks log are).bytes;
+}
+
+pub voice_stops : VoiceStops
+voice_stops old new told telling closes = record {
+  stage_is = closes.stage_is;
+  follow = telling.follow;
+  takes = telling.takes;
+  bytes = λ log are.
+      ap (λ (x : List ℕ). told.passed ++ x) closes.output ∙ (telling.speaks log are).bytes
+      ∙ sym (append-nil (stream (telling_of told.checked) log told.start.slot told.start.tables told.start.position told.moves));
+}
+
+pub rest_passes_on : RestPassesOn
+rest_passes_on old new told last count over passed = record {
+  stage_is = passed.stage_is ∙ over.stage_is;
+  follow = over.follow;
+  takes = over.takes;
+  bytes = λ log are.
+      append_assoc told.passed (take count (voice_output old)) (voice_output new)
+      ∙ ap (λ (x : List ℕ). told.passed ++ (take count (voice_output old) ++ x)) passed.output
+      ∙ ap (λ (x : List ℕ). told.passed ++ x) (take-append-drop count (voice_output old))
+      ∙ over.bytes log are;
+}

@@ -1,0 +1,8 @@
+use Rattle.copy_both.proofs.PiecesHeard as lemmas
+use Rattle.copy_both.proofs.laws.frames_are_heard.Goals as goal
+
+pub returns-clause-first : goal.returns-clause-first
+returns-clause-first c = lemmas.nothing_is_heard
+
+pub returns-clause-pieces : goal.returns-clause-pieces
+returns-clause-pieces c = lemmas.pieces_are_heard

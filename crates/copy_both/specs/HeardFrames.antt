@@ -1,0 +1,170 @@
+-- What an ear has heard of all bytes since its first, in whatever pieces they came: which frame started the stream, which has a fault, and which ended the connection ("55.4. Streaming Replication Protocol", "55.7. Message Formats").
+use Rattle.std.specs.Prelude.{◌≡◌, ◌<◌, ◌≤◌, ◌⊎◌, ℕ, ◌==◌, min, true, false, List, [], ◌∷◌, ◌++◌, length, slice_get, Option, Some, None, Result, Ok, Err}
+use Rattle.filter_tree.specs.Memory.{Answers}
+use Rattle.shard_checker.specs.CheckedView.{CheckedOf}
+use Rattle.tables_log.specs.BookView.{book_log}
+use Rattle.tables_log.specs.Slots.{end_after}
+use Rattle.tables_log.specs.declared.book.Book.{Book}
+use Rattle.tables_log.specs.declared.slots.Slot.{Slot}
+use Rattle.copy_frames.specs.Contents.{status_in}
+use Rattle.copy_frames.specs.Frames.{cut, frames_of, rest_of, fault_in}
+use Rattle.copy_frames.specs.declared.fault.FrameFault.TheVariants as frame
+use Rattle.copy_frames.specs.declared.frame.Frame.{Frame}
+use Rattle.copy_frames.specs.declared.status.Status.{Status}
+use Rattle.copy_both.specs.Ears.{ear_checked, ear_phase, ear_started, ear_held, hear_answer, HearLeaves}
+use Rattle.copy_both.specs.Events.{event_of, is_end}
+use Rattle.copy_both.specs.Hearing.{Refuses, begin_of, first_sent, offer_in}
+use Rattle.copy_both.specs.Refusals.{RefusalOf, state_of}
+use Rattle.copy_both.specs.StartAnswers.{Stream, asked_of}
+use Rattle.copy_both.specs.Voices.{told_fault}
+use Rattle.copy_both.specs.declared.ear.Ear.{Ear}
+use Rattle.copy_both.specs.declared.heard.Heard.{Heard}
+use Rattle.copy_both.specs.declared.link_fault.LinkFault.{LinkFault}
+use Rattle.copy_both.specs.declared.link_fault.LinkFault.TheVariants as fault
+use Rattle.copy_both.specs.declared.phase.Phase.TheVariants as phase
+use Rattle.copy_both.specs.declared.sql_state.SqlState.{SqlState}
+
+-- the length of a frame towards the publisher is at most 65,536
+abbrev pub frames_in : List ℕ → List Frame
+frames_in bytes = frames_of (cut 65536 bytes)
+
+pub record IsFirst (frame : Frame) (frames : List Frame) : Type 0 where
+  pub others : List Frame
+  pub frames_are : frames ≡ frame ∷ others
+
+pub record IsAmong (frame : Frame) (frames : List Frame) : Type 0 where
+  pub before : List Frame
+  pub after : List Frame
+  pub frames_are : frames ≡ before ++ frame ∷ after
+
+-- it is not the first
+pub record IsLater (frame : Frame) (frames : List Frame) : Type 0 where
+  pub first : Frame
+  pub others : List Frame
+  pub frames_are : frames ≡ first ∷ others
+  pub among : IsAmong frame others
+
+-- ---- the start
+
+-- the first frame is a Query that asks for the stream of this slot, from a position that is not after where the stream starts
+pub record AsksFor (checked : CheckedOf) (frames : List Frame) (slot start : ℕ) : Type 0 where
+  pub frame : Frame
+  pub first : IsFirst frame frames
+  pub query : frame.kind ≡ 81
+  pub commits : ℕ
+  pub position : ℕ
+  pub asks : asked_of (offer_in (record { checked = checked; commits = commits })) frame.kind frame.body ≡ Stream slot position
+  pub reached : position ≤ start
+
+abbrev pub AsksIfStarted : CheckedOf → List Frame → Option (ℕ × ℕ) → Type 0
+AsksIfStarted checked frames None = Unit {0}
+AsksIfStarted checked frames (Some started) = AsksFor checked frames started.0 started.1
+
+-- before the start there is no whole frame
+abbrev pub IsStartedBy : CheckedOf → List Frame → Option (ℕ × ℕ) → Type 0
+IsStartedBy checked frames None = frames ≡ []
+IsStartedBy checked frames (Some started) = AsksFor checked frames started.0 started.1
+
+-- an ear that has heard these bytes, and hears on
+pub record HasHeard (checked : CheckedOf) (bytes : List ℕ) (ear : Ear) : Type 0 where
+  pub checked_is : ear_checked ear ≡ checked
+  pub phase_is : ear_phase ear ≡ phase.Open
+  pub held : ear_held ear ≡ rest_of (cut 65536 bytes)
+  pub good : fault_in 65536 bytes ≡ None
+  pub started : IsStartedBy checked (frames_in bytes) (ear_started ear)
+
+-- ---- the end
+
+-- Terminate, `X`, before the start; or CopyDone, CopyFail or Terminate after it
+pub data HasEnd (frames : List Frame) (kind : ℕ) : Type 0 where
+  Terminates : (frame : Frame) → IsFirst frame frames → frame.kind ≡ kind → kind ≡ 88 → HasEnd frames kind
+  Ends : (frame : Frame) → IsLater frame frames → frame.kind ≡ kind → is_end kind ≡ true → HasEnd frames kind
+
+-- ---- faults
+
+-- a frame after the first has this fault
+pub record HasBadFrame (frames : List Frame) (f : LinkFault) : Type 0 where
+  pub frame : Frame
+  pub later : IsLater frame frames
+  pub fails : event_of frame.kind frame.body ≡ Err f
+
+-- the first frame is not Terminate, `X`, and its start is refused so, where the log had so many commits and the book these slots
+pub record IsRefusedStart (checked : CheckedOf) (frames : List Frame) (state : SqlState) : Type 0 where
+  pub frame : Frame
+  pub first : IsFirst frame frames
+  pub commits : ℕ
+  pub slots : List Slot
+  pub refusal : RefusalOf
+  pub no_end : frame.kind == 88 ≡ false
+  pub refuses : begin_of (record { checked = checked; commits = commits }) slots frame.kind frame.body ≡ Refuses refusal
+  pub state_is : state_of refusal ≡ state
+
+-- CopyData, `d`, with `r` and this status
+pub record IsStatus (frame : Frame) (status : Status) : Type 0 where
+  pub data_is : frame.kind ≡ 100
+  pub head : slice_get frame.body 0 ≡ Some 114
+  pub read : status_in frame.body ≡ Some status
+
+-- a status has flushed more than this
+pub record HasStatusAhead (frames : List Frame) (reach : ℕ) : Type 0 where
+  pub frame : Frame
+  pub later : IsLater frame frames
+  pub status : Status
+  pub is_status : IsStatus frame status
+  pub ahead : reach < status.flushed
+
+-- what a fault says of the bytes, where statuses may confirm so much
+abbrev pub HasFault : CheckedOf → List ℕ → ℕ → LinkFault → Type 0
+HasFault checked bytes reach fault.FrameTooLong = fault_in 65536 bytes ≡ Some frame.FrameTooLong
+HasFault checked bytes reach fault.BadLength = (fault_in 65536 bytes ≡ Some frame.BadLength) ⊎ HasBadFrame (frames_in bytes) fault.BadLength
+HasFault checked bytes reach (fault.Unexpected byte) = HasBadFrame (frames_in bytes) (fault.Unexpected byte)
+HasFault checked bytes reach (fault.BadStart state) = IsRefusedStart checked (frames_in bytes) state
+HasFault checked bytes reach fault.StatusAhead = HasStatusAhead (frames_in bytes) reach
+HasFault checked bytes reach fault.Closed = ⊥
+HasFault checked bytes reach fault.OutOfMemory = Unit {0}
+
+-- the sent position that statuses are held against, by what was started before and after a piece
+abbrev pub sent_then : Option (ℕ × ℕ) → ℕ → Option (ℕ × ℕ) → ℕ
+sent_then (Some started) sent now = sent
+sent_then None sent None = sent
+sent_then None sent (Some started) = first_sent started.1
+
+abbrev pub reach_of : Ear → Ear → Book → ℕ → ℕ
+reach_of old new book sent = min (sent_then (ear_started old) sent (ear_started new)) (end_after (length (book_log book)))
+
+-- ---- a piece
+
+abbrev pub GoesOnOrEnds : CheckedOf → List ℕ → Ear → Option ℕ → Type 0
+GoesOnOrEnds checked bytes ear None = HasHeard checked bytes ear
+GoesOnOrEnds checked bytes ear (Some kind) = HasEnd (frames_in bytes) kind
+
+abbrev pub Explains : CheckedOf → List ℕ → Ear → ℕ → Result Heard LinkFault → Type 0
+Explains checked bytes ear reach (Ok heard) = GoesOnOrEnds checked bytes ear heard.ended
+Explains checked bytes ear reach (Err f) = HasFault checked bytes reach f
+
+-- the start that is told of a piece: that of the stream which it started
+abbrev pub start_told : Option (ℕ × ℕ) → Option (ℕ × ℕ) → Option ℕ
+start_told (Some started) now = None
+start_told None None = None
+start_told None (Some started) = Some started.1
+
+abbrev pub TellsStart : Option (ℕ × ℕ) → Option (ℕ × ℕ) → Result Heard LinkFault → Type 0
+TellsStart was now (Ok heard) = heard.started ≡ start_told was now
+TellsStart was now (Err f) = Unit {0}
+
+-- with the piece the ear has heard these bytes: a stream that started stays so, one is started as its command asks and told, and the answer is explained by the bytes
+pub record HasHeardOn (checked : CheckedOf) (bytes : List ℕ) (old new : Ear) (before : Book) (sent : ℕ) (result : Result Heard LinkFault) : Type 0 where
+  pub stays : (started : ℕ × ℕ) → ear_started old ≡ Some started → ear_started new ≡ Some started
+  pub asks : AsksIfStarted checked (frames_in bytes) (ear_started new)
+  pub tells : TellsStart (ear_started old) (ear_started new) result
+  pub explains : Explains checked bytes new (reach_of old new before sent) result
+
+-- ---- laws
+
+abbrev pub NothingIsHeard : Type 0
+NothingIsHeard = (ear : Ear) → ear_phase ear ≡ phase.Open → ear_started ear ≡ None → ear_held ear ≡ [] → HasHeard (ear_checked ear) [] ear
+
+abbrev pub PiecesAreHeard : Type 0
+PiecesAreHeard = (checked : CheckedOf) (bytes piece : List ℕ) (old new : Ear) (before after : Book) (sent : ℕ) (result : Result Heard LinkFault)
+    → HasHeard checked bytes old → Answers (λ heard. heard) told_fault (hear_answer old before piece sent) result
+    → HearLeaves (ear_phase old) old new before after piece sent result → HasHeardOn checked (bytes ++ piece) old new before sent result

@@ -1,0 +1,95 @@
+-- What a voice says is its stream: what was passed on and what waits are together the stream of what it took and kept alive, in each log that has the commits that it took ("55.4. Streaming Replication Protocol").
+use Rattle.std.specs.Prelude.{◌≡◌, ℕ, suc, ◌+◌, Bool, List, [], ◌∷◌, ◌++◌, length, take, slice_get, Some}
+use Rattle.shard_checker.specs.CheckedView.{CheckedOf}
+use Rattle.tables_log.specs.Commits.{CommitOf}
+use Rattle.copy_frames.specs.Contents.{copy_both_response}
+use Rattle.copy_both.specs.LinkLaws.{started_at}
+use Rattle.copy_both.specs.StreamLaws.{Start, Speaks}
+use Rattle.copy_both.specs.Streams.{Place, Move, Take, Keep, count_before, stream}
+use Rattle.copy_both.specs.Tellings.{telling_of}
+use Rattle.copy_both.specs.Voices as voices
+use Rattle.copy_both.specs.Voices.{Says, Closes, Passes, voice_checked, voice_stage, voice_output, first_stage, entry_bytes, entry_stage, kept_bytes, done_bytes}
+use Rattle.copy_both.specs.declared.voice.Voice.{Voice}
+
+-- ---- commits of a log
+
+-- after so many commits the log has these
+abbrev pub AreAt : List CommitOf → ℕ → List CommitOf → Type 0
+AreAt log place [] = Unit {0}
+AreAt log place (commit ∷ commits) = (slice_get log place ≡ Some commit) × AreAt log (suc place) commits
+
+-- the first of them is the one after so many, and they follow one another
+abbrev pub Follow : ℕ → List CommitOf → Type 0
+Follow count [] = Unit {0}
+Follow count (commit ∷ commits) = (commit.number ≡ suc count) × Follow (suc count) commits
+
+-- how many of the moves take a commit
+abbrev pub takes_in : List Move → ℕ
+takes_in [] = 0
+takes_in (Take clock ∷ moves) = suc (takes_in moves)
+takes_in (Keep clock want ∷ moves) = takes_in moves
+
+-- ---- a voice
+
+-- the commits that a voice took since its start, the moves that it made, and what was passed on of what it said
+pub record Told : Type 0 where
+  pub checked : CheckedOf
+  pub start : Start
+  pub taken : List CommitOf
+  pub moves : List Move
+  pub passed : List ℕ
+
+abbrev pub first_of : Told → ℕ
+first_of told = count_before told.start.position
+
+-- it streams, and what it said is the stream of the moves
+pub record IsTelling (voice : Voice) (told : Told) : Type 0 where
+  pub checked_is : voice_checked voice ≡ told.checked
+  pub place : Place
+  pub stage_is : voice_stage voice ≡ voices.Started place
+  pub done : place.done ≡ first_of told + length told.taken
+  pub follow : Follow (first_of told) told.taken
+  pub takes : takes_in told.moves ≡ length told.taken
+  pub speaks : (log : List CommitOf) → AreAt log (first_of told) told.taken → Speaks (telling_of told.checked) log told.start told.moves told.passed (voice_output voice) place
+
+-- it is closed, and these bytes came after the stream
+pub record HasTold (voice : Voice) (told : Told) (last : List ℕ) : Type 0 where
+  pub stage_is : voice_stage voice ≡ voices.Closed
+  pub follow : Follow (first_of told) told.taken
+  pub takes : takes_in told.moves ≡ length told.taken
+  pub bytes : (log : List CommitOf) → AreAt log (first_of told) told.taken
+      → told.passed ++ voice_output voice ≡ stream (telling_of told.checked) log told.start.slot told.start.tables told.start.position told.moves ++ last
+
+-- ---- laws: what each call does
+
+abbrev pub VoiceStarts : Type 0
+VoiceStarts = (old new : Voice) (slot position : ℕ) → voice_stage old ≡ voices.NotStarted → voice_output old ≡ []
+    → Says old new copy_both_response (first_stage (voice_checked old) slot position)
+    → IsTelling new (record { checked = voice_checked old; start = started_at (voice_checked old) (slot, position); taken = []; moves = []; passed = [] })
+
+abbrev pub VoiceTakes : Type 0
+VoiceTakes = (old new : Voice) (told : Told) (commit : CommitOf) (clock : ℕ) → IsTelling old told → commit.number ≡ suc (first_of told + length told.taken)
+    → Says old new (entry_bytes (voice_checked old) (voice_stage old) commit clock) (entry_stage (voice_checked old) (voice_stage old) commit)
+    → IsTelling new (record told { taken = told.taken ++ commit ∷ []; moves = told.moves ++ Take clock ∷ [] })
+
+abbrev pub VoiceKeeps : Type 0
+VoiceKeeps = (old new : Voice) (told : Told) (clock : ℕ) (want : Bool) → IsTelling old told
+    → Says old new (kept_bytes (voice_stage old) clock want) (voice_stage old) → IsTelling new (record told { moves = told.moves ++ Keep clock want ∷ [] })
+
+abbrev pub VoicePassesOn : Type 0
+VoicePassesOn = (old new : Voice) (told : Told) (count : ℕ) → IsTelling old told → Passes old new count
+    → IsTelling new (record told { passed = told.passed ++ take count (voice_output old) })
+
+-- CopyDone follows the stream
+abbrev pub VoiceIsDone : Type 0
+VoiceIsDone = (old new : Voice) (told : Told) → IsTelling old told → Says old new (done_bytes (voice_stage old)) voices.Closed
+    → HasTold new told (done_bytes (voice_stage old))
+
+-- a call that closes it says nothing
+abbrev pub VoiceStops : Type 0
+VoiceStops = (old new : Voice) (told : Told) → IsTelling old told → Closes old new → HasTold new told []
+
+-- after the end the rest of what waits may be passed on
+abbrev pub RestPassesOn : Type 0
+RestPassesOn = (old new : Voice) (told : Told) (last : List ℕ) (count : ℕ) → HasTold old told last → Passes old new count
+    → HasTold new (record told { passed = told.passed ++ take count (voice_output old) }) last

@@ -1,0 +1,29 @@
+-- When what is told of the commits of a log has room in its layouts: times have 64 bits, and the catalog is within its limits: PostgreSQL 15, 55.9. Logical Replication Message Formats.
+use Rattle.std.specs.Prelude.{◌≡◌, ◌<◌, ◌≤◌, ◌^◌, ℕ, Bool, List, All, length, slice_get, Some}
+use Rattle.pub_catalog.specs.CatalogLimits.{IsLimited}
+use Rattle.shard_checker.specs.CheckedView.{CheckedOf, setting_in}
+use Rattle.table_changes.specs.Standing.{Covered}
+use Rattle.table_changes.specs.Tables.{no_rows}
+use Rattle.tables_log.specs.Commits.{CommitOf}
+use Rattle.tables_log.specs.StandsFor.{Transaction, AreAccepted}
+use Rattle.pgoutput_msgs.specs.Sent.{IsSent}
+use Rattle.pgoutput_msgs.specs.Telling.{messages_for}
+use Rattle.stream_laws.specs.Following.{log_of}
+
+-- the layouts have room for what is told of each commit
+pub record IsSayable (checked : CheckedOf) (transactions : List Transaction) : Type 0 where
+  pub few : length transactions ≤ 1000000000
+  pub said : (subscriber : ℕ) (told : List Bool) (place : ℕ) (commit : CommitOf) → slice_get (log_of checked transactions) place ≡ Some commit
+      → All IsSent (messages_for checked subscriber told commit)
+
+-- its time has 64 bits
+abbrev pub IsTimedTransaction : Transaction → Type 0
+IsTimedTransaction transaction = transaction.time < 2 ^ 64
+
+-- ---- the law
+
+-- So the layouts have room for what is told of each commit of a log of such transactions.
+abbrev pub LogsCanBeSaid : Type 0
+LogsCanBeSaid = (checked : CheckedOf) → Covered (setting_in checked) → IsLimited checked.catalog
+    → (transactions : List Transaction) → AreAccepted (setting_in checked) no_rows transactions → All IsTimedTransaction transactions → length transactions ≤ 1000000000
+    → IsSayable checked transactions
