@@ -1,0 +1,16 @@
+//! Gates, which hold a sender.
+
+/// What a sender passes directly before it writes a commit, outside of any lock. A gate may hold the sender as long as it
+/// likes; nobody else waits for it.
+pub trait Gate {
+    /// The sender of this slot, by the number of its subscription, is about to write the commit of this number, from 1.
+    fn pass(&self, slot: usize, number: u32);
+}
+
+/// A gate that holds nobody.
+#[derive(Clone, Copy, Debug, PartialEq, Eq)]
+pub struct OpenGate;
+
+impl Gate for OpenGate {
+    fn pass(&self, _slot: usize, _number: u32) {}
+}

@@ -1,0 +1,4 @@
+pub mod Crossing
+pub mod HeldLemmas
+pub mod RefusalLemmas
+pub mod SeatLemmas

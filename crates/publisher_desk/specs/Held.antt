@@ -1,0 +1,41 @@
+-- What is so of a publisher's book each time that its lock is got: PostgreSQL 15, 3.4. Transactions, and "Logical Replication", 31.1 Publication.
+use Rattle.std.specs.Prelude.{◌≡◌, ℕ, ◌+◌, ◌≤◌, List, [], ◌∷◌, ◌++◌, All, length}
+use Rattle.shard_checker.specs.CheckedView.{CheckedOf, setting_in}
+use Rattle.table_changes.specs.Commands.{Command}
+use Rattle.table_changes.specs.Tables.{no_rows}
+use Rattle.tables_log.specs.BookView.{book_checked, book_limit, book_log}
+use Rattle.tables_log.specs.Commits.{CommitOf}
+use Rattle.tables_log.specs.Slots.{end_after}
+use Rattle.tables_log.specs.StandsFor.{Transaction, AreAccepted, StandsFor, entries_from}
+use Rattle.tables_log.specs.declared.book.Book.{Book}
+use Rattle.publisher_desk.specs.declared.wish.Wish.{Wish}
+
+-- No client was sent the log past this position.
+abbrev pub AreSentUpTo : ℕ → List Wish → Type 0
+AreSentUpTo end wishes = All (λ (wish : Wish). wish.sent ≤ end) wishes
+
+-- The log is that of these transactions, each of which was accepted after those before it.
+pub record IsLogOf (checked : CheckedOf) (transactions : List Transaction) (log : List CommitOf) : Type 0 where
+  pub accepted : AreAccepted (setting_in checked) no_rows transactions
+  pub entries : log ≡ entries_from (setting_in checked) no_rows 1 transactions
+
+-- The log was that of some transactions, and is that of these and of the one that was handed in, whose number is that of all.
+pub record AddsEntry (checked : CheckedOf) (old new : List CommitOf) (commands : List Command) (time number : ℕ) : Type 0 where
+  pub number_is : number ≡ length old + 1
+  pub transactions : List Transaction
+  pub before : IsLogOf checked transactions old
+  pub now : IsLogOf checked (transactions ++ record { commands = commands; time = time } ∷ []) new
+
+-- The book is of the checked catalog, takes so many commits, and is of some list of transactions.
+pub record IsBookOf (checked : CheckedOf) (limit : ℕ) (book : Book) : Type 0 where
+  pub named : book_checked book ≡ checked
+  pub limited : book_limit book ≡ limit
+  pub transactions : List Transaction
+  pub stands : StandsFor book transactions
+
+-- So is the book; the total is the number of its commits, and no slot's client was sent the log past its end.
+pub record IsHeldFor (checked : CheckedOf) (limit : ℕ) (book : Book) (total : ℕ) (wishes : List Wish) : Type 0 where
+  pub is : IsBookOf checked limit book
+  pub counted : length (book_log book) ≡ total
+  pub slots : length wishes ≡ length checked.catalog.subscriptions
+  pub sent : AreSentUpTo (end_after (length (book_log book))) wishes

@@ -1,0 +1,7 @@
+pub mod Answers
+pub mod Held
+pub mod Lending
+pub mod Nothing
+pub mod Receipts
+pub mod Refusals
+pub mod Seats

@@ -1,0 +1,49 @@
+-- What a session keeps of its calls: its commits and what it read, in their order.
+use Rattle.std.specs.Prelude.{◌≡◌, ℕ, ◌+◌, ◌<◌, ◌≤◌, max, List, [], ◌∷◌, Some, slice_get}
+use Rattle.publisher_desk.specs.declared.note.Note.{Note}
+use Rattle.publisher_desk.specs.declared.note.Note.TheVariants.{Committed, Looked}
+use Rattle.publisher_desk.specs.declared.note.Reading.{Reading}
+
+-- the number of a commit, or of how many commits there were when a row was read
+abbrev pub number_of : Note → ℕ
+number_of (Committed receipt) = receipt.number
+number_of (Looked reading) = reading.number
+
+-- how many of them are receipts
+abbrev pub receipts : List Note → ℕ
+receipts [] = 0
+receipts (Committed receipt ∷ notes) = 1 + receipts notes
+receipts (Looked reading ∷ notes) = receipts notes
+
+-- the greatest of their numbers; 0 of none
+abbrev pub highest : List Note → ℕ
+highest [] = 0
+highest (note ∷ notes) = max (number_of note) (highest notes)
+
+-- One of them is of a later number.
+pub record HasLater (notes : List Note) (number : ℕ) : Type 0 where
+  pub place : ℕ
+  pub note : Note
+  pub at : slice_get notes place ≡ Some note
+  pub later : number < number_of note
+
+-- Each of them is of this number or an earlier one.
+abbrev pub AreUpTo : ℕ → List Note → Type 0
+AreUpTo number notes = (place : ℕ) (note : Note) → slice_get notes place ≡ Some note → number_of note ≤ number
+
+-- No row was read of fewer commits than an earlier note knows of.
+abbrev pub IsForward : List Note → Type 0
+IsForward notes = (earlier place : ℕ) (note : Note) (reading : Reading) → earlier < place → slice_get notes earlier ≡ Some note → slice_get notes place ≡ Some (Looked reading)
+    → number_of note ≤ reading.number
+
+-- As many seats are free as the share has parts, and the share has no amount.
+pub record AreFree (left parts amount : ℕ) : Type 0 where
+  pub parts_are : parts ≡ left
+  pub none : amount ≡ 0
+
+-- A seat has one part of the ledger, whose amount is the number of its receipts. `high` is the greatest number that it knows of.
+pub record IsSeat (notes : List Note) (high parts amount : ℕ) : Type 0 where
+  pub one : parts ≡ 1
+  pub counted : amount ≡ receipts notes
+  pub high_is : high ≡ highest notes
+  pub forward : IsForward notes

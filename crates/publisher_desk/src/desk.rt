@@ -1,0 +1,232 @@
+//! What a publisher's lock holds.
+
+ghost use Rattle.std.specs.Prelude.{◌≡◌, ◌+◌, ◌<◌, ◌≤◌, map, length, IfOk, IfErr, OnOk, OnErr};
+ghost use Rattle.table_changes.specs.Commands.{command_view};
+ghost use Rattle.tables_log.specs.BookView.{book_log, book_rows};
+ghost use Rattle.tables_log.specs.Committing.{Commits, IsKept, RefusedBy};
+
+use crate::naming::Publishing;
+use crate::note::copy_found;
+use crate::slot_use::SlotUse;
+use crate::step::Step;
+use crate::wish::Wish;
+use filter_tree::Row;
+use shard_checker::Checked;
+use std::alloc::{AllocError, Global};
+use std::marker::Model;
+use std::sync::ledger::Share;
+use std::sync::{Arc, ledger};
+use table_changes::Command;
+use tables_log::{Book, CommitError};
+
+/// The book, the ledger's total of its commits, what is wanted of each slot's connection, and whether no further commit
+/// comes. Contracts see the log.
+#[derive(Drop)]
+pub(crate) struct Desk<P: Publishing> {
+    book: Book,
+    counted: ledger::Book<P>,
+    wishes: Vec<Wish>,
+    is_finished: bool,
+}
+
+impl<P: Publishing> Model for Desk<P> {
+    ghost use Rattle.std.specs.Prelude.{List};
+    ghost use Rattle.tables_log.specs.BookView.{book_log};
+    ghost use Rattle.tables_log.specs.Commits.{CommitOf};
+    ghost use Rattle.publisher_desk.specs.Held.{IsHeldFor};
+
+    ghost Value = { List CommitOf };
+
+    ghost view = { λ d. book_log d.book };
+
+    ghost invariant = { λ d. IsHeldFor P.checked P.limit d.book d.counted.total d.wishes.items };
+}
+
+/// Makes the commands one commit of the book, and counts it in the ledger.
+fn make_commit<P: Publishing>(
+    book: &mut Book,
+    counted: &mut ledger::Book<P>,
+    mark: &mut Share<P>,
+    commands: &[Command],
+    time: u64,
+) -> Result<u32, CommitError>
+    requires { 0 < mark.old.parts }
+    ensures ok { IfOk result (λ number. Commits book.old book.new (map command_view commands.now) time number) }
+    ensures refused { IfErr result (RefusedBy book.old (map command_view commands.now)) }
+    ensures err { OnErr result (IsKept book.old book.new) }
+    ensures counted { OnOk result (mark.new.amount ≡ mark.old.amount + 1) }
+    ensures total { OnOk result (counted.new.total ≡ counted.old.total + 1) }
+    ensures uncounted { OnErr result (mark.new.amount ≡ mark.old.amount) }
+    ensures same_total { OnErr result (counted.new.total ≡ counted.old.total) }
+    ensures bound { OnOk result (mark.new.amount ≤ counted.new.total) }
+    ensures parts { mark.new.parts ≡ mark.old.parts }
+{
+    match book.commit(commands, time) {
+        Ok(number) => {
+            counted.add(mark, 1);
+            counted.audit(mark);
+            Ok(number)
+        }
+        Err(error) => Err(error),
+    }
+}
+
+/// The number of commits, and a copy of the row that the key names after them. The only error is want of memory.
+fn look_up(
+    alloc: Global,
+    book: &Book,
+    table: usize,
+    key: &Row,
+) -> Result<(u32, Option<Row>), AllocError>
+    ensures number { IfOk result (λ found. found.0 ≡ length (book_log book.now)) }
+    ensures row { IfOk result (λ found. found.1 ≡ book_rows book.now table 0 key.now) }
+{
+    let answer = copy_found(alloc, book.row(table, key))?;
+    Ok((book.log_len(), answer))
+}
+
+impl<P: Publishing> Desk<P> {
+    ghost use Rattle.std.specs.Prelude.{◌≡◌, ◌+◌, ◌<◌, ◌≤◌, [], map, length, IfOk, IfErr, IfSome, OnOk, OnErr};
+    ghost use Rattle.std.specs.Arc.{arc_value};
+    ghost use Rattle.shard_checker.specs.CheckedView.{checked_view, setting_in};
+    ghost use Rattle.table_changes.specs.Commands.{command_view};
+    ghost use Rattle.publisher_desk.specs.Answers.{IsFound, IsMade, IsRefused};
+    ghost use Rattle.publisher_desk.specs.Held.{AddsEntry, IsBookOf};
+    ghost use Rattle.publisher_desk.specs.Lending.{IsLent, IsStepOf, IsNext};
+    ghost use Rattle.publisher_desk.specs.Refusals.{HasFault};
+
+    /// A book without commits, of which nothing was sent.
+    pub(crate) fn new(
+        alloc: Global,
+        checked: Arc<Checked, Global>,
+        limit: u32,
+        counted: ledger::Book<P>,
+    ) -> Result<Desk<P>, AllocError>
+        requires checked { checked_view (arc_value checked) ≡ P.checked }
+        requires limit { limit ≡ P.limit }
+        requires total { counted.total ≡ 0 }
+        requires some { 1 ≤ limit }
+        requires within { limit ≤ 1000000000 }
+        ensures { IfOk result (λ desk. desk ≡ []) }
+    {
+        let idle = Wish {
+            sent: 0,
+            wants_reply: false,
+            has_ended: false,
+        };
+        let wishes = vec![in alloc; idle; checked.catalog().subscriptions.len()]?;
+        let book = Book::new(alloc, checked, limit)?;
+        Ok(Desk {
+            book,
+            counted,
+            wishes,
+            is_finished: false,
+        })
+    }
+
+    /// Makes the commands one commit, and counts it in the ledger. With an error nothing changes.
+    pub(crate) fn commit(
+        &mut self,
+        mark: &mut Share<P>,
+        commands: &[Command],
+        time: u64,
+    ) -> Result<u32, CommitError>
+        requires { 0 < mark.old.parts }
+        ensures ok { IfOk result (AddsEntry P.checked self.old self.new (map command_view commands.now) time) }
+        ensures made { IfOk result (IsMade P.checked P.limit (map command_view commands.now) time) }
+        ensures above { IfOk result (λ number. mark.old.amount < number) }
+        ensures fault { IfErr result (HasFault (setting_in P.checked) (map command_view commands.now)) }
+        ensures refused { IfErr result (IsRefused P.checked P.limit (map command_view commands.now)) }
+        ensures err { OnErr result (self.new ≡ self.old) }
+        ensures counted { OnOk result (mark.new.amount ≡ mark.old.amount + 1) }
+        ensures uncounted { OnErr result (mark.new.amount ≡ mark.old.amount) }
+        ensures parts { mark.new.parts ≡ mark.old.parts }
+    {
+        make_commit(&mut self.book, &mut self.counted, mark, commands, time)
+    }
+
+    /// The number of commits, and a copy of the row that the key names after them; they are no fewer than the share
+    /// counts. The only error is want of memory.
+    pub(crate) fn look(
+        &mut self,
+        alloc: Global,
+        mark: &mut Share<P>,
+        table: usize,
+        key: &Row,
+    ) -> Result<(u32, Option<Row>), AllocError>
+        ensures number { IfOk result (λ found. found.0 ≡ length self.old) }
+        ensures row { IfOk result (λ found. IsFound P.checked table key.now found.0 found.1) }
+        ensures above { IfOk result (λ found. mark.old.amount ≤ found.0) }
+        ensures same { self.new ≡ self.old }
+        ensures amount { mark.new.amount ≡ mark.old.amount }
+        ensures parts { mark.new.parts ≡ mark.old.parts }
+    {
+        self.counted.audit(mark);
+        look_up(alloc, &self.book, table, key)
+    }
+
+    /// What the sender of the slot does next, where it has told of all commits before this number; none where it waits.
+    pub(crate) fn step(&mut self, slot: usize, number: u32) -> Option<Step>
+        ensures log { self.new ≡ self.old }
+        ensures entry { IfSome result (IsStepOf self.old number) }
+        ensures next { IfSome result (IsNext number) }
+    {
+        let Some(wish) = self.wishes.get(slot).copied() else {
+            return Some(Step::Ended);
+        };
+        if wish.has_ended {
+            return Some(Step::Ended);
+        }
+        if wish.wants_reply {
+            self.wishes[slot] = Wish {
+                sent: wish.sent,
+                wants_reply: false,
+                has_ended: false,
+            };
+            return Some(Step::Reply);
+        }
+        let Ok(found) = self.book.shared(number) else {
+            return Some(Step::OutOfMemory);
+        };
+        let Some(commit) = found else {
+            if self.is_finished {
+                return Some(Step::Finished);
+            }
+            return None;
+        };
+        self.wishes[slot] = Wish {
+            sent: 64 * u64::from(number) + 64,
+            wants_reply: false,
+            has_ended: false,
+        };
+        Some(Step::Entry(commit))
+    }
+
+    /// Lends the book, and what is wanted of each slot's connection.
+    pub(crate) fn lend<U: SlotUse>(&mut self, user: &mut U) -> U::Answer
+        ensures log { self.new ≡ self.old }
+        ensures lent { IsLent U.did P.checked user.old user.new result }
+    {
+        user.use_slots(&mut self.book, self.wishes.as_mut_slice())
+    }
+
+    /// No further commit comes.
+    pub(crate) fn finish(&mut self)
+        ensures { self.new ≡ self.old }
+    {
+        self.is_finished = true;
+    }
+
+    /// The book.
+    pub(crate) fn into_book(self) -> Book
+        ensures { IsBookOf P.checked P.limit result }
+    {
+        let Desk {
+            book,
+            counted: _,
+            wishes: _,
+            is_finished: _,
+        } = self;
+        book
+    }
+}

@@ -1,0 +1,28 @@
+//! A publisher that several threads use: its book behind one lock, and seats for sessions, each of which keeps a receipt
+//! for each of its commits and what it read.
+#![tactic(auto)]
+
+mod desk;
+mod laws;
+mod naming;
+mod note;
+mod publisher;
+mod read_fault;
+mod receipt;
+mod seat;
+mod seats;
+mod slot_use;
+mod step;
+mod wish;
+
+pub use laws::threads_share_publishers;
+pub use naming::Publishing;
+pub use note::{Note, Reading};
+pub use publisher::Publisher;
+pub use read_fault::ReadFault;
+pub use receipt::Receipt;
+pub use seat::Seat;
+pub use seats::Seats;
+pub use slot_use::SlotUse;
+pub use step::Step;
+pub use wish::Wish;

@@ -1,0 +1,214 @@
+//! Publishers.
+
+ghost use Rattle.std.specs.Prelude.{◌≡◌};
+
+use crate::desk::Desk;
+use crate::naming::Publishing;
+use crate::note::{Note, Reading};
+use crate::read_fault::ReadFault;
+use crate::receipt::Receipt;
+use crate::seat::Seat;
+use crate::seats::Seats;
+use crate::slot_use::SlotUse;
+use crate::step::Step;
+use filter_tree::Row;
+use shard_checker::Checked;
+use std::alloc::{AllocError, Global};
+use std::marker::Model;
+use std::sync::ledger::Blank;
+use std::sync::{Arc, Condvar, Mutex, Wait};
+use table_changes::Command;
+use tables_log::{Book, CommitError};
+
+/// A publisher that several threads share. Its book is behind one lock: each time that a thread gets it, the book is of
+/// the checked catalog that the publisher was made from and of some list of transactions, and the number of its commits
+/// is the total of a ledger whose shares are the seats' counts of receipts. Contracts see the number of its tables.
+///
+/// PostgreSQL 15, 3.4. Transactions, and "Logical Replication", 31.1 Publication.
+#[derive(Drop)]
+pub struct Publisher<P: Publishing> {
+    alloc: Global,
+    checked: Arc<Checked, Global>,
+    desk: Mutex<Desk<P>>,
+    moved: Condvar,
+}
+
+impl<P: Publishing> Model for Publisher<P> {
+    ghost use Rattle.std.specs.Prelude.{ℕ, ◌≡◌, length};
+    ghost use Rattle.std.specs.Arc.{arc_value};
+    ghost use Rattle.shard_checker.specs.CheckedView.{checked_view};
+
+    ghost Value = { ℕ };
+
+    ghost view = { λ p. length (checked_view (arc_value p.checked)).catalog.tables };
+
+    ghost invariant = { λ p. checked_view (arc_value p.checked) ≡ P.checked };
+}
+
+impl<P: Publishing> Publisher<P> {
+    ghost use Rattle.std.specs.Prelude.{◌≡◌, ◌<◌, ◌≤◌, [], ◌∷◌, ◌++◌, map, length, IfOk, IfErr, IfSome, OnOk, OnErr};
+    ghost use Rattle.std.specs.Arc.{arc_value};
+    ghost use Rattle.shard_checker.specs.CheckedView.{checked_view, setting_in};
+    ghost use Rattle.table_changes.specs.Commands.{command_view};
+    ghost use Rattle.publisher_desk.specs.Answers.{IsMade, IsRead, IsRefused};
+    ghost use Rattle.publisher_desk.specs.Held.{IsBookOf};
+    ghost use Rattle.publisher_desk.specs.Lending.{IsLent, IsNext};
+    ghost use Rattle.publisher_desk.specs.Receipts.{receipt_of};
+    ghost use Rattle.publisher_desk.specs.Refusals.{HasFault, HasReadFault};
+    ghost use Rattle.publisher_desk.specs.Seats.{AreUpTo, receipts};
+    ghost use Rattle.publisher_desk.specs.declared.note.Note.TheVariants.{Committed, Looked};
+
+    /// A publisher without commits, whose log may have so many, and the seats of its sessions, 1,000. `blank` is the
+    /// ledger that counts the commits. The only error is want of memory.
+    pub fn new(
+        alloc: Global,
+        blank: Blank,
+        checked: Arc<Checked, Global>,
+        limit: u32,
+    ) -> Result<(Publisher<P>, Seats<P>), AllocError>
+        requires name { blank.name ≡ P.name }
+        requires parts { blank.parts ≡ P.parts }
+        requires seats { blank.parts ≡ 1000 }
+        requires checked { checked_view (arc_value checked) ≡ P.checked }
+        requires limit { limit ≡ P.limit }
+        requires some { 1 ≤ limit }
+        requires within { limit ≤ 1000000000 }
+        ensures publisher { IfOk result (λ made. made.0 ≡ length P.checked.catalog.tables) }
+        ensures seats { IfOk result (λ made. made.1 ≡ 1000) }
+    {
+        let (counted, share) = blank.open::<P>();
+        let book_of = Arc::try_clone(&checked)?;
+        let desk = Desk::new(alloc, book_of, limit, counted)?;
+        let publisher = Publisher {
+            alloc,
+            checked,
+            desk: Mutex::new(desk),
+            moved: Condvar::new(),
+        };
+        Ok((publisher, Seats::new(alloc, share)))
+    }
+
+    /// Makes the commands one transaction, and logs it with this time, in microseconds since 2000-01-01. The answer is
+    /// its number, from 1, and the seat has a receipt of it. With an error nothing changes, and the list is dropped.
+    ///
+    /// # Errors
+    ///
+    /// Those of `Book::commit`, in its order, or `OutOfMemory` in place of any of them.
+    ///
+    /// PostgreSQL 15, 3.4. Transactions, and Chapter 6 Data Manipulation.
+    pub fn commit<R: Wait>(
+        &self,
+        rt: &R,
+        seat: &mut Seat<P>,
+        commands: Vec<Command>,
+        time: u64,
+    ) -> Result<u32, CommitError>
+        ensures ok { IfOk result (λ number.
+            seat.new ≡ seat.old ++ Committed (receipt_of number (map command_view commands.items) time) ∷ []) }
+        ensures made { IfOk result (IsMade P.checked P.limit (map command_view commands.items) time) }
+        ensures above { IfOk result (λ number. receipts seat.old < number) }
+        ensures fault { IfErr result (HasFault (setting_in P.checked) (map command_view commands.items)) }
+        ensures refused { IfErr result (IsRefused P.checked P.limit (map command_view commands.items)) }
+        ensures err { OnErr result (seat.new ≡ seat.old) }
+    {
+        let Seat { notes, high, mark } = seat;
+        notes.reserve(1)?;
+        let number = match self.desk.lock(rt).commit(mark, commands.as_slice(), time) {
+            Ok(number) => number,
+            Err(error) => return Err(error),
+        };
+        self.moved.notify_all();
+        *high = (*high).max(number);
+        notes.push_reserved(Note::Committed(Receipt::new(number, commands, time)));
+        Ok(number)
+    }
+
+    /// The row of the table that has this primary key, after so many commits as the log has, if there is one. The seat
+    /// keeps the answer. With an error nothing changes.
+    ///
+    /// # Errors
+    ///
+    /// The first of `NoTable`, `OutOfMemory`, and `Behind` with the number of commits in the log, where the seat knows
+    /// of more, since it is not one of this publisher.
+    pub fn read<R: Wait>(
+        &self,
+        rt: &R,
+        seat: &mut Seat<P>,
+        table: usize,
+        key: Row,
+    ) -> Result<Reading, ReadFault>
+        ensures ok { IfOk result (λ reading. seat.new ≡ seat.old ++ Looked reading ∷ []) }
+        ensures table { IfOk result (λ reading. reading.table ≡ table) }
+        ensures key { IfOk result (λ reading. reading.key ≡ key) }
+        ensures answer { IfOk result (IsRead P.checked) }
+        ensures forward { IfOk result (λ reading. AreUpTo reading.number seat.old) }
+        ensures above { IfOk result (λ reading. receipts seat.old ≤ reading.number) }
+        ensures known { OnOk result (table < length P.checked.catalog.tables) }
+        ensures refused { IfErr result (HasReadFault P.checked seat.old table) }
+        ensures err { OnErr result (seat.new ≡ seat.old) }
+    {
+        if table >= self.checked.catalog().tables.len() {
+            return Err(ReadFault::NoTable);
+        }
+        let Seat { notes, high, mark } = seat;
+        notes.reserve(1)?;
+        let (number, answer) = self.desk.lock(rt).look(self.alloc, mark, table, &key)?;
+        if number < *high {
+            return Err(ReadFault::Behind(number));
+        }
+        let reading = Reading {
+            number,
+            table,
+            key,
+            answer,
+        };
+        let kept = reading.copy(self.alloc)?;
+        *high = number;
+        notes.push_reserved(Note::Looked(kept));
+        Ok(reading)
+    }
+
+    /// What the sender of the slot does next, where it has told of all commits before this number. It waits until there
+    /// is something to do. Of a slot that isn't there, it ends.
+    pub fn next_step<R: Wait>(&self, rt: &R, slot: usize, number: u32) -> Step
+        ensures { IsNext number result }
+    {
+        let mut desk = self.desk.lock(rt);
+        for _ in rt.forever() {
+            if let Some(step) = desk.step(slot, number) {
+                return step;
+            }
+            desk = self.moved.wait(rt, desk);
+        }
+        unreachable!()
+    }
+
+    /// Lends the book under the lock, and what is wanted of each slot's connection. The book is of the checked catalog,
+    /// and of some list of transactions.
+    pub fn lend<U: SlotUse, R: Wait>(&self, rt: &R, user: &mut U) -> U::Answer
+        ensures { IsLent U.did P.checked user.old user.new result }
+    {
+        let answer = self.desk.lock(rt).lend(user);
+        self.moved.notify_all();
+        answer
+    }
+
+    /// No further commit comes: senders end when they have told of all.
+    pub fn finish<R: Wait>(&self, rt: &R) {
+        self.desk.lock(rt).finish();
+        self.moved.notify_all();
+    }
+
+    /// The book. It is of the checked catalog and of some list of transactions.
+    pub fn into_book(self) -> Book
+        ensures { IsBookOf P.checked P.limit result }
+    {
+        let Publisher {
+            alloc: _,
+            checked: _,
+            desk,
+            moved: _,
+        } = self;
+        desk.into_inner().into_book()
+    }
+}

@@ -1,0 +1,57 @@
+//! Seats of sessions.
+
+ghost use Rattle.std.specs.Prelude.{◌≡◌, []};
+
+use crate::naming::Publishing;
+use crate::note::Note;
+use std::alloc::Global;
+use std::marker::Model;
+use std::sync::ledger::Share;
+
+/// A session's place at a publisher: its commits and what it read, in their order. Contracts see the list of these
+/// notes. No row was read of fewer commits than an earlier note knows of.
+#[derive(Drop)]
+pub struct Seat<P: Publishing> {
+    pub(crate) notes: Vec<Note>,
+    pub(crate) high: u32,
+    pub(crate) mark: Share<P>,
+}
+
+impl<P: Publishing> Model for Seat<P> {
+    ghost use Rattle.std.specs.Prelude.{List};
+    ghost use Rattle.publisher_desk.specs.Seats.{IsSeat};
+    ghost use Rattle.publisher_desk.specs.declared.note.Note.{Note};
+
+    ghost Value = { List Note };
+
+    ghost view = { λ s. s.notes.items };
+
+    ghost invariant = { λ s. IsSeat s.notes.items s.high s.mark.parts s.mark.amount };
+}
+
+impl<P: Publishing> Seat<P> {
+    ghost use Rattle.std.specs.Prelude.{◌≡◌, []};
+    ghost use Rattle.publisher_desk.specs.Seats.{IsForward};
+
+    /// A seat without notes, which has this part of the ledger.
+    #[tactic(auto, using(crate::proofs::SeatLemmas::new_seat))]
+    pub(crate) fn new(alloc: Global, mark: Share<P>) -> Seat<P>
+        requires part { mark.parts ≡ 1 }
+        requires none { mark.amount ≡ 0 }
+        ensures { result ≡ [] }
+    {
+        Seat {
+            notes: Vec::new(alloc),
+            high: 0,
+            mark,
+        }
+    }
+
+    /// The session's commits and what it read, in their order.
+    pub fn notes(&self) -> &[Note]
+        ensures shows { result.now ≡ self.now }
+        ensures forward { IsForward self.now }
+    {
+        self.notes.as_slice()
+    }
+}
