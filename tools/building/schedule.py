@@ -8,7 +8,9 @@ from concurrent.futures import FIRST_COMPLETED, ThreadPoolExecutor, wait
 
 
 def say(text):
-    print(f"pgshard: {text}", file=sys.stderr, flush=True)
+    # (one write, since threads say something at the same time)
+    sys.stderr.write(f"pgshard: {text}\n")
+    sys.stderr.flush()
 
 
 def longest_first(repository, names):
@@ -45,7 +47,7 @@ def build_all(repository, names, lanes):
                     return 1
                 built.add(name)
                 if seconds >= 1:
-                    say(f"{name} is proved, in {seconds:.0f} seconds; {len(names) - len(built)} libraries are left")
+                    say(f"{name} is proved, after {seconds:.0f} s; libraries left: {len(names) - len(built)}")
     return 0
 
 

@@ -95,10 +95,7 @@ def check_subscribers(tally, server):
 def check_walsenders(tally, server):
     """A subscription that is connected, as a role sees it that may, and as one that may not."""
     server.psql("london", "ALTER SUBSCRIPTION london ENABLE;")
-    for _ in range(100):
-        if server.psql("options", "SELECT active FROM pg_replication_slots WHERE slot_name = 'london';") == "t":
-            break
-        time.sleep(0.1)
+    wait_for_walsender(server, "t")
     words = server.words("options")
     check_lines(tally, "who is connected", judge(*words), [
         *NOT_SOUND, "the subscribers are those that are connected now; nobody is connected to slot tokyo, so its "
@@ -106,6 +103,15 @@ def check_walsenders(tally, server):
     check_lines(tally, "who is connected, to a stranger", judge(*words, "-U", "stranger"), [
         *SOUND, EACH, ENDING.format(1)], 0)
     server.psql("london", "ALTER SUBSCRIPTION london DISABLE;")
+    wait_for_walsender(server, "f")
+
+
+def wait_for_walsender(server, active):
+    """Waits up to a minute until somebody is connected to the slot of the subscription, or nobody is."""
+    for _ in range(600):
+        if server.psql("options", "SELECT active FROM pg_replication_slots WHERE slot_name = 'london';") == active:
+            return
+        time.sleep(0.1)
 
 
 def check_json(tally, server):
