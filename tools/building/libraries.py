@@ -27,7 +27,7 @@ class Repository:
         return self.root / "crates" / name
 
     def prove(self, name, place, jobs):
-        """Proves and builds the library in the folder `place`, and takes what it built. Answers its log, or None."""
+        """Proves and builds the library in the folder `place`, and takes what was built. Answers the log if it failed."""
         copy, kept = pathlib.Path(place), self.folder(name) / "out"
         self.copy_to(copy, name)
         made = copy / "crates" / name / "out"
@@ -61,7 +61,7 @@ def link(source, target):
 
 
 def log_of(words, folder):
-    """Runs a command. Answers what it printed where it failed, or None."""
+    """Runs a command. Answers what it printed if it failed, and else None."""
     given = {"stdin": subprocess.DEVNULL, "stdout": subprocess.PIPE, "stderr": subprocess.STDOUT}
     ran = subprocess.run(words, cwd=folder, **given)
     return None if ran.returncode == 0 else ran.stdout.decode(errors="replace")

@@ -91,6 +91,7 @@ impl Change {
             }),
         }
     }
+
     /// Whether the changes are equal: of one kind, with equal tables, parts and rows.
     pub fn same(&self, other: &Change) -> bool
         ensures { MatchBool result

@@ -7,7 +7,7 @@ use crate::checks::{holds, same};
 use crate::sharding::accepted;
 use crate::threads::{WHOLE, answers};
 use filter_tree::{Row, RowFault, Text, Value};
-use publisher_desk::{Publisher, Publishing, ReadFault, Seat};
+use publisher_desk::{Note, Publisher, Publishing, ReadFault, Seat};
 use shard_checker::Checked;
 use std::alloc::{AllocError, Global};
 use std::marker::Brand;
@@ -69,40 +69,32 @@ fn expect_faults<P: Publishing, R: Wait + Abort>(
     publisher: &Publisher<P>,
     seat: &mut Seat<P>,
 ) -> Result<(), Fail> {
-    let at = |fault| Err(CommitError::At(1, fault));
-    expect_one(
-        rt,
-        alloc,
-        publisher,
-        seat,
-        put(alloc, 1, "b")?,
-        at(CommandFault::DuplicateKey),
-    )?;
-    expect_one(
-        rt,
-        alloc,
-        publisher,
-        seat,
-        take(alloc, 0, 1_001)?,
-        at(CommandFault::NoSuchRow),
-    )?;
-    expect_one(
-        rt,
-        alloc,
-        publisher,
-        seat,
-        take(alloc, 1, 1)?,
-        at(CommandFault::NoTable),
-    )?;
-    expect_one(
-        rt,
-        alloc,
-        publisher,
-        seat,
-        put(alloc, 2_147_483_648, "b")?,
-        at(CommandFault::Row(RowFault::OutOfRange(0))),
-    )?;
+    let cases = [
+        (put(alloc, 1, "b")?, CommandFault::DuplicateKey),
+        (take(alloc, 0, 1_001)?, CommandFault::NoSuchRow),
+        (take(alloc, 1, 1)?, CommandFault::NoTable),
+        (
+            put(alloc, 2_147_483_648, "b")?,
+            CommandFault::Row(RowFault::OutOfRange(0)),
+        ),
+    ];
+    for (command, fault) in cases {
+        let wanted = Err(CommitError::At(1, fault));
+        expect_one(rt, alloc, publisher, seat, command, wanted)?;
+    }
     Ok(())
+}
+
+/// The number, the count of commands and the time of the seat's first note, where that is a receipt.
+fn first_receipt<P: Publishing>(seat: &Seat<P>) -> Option<(u32, usize, u64)> {
+    match seat.notes().first()? {
+        Note::Committed(receipt) => Some((
+            receipt.number(),
+            receipt.commands().len(),
+            receipt.time(),
+        )),
+        Note::Looked(_) => None,
+    }
 }
 
 /// That rows are read, and that another table's are not.
@@ -114,6 +106,8 @@ fn expect_readings<P: Publishing, R: Wait + Abort>(
 ) -> Result<(), Fail> {
     let there = read(rt, alloc, publisher, seat, 0, 1_000)?;
     holds(rt, there.number == 2 && there.answer.is_some());
+    let copied = there.copy(alloc)?;
+    holds(rt, copied.number == 2 && copied.answer.is_some());
     let gone = read(rt, alloc, publisher, seat, 0, 1)?;
     holds(rt, gone.number == 2 && gone.answer.is_none());
     let unknown = read(rt, alloc, publisher, seat, 1, 1);
@@ -150,6 +144,7 @@ fn expect_answers<P: Publishing, R: Wait + Abort>(
     expect_many(rt, alloc, &publisher, &mut seat, 1, full)?;
     expect_readings(rt, alloc, &publisher, &mut seat)?;
     same(rt, note_count(&seat), 4);
+    same(rt, first_receipt(&seat), Some((1, 1_000, 1)));
     Ok(())
 }
 
