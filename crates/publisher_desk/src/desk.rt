@@ -166,7 +166,8 @@ impl<P: Publishing> Desk<P> {
     }
 
     /// What the sender of the slot does next, where it has told of all commits before this number; none where it waits.
-    pub(crate) fn step(&mut self, slot: usize, number: u32) -> Option<Step>
+    /// A reply that is wanted goes before an end. Of a number that no log has it ends.
+    pub(crate) fn step(&mut self, slot: usize, number: u64) -> Option<Step>
         ensures log { self.new ≡ self.old }
         ensures entry { IfSome result (IsStepOf self.old number) }
         ensures next { IfSome result (IsNext number) }
@@ -174,17 +175,20 @@ impl<P: Publishing> Desk<P> {
         let Some(wish) = self.wishes.get(slot).copied() else {
             return Some(Step::Ended);
         };
-        if wish.has_ended {
-            return Some(Step::Ended);
-        }
         if wish.wants_reply {
             self.wishes[slot] = Wish {
                 sent: wish.sent,
                 wants_reply: false,
-                has_ended: false,
+                has_ended: wish.has_ended,
             };
             return Some(Step::Reply);
         }
+        if wish.has_ended {
+            return Some(Step::Ended);
+        }
+        let Ok(number) = u32::try_from(number) else {
+            return Some(Step::Ended);
+        };
         let Ok(found) = self.book.shared(number) else {
             return Some(Step::OutOfMemory);
         };

@@ -168,9 +168,22 @@ impl<P: Publishing> Publisher<P> {
         Ok(reading)
     }
 
+    /// What memory is taken from.
+    pub fn allocator(&self) -> Global {
+        self.alloc
+    }
+
+    /// The checked catalog that the publisher was made from.
+    pub fn checked(&self) -> &Arc<Checked, Global>
+        ensures { checked_view (arc_value result.now) ≡ P.checked }
+    {
+        &self.checked
+    }
+
     /// What the sender of the slot does next, where it has told of all commits before this number. It waits until there
-    /// is something to do. Of a slot that isn't there, it ends.
-    pub fn next_step<R: Wait>(&self, rt: &R, slot: usize, number: u32) -> Step
+    /// is something to do. A reply that is wanted goes before an end. Of a slot that isn't there, and of a number that
+    /// no log has, it ends.
+    pub fn next_step<R: Wait>(&self, rt: &R, slot: usize, number: u64) -> Step
         ensures { IsNext number result }
     {
         let mut desk = self.desk.lock(rt);

@@ -1,0 +1,20 @@
+//! Why connections end.
+
+use copy_both::LinkFault;
+
+/// Why a connection ended: the first cause that was met.
+///
+/// PostgreSQL 15, 55.4. Streaming Replication Protocol.
+#[derive(Clone, Copy, Debug, PartialEq, Eq)]
+pub enum End {
+    /// What it is read from failed.
+    ReadFault,
+    /// What it is written to failed.
+    WriteFault,
+    /// Its client sent what no client may send there, its start was refused, or memory was, or a thread for it.
+    Link(LinkFault),
+    /// Its client ended it, or there was nothing more to read.
+    Client,
+    /// The publisher was finished, and all commits were taken up.
+    Finished,
+}
