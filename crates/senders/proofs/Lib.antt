@@ -1,0 +1,8 @@
+pub mod FlushingLemmas
+pub mod HearingLemmas
+pub mod RefusedLemmas
+pub mod SendingLemmas
+pub mod ServingLemmas
+pub mod SpeakingLemmas
+pub mod StreamingLemmas
+pub mod WritingLemmas
