@@ -1,5 +1,5 @@
 -- What a connection whose stream has started wrote, whatever was read from it: PostgreSQL 15, 55.4. Streaming Replication Protocol.
-use Rattle.std.specs.Prelude.{◌≡◌, ◌≢◌, ℕ, Bool, true, false, List, [], ◌++◌, length, Option, Some}
+use Rattle.std.specs.Prelude.{◌≡◌, ◌≢◌, ℕ, Bool, true, false, List, [], ◌++◌, All, length, Option, Some}
 use Rattle.std.specs.Io.KnownBytes.{Appends}
 use Rattle.shard_checker.specs.CheckedView.{CheckedOf}
 use Rattle.tables_log.specs.Commits.{CommitOf}
@@ -10,6 +10,7 @@ use Rattle.copy_both.specs.declared.link_fault.LinkFault.TheVariants as fault
 use Rattle.served_connections.specs.declared.end.End.{End}
 use Rattle.served_connections.specs.declared.end.End.TheVariants as end
 use Rattle.served_connections.specs.declared.served.Served.{Served}
+use Rattle.stream_laws.specs.Sayable.{IsClocked}
 use Rattle.senders.specs.Causes.{chosen, end_by}
 use Rattle.senders.specs.Listening.{HearsAll}
 use Rattle.senders.specs.Refusing.{cause_by}
@@ -39,7 +40,7 @@ pub record Concludes (slot start : ℕ) (sent : Sent) (why : Option Ending) (bef
 pub data IsEndOf (why : Option Ending) (failed : Bool) (is : End) : Type 0 where
   Writing : is ≡ end.WriteFault → failed ≡ true → IsEndOf why failed is
   Memory : is ≡ end.Link fault.OutOfMemory → IsEndOf why failed is
-  All : is ≡ end.Finished → IsEndOf why failed is
+  Whole : is ≡ end.Finished → IsEndOf why failed is
   Heard : (ending : Ending) → why ≡ Some ending → is ≡ cause_by ending → IsEndOf why failed is
 
 -- What was written is a first part of the stream of the commits that were taken up, and then of what was said last.
@@ -50,6 +51,7 @@ pub record Streams (checked : CheckedOf) (slot start : ℕ) (before after : Opti
   pub put : Appends before after written
   pub follow : Follow (count_before start) (commits_of served)
   pub moves : List Move
+  pub clocks : All IsClocked moves
   pub takes : takes_in moves ≡ length (commits_of served)
   pub rest : List ℕ
   pub last : List ℕ

@@ -7,6 +7,7 @@ mod clock;
 mod connection;
 mod ending;
 mod flushing;
+mod laws;
 mod leaving;
 mod listener;
 mod listening;
@@ -20,6 +21,7 @@ mod stop;
 
 pub use connection::{Conn, run_all};
 pub use connection_io::{Failed, FromRead, Gate, OpenGate, Sink, Source, ToWrite};
+pub use laws::{clients_of_connections_follow, served_streams_tell_the_log};
 pub use publisher_desk::{
     Note, Publisher, Publishing, ReadFault, Reading, Receipt, Seat, Seats, threads_share_publishers,
 };
