@@ -1,7 +1,7 @@
 -- What is compared, put together.
 use Rattle.std.proofs.Common.{◌≡◌, ◌≢◌, ℕ, ◌+◌, ◌<◌, ◌≤◌, List, [], ◌∷◌, length, map, refl, sym, ◌∙◌, ap, subst, arith}
 use Rattle.std.proofs.lemmas.List.{length-map}
-use Rattle.std.specs.Prelude.{All, Result, Ok, Err, OnOk, OnErr}
+use Rattle.std.specs.Prelude.{All, Result, Ok, Err, IfErr, IsErrAnd, OnOk, OnErr}
 use Rattle.std.specs.List.{range_with_len}
 use Rattle.std.specs.List.Sorted.{IsPermutation, IsNonDecreasingBy}
 use Rattle.std.proofs.lemmas.List.Sorted.{length_permutation, All-permutation, IsPermutation-sym}
@@ -154,12 +154,28 @@ still_closed checked limit seats served old new changes closed = record {
   taken = subst (λ (log : List CommitOf). All (IsTaken log) served) (sym changes.log) closed.taken;
 }
 
-pub closed_as_named : (checked : CheckedOf) (limit : ℕ) (book fresh new : Book) (seats : List (List Note)) (served : List Served) → IsBookOf checked limit book
-    → IsClosed (book_checked book) (book_limit book) seats served fresh → ChangesSlots fresh new (book_slots new) → IsClosed checked limit seats served new
-closed_as_named checked limit book fresh new seats served is closed changes =
+pub closed_as_named : (checked : CheckedOf) (limit : ℕ) (book fresh new : Book) (seats seen : List (List Note)) (served told : List Served) → IsBookOf checked limit book → seen ≡ seats → told ≡ served
+    → IsClosed (book_checked book) (book_limit book) seen told fresh → ChangesSlots fresh new (book_slots new) → IsClosed checked limit seats served new
+closed_as_named checked limit book fresh new seats seen served told is same alike closed changes =
     still_closed checked limit seats served fresh new changes
-    (subst (λ (n : ℕ). IsClosed checked n seats served fresh) is.limited
-    (subst (λ (one : CheckedOf). IsClosed one (book_limit book) seats served fresh) is.named closed))
+    (subst (λ (list : List (List Note)). IsClosed checked limit list served fresh) same
+    (subst (λ (list : List Served). IsClosed checked limit seen list fresh) alike
+    (subst (λ (n : ℕ). IsClosed checked n seen told fresh) is.limited
+    (subst (λ (one : CheckedOf). IsClosed one (book_limit book) seen told fresh) is.named closed))))
+
+pub refused_as_named : (checked : CheckedOf) (limit : ℕ) (book : Book) (seats seen : List (List Note)) (served told : List Served) (error : CloseError) → IsBookOf checked limit book → seen ≡ seats → told ≡ served
+    → IsCause book seen told error → RefusedClose checked limit seats served error
+refused_as_named checked limit book seats seen served told error is same alike cause = record {
+  book = book;
+  is = is;
+  cause = subst (λ (list : List (List Note)). IsCause book list served error) same (subst (λ (list : List Served). IsCause book seen list error) alike cause);
+}
+
+pub memory_refused : {A : Type 0} (checked : CheckedOf) (limit : ℕ) (book : Book) (seats : List (List Note)) (served : List Served) (result : Result A CloseError) → IsBookOf checked limit book
+    → IsErrAnd result (λ error. error ≡ f.OutOfMemory) → IfErr result (RefusedClose checked limit seats served)
+memory_refused checked limit book seats served (Ok done) is memory = tt
+memory_refused checked limit book seats served (Err error) is memory =
+    subst (λ (other : CloseError). RefusedClose checked limit seats served other) (sym memory) (record { book = book; is = is; cause = tt })
 
 pub new_as_named : (checked one : CheckedOf) (limit bound : ℕ) (book fresh : Book) → IsBookOf checked limit book → one ≡ checked → bound ≡ book_limit book → IsNew fresh one bound
     → IsNew fresh (book_checked book) (book_limit book)

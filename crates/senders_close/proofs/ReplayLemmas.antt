@@ -244,7 +244,7 @@ module _ (P : Reading → Type 0) (readings : List (Bor Reading)) (place : ℕ) 
       → MatchBool so (All P (take (place + 1) (map (λ (one : Bor Reading). one.now) readings))) (¬ All P (take (place + 1) (map (λ (one : Bor Reading). one.now) readings)))
   unfolding shown fewer more
   right_more true here so_far = more here so_far
-  right_more false here so_far all = so_far (fewer all)
+  right_more false here so_far = λ all. so_far (fewer all)
 
   pub wrong_more : (so : Bool) → so ≡ false → ¬ P item.now
       → MatchBool so (All P (take (place + 1) (map (λ (one : Bor Reading). one.now) readings))) (¬ All P (take (place + 1) (map (λ (one : Bor Reading). one.now) readings)))
@@ -252,6 +252,9 @@ module _ (P : Reading → Type 0) (readings : List (Bor Reading)) (place : ℕ) 
   wrong_more so is_false wrong = subst (λ (b : Bool). MatchBool b (All P (take (place + 1) shown)) (¬ All P (take (place + 1) shown))) (sym is_false)
       (λ all. wrong (subst P (get_or-take (place + 1) shown place item.now (omega arith) ∙ at_place)
       (all place item.now (omega (arith, inside, length-take (place + 1) shown)))))
+
+pub so_same : (P Q : Type 0) (new old : Bool) → new ≡ old → MatchBool old P Q → MatchBool new P Q
+so_same P Q new old same holds = subst (λ (b : Bool). MatchBool b P Q) (sym same) holds
 
 pub right_at_end : (P : Reading → Type 0) (shown : List Reading) (place : ℕ) (so : Bool) → length shown ≤ place → MatchBool so (All P (take place shown)) (¬ All P (take place shown))
     → MatchBool so (All P shown) (¬ All P shown)

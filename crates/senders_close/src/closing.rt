@@ -32,14 +32,15 @@ fn order_receipts<'a, P: Publishing>(
     ensures err { IfErr result (λ error. (served : List Served) → IsCause book.now seats.now served error) }
 {
     let mut receipts = receipts_of(alloc, seats)?;
-    if receipts.len() != book.log_len() as usize {
+    let count = book.log_len();
+    if receipts.len() != count as usize {
         return Err(CloseError::CountDiffers);
     }
-    if !are_rising(seats, book.log_len()) {
+    if !are_rising(seats, count) {
         return Err(CloseError::ReceiptMissing);
     }
     sort_receipts(&mut receipts);
-    if !rise(receipts.as_slice(), book.log_len()) {
+    if !rise(receipts.as_slice(), count) {
         return Err(CloseError::ReceiptMissing);
     }
     Ok(receipts)
@@ -93,9 +94,10 @@ pub fn close<P: Publishing>(
     ensures refused { IfErr result (RefusedClose P.checked P.limit seats.items served.items) }
 {
     let alloc = publisher.allocator();
-    let checked = Arc::try_clone(publisher.checked())?;
-    let slots = checked.catalog().subscriptions.len();
+    let shared = Arc::try_clone(publisher.checked());
     let book = publisher.into_book();
+    let checked = shared?;
+    let slots = checked.catalog().subscriptions.len();
     let mut fresh = Book::new(alloc, checked, book.limit())?;
     compare(alloc, &mut fresh, &book, seats.as_slice(), served.as_slice())?;
     keep_confirmed(&mut fresh, &book, slots);
