@@ -1,5 +1,5 @@
 -- What is compared, put together.
-use Rattle.std.proofs.Common.{◌≡◌, ◌≢◌, ℕ, ◌+◌, ◌<◌, ◌≤◌, List, [], ◌∷◌, length, map, refl, sym, ◌∙◌, ap, subst, arith}
+use Rattle.std.proofs.Common.{◌≡◌, ◌≢◌, Bor, ℕ, ◌+◌, ◌<◌, ◌≤◌, List, [], ◌∷◌, length, map, refl, sym, ◌∙◌, ap, subst, arith}
 use Rattle.std.proofs.lemmas.List.{length-map}
 use Rattle.std.specs.Prelude.{All, Result, Ok, Err, IfErr, IsErrAnd, OnOk, OnErr}
 use Rattle.std.specs.List.{range_with_len}
@@ -19,6 +19,7 @@ use Rattle.tables_log.specs.declared.slots.Slot.{Slot}
 use Rattle.tables_log.proofs.StandLemmas.{slots_keep_it}
 use Rattle.publisher_desk.specs.Held.{IsBookOf}
 use Rattle.publisher_desk.specs.Receipts.{ReceiptOf}
+use Rattle.publisher_desk.specs.Seats.{IsForward}
 use Rattle.publisher_desk.specs.declared.note.Note.{Note}
 use Rattle.publisher_desk.specs.declared.note.Reading.{Reading}
 use Rattle.senders_close.specs.Causes.{IsUnlike, IsMissing, IsFalling, IsRepeated, IsNotLogged, IsToldBy, HasWrongReading, HasOtherTaken, IsCause, RefusedClose}
@@ -61,6 +62,10 @@ in_order seats gathered sorted high all count moved rising rise =
       rising = subst (λ (n : ℕ). All (IsRising n) seats) (sym long) rising;
     }, long)
 
+pub count_cause : (book : Book) (seats : List (List Note)) (gathered : List ReceiptOf) (high : ℕ) → gathered ≡ all_receipts seats → high ≡ length (book_log book) → length gathered ≢ high
+    → length (book_log book) ≢ length (all_receipts seats)
+count_cause book seats gathered high all log apart same = apart (ap length all ∙ sym same ∙ sym log)
+
 pub falling_cause : (book : Book) (seats : List (List Note)) (gathered : List ReceiptOf) (high : ℕ) → gathered ≡ all_receipts seats → high ≡ length (book_log book) → length gathered ≡ high
     → ¬ All (IsRising high) seats → (length (book_log book) ≡ length (all_receipts seats)) × IsMissing (book_setting book) (book_log book) seats
 falling_cause book seats gathered high all log count falling =
@@ -77,11 +82,11 @@ repeated_cause book seats gathered sorted high all log count moved order falls =
 
 -- ---- readings are the same in another order
 
-pub right_in_order : (P : Reading → Type 0) (seats : List (List Note)) (gathered sorted : List Reading) → gathered ≡ all_readings seats → IsPermutation gathered sorted → All P sorted → All P (all_readings seats)
+right_in_order : (P : Reading → Type 0) (seats : List (List Note)) (gathered sorted : List Reading) → gathered ≡ all_readings seats → IsPermutation gathered sorted → All P sorted → All P (all_readings seats)
 right_in_order P seats gathered sorted all moved right =
     subst (λ (list : List Reading). All P list) all (All-permutation P sorted gathered (IsPermutation-sym gathered sorted moved) right)
 
-pub wrong_in_order : (P : Reading → Type 0) (seats : List (List Note)) (gathered sorted : List Reading) → gathered ≡ all_readings seats → IsPermutation gathered sorted → ¬ All P sorted → ¬ All P (all_readings seats)
+wrong_in_order : (P : Reading → Type 0) (seats : List (List Note)) (gathered sorted : List Reading) → gathered ≡ all_readings seats → IsPermutation gathered sorted → ¬ All P sorted → ¬ All P (all_readings seats)
 wrong_in_order P seats gathered sorted all moved wrong right =
     wrong (All-permutation P gathered sorted moved (subst (λ (list : List Reading). All P list) (sym all) right))
 
@@ -90,7 +95,7 @@ wrong_in_order P seats gathered sorted all moved wrong right =
 long_count : (book : Book) (seats : List (List Note)) (order : List ReceiptOf) → AreInOrder seats order → IsAsLong book order → length (book_log book) ≡ length (all_receipts seats)
 long_count book seats order ordered long = sym long.count ∙ length_permutation (all_receipts seats) order ordered.all
 
-pub unlike_cause : (book : Book) (seats : List (List Note)) (served : List Served) (order : List ReceiptOf) (error : CloseError) → AreInOrder seats order → IsAsLong book order → IsUnlikeIn book order error
+unlike_cause : (book : Book) (seats : List (List Note)) (served : List Served) (order : List ReceiptOf) (error : CloseError) → AreInOrder seats order → IsAsLong book order → IsUnlikeIn book order error
     → IsCause book seats served error
 unfolding long_count
 unlike_cause book seats served order f.CountDiffers ordered long unlike = absurd unlike
@@ -111,11 +116,11 @@ module _ (book fresh : Book) (seats : List (List Note)) (order : List ReceiptOf)
       let there : Told (book_setting book) = subst Told (ap setting_in replayed.named) (record { accepted = all.0.accepted; logged = sym all.1 ∙ all.0.log }) in
       record { ordered = ordered; accepted = there.accepted; logged = there.logged }
 
-  pub wrong_cause : ¬ All (IsRight (book_setting book) (transactions_of order)) (all_readings seats) → HasWrongReading book seats
+  wrong_cause : ¬ All (IsRight (book_setting book) (transactions_of order)) (all_readings seats) → HasWrongReading book seats
   unfolding told_by
   wrong_cause wrong = record { order = order; told = told_by; wrong = wrong }
 
-  pub taken_cause : (served : List Served) → All (IsRight (book_setting book) (transactions_of order)) (all_readings seats) → ¬ All (IsTaken (book_log fresh)) served → HasOtherTaken book seats served
+  taken_cause : (served : List Served) → All (IsRight (book_setting book) (transactions_of order)) (all_readings seats) → ¬ All (IsTaken (book_log fresh)) served → HasOtherTaken book seats served
   unfolding told_by
   taken_cause served right other = record {
     order = order;
@@ -124,9 +129,9 @@ module _ (book fresh : Book) (seats : List (List Note)) (order : List ReceiptOf)
     other = let all = replays_all book fresh order replayed long count in subst (λ (log : List CommitOf). ¬ All (IsTaken log) served) all.1 other;
   }
 
-  pub is_closed : (served : List Served) → All (IsRight (book_setting book) (transactions_of order)) (all_readings seats) → All (IsTaken (book_log fresh)) served
-      → IsClosed (book_checked book) (book_limit book) seats served fresh
-  is_closed served right taken = record {
+  is_closed : (served : List Served) → All (IsRight (book_setting book) (transactions_of order)) (all_readings seats) → All (IsTaken (book_log fresh)) served
+      → All IsForward seats → IsClosed (book_checked book) (book_limit book) seats served fresh
+  is_closed served right taken forward = record {
     named = replayed.named;
     limited = replayed.limited;
     order = order;
@@ -134,9 +139,55 @@ module _ (book fresh : Book) (seats : List (List Note)) (order : List ReceiptOf)
     transactions = transactions_of order;
     told = refl;
     stands = (replays_all book fresh order replayed long count).0;
+    counted = count;
     right = right;
+    forward = forward;
     taken = taken;
   }
+
+-- ---- what is compared, where lists are seen as slices
+
+module _ (book fresh : Book) (seats : List (List Note)) (receipts seen : List (Bor ReceiptOf)) (seen_is : seen ≡ receipts)
+    (ordered : AreInOrder seats (map (λ (one : Bor ReceiptOf). one.now) receipts)) (long : IsAsLong book (map (λ (one : Bor ReceiptOf). one.now) receipts)) where
+  seen_ordered : AreInOrder seats (map (λ (one : Bor ReceiptOf). one.now) seen)
+  seen_ordered = subst (λ (list : List (Bor ReceiptOf)). AreInOrder seats (map (λ (one : Bor ReceiptOf). one.now) list)) (sym seen_is) ordered
+
+  seen_long : IsAsLong book (map (λ (one : Bor ReceiptOf). one.now) seen)
+  seen_long = subst (λ (list : List (Bor ReceiptOf)). IsAsLong book (map (λ (one : Bor ReceiptOf). one.now) list)) (sym seen_is) long
+
+  pub unlike_compared : (served : List Served) (error : CloseError) → IsUnlikeIn book (map (λ (one : Bor ReceiptOf). one.now) seen) error → IsCause book seats served error
+  unfolding seen_ordered seen_long
+  unlike_compared served error unlike = unlike_cause book seats served (map (λ (one : Bor ReceiptOf). one.now) seen) error seen_ordered seen_long unlike
+
+  module _ (gathered sorted looked : List (Bor Reading)) (all : map (λ (one : Bor Reading). one.now) gathered ≡ all_readings seats)
+      (moved : IsPermutation (map (λ (one : Bor Reading). one.now) gathered) (map (λ (one : Bor Reading). one.now) sorted)) (looked_is : looked ≡ sorted)
+      (replayed : Replays book fresh (map (λ (one : Bor ReceiptOf). one.now) seen)) (count : length (book_log fresh) ≡ length seen) where
+    seen_moved : IsPermutation (map (λ (one : Bor Reading). one.now) gathered) (map (λ (one : Bor Reading). one.now) looked)
+    seen_moved = subst (λ (list : List (Bor Reading)). IsPermutation (map (λ (one : Bor Reading). one.now) gathered) (map (λ (one : Bor Reading). one.now) list)) (sym looked_is) moved
+
+    seen_count : length (book_log fresh) ≡ length (map (λ (one : Bor ReceiptOf). one.now) seen)
+    seen_count = count ∙ sym (length-map seen (λ (one : Bor ReceiptOf). one.now))
+
+    pub wrong_compared : ¬ All (IsRight (book_setting book) (transactions_of (map (λ (one : Bor ReceiptOf). one.now) seen))) (map (λ (one : Bor Reading). one.now) looked) → HasWrongReading book seats
+    unfolding seen_moved seen_count seen_ordered seen_long
+    wrong_compared wrong =
+        wrong_cause book fresh seats (map (λ (one : Bor ReceiptOf). one.now) seen) seen_ordered seen_long replayed seen_count
+        (wrong_in_order (IsRight (book_setting book) (transactions_of (map (λ (one : Bor ReceiptOf). one.now) seen))) seats (map (λ (one : Bor Reading). one.now) gathered)
+        (map (λ (one : Bor Reading). one.now) looked) all seen_moved wrong)
+
+    module _ (right : All (IsRight (book_setting book) (transactions_of (map (λ (one : Bor ReceiptOf). one.now) seen))) (map (λ (one : Bor Reading). one.now) looked)) (served : List Served) where
+      seen_right : All (IsRight (book_setting book) (transactions_of (map (λ (one : Bor ReceiptOf). one.now) seen))) (all_readings seats)
+      unfolding seen_moved
+      seen_right = right_in_order (IsRight (book_setting book) (transactions_of (map (λ (one : Bor ReceiptOf). one.now) seen))) seats (map (λ (one : Bor Reading). one.now) gathered)
+          (map (λ (one : Bor Reading). one.now) looked) all seen_moved right
+
+      pub taken_compared : ¬ All (IsTaken (book_log fresh)) served → HasOtherTaken book seats served
+      unfolding seen_count seen_ordered seen_long seen_right
+      taken_compared other = taken_cause book fresh seats (map (λ (one : Bor ReceiptOf). one.now) seen) seen_ordered seen_long replayed seen_count served seen_right other
+
+      pub closed_compared : All (IsTaken (book_log fresh)) served → All IsForward seats → IsClosed (book_checked book) (book_limit book) seats served fresh
+      unfolding seen_count seen_ordered seen_long seen_right
+      closed_compared taken forward = is_closed book fresh seats (map (λ (one : Bor ReceiptOf). one.now) seen) seen_ordered seen_long replayed seen_count served seen_right taken forward
 
 -- ---- the closed book
 
@@ -150,7 +201,9 @@ still_closed checked limit seats served old new changes closed = record {
   transactions = closed.transactions;
   told = closed.told;
   stands = slots_keep_it old new (book_slots new) changes closed.transactions closed.stands;
+  counted = ap length changes.log ∙ closed.counted;
   right = closed.right;
+  forward = closed.forward;
   taken = subst (λ (log : List CommitOf). All (IsTaken log) served) (sym changes.log) closed.taken;
 }
 

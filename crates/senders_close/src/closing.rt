@@ -1,9 +1,10 @@
 //! The closing comparison.
 
-ghost use Rattle.std.specs.Prelude.{◌≡◌, List, map, length, IfOk, IfErr, OnOk};
+ghost use Rattle.std.specs.Prelude.{◌≡◌, List, All, map, length, IfOk, IfErr, OnOk};
 ghost use Rattle.tables_log.specs.BookView.{book_log, book_slots, book_checked, book_limit};
 ghost use Rattle.tables_log.specs.Committing.{ChangesSlots, IsNew};
 ghost use Rattle.served_connections.specs.declared.served.Served.{Served};
+ghost use Rattle.publisher_desk.specs.Seats.{IsForward};
 ghost use Rattle.senders_close.specs.Causes.{IsCause, RefusedClose};
 ghost use Rattle.senders_close.specs.Closing.{IsClosed};
 ghost use Rattle.senders_close.specs.Histories.{AreInOrder};
@@ -29,6 +30,7 @@ fn order_receipts<'a, P: Publishing>(
 ) -> Result<Vec<&'a Receipt>, CloseError>
     ensures ok { IfOk result (λ receipts. AreInOrder seats.now (map (λ receipt. receipt.now) receipts.items)) }
     ensures long { IfOk result (λ receipts. IsAsLong book.now (map (λ receipt. receipt.now) receipts.items)) }
+    ensures forward { OnOk result (All IsForward seats.now) }
     ensures err { IfErr result (λ error. (served : List Served) → IsCause book.now seats.now served error) }
 {
     let mut receipts = receipts_of(alloc, seats)?;

@@ -1,6 +1,7 @@
 //! Whether the numbers of receipts rise.
 
-ghost use Rattle.std.specs.Prelude.{◌≡◌, All, MatchBool, map};
+ghost use Rattle.std.specs.Prelude.{◌≡◌, All, IsTrue, MatchBool, map};
+ghost use Rattle.publisher_desk.specs.Seats.{IsForward};
 ghost use Rattle.senders_close.specs.Gathering.{numbers_of, RiseTo, IsRising};
 
 use publisher_desk::{Note, Publishing, Receipt, Seat};
@@ -38,9 +39,10 @@ fn is_rising(notes: &[Note], high: u32) -> bool
     true
 }
 
-/// Whether they do in each seat's order.
+/// Whether they do in each seat's order. In each seat, rows were read of no fewer commits than earlier notes know of.
 pub(crate) fn are_rising<P: Publishing>(seats: &[Seat<P>], high: u32) -> bool
-    ensures { MatchBool result (All (IsRising high) seats.now) (¬ All (IsRising high) seats.now) }
+    ensures rising { MatchBool result (All (IsRising high) seats.now) (¬ All (IsRising high) seats.now) }
+    ensures forward { IsTrue result → All IsForward seats.now }
 {
     for seat in seats {
         if !is_rising(seat.notes(), high) {

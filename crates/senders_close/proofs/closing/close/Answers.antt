@@ -17,3 +17,8 @@ returns-in_err-compare-clause-refused g c =
     passes_on (RefusedClose g.P.Publishing.checked g.P.Publishing.limit c.args.seats.items c.args.served.items) c.from_residual-in_err-compare.result c.in_err-compare.field-0.0 (search rules)
     (refused_as_named g.P.Publishing.checked g.P.Publishing.limit c.into_book-book.result c.args.seats.items c.as_slice.result.now c.args.served.items c.as_slice-2.result.now c.in_err-compare.field-0.0
     c.into_book-book.ensures c.as_slice.ensures.value c.as_slice-2.ensures.value c.in_err-compare.ensures.err)
+
+pub returns-clause-ok : goal.returns-clause-ok
+returns-clause-ok g c =
+    closed_as_named g.P.Publishing.checked g.P.Publishing.limit c.into_book-book.result c.compare.new.fresh c.keep_confirmed.new.fresh c.args.seats.items c.as_slice.result.now c.args.served.items c.as_slice-2.result.now
+    c.into_book-book.ensures c.as_slice.ensures.value c.as_slice-2.ensures.value c.in_ok-compare.ensures.ok c.keep_confirmed.ensures
