@@ -1,5 +1,5 @@
 -- What is compared, put together.
-use Rattle.std.proofs.Common.{◌≡◌, ◌≢◌, Bor, ℕ, ◌+◌, ◌<◌, ◌≤◌, List, [], ◌∷◌, length, map, refl, sym, ◌∙◌, ap, subst, arith}
+use Rattle.std.proofs.Common.{◌≡◌, ◌≢◌, Bor, ℕ, List, length, map, refl, sym, ◌∙◌, ap, subst, arith}
 use Rattle.std.proofs.lemmas.List.{length-map}
 use Rattle.std.specs.Prelude.{All, Result, Ok, Err, IfErr, IsErrAnd, OnOk, OnErr}
 use Rattle.std.specs.List.{range_with_len}
@@ -9,11 +9,10 @@ use Rattle.served_connections.specs.declared.served.Served.{Served}
 use Rattle.shard_checker.specs.CheckedView.{CheckedOf, setting_in}
 use Rattle.table_changes.specs.Setting.{Setting}
 use Rattle.table_changes.specs.Tables.{no_rows}
-use Rattle.tables_log.specs.BookView.{book_checked, book_limit, book_log, book_rows, book_setting, book_slots}
+use Rattle.tables_log.specs.BookView.{book_checked, book_limit, book_log, book_setting, book_slots}
 use Rattle.tables_log.specs.Commits.{CommitOf}
-use Rattle.tables_log.specs.Committing.{ChangesSlots, IsKept, IsNew}
-use Rattle.tables_log.specs.Slots.{confirmed_up_to}
-use Rattle.tables_log.specs.StandsFor.{Transaction, StandsFor, AreAccepted, entries_from}
+use Rattle.tables_log.specs.Committing.{ChangesSlots, IsKept}
+use Rattle.tables_log.specs.StandsFor.{StandsFor, AreAccepted, entries_from}
 use Rattle.tables_log.specs.declared.book.Book.{Book}
 use Rattle.tables_log.specs.declared.slots.Slot.{Slot}
 use Rattle.tables_log.proofs.StandLemmas.{slots_keep_it}
@@ -22,7 +21,7 @@ use Rattle.publisher_desk.specs.Receipts.{ReceiptOf}
 use Rattle.publisher_desk.specs.Seats.{IsForward}
 use Rattle.publisher_desk.specs.declared.note.Note.{Note}
 use Rattle.publisher_desk.specs.declared.note.Reading.{Reading}
-use Rattle.senders_close.specs.Causes.{IsUnlike, IsMissing, IsFalling, IsRepeated, IsNotLogged, IsToldBy, HasWrongReading, HasOtherTaken, IsCause, RefusedClose}
+use Rattle.senders_close.specs.Causes.{IsMissing, IsRepeated, IsNotLogged, IsToldBy, HasWrongReading, HasOtherTaken, IsCause, RefusedClose}
 use Rattle.senders_close.specs.Closing.{IsClosed}
 use Rattle.senders_close.specs.Gathering.{all_receipts, all_readings, numbers_of, RiseTo, IsRising}
 use Rattle.senders_close.specs.Histories.{transactions_of, AreInOrder, IsRight}
@@ -55,30 +54,27 @@ pub in_order : (seats : List (List Note)) (gathered sorted : List ReceiptOf) (hi
     → All (IsRising high) seats → RiseTo high 0 (numbers_of sorted) → AreInOrder seats sorted × (length sorted ≡ high)
 in_order seats gathered sorted high all count moved rising rise =
     let long : length sorted ≡ high = length_permutation gathered sorted moved ∙ count in
-    let numbers : length (numbers_of sorted) ≡ length sorted = length-map sorted (λ (receipt : ReceiptOf). receipt.number) in
-    (record {
-      all = subst (λ (list : List ReceiptOf). IsPermutation list sorted) all moved;
-      numbered = rise_is_range high 0 (numbers_of sorted) (omega (arith, long, numbers)) rise ∙ ap (λ n. range_with_len 1 n) numbers;
-      rising = subst (λ (n : ℕ). All (IsRising n) seats) (sym long) rising;
-    }, long)
+    let numbers : length (numbers_of sorted) ≡ length sorted = length-map sorted (λ (receipt : ReceiptOf). receipt.number) in (
+      record {
+        all = subst (λ (list : List ReceiptOf). IsPermutation list sorted) all moved;
+        numbered = rise_is_range high 0 (numbers_of sorted) (omega (arith, long, numbers)) rise ∙ ap (λ n. range_with_len 1 n) numbers;
+        rising = subst (λ (n : ℕ). All (IsRising n) seats) (sym long) rising;
+      },
+      long,
+    )
 
 pub count_cause : (book : Book) (seats : List (List Note)) (gathered : List ReceiptOf) (high : ℕ) → gathered ≡ all_receipts seats → high ≡ length (book_log book) → length gathered ≢ high
     → length (book_log book) ≢ length (all_receipts seats)
 count_cause book seats gathered high all log apart same = apart (ap length all ∙ sym same ∙ sym log)
 
-pub falling_cause : (book : Book) (seats : List (List Note)) (gathered : List ReceiptOf) (high : ℕ) → gathered ≡ all_receipts seats → high ≡ length (book_log book) → length gathered ≡ high
-    → ¬ All (IsRising high) seats → (length (book_log book) ≡ length (all_receipts seats)) × IsMissing (book_setting book) (book_log book) seats
-falling_cause book seats gathered high all log count falling =
-    (sym log ∙ sym count ∙ ap length all,
-    IsFalling (λ rising. falling (subst (λ (n : ℕ). All (IsRising n) seats) (sym log) rising)))
-
 pub repeated_cause : (book : Book) (seats : List (List Note)) (gathered sorted : List ReceiptOf) (high : ℕ) → gathered ≡ all_receipts seats → high ≡ length (book_log book) → length gathered ≡ high
     → IsPermutation gathered sorted → IsNonDecreasingBy (λ (receipt : ReceiptOf). receipt.number) sorted → ¬ RiseTo high 0 (numbers_of sorted)
     → (length (book_log book) ≡ length (all_receipts seats)) × IsMissing (book_setting book) (book_log book) seats
-repeated_cause book seats gathered sorted high all log count moved order falls =
-    (sym log ∙ sym count ∙ ap length all,
-    IsRepeated sorted (subst (λ (list : List ReceiptOf). IsPermutation list sorted) all moved) order
-        (λ rise. falls (subst (λ (n : ℕ). RiseTo n 0 (numbers_of sorted)) (sym log) rise)))
+repeated_cause book seats gathered sorted high all log count moved order falls = (
+  sym log ∙ sym count ∙ ap length all,
+  IsRepeated sorted (subst (λ (list : List ReceiptOf). IsPermutation list sorted) all moved) order
+      (λ rise. falls (subst (λ (n : ℕ). RiseTo n 0 (numbers_of sorted)) (sym log) rise)),
+)
 
 -- ---- readings are the same in another order
 
@@ -229,9 +225,3 @@ pub memory_refused : {A : Type 0} (checked : CheckedOf) (limit : ℕ) (book : Bo
 memory_refused checked limit book seats served (Ok done) is memory = tt
 memory_refused checked limit book seats served (Err error) is memory =
     subst (λ (other : CloseError). RefusedClose checked limit seats served other) (sym memory) (record { book = book; is = is; cause = tt })
-
-pub new_as_named : (checked one : CheckedOf) (limit bound : ℕ) (book fresh : Book) → IsBookOf checked limit book → one ≡ checked → bound ≡ book_limit book → IsNew fresh one bound
-    → IsNew fresh (book_checked book) (book_limit book)
-new_as_named checked one limit bound book fresh is same within new =
-    subst (λ (n : ℕ). IsNew fresh (book_checked book) n) within
-    (subst (λ (other : CheckedOf). IsNew fresh other bound) (same ∙ sym is.named) new)

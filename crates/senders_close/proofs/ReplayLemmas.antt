@@ -1,6 +1,6 @@
 -- Receipts that are made again, one after another.
 use Rattle.std.proofs.Common.{◌≡◌, ◌≢◌, ℕ, zero, suc, ◌+◌, ◌-◌, ◌<◌, ◌≤◌, List, [], ◌∷◌, ◌++◌, length, map, take, get_or, Bor, take_all, refl, sym, ◌∙◌, ap, subst, arith, length-append}
-use Rattle.std.specs.Prelude.{Option, Some, None, Result, Ok, Err, IfErr, slice_get, All, Bool, true, false, MatchBool, option_map, ◌==◌, if◌then◌else◌}
+use Rattle.std.specs.Prelude.{Some, None, Result, Err, IfErr, slice_get, All, Bool, true, false, MatchBool, option_map, ◌==◌, if◌then◌else◌}
 use Rattle.std.specs.List.Sorted.{IsNonDecreasingBy}
 use Rattle.std.proofs.lemmas.List.{map-append, take_more, take-map, get_or-map, get_or-take, length-take, length-map}
 use Rattle.std.proofs.lemmas.List.Elements.{All-more}
@@ -12,20 +12,20 @@ use Rattle.table_changes.specs.Records.{record_of}
 use Rattle.table_changes.specs.Setting.{Setting}
 use Rattle.table_changes.specs.Tables.{SameTables, no_rows}
 use Rattle.table_changes.proofs.GrowingLemmas.{are_alike}
-use Rattle.table_changes.proofs.TableLemmas.{by_test, some_is}
-use Rattle.tables_log.specs.BookView.{book_checked, book_limit, book_log, book_rows, book_setting}
+use Rattle.table_changes.proofs.TableLemmas.{by_test}
+use Rattle.tables_log.specs.BookView.{book_limit, book_log, book_rows, book_setting}
 use Rattle.tables_log.specs.Commits.{CommitOf, commit_of}
-use Rattle.tables_log.specs.Committing.{Commits, IsNew, RefusedBy}
+use Rattle.tables_log.specs.Committing.{Commits, RefusedBy}
 use Rattle.tables_log.specs.Logs.{entry_at}
-use Rattle.tables_log.specs.StandsFor.{Transaction, StandsFor, IsAccepted, AreAccepted, after, entries_from}
+use Rattle.tables_log.specs.StandsFor.{Transaction, StandsFor, IsAccepted, AreAccepted, after}
 use Rattle.tables_log.specs.declared.book.Book.{Book}
 use Rattle.tables_log.specs.declared.error.CommitError.{CommitError}
 use Rattle.tables_log.specs.declared.error.CommitError.TheVariants as e
 use Rattle.tables_log.proofs.PlaceLemmas.{get_last, number_is}
-use Rattle.tables_log.proofs.StandLemmas.{new_stands, commits_add_one, each_is_logged}
+use Rattle.tables_log.proofs.StandLemmas.{commits_add_one}
 use Rattle.publisher_desk.specs.Receipts.{ReceiptOf}
 use Rattle.publisher_desk.specs.declared.note.Reading.{Reading}
-use Rattle.senders_close.specs.Causes.{HasRefused, HasOther, IsUnlike, IsRefusedThere, IsOtherThere}
+use Rattle.senders_close.specs.Causes.{IsUnlike, IsRefusedThere, IsOtherThere}
 use Rattle.senders_close.specs.Histories.{transaction_of, transactions_of, IsRight}
 use Rattle.senders_close.specs.Replays.{IsAgain, IsNotAgain, IsRefusedNow, IsOtherNow, IsMissingFor, Replays, IsAsLong, IsUnlikeIn}
 use Rattle.senders_close.specs.declared.close_error.CloseError.{CloseError}
@@ -46,21 +46,6 @@ transactions_more : (order : List ReceiptOf) (place : ℕ) (receipt : ReceiptOf)
     → transactions_of (take (place + 1) order) ≡ transactions_of (take place order) ++ transaction_of receipt ∷ []
 transactions_more order place receipt at =
     ap transactions_of (take_one_more order place receipt at) ∙ map-append transaction_of (take place order) (receipt ∷ [])
-
--- ---- a book without commits
-
-pub new_replays : (book fresh : Book) (order : List ReceiptOf) → IsNew fresh (book_checked book) (book_limit book) → Replays book fresh order
-new_replays book fresh order new =
-    let none : length (book_log fresh) ≡ 0 = ap length new.log in
-    record {
-      named = new.checked_is;
-      limited = new.limit_is;
-      stands = subst (λ (n : ℕ). StandsFor fresh (transactions_of (take n order))) (sym none) (new_stands fresh (book_checked book) (book_limit book) new);
-      log = new.log ∙ ap (λ (n : ℕ). take n (book_log book)) (sym none);
-    }
-
-pub new_has_none : (book fresh : Book) → IsNew fresh (book_checked book) (book_limit book) → length (book_log fresh) ≡ 0
-new_has_none book fresh new = ap length new.log
 
 -- ---- one receipt
 
@@ -94,14 +79,16 @@ module _ (book old : Book) (order : List ReceiptOf) (receipt : ReceiptOf) (place
       let there : slice_get (book_log book) (length (book_log old)) ≡ Some entry =
       sym (entry_next (book_log book) again.number (length (book_log old)) again.commits.number_is) ∙ again.same
       ∙ entry_next (book_log new) again.number (length (book_log old)) again.commits.number_is
-      ∙ new_entry old new receipt.commands receipt.time again.number again.commits in
-      (record {
-        named = again.commits.checked ∙ so_far.named;
-        limited = again.commits.limit ∙ so_far.limited;
-        stands = subst (λ (list : List Transaction). StandsFor new list) (sym more) stood;
-        log = again.commits.log ∙ ap (λ (log : List CommitOf). log ++ entry ∷ []) so_far.log
-            ∙ sym (take_one_more (book_log book) (length (book_log old)) entry there) ∙ ap (λ (n : ℕ). take n (book_log book)) (sym count);
-      }, omega (arith, count, counted))
+      ∙ new_entry old new receipt.commands receipt.time again.number again.commits in (
+        record {
+          named = again.commits.checked ∙ so_far.named;
+          limited = again.commits.limit ∙ so_far.limited;
+          stands = subst (λ (list : List Transaction). StandsFor new list) (sym more) stood;
+          log = again.commits.log ∙ ap (λ (log : List CommitOf). log ++ entry ∷ []) so_far.log
+              ∙ sym (take_one_more (book_log book) (length (book_log old)) entry there) ∙ ap (λ (n : ℕ). take n (book_log book)) (sym count);
+        },
+        omega (arith, count, counted),
+      )
 
   setting_same : book_setting old ≡ book_setting book
   setting_same = ap setting_in so_far.named
@@ -260,13 +247,11 @@ pub right_at_end : (P : Reading → Type 0) (shown : List Reading) (place : ℕ)
     → MatchBool so (All P shown) (¬ All P shown)
 right_at_end P shown place so past all = subst (λ (list : List Reading). MatchBool so (All P list) (¬ All P list)) (take_all place shown past) all
 
-pub wrong_past : (setting : Setting) (order : List ReceiptOf) (reading : Reading) → length order < reading.number → ¬ IsRight setting (transactions_of order) reading
-wrong_past setting order reading far right = absurd (omega (arith, far, right.within, length-map order transaction_of))
-
 -- ---- all of them
 
 pub replays_all : (book fresh : Book) (order : List ReceiptOf) → Replays book fresh order → IsAsLong book order → length (book_log fresh) ≡ length order
     → StandsFor fresh (transactions_of order) × (book_log fresh ≡ book_log book)
-replays_all book fresh order so_far long count =
-    (subst (λ (list : List ReceiptOf). StandsFor fresh (transactions_of list)) (take_all (length (book_log fresh)) order (omega (arith, count))) so_far.stands,
-    so_far.log ∙ take_all (length (book_log fresh)) (book_log book) (omega (arith, count, long.count)))
+replays_all book fresh order so_far long count = (
+  subst (λ (list : List ReceiptOf). StandsFor fresh (transactions_of list)) (take_all (length (book_log fresh)) order (omega (arith, count))) so_far.stands,
+  so_far.log ∙ take_all (length (book_log fresh)) (book_log book) (omega (arith, count, long.count)),
+)

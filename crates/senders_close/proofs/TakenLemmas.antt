@@ -1,10 +1,9 @@
 -- Commits that were taken, compared one after another.
-use Rattle.std.proofs.Common.{◌≡◌, ◌≢◌, ℕ, suc, ◌+◌, ◌<◌, ◌≤◌, List, [], ◌∷◌, length, map, drop, get_or, refl, sym, ◌∙◌, ap, subst, arith}
+use Rattle.std.proofs.Common.{◌≡◌, ◌≢◌, ℕ, ◌+◌, List, length, subst, arith}
 use Rattle.std.proofs.lemmas.List.{length-map}
-use Rattle.std.specs.Prelude.{Some, slice_get, Bool, true, false, nat_eq, MatchBool}
+use Rattle.std.specs.Prelude.{Bool, true, false, nat_eq, MatchBool}
 use Rattle.std.specs.Arc.{arc_value}
 use Rattle.copy_both.specs.VoiceLaws.{AreAt}
-use Rattle.served_connections.specs.declared.end.End.{End}
 use Rattle.served_connections.specs.declared.end.End.TheVariants.{Finished}
 use Rattle.served_connections.specs.declared.served.Served.{Served}
 use Rattle.tables_log.specs.Commits.{CommitOf}
@@ -16,45 +15,11 @@ pub record AtRest (whole : Type 0) (log : List CommitOf) (place : ℕ) (commits 
   pub from : AreAt log place commits → whole
   pub to : whole → AreAt log place commits
 
-pub rest_all : (log : List CommitOf) (place : ℕ) (commits : List CommitOf) → AtRest (AreAt log place commits) log place commits
-rest_all log place commits = record { from = λ at. at; to = λ at. at }
-
-module _ (whole : Type 0) (log : List CommitOf) (place : ℕ) (commit : CommitOf) (commits rest : List CommitOf) (next : commits ≡ commit ∷ rest) (left : AtRest whole log place commits) where
-  there : whole → AreAt log place (commit ∷ rest)
-  there is = subst (λ (list : List CommitOf). AreAt log place list) next (left.to is)
-
-  at_suc : (more : ℕ) → more ≡ suc place → AreAt log (suc place) rest → AreAt log more rest
-  at_suc more is at = subst (λ (n : ℕ). AreAt log n rest) (sym is) at
-
-  at_more : (more : ℕ) → more ≡ suc place → AreAt log more rest → AreAt log (suc place) rest
-  at_more more is at = subst (λ (n : ℕ). AreAt log n rest) is at
-
-  pub rest_next : (more : ℕ) → more ≡ suc place → slice_get log place ≡ Some commit → AtRest whole log more rest
-  unfolding there at_suc at_more
-  rest_next more is at = record {
-    from = λ others. left.from (subst (λ (list : List CommitOf). AreAt log place list) (sym next) (at, at_more more is others));
-    to = λ holds. at_suc more is (there holds).1;
-  }
-
-  pub differs_here : slice_get log place ≢ Some commit → ¬ whole
-  unfolding there
-  differs_here other holds = other (there holds).0
-
-pub rest_none : (whole : Type 0) (log : List CommitOf) (place : ℕ) (commits : List CommitOf) → commits ≡ [] → AtRest whole log place commits → whole
-rest_none whole log place commits none left = left.from (subst (λ (list : List CommitOf). AreAt log place list) (sym none) tt)
-
 -- ---- a connection
 
 module _ (log : List CommitOf) (served : Served) (count : ℕ) (first : count ≡ first_of served) where
   at_first : AreAt log count (taken_of served) → AreAt log (first_of served) (taken_of served)
   at_first at = subst (λ (n : ℕ). AreAt log n (taken_of served)) first at
-
-  pub differs_there : ¬ AreAt log count (taken_of served) → ¬ IsTaken log served
-  differs_there other taken = other (subst (λ (n : ℕ). AreAt log n (taken_of served)) (sym first) taken.at)
-
-  pub taken_unfinished : AreAt log count (taken_of served) → served.end ≢ Finished → IsTaken log served
-  unfolding at_first
-  taken_unfinished at other = record { at = at_first at; whole = λ finished. absurd (other finished) }
 
   pub taken_whole : AreAt log count (taken_of served) → count + length served.taken.items ≡ length log → IsTaken log served
   unfolding at_first

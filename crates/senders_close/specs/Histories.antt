@@ -1,5 +1,5 @@
 -- The one list of transactions that the receipts of all seats tell of, and what was read of it: PostgreSQL 15, 3.4. Transactions, and Chapter 7 Queries.
-use Rattle.std.specs.Prelude.{◌≡◌, ℕ, ◌≤◌, List, All, length, map, take}
+use Rattle.std.specs.Prelude.{◌≡◌, ◌≤◌, List, All, length, map, take}
 use Rattle.std.specs.List.{range_with_len}
 use Rattle.std.specs.List.Sorted.{IsPermutation}
 use Rattle.table_changes.specs.Setting.{Setting}

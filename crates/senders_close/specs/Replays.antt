@@ -1,5 +1,5 @@
 -- How receipts are made again on a book without commits, and how far that has come: PostgreSQL 15, 3.4. Transactions.
-use Rattle.std.specs.Prelude.{◌≡◌, ◌≢◌, ℕ, ◌≤◌, List, [], length, map, take}
+use Rattle.std.specs.Prelude.{◌≡◌, ◌≢◌, ℕ, ◌≤◌, List, length, take}
 use Rattle.tables_log.specs.BookView.{book_checked, book_limit, book_log, book_setting}
 use Rattle.tables_log.specs.Committing.{Commits, RefusedBy}
 use Rattle.tables_log.specs.Logs.{entry_at}

@@ -22,7 +22,8 @@ use std::alloc::Global;
 use std::sync::Arc;
 use tables_log::Book;
 
-/// The receipts of all seats in the order of their numbers, which are 1 to that of the log's last commit.
+/// The receipts of all seats in the order of their numbers, which are 1 to that of the log's last commit. Errors are
+/// `CountDiffers`, `ReceiptMissing` and want of memory.
 fn order_receipts<'a, P: Publishing>(
     alloc: Global,
     book: &Book,
@@ -59,7 +60,7 @@ fn keep_confirmed(fresh: &mut Book, book: &Book, slots: usize)
     }
 }
 
-/// Makes the receipts again on the fresh book, and compares readings and connections with it.
+/// Makes the receipts again on the fresh book, which has no commits, and compares readings and connections with it.
 fn compare<P: Publishing>(
     alloc: Global,
     fresh: &mut Book,
@@ -84,7 +85,22 @@ fn compare<P: Publishing>(
     Ok(())
 }
 
-/// Closes the publisher.
+/// Closes a publisher whose sessions and connections are over, whose seats and results are handed in. The receipts of all
+/// seats are made again on a book without commits, in the order of their numbers: their commands have to be accepted, and
+/// each entry has to be that of the publisher's log. Each reading has to be the row of its key after as many commits as
+/// it tells, and the commits that each connection took those of the log from its start on, up to the log's end where it
+/// was finished. The book that is handed back is the one on which the receipts were made again. Its slots are free, and
+/// confirmed as far as the publisher's.
+///
+/// It takes time for the commands, as `Book::commit` does, for the receipts and the readings, each times the logarithm of
+/// their number, for a look at the row of each reading, and for the commits that were taken.
+///
+/// # Errors
+///
+/// The first of `CountDiffers`, `ReceiptMissing`, `ReadingWrong` and `TakenDiffers`, or `OutOfMemory` in place of any of
+/// them where an allocation was refused. With an error all that was handed in is dropped.
+///
+/// PostgreSQL 15, 3.4. Transactions, and 55.4. Streaming Replication Protocol.
 pub fn close<P: Publishing>(
     publisher: Publisher<P>,
     seats: Vec<Seat<P>>,
@@ -101,7 +117,13 @@ pub fn close<P: Publishing>(
     let checked = shared?;
     let slots = checked.catalog().subscriptions.len();
     let mut fresh = Book::new(alloc, checked, book.limit())?;
-    compare(alloc, &mut fresh, &book, seats.as_slice(), served.as_slice())?;
+    compare(
+        alloc,
+        &mut fresh,
+        &book,
+        seats.as_slice(),
+        served.as_slice(),
+    )?;
     keep_confirmed(&mut fresh, &book, slots);
     Ok(Closed {
         book: fresh,

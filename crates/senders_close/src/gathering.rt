@@ -34,7 +34,10 @@ fn add_readings<'a>(readings: &mut Vec<&'a Reading>, notes: &'a [Note]) -> Resul
 }
 
 /// The receipts of all seats, seat by seat. The only error is want of memory.
-pub(crate) fn receipts_of<P: Publishing>(alloc: Global, seats: &[Seat<P>]) -> Result<Vec<&Receipt>, AllocError>
+pub(crate) fn receipts_of<P: Publishing>(
+    alloc: Global,
+    seats: &[Seat<P>],
+) -> Result<Vec<&Receipt>, AllocError>
     ensures { IfOk result (λ receipts. map (λ receipt. receipt.now) receipts.items ≡ all_receipts seats.now) }
 {
     let mut receipts = Vec::new(alloc);
@@ -45,7 +48,10 @@ pub(crate) fn receipts_of<P: Publishing>(alloc: Global, seats: &[Seat<P>]) -> Re
 }
 
 /// The readings of all seats, seat by seat. The only error is want of memory.
-pub(crate) fn readings_of<P: Publishing>(alloc: Global, seats: &[Seat<P>]) -> Result<Vec<&Reading>, AllocError>
+pub(crate) fn readings_of<P: Publishing>(
+    alloc: Global,
+    seats: &[Seat<P>],
+) -> Result<Vec<&Reading>, AllocError>
     ensures { IfOk result (λ readings. map (λ reading. reading.now) readings.items ≡ all_readings seats.now) }
 {
     let mut readings = Vec::new(alloc);

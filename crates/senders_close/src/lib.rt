@@ -14,4 +14,3 @@ mod taken;
 pub use close_error::CloseError;
 pub use closed::Closed;
 pub use closing::close;
-

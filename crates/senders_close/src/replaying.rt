@@ -143,9 +143,9 @@ pub(crate) fn replay(
     ensures all { OnOk result (length (book_log fresh.new) ≡ length receipts.now) }
     ensures right { IfOk result (λ are. MatchBool are
         (All (IsRight (book_setting book.now) (transactions_of (map (λ receipt. receipt.now) receipts.now)))
-            (map (λ reading. reading.now) readings.now))
+        (map (λ reading. reading.now) readings.now))
         (¬ All (IsRight (book_setting book.now) (transactions_of (map (λ receipt. receipt.now) receipts.now)))
-            (map (λ reading. reading.now) readings.now))) }
+        (map (λ reading. reading.now) readings.now))) }
     ensures err { IfErr result (IsUnlikeIn book.now (map (λ receipt. receipt.now) receipts.now)) }
 {
     let mut are_right = true;

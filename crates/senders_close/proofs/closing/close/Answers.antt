@@ -1,4 +1,4 @@
-use Rattle.std.proofs.Common.{rules, arith}
+use Rattle.std.proofs.Common.{rules}
 use Rattle.senders_close.specs.Causes.{RefusedClose}
 use Rattle.senders_close.proofs.ReplayLemmas.{passes_on}
 use Rattle.senders_close.proofs.ClosingLemmas.{memory_refused, refused_as_named, closed_as_named}

@@ -1,4 +1,4 @@
-use Rattle.std.proofs.Common.{List, map}
+use Rattle.std.proofs.Common.{map}
 use Rattle.table_changes.specs.Commands.{command_view}
 use Rattle.senders_close.proofs.ReplayLemmas.{other_now, refused_then}
 use Rattle.senders_close.proofs.replaying.make_again.Goals as goal

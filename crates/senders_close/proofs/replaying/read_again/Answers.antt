@@ -1,4 +1,4 @@
-use Rattle.std.proofs.Common.{Bor, map, sym, ◌∙◌, arith}
+use Rattle.std.proofs.Common.{Bor, map, arith}
 use Rattle.std.proofs.lemmas.List.{length-map}
 use Rattle.publisher_desk.specs.Receipts.{ReceiptOf}
 use Rattle.senders_close.proofs.ReplayLemmas.{right_then}

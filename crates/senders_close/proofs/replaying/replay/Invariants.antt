@@ -1,4 +1,4 @@
-use Rattle.std.proofs.Common.{◌≡◌, ℕ, ◌<◌, ◌≤◌, All, Bor, MatchBool, get_or, length, map, take}
+use Rattle.std.proofs.Common.{◌<◌, ◌≤◌, All, Bor, MatchBool, get_or, length, map, take}
 use Rattle.publisher_desk.specs.Receipts.{ReceiptOf}
 use Rattle.publisher_desk.specs.declared.note.Reading.{Reading}
 use Rattle.tables_log.specs.BookView.{book_log, book_setting}
