@@ -85,20 +85,20 @@ fn compare<P: Publishing>(
     Ok(())
 }
 
-/// Closes a publisher whose sessions and connections are over, whose seats and results are handed in. The receipts of all
-/// seats are made again on a book without commits, in the order of their numbers: their commands have to be accepted, and
-/// each entry has to be that of the publisher's log. Each reading has to be the row of its key after as many commits as
-/// it tells, and the commits that each connection took those of the log from its start on, up to the log's end where it
-/// was finished. The book that is handed back is the one on which the receipts were made again. Its slots are free, and
-/// confirmed as far as the publisher's.
+/// Closes a publisher whose sessions and connections are over, whose seats and results are handed in. The receipts of
+/// all seats are made again on a book without commits, in the order of their numbers: their commands have to be
+/// accepted, and each entry has to be that of the publisher's log. Each reading has to be the row of its key after as
+/// many commits as it tells, and the commits that each connection took those of the log from its start on, up to the
+/// log's end where it was finished. The book that is handed back is the one on which the receipts were made again. Its
+/// slots are free, and confirmed as far as the publisher's.
 ///
-/// It takes time for the commands, as `Book::commit` does, for the receipts and the readings, each times the logarithm of
-/// their number, for a look at the row of each reading, and for the commits that were taken.
+/// It takes time for the commands, as `Book::commit` does, for the receipts and the readings, each times the logarithm
+/// of their number, for a look at the row of each reading, and for the commits that were taken.
 ///
 /// # Errors
 ///
-/// The first of `CountDiffers`, `ReceiptMissing`, `ReadingWrong` and `TakenDiffers`, or `OutOfMemory` in place of any of
-/// them where an allocation was refused. With an error all that was handed in is dropped.
+/// The first of `CountDiffers`, `ReceiptMissing`, `ReadingWrong` and `TakenDiffers`, or `OutOfMemory` in place of any
+/// of them where an allocation was refused. With an error all that was handed in is dropped.
 ///
 /// PostgreSQL 15, 3.4. Transactions, and 55.4. Streaming Replication Protocol.
 pub fn close<P: Publishing>(

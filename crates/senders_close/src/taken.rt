@@ -66,7 +66,8 @@ fn is_taken(book: &Book, served: &Served) -> bool
 
 /// Whether each connection did.
 pub(crate) fn are_taken(book: &Book, served: &[Served]) -> bool
-    ensures { MatchBool result (All (IsTaken (book_log book.now)) served.now) (¬ All (IsTaken (book_log book.now)) served.now) }
+    ensures { MatchBool result (All (IsTaken (book_log book.now)) served.now)
+        (¬ All (IsTaken (book_log book.now)) served.now) }
 {
     for one in served {
         if !is_taken(book, one) {
