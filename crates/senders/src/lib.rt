@@ -25,5 +25,6 @@ pub use laws::{clients_of_connections_follow, served_streams_tell_the_log};
 pub use publisher_desk::{
     Note, Publisher, Publishing, ReadFault, Reading, Receipt, Seat, Seats, threads_share_publishers,
 };
+pub use senders_close::{CloseError, Closed, close};
 pub use served_connections::{End, Served};
 pub use serving::serve;
