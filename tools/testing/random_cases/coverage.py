@@ -1,0 +1,3 @@
+"""What the cases of every seed have to have."""
+
+WANTED: list[str] = []

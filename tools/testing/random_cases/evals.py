@@ -1,0 +1,58 @@
+"""Cases of `eval`: rows of a table, with and without --insert."""
+
+import random
+
+from model.catalogs import Catalog, Table
+from model.passing import eval_line
+
+from .case import Case, parts
+from .catalog_texts import CatalogText
+from .catalogs import CatalogMaker, filters_on
+from .meeting import meet_catalog, meet_row
+from .row_texts import no_row, row_text
+from .row_values import Values
+
+
+def case(chance: random.Random) -> Case:
+    """A catalog with filters by chance, and rows of one of its tables."""
+    maker = CatalogMaker(chance)
+    catalog = maker.any(chance.randint(1, 3), chance.randint(0, 6), 0)
+    insert = chance.random() < 0.5
+    named = [number for number, table in enumerate(catalog.tables) if "." not in table.schema]
+    text = CatalogText(catalog, chance, chance.random() < 0.3).text()
+    if not named or chance.random() < 0.02:
+        return Case(("eval", "no table"), parts(text, ""), 3, "table no table\n")
+    table = chance.choice(named)
+    return of_rows(chance, catalog, text, table, insert)
+
+
+def of_rows(chance: random.Random, catalog: Catalog, text: str, table: int, insert: bool) -> Case:
+    """Rows of a table with their answers."""
+    values = Values(chance, catalog.tables[table], filters_on(list(catalog.publications), table), lines=False)
+    found = Case(words(chance, catalog.tables[table], insert), b"", 0, "")
+    meet_catalog(found.met, catalog)
+    texts, lines = [], []
+    for _ in range(chance.choice([0, 1, 5, 20, 60])):
+        kind = chance.random()
+        if kind < 0.1:
+            row_line, line = no_row(values.row(), chance)
+        else:
+            row = values.faulty_row() if kind < 0.2 else values.row()
+            row_line, line = row_text(row, chance), eval_line(catalog, table, row, insert)
+            meet_row(found.met, catalog.tables[table], row)
+        texts.append(row_line)
+        lines.append(line)
+        found.met[f"a row is {line.split(' ')[0]}" if line.startswith(("invalid", "unreadable")) else "a row is read"] += 1
+    found.text = parts(text, "".join(f"{row}\n" for row in texts))
+    found.output = "".join(f"{line}\n" for line in lines)
+    found.status = 1 if any(line.startswith(("invalid ", "unreadable ")) for line in lines) else 0
+    return found
+
+
+def words(chance: random.Random, table: Table, insert: bool) -> tuple[str, ...]:
+    """The words of the command line."""
+    short = table.schema == "public" and "." not in table.name and chance.random() < 0.5
+    name = table.name if short else table.full_name()
+    if not insert:
+        return "eval", name
+    return ("eval", name, "--insert") if chance.random() < 0.5 else ("eval", "--insert", name)
