@@ -28,6 +28,10 @@ class Bytes:
         whole = self.told[bisect_right(self.ends, before):bisect_right(self.ends, self.moved)]
         return self.moved - before, whole
 
+    def is_within_frame(self) -> bool:
+        """Whether a frame came in part."""
+        return self.moved > 0 and self.moved not in self.ends
+
 
 class Connection:
     """Both directions. Up come the start and then statuses, down the stream."""

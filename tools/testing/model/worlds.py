@@ -74,6 +74,7 @@ class World:
                 connection.up.say(STATUS, (subscriber.position, want))
                 return "reported"
             case ("lose", _):
+                self.note("connections lost within a frame", connection.down.is_within_frame())
                 subscriber.connection = None
                 return "lost"
             case ("pump", _):
@@ -84,6 +85,7 @@ class World:
         """The subscriber connects, and asks for its stream from its position on."""
         if subscriber.connection is not None:
             return "already open"
+        self.note("connections opened at a position", subscriber.position)
         asked = start_length(subscriber.name, subscriber.publications, subscriber.position)
         subscriber.connection = Connection(subscriber.position, asked)
         return "opened"

@@ -11,6 +11,8 @@ from .names import Names
 from .splits import Splitter
 from .tables import TableMaker
 
+ALL = ("const", True)
+
 
 class Sharding:
     """What each subscriber is to get of each table: conditions, or all of it, where they are None."""
@@ -57,12 +59,12 @@ class Sharding:
         add_condition(entries, table, condition)
         other = self.chance.choice(own)
         if condition is not None and other is not entries and self.chance.random() < 0.2:
-            add_condition(other, table, ("and", condition, ("const", True)))
+            add_condition(other, table, ("and", condition, ALL))
 
 
 def add_condition(entries: dict[int, Filter | None], table: int, condition: Filter | None) -> None:
     """One more condition for the rows of a table, which may have no condition already."""
-    if condition is None or condition == ("const", True) and table not in entries:
+    if condition is None or condition == ALL and table not in entries:
         entries[table] = None
     elif table not in entries:
         entries[table] = condition
@@ -162,14 +164,17 @@ def broken(chance: random.Random, catalog: Catalog) -> Catalog:
     publications = list(catalog.publications)
     at = chance.randrange(len(publications))
     it = publications[at]
-    match chance.randrange(4):
+    match chance.randrange(6):
         case 0 if it.entries:
             number = chance.randrange(len(it.entries))
             it = replace(it, entries=it.entries[:number] + it.entries[number + 1:])
         case 1 if it.entries:
             number, filter = it.entries[0]
-            it = replace(it, entries=((number, ("const", True) if filter is None else ("not", filter)), *it.entries[1:]))
-        case 2:
+            it = replace(it, entries=((number, ALL if filter is None else ("not", filter)), *it.entries[1:]))
+        case 2 | 3 if it.entries:
+            number, filter = it.entries[-1]
+            it = replace(it, entries=(*it.entries[:-1], (number, chance.choice([None, ("or", filter or ALL, ALL)]))))
+        case 4:
             left_out = chance.choice(OPERATIONS)
             it = replace(it, operations=it.operations - {left_out})
         case _ if catalog.tables:

@@ -21,12 +21,11 @@ def case(chance: random.Random) -> Case:
     maker = CatalogMaker(chance)
     tables = chance.randint(1, 3)
     if chance.random() < 0.7:
-        catalog = maker.sound(tables, chance.randint(1, 4), 2)
-        if chance.random() < 0.4:
-            catalog = broken(chance, catalog)
+        sound = maker.sound(tables, chance.randint(1, 4), 2)
+        catalog = broken(chance, sound) if chance.random() < 0.4 else sound
     else:
-        catalog = maker.any(tables, chance.randint(1, 5), chance.randint(1, 3))
-    certificates = certificates_of(chance, catalog)
+        sound = catalog = maker.any(tables, chance.randint(1, 5), chance.randint(1, 3))
+    certificates = certificates_of(chance, sound)
     status, line = check_lines(catalog, certificates)
     text = CatalogText(catalog, chance, chance.random() < 0.1).text()
     found = Case(("check",), parts(text, "".join(f"{it}\n" for it in certificates)), status, f"{line}\n")
@@ -48,7 +47,7 @@ def certificates_of(chance: random.Random, catalog: Catalog) -> list[str]:
         while chance.random() < 0.25:
             nodes = changed(chance, walk, nodes)
         text = text_of(nodes)
-        found.append(misspelled(chance, text) if chance.random() < 0.06 else text)
+        found.append(misspelled(chance, text) if chance.random() < 0.1 else text)
     match chance.randrange(40):
         case 0:
             found.pop()
@@ -79,9 +78,11 @@ def tree(chance: random.Random, walk: Walk, depth: int) -> list[Node]:
 
 
 def changed(chance: random.Random, walk: Walk, nodes: list[Node]) -> list[Node]:
-    """A tree with another leaf or number, or a leaf that is split."""
+    """A tree with another leaf or number, a leaf that is split, or a split that is a leaf."""
     at = chance.randrange(len(nodes))
     letter, number = nodes[at]
+    if letter == "s" and chance.random() < 0.6:
+        return [*nodes[:at], chance.choice([node for node in nodes if node[0] != "s"]), *nodes[end_at(nodes, at):]]
     if letter == "s":
         return [*nodes[:at], ("s", number_for(chance, walk, "s")), *nodes[at + 1:]]
     if chance.random() < 0.2:
@@ -91,17 +92,28 @@ def changed(chance: random.Random, walk: Walk, nodes: list[Node]) -> list[Node]:
     return [*nodes[:at], (letter, number_for(chance, walk, letter)), *nodes[at + 1:]]
 
 
+def end_at(nodes: list[Node], at: int) -> int:
+    """Where the nodes end that a node begins."""
+    due = 1
+    while due:
+        due += 2 if nodes[at][0] == "s" else -1
+        at += 1
+    return at
+
+
 def misspelled(chance: random.Random, text: str) -> str:
     """A text with another word, one more or one less, or another end."""
     words = text.split(" ")
     at = chance.randrange(len(words))
-    match chance.randrange(4):
+    match chance.randrange(5):
         case 0:
             words[at] = chance.choice(NO_WORDS)
         case 1:
             words.insert(at, chance.choice(NO_WORDS))
         case 2:
             del words[at]
+        case 3:
+            del words[at:]
         case _:
             words.append(chance.choice(["", "o 0", "\r", "x"]))
     return " ".join(words)

@@ -98,6 +98,8 @@ MOST = {
     "bytes heard in a piece": [100, 65_600],
     "bytes delivered in a piece": [1_000, 65_600, 16_000_000],
     "changes for a subscriber in a commit": [50, 950, 999],
+    "connections lost within a frame": [0],
+    "connections opened at a position": [64],
     "rows of a subscriber in a view": [5, 9_999, 19_999],
 }
 

@@ -12,10 +12,10 @@ Maker = Callable[[random.Random, int], object]
 PLAN: dict[str, tuple[int, Maker]] = {
     "large": (len(large.MAKERS), large.case),
     "inputs": (300, inputs.case),
-    "simulate": (1_100, lambda chance, _: simulations.case(chance)),
-    "make": (600, lambda chance, _: makes.case(chance)),
-    "check": (700, lambda chance, _: checks.case(chance)),
-    "eval": (700, lambda chance, _: evals.case(chance)),
+    "simulate": (1_800, lambda chance, _: simulations.case(chance)),
+    "make": (1_000, lambda chance, _: makes.case(chance)),
+    "check": (1_600, lambda chance, _: checks.case(chance)),
+    "eval": (1_200, lambda chance, _: evals.case(chance)),
 }
 
 CASES = sum(count for count, _ in PLAN.values())

@@ -5,7 +5,7 @@ from collections import Counter
 from collections.abc import Iterator
 
 from model.catalogs import Catalog
-from model.certificates import text_of
+from model.certificates import Walk, check_lines, text_of
 from model.making import certificate
 from model.passing import shares_of
 from model.worlds import World
@@ -13,8 +13,12 @@ from model.worlds import World
 from .case import Case, Runner, parts, shown
 from .catalog_texts import CatalogText
 from .catalogs import CatalogMaker
+from .checks import certificates_of
 from .meeting import meet_catalog, meet_script
 from .scripts import ScriptMaker, ScriptText
+
+# With more atoms, certificates are not looked for by the model.
+MOST_ATOMS = 20
 
 
 def case(chance: random.Random) -> "Simulation":
@@ -27,7 +31,18 @@ def case(chance: random.Random) -> "Simulation":
     for _ in range(chance.choice([5, 20, 50, 100, 300])):
         made.add_any()
     made.add(("view",))
-    return Simulation(chance, catalog, made, limit)
+    found = Simulation(chance, catalog, made, limit)
+    return refused(chance, catalog, found) if chance.random() < 0.04 else found
+
+
+def refused(chance: random.Random, catalog: Catalog, it: "Simulation") -> "Case | Simulation":
+    """The same script with certificates by chance. Where these are refused, no step is made."""
+    certificates = certificates_of(chance, catalog)
+    status, line = check_lines(catalog, certificates)
+    if status == 0:
+        return it
+    text = parts(it.catalog_text, "".join(f"{text}\n" for text in certificates), it.script_text)
+    return Case(it.words, text, status, f"{line}\n", Counter({"a simulation that is refused": 1}))
 
 
 class Simulation:
@@ -50,7 +65,10 @@ class Simulation:
             return None
         found = []
         for number, table in enumerate(catalog.tables):
-            nodes = certificate(table, shares_of(catalog, number))
+            shares = shares_of(catalog, number)
+            if len(Walk(table, shares).atoms) > MOST_ATOMS:
+                return None
+            nodes = certificate(table, shares)
             if nodes is None:
                 return None
             found.append(text_of(nodes))
