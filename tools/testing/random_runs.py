@@ -3,8 +3,8 @@
 
     tools/testing/random_runs.py [--seed N] [--case N] [--save FILE]
 
-The environment variable PGSHARD names another program than the built one. --save writes the input of a case to a file,
-and makes no run.
+Without --seed it is that of the environment variable SEED, or the day's. The variable PGSHARD names another program
+than the built one. --save writes the input of a case to a file, and makes no run.
 """
 
 import argparse
@@ -14,7 +14,7 @@ import sys
 sys.dont_write_bytecode = True
 sys.path.insert(0, str(pathlib.Path(__file__).resolve().parent))
 
-from random_cases.comparison import check_random, results, seed_of_today
+from random_cases.comparison import check_random, results, seed, tell
 from random_cases.plan import case_of
 from tally import Tally
 
@@ -22,7 +22,7 @@ from tally import Tally
 def main() -> int:
     """Makes the cases, and ends with 1 where one fails."""
     parser = argparse.ArgumentParser(description=__doc__.splitlines()[0])
-    parser.add_argument("--seed", type=int, default=seed_of_today())
+    parser.add_argument("--seed", type=int, default=seed())
     parser.add_argument("--case", type=int)
     parser.add_argument("--save", metavar="FILE")
     options = parser.parse_args()
@@ -36,7 +36,7 @@ def main() -> int:
         check_random(tally, options.seed)
     else:
         for result in results(options.seed, [options.case]):
-            tally.check(f"random case {options.case} of seed {options.seed}", "\n".join(result.faults), "")
+            tell(tally, options.seed, result)
     print(f"{tally.passed} passed, {tally.failed} failed")
     return 1 if tally.failed else 0
 

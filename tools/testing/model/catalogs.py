@@ -1,9 +1,9 @@
 """Catalogs as data.
 
-A filter is a tuple: ("const", truth), ("not", f), ("and", f, g), ("or", f, g), ("is", truth, f), or an atom: ("null",
-column), ("cmp", column, divisor, operator, literal), ("in", column, divisor, literals), ("between", column, divisor, low,
-high), ("distinct", column, divisor, literal). A divisor of 0 is for the column itself. The literals of a list ascend, and
-none is there twice. A truth is True, False or None.
+A filter is a tuple: ("const", truth), ("not", f), ("and", f, g), ("or", f, g), ("is", truth, f), or an atom:
+("null", column), ("cmp", column, divisor, operator, literal), ("in", column, divisor, literals),
+("between", column, divisor, low, high), ("distinct", column, divisor, literal). A divisor of 0 is for the column
+itself. The literals of a list ascend, and none is there twice. A truth is True, False or None.
 """
 
 from dataclasses import dataclass, field

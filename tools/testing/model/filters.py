@@ -4,7 +4,8 @@ import operator
 
 from .catalogs import Filter, Row, Value
 
-COMPARED = {"=": operator.eq, "<>": operator.ne, "<": operator.lt, "<=": operator.le, ">": operator.gt, ">=": operator.ge}
+COMPARED = {
+    "=": operator.eq, "<>": operator.ne, "<": operator.lt, "<=": operator.le, ">": operator.gt, ">=": operator.ge}
 
 # The heads of filters that are no atoms.
 CONNECTIVES = ("const", "not", "and", "or", "is")

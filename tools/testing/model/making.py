@@ -70,8 +70,8 @@ def certificate(table: Table, shares: list[str | Filter | None]) -> list[Node] |
 
 
 def speaking_rows(table: Table, shares: list[str | Filter | None]) -> list[Row] | None:
-    """Rows that speak for all rows of a table, or None where there would be too many, or where a column is named with its
-    remainders."""
+    """Rows that speak for all rows of a table, or None where there would be too many, or where a column is named with
+    its remainders."""
     walk = Walk(table, shares)
     columns = [list(values_of(walk, column)) for column in range(len(table.columns))]
     number = 1

@@ -1,7 +1,7 @@
 """Tables of rows, and what commands do to them.
 
-A command is a tuple: ("insert", table, row), ("update", table, key, row), ("delete", table, key) or ("truncate", tables).
-A change is (table, old row or None, new row or None), or ("truncate", tables).
+A command is a tuple: ("insert", table, row), ("update", table, key, row), ("delete", table, key) or
+("truncate", tables). A change is (table, old row or None, new row or None), or ("truncate", tables).
 """
 
 from .catalogs import Catalog, Row, Table

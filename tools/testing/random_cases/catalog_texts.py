@@ -51,8 +51,8 @@ class CatalogText:
         statements = [["CREATE", "TABLE", *named, "(", *commas(elements), ")"]]
         for index in table.indexes:
             method = ["USING", "btree"] if self.chance.random() < 0.2 else []
-            columns = self.columns(table, index.columns)
-            statements.append(["CREATE", "UNIQUE", "INDEX", self.name(index.name), "ON", *named, *method, "(", *columns, ")"])
+            columns = ["(", *self.columns(table, index.columns), ")"]
+            statements.append(["CREATE", "UNIQUE", "INDEX", self.name(index.name), "ON", *named, *method, *columns])
         if table.identity != DEFAULT or self.chance.random() < 0.2:
             statements.append(["ALTER", "TABLE", *self.only(), *named, "REPLICA", "IDENTITY", *self.identity(table)])
         return statements

@@ -113,7 +113,8 @@ class CatalogMaker:
         while not all(is_within(filters_on(found, number)) for number in range(tables)):
             found.pop()
         numbers = range(len(found))
-        taken = [chance.sample(numbers, chance.randint(1, min(3, len(found)))) for _ in range(subscribers if found else 0)]
+        most = min(3, len(found))
+        taken = [chance.sample(numbers, chance.randint(1, most)) for _ in range(subscribers if found else 0)]
         return self.finished(schemas, made, found, taken)
 
     def publication(self, names: Names, schemas: list[str], tables: list[Table]) -> Publication:
@@ -140,7 +141,8 @@ class CatalogMaker:
 
 def filters_on(publications: list[Publication], table: int) -> list[Filter]:
     """All filters of a table."""
-    return [it for publication in publications for number, it in publication.entries if number == table and it is not None]
+    entries = [entry for publication in publications for entry in publication.entries]
+    return [it for number, it in entries if number == table and it is not None]
 
 
 def with_shortcuts(chance: random.Random, catalog: Catalog) -> Catalog:
@@ -151,11 +153,12 @@ def with_shortcuts(chance: random.Random, catalog: Catalog) -> Catalog:
         if len(it.entries) == len(whole) and set(it.entries) == set(whole) and chance.random() < 0.7:
             publications[number] = replace(it, entries=(), all_tables=True)
             continue
-        for schema in {table.schema for table in catalog.tables}:
+        for schema in dict.fromkeys(table.schema for table in catalog.tables):
             of_schema = {(at, None) for at, table in enumerate(catalog.tables) if table.schema == schema}
             if of_schema <= set(it.entries) and chance.random() < 0.3:
-                left = tuple(entry for entry in publications[number].entries if entry not in of_schema)
-                publications[number] = replace(publications[number], entries=left, schemas=(*publications[number].schemas, schema))
+                left = tuple(entry for entry in it.entries if entry not in of_schema)
+                it = replace(it, entries=left, schemas=(*it.schemas, schema))
+        publications[number] = it
     return replace(catalog, publications=tuple(publications))
 
 

@@ -12,6 +12,9 @@ from .meeting import meet_catalog, meet_row
 from .row_texts import no_row, row_text
 from .row_values import Values
 
+# How the lines of bad rows begin.
+BAD = ("invalid ", "unreadable ")
+
 
 def case(chance: random.Random) -> Case:
     """A catalog with filters by chance, and rows of one of its tables."""
@@ -42,10 +45,10 @@ def of_rows(chance: random.Random, catalog: Catalog, text: str, table: int, inse
             meet_row(found.met, catalog.tables[table], row)
         texts.append(row_line)
         lines.append(line)
-        found.met[f"a row is {line.split(' ')[0]}" if line.startswith(("invalid", "unreadable")) else "a row is read"] += 1
+        found.met[f"a row is {line.split(' ')[0] if line.startswith(BAD) else 'read'}"] += 1
     found.text = parts(text, "".join(f"{row}\n" for row in texts))
     found.output = "".join(f"{line}\n" for line in lines)
-    found.status = 1 if any(line.startswith(("invalid ", "unreadable ")) for line in lines) else 0
+    found.status = 1 if any(line.startswith(BAD) for line in lines) else 0
     return found
 
 

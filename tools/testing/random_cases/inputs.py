@@ -1,5 +1,5 @@
-"""Cases of inputs: each control character of ASCII in each part, and inputs with other parts, that are not UTF-8 or that
-end too early."""
+"""Cases of inputs: each control character of ASCII in each part, and inputs with other parts, that are not UTF-8 or
+that end too early."""
 
 import random
 from collections.abc import Callable
@@ -20,7 +20,8 @@ CREATE SUBSCRIPTION s CONNECTION '' PUBLICATION p;
 TABLE = Table("public", "t", (Column("id", "integer", False), Column("note", "text", False)), (0,))
 AS_DATA = Catalog((TABLE,), (Publication("p", ((0, None),)),), (Subscription("s", (0,)),))
 SCRIPT = "OPEN 0; COMMIT INSERT t (1, 'a'); PUMP 0; VIEW;\n"
-LINES = ["opened", "commit 1", "at 0/80", "log 1", "public.t (1, 'a')", "s 0/80 1 confirmed 0/80", "s public.t (1, 'a')"]
+LINES = [
+    "opened", "commit 1", "at 0/80", "log 1", "public.t (1, 'a')", "s 0/80 1 confirmed 0/80", "s public.t (1, 'a')"]
 
 Maker = Callable[[random.Random, str], Case]
 
@@ -67,9 +68,9 @@ def in_comment(_: random.Random, control: str) -> Case:
 
 def in_certificate(chance: random.Random, control: str) -> Case:
     """A character in a certificate, or after it."""
-    text = chance.choice([f"o{control}0", f"o {control}0", f"o 0{control}", f"{control}o 0", f"o 0{control}\no 0"]) + "\n"
-    status, line = check_lines(AS_DATA, text.split("\n")[:-1])
-    return Case(("check",), parts(CATALOG, text), status, f"{line}\n")
+    text = chance.choice([f"o{control}0", f"o {control}0", f"o 0{control}", f"{control}o 0", f"o 0{control}\no 0"])
+    status, line = check_lines(AS_DATA, text.split("\n"))
+    return Case(("check",), parts(CATALOG, f"{text}\n"), status, f"{line}\n")
 
 
 def in_script(chance: random.Random, control: str) -> Case:

@@ -60,25 +60,25 @@ def both(kind: str, *more: object) -> list[Step]:
     return [(kind, 0, *more), (kind, 1, *more)]
 
 
-def many_rows(chance: random.Random, number: int) -> tuple[Catalog, list[Step]]:
-    """A table of so many rows, in an order by chance, most of which one subscriber has or both; then half of them go."""
+def many_rows(chance: random.Random, number: int, first: float) -> tuple[Catalog, list[Step]]:
+    """A table of so many rows, in an order by chance, of which s0 has a first part; then half of them go."""
     keys = list(range(number))
     chance.shuffle(keys)
     pumps = both("pump")
     changed = [("update", 0, (key,), (key + number, None, 1)) for key in keys[:number // 4]]
     deleted = [("delete", 0, (key,)) for key in keys[number // 4:number // 2]]
-    bound = chance.choice([number, number // 2, 0])
-    return two_halves(chance, bound), [
+    return two_halves(chance, int(number * first)), [
         *in_commits(inserts(keys)), *both("open"), *pumps, ("view",), *in_commits(changed + deleted), *pumps, ("view",)]
 
 
 def large_commits(chance: random.Random) -> tuple[Catalog, list[Step]]:
-    """Commits of 1,000 commands for one subscriber, of 1,001, of 1,000 with a fault in the last, and of all lengths."""
+    """Commits of 1,000 commands for one subscriber, of 1,001, of 1,000 with a faulty last one, and of all lengths."""
     keys = list(range(5_000))
     many = inserts(keys[:MOST_COMMANDS])
     steps: list[Step] = [*both("open"), ("commit", many), *both("hear", ALL), *both("take")]
-    steps += [("commit", inserts(keys[1_000:2_001])), ("commit", [*inserts(keys[1_000:1_999]), ("delete", 0, (4_999,))])]
-    steps += [("commit", [("update", 0, (key,), (key, "new", 0)) for key in keys[:MOST_COMMANDS]]), *both("pump"), ("view",)]
+    faulty = [*inserts(keys[1_000:1_999]), ("delete", 0, (4_999,))]
+    updates = [("update", 0, (key,), (key, "new", 0)) for key in keys[:MOST_COMMANDS]]
+    steps += [("commit", inserts(keys[1_000:2_001])), ("commit", faulty), ("commit", updates), *both("pump"), ("view",)]
     for _ in range(8):
         begin, number = chance.randrange(1_000, 3_000), chance.randrange(1, 990)
         steps.append(("commit", inserts(keys[begin:begin + number])))
@@ -94,7 +94,8 @@ def long_log(chance: random.Random, commits: int) -> tuple[Catalog, list[Step]]:
         if key not in there:
             steps.append(("commit", inserts([key])))
         elif chance.random() < 0.5:
-            steps.append(("commit", [("update", 0, (key,), (key, chance.choice(["a", "\t", None]), chance.randrange(9)))]))
+            row = (key, chance.choice(["a", "\t", None]), chance.randrange(9))
+            steps.append(("commit", [("update", 0, (key,), row)]))
         else:
             steps.append(("commit", [("delete", 0, (key,))]))
         there ^= {key} if steps[-1][1][0][0] != "update" else set()
@@ -127,7 +128,7 @@ def long_pieces(chance: random.Random) -> tuple[Catalog, list[Step]]:
             steps += both("deliver", chance.choice([65_535, 65_536, 65_601, 1, 200_000]))
         steps += both("lose")
     steps += [*both("open"), *both("hear", ALL), *both("take"), *both("deliver", ALL), *both("report", True), ("view",)]
-    steps.append(("commit", [("update", 0, (key,), (key, text[::-1] + "", 2)) for key, text in enumerate(texts)]))
+    steps.append(("commit", [("update", 0, (key,), (key, f"{text[1:]}z", 2)) for key, text in enumerate(texts)]))
     return two_halves(chance, chance.choice([0, 50, 100])), [*steps, *both("pump")]
 
 
@@ -139,8 +140,8 @@ def parts_of_publications(chance: random.Random, subscribers: int, each: int) ->
         steps += [("open", i), ("hear", i, chance.randrange(900)), ("take", i), ("hear", i, ALL), ("take", i)]
         steps += [("deliver", i, chance.randrange(900)), ("lose", i), ("open", i)]
     steps.append(("commit", [("update", 0, (key,), (key + 10_000, True)) for key in keys]))
-    pumps = [("pump", i) for i in range(subscribers)]
-    return many_parts(subscribers, each), [*steps, *pumps, ("view",), ("commit", [("truncate", [0])]), *pumps, ("view",)]
+    shown: list[Step] = [*(("pump", i) for i in range(subscribers)), ("view",)]
+    return many_parts(subscribers, each), [*steps, *shown, ("commit", [("truncate", [0])]), *shown]
 
 
 Maker = Callable[[random.Random], tuple[Catalog, list[Step]]]
@@ -149,9 +150,9 @@ MAKERS: list[Maker] = [
     lambda chance: long_log(chance, MOST_STEPS),
     lambda chance: long_log(chance, MOST_STEPS - 5),
     lambda chance: long_log(chance, chance.randint(6_001, 30_000)),
-    lambda chance: many_rows(chance, 20_000),
-    lambda chance: many_rows(chance, 10_000),
-    lambda chance: many_rows(chance, chance.randint(10_101, 15_000)),
+    lambda chance: many_rows(chance, 20_000, 1),
+    lambda chance: many_rows(chance, 10_000, 0),
+    lambda chance: many_rows(chance, chance.randint(10_101, 15_000), chance.random()),
     large_commits, large_commits, large_commits,
     long_script, long_pieces, long_pieces,
     lambda chance: parts_of_publications(chance, 1, 64),

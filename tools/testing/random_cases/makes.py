@@ -4,7 +4,7 @@ import random
 from collections import Counter
 from collections.abc import Iterator
 
-from model.catalogs import Catalog, Filter, Row
+from model.catalogs import Catalog, Filter
 from model.certificates import catalog_refusal, nodes_of, reading_fault, table_refusal
 from model.making import counter_row
 from model.passing import WHOLE, owners, shares_of

@@ -7,6 +7,7 @@ from model.filters import CONNECTIVES, parts_of
 from model.values import ENDS
 
 from .names import BARE
+from .row_values import LOWEST
 from .scripts import ScriptMaker
 
 Met = Counter[str]
@@ -66,7 +67,7 @@ def meet_row(met: Met, table: Table, row: Row) -> None:
             met["a text of 65,534 bytes or one more"] += len(value.encode()) >= 65_534
         elif column.kind in ENDS and value is not None:
             met[f"the greatest {column.kind}"] += value == ENDS[column.kind] - 1
-            met[f"the least {column.kind}, or bigint that is read"] += value in (-ENDS[column.kind], -ENDS["bigint"] + 1)
+            met[f"the least {column.kind}, or bigint that is read"] += value == max(-ENDS[column.kind], LOWEST)
         met["a null"] += value is None
 
 
@@ -87,7 +88,6 @@ def meet_script(met: Met, catalog: Catalog, made: ScriptMaker) -> None:
             met[f"{what}: over {most:,}"] += number > most
     for rows in made.world.database.tables:
         met["a table of over 10,100 rows"] += len(rows.by_key) > 10_100
-        met["a table of 20,000 rows"] += len(rows.by_key) == 20_000
     log = len(made.world.database.log)
     met["a log of over 6,000 commits"] += log > 6_000
     met["a log of 100,000 commits"] += log == 100_000
@@ -96,7 +96,7 @@ def meet_script(met: Met, catalog: Catalog, made: ScriptMaker) -> None:
 # Numbers that are passed in some case.
 MOST = {
     "bytes heard in a piece": [100, 65_600],
-    "bytes delivered in a piece": [1_000, 65_600, 16_000_000],
+    "bytes delivered in a piece": [1_000, 65_600],
     "changes for a subscriber in a commit": [50, 950, 999],
     "connections lost within a frame": [0],
     "connections opened at a position": [64],

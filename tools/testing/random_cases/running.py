@@ -11,7 +11,7 @@ TESTING = pathlib.Path(__file__).resolve().parent.parent
 BUILT = TESTING.parent.parent / "crates" / "publisher_main" / "out" / "publisher_main"
 
 # How long a run may take.
-SECONDS = 120
+SECONDS = 60
 
 COUNTS = re.compile("([0-9]+) refused, ([0-9]+) failed")
 

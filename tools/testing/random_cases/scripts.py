@@ -14,7 +14,9 @@ from .texts import Exact, commas, joined
 
 # How often each step comes.
 KINDS = {
-    "commit": 30, "open": 8, "hear": 10, "take": 14, "keep": 5, "deliver": 14, "report": 7, "lose": 3, "pump": 6, "view": 3}
+    "commit": 30, "open": 8, "hear": 10, "take": 14, "keep": 5, "deliver": 14, "report": 7, "lose": 3, "pump": 6,
+    "view": 3,
+}
 COUNTS = [0, 1, 5, 8, 23, 31, 39, 51, 56, 91, 92, 100, 257, 1000]
 LARGE_COUNTS = [65_536, 65_601, 16_777_216, 2**31, 2**32, 2**63 - 1]
 

@@ -2,7 +2,8 @@
 
 import random
 
-SPACES = [" ", " ", " ", "  ", "\n", "\t", "\r\n", "\f", " /* a ; comment /* in one */ */ ", " -- ' to the end\n", " --\r"]
+SPACES = [
+    " ", " ", " ", "  ", "\n", "\t", "\r\n", "\f", " /* a ; comment /* in one */ */ ", " -- ' to the end\n", " --\r"]
 # On one line.
 FLAT_SPACES = [" ", " ", " ", "  ", "\t", "\r", "\f", " /* ( */ "]
 
