@@ -17,7 +17,8 @@ from .values import written_row
 
 Step = tuple
 
-ALL = 2**63
+# The greatest number of a script: as many bytes as there are.
+ALL = 2**63 - 1
 
 
 class Subscriber:

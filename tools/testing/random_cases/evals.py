@@ -21,7 +21,7 @@ def case(chance: random.Random) -> Case:
     maker = CatalogMaker(chance)
     catalog = maker.any(chance.randint(1, 3), chance.randint(0, 6), 0)
     insert = chance.random() < 0.5
-    named = [number for number, table in enumerate(catalog.tables) if "." not in table.schema]
+    named = [number for number, table in enumerate(catalog.tables) if can_be_named(table.schema)]
     text = CatalogText(catalog, chance, chance.random() < 0.3).text()
     if not named or chance.random() < 0.02:
         return Case(("eval", "no table"), parts(text, ""), 3, "table no table\n")
@@ -52,9 +52,14 @@ def of_rows(chance: random.Random, catalog: Catalog, text: str, table: int, inse
     return found
 
 
+def can_be_named(name: str) -> bool:
+    """Whether a word of the command line may begin with a name: it is cut at its first point, and is no option."""
+    return "." not in name and not name.startswith("-")
+
+
 def words(chance: random.Random, table: Table, insert: bool) -> tuple[str, ...]:
     """The words of the command line."""
-    short = table.schema == "public" and "." not in table.name and chance.random() < 0.5
+    short = table.schema == "public" and can_be_named(table.name) and chance.random() < 0.5
     name = table.name if short else table.full_name()
     if not insert:
         return "eval", name

@@ -79,7 +79,7 @@ class Values:
                 row[at] = self.chance.choice([1, True, "a"])
             case 3:
                 row[at] = self.chance.choice([32768, -32769, 2**31, -(2**31) - 1, 2**63 - 1])
-            case _:
+            case _ if len(row) > 1:
                 del row[at]
         return tuple(row)
 

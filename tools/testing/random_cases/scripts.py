@@ -31,7 +31,7 @@ class ScriptMaker:
         self.faults = faults
         self.most_commands = chance.choice([1, 3, 3, 8, 30])
         self.values = [
-            Values(chance, table, [it for it in world.shares[number] if it not in (None, WHOLE)], lines=True)
+            Values(chance, table, [it for it in world.shares[number] if it not in (None, WHOLE)], True, 0.001)
             for number, table in enumerate(catalog.tables)]
         self.steps: list[Step] = []
         self.lines: list[str] = []
