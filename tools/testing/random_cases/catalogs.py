@@ -128,7 +128,7 @@ class CatalogMaker:
             if tables[number].identity_columns() and chance.random() < 0.8:
                 columns = tables[number].identity_columns()
             makes = FilterMaker(chance, tables[number], columns)
-            entries.append((number, makes.filter(chance.randint(0, 3)) if chance.random() < 0.85 else None))
+            entries.append((number, makes.any() if chance.random() < 0.85 else None))
         of_schema = (chance.choice(schemas),) if chance.random() < 0.05 else ()
         return Publication(names.name(), tuple(entries), of_schema, False, self.operations())
 
@@ -137,6 +137,12 @@ class CatalogMaker:
         if self.chance.random() < 0.93:
             return frozenset(OPERATIONS)
         return frozenset(it for it in OPERATIONS if self.chance.random() < 0.7)
+
+
+def tables(chance: random.Random) -> int:
+    """How many tables a catalog has: mostly up to three."""
+    fewest, most = chance.choices([(1, 3), (4, 12), (64, 64)], [960, 38, 2])[0]
+    return chance.randint(fewest, most)
 
 
 def filters_on(publications: list[Publication], table: int) -> list[Filter]:

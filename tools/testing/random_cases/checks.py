@@ -9,22 +9,25 @@ from model.passing import shares_of
 
 from .case import Case, parts
 from .catalog_texts import CatalogText
-from .catalogs import CatalogMaker, broken
+from .catalogs import CatalogMaker, broken, tables
 from .meeting import meet_catalog
 
 # Words that no node has, and what comes after a tree.
 NO_WORDS = ["", "x", "00", "-1", "4294967296", "\t", "s", "s0", "\r", "S", "o", "\x01", "é"]
 
+# With more atoms, certificates are not looked for by the model.
+MOST_ATOMS = 20
+
 
 def case(chance: random.Random) -> Case:
     """A catalog with certificates."""
     maker = CatalogMaker(chance)
-    tables = chance.randint(1, 3)
+    number = tables(chance)
     if chance.random() < 0.7:
-        sound = maker.sound(tables, chance.randint(1, 4), 2)
+        sound = maker.sound(number, chance.randint(1, 4), 2)
         catalog = broken(chance, sound) if chance.random() < 0.4 else sound
     else:
-        sound = catalog = maker.any(tables, chance.randint(1, 5), chance.randint(1, 3))
+        sound = catalog = maker.any(number, chance.randint(1, 5), chance.randint(1, 3))
     certificates = certificates_of(chance, sound)
     status, line = check_lines(catalog, certificates)
     text = CatalogText(catalog, chance, chance.random() < 0.1).text()
@@ -41,8 +44,8 @@ def certificates_of(chance: random.Random, catalog: Catalog) -> list[str]:
     found = []
     for number, table in enumerate(catalog.tables):
         shares = shares_of(catalog, number)
-        nodes = certificate(table, shares) if chance.random() < 0.8 else None
         walk = Walk(table, shares)
+        nodes = certificate(table, shares) if chance.random() < 0.8 and len(walk.atoms) <= MOST_ATOMS else None
         nodes = nodes or tree(chance, walk, chance.randint(0, 4))
         while chance.random() < 0.25:
             nodes = changed(chance, walk, nodes)

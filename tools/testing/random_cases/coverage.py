@@ -4,7 +4,9 @@ while all else goes well."""
 CATALOGS = [
     "several schemas", "a name between quotes", "a name of 63 bytes", "a subscriber of three publications",
     "a subscription of 64 publications", "32 subscribers", "a publication of all tables", "a publication of a schema",
-    "a publication that leaves out an operation", "a key of several columns", "a unique index",
+    "a publication that leaves out an operation", "over 3 tables", "over 10 publications",
+    "a subscription of over 10 publications", "a table of over 5 columns", "a table of 100 columns",
+    "a key of several columns", "a unique index", "a unique index of two columns",
     "a unique index over a column that may be null",
     *(f"a column of {kind}" for kind in ("smallint", "integer", "bigint", "boolean", "text")),
     *(f"identity {identity}" for identity in ("DEFAULT", "FULL", "NOTHING", "USING INDEX")),
@@ -14,7 +16,7 @@ FILTERS = [
     *(f"a filter with cmp {operator}" for operator in ("=", "<>", "<", "<=", ">", ">=")),
     *(f"a filter with {head}" for head in ("and", "or", "not", "const", "null", "in", "between", "distinct", "whole")),
     *(f"a filter with IS {test}" for test in (True, False, None)),
-    "a remainder", "a list of 100",
+    "a remainder", "a list of 100", "a filter of over 10 atoms", "NOT of NOT of NOT of NOT",
 ]
 
 ROWS = [

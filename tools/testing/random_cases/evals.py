@@ -7,7 +7,7 @@ from model.passing import eval_line
 
 from .case import Case, parts
 from .catalog_texts import CatalogText
-from .catalogs import CatalogMaker, filters_on
+from .catalogs import CatalogMaker, filters_on, tables
 from .meeting import meet_catalog, meet_row
 from .row_texts import no_row, row_text
 from .row_values import Values
@@ -19,7 +19,8 @@ BAD = ("invalid ", "unreadable ")
 def case(chance: random.Random) -> Case:
     """A catalog with filters by chance, and rows of one of its tables."""
     maker = CatalogMaker(chance)
-    catalog = maker.any(chance.randint(1, 3), chance.randint(0, 6), 0)
+    fewest, most = chance.choices([(0, 6), (7, 64)], [95, 5])[0]
+    catalog = maker.any(tables(chance), chance.randint(fewest, most), 0)
     insert = chance.random() < 0.5
     named = [number for number, table in enumerate(catalog.tables) if can_be_named(table.schema)]
     text = CatalogText(catalog, chance, chance.random() < 0.3).text()
@@ -35,7 +36,7 @@ def of_rows(chance: random.Random, catalog: Catalog, text: str, table: int, inse
     found = Case(words(chance, catalog.tables[table], insert), b"", 0, "")
     meet_catalog(found.met, catalog)
     texts, lines = [], []
-    for _ in range(chance.choice([0, 1, 5, 20, 60])):
+    for _ in range(chance.choices([0, 1, 5, 20, 60, 400], [20, 20, 20, 20, 20, 1])[0]):
         kind = chance.random()
         if kind < 0.1:
             row_line, line = no_row(values.row(), chance)

@@ -22,6 +22,18 @@ class FilterMaker:
         self.table = table
         self.columns = columns
 
+    def any(self) -> Filter:
+        """A filter: sometimes of many atoms, or below many NOTs."""
+        chance, kind = self.chance, self.chance.random()
+        found = self.filter(chance.randint(0, 3))
+        if kind < 0.03:
+            for _ in range(chance.randint(10, 45)):
+                found = ("not", found)
+        elif kind < 0.06 and self.columns:
+            for _ in range(chance.randint(10, 45)):
+                found = (chance.choice(["and", "or"]), found, self.atom())
+        return found
+
     def filter(self, depth: int) -> Filter:
         """A filter that is nested at most so deeply."""
         chance = self.chance

@@ -12,7 +12,7 @@ from model.values import row_fault
 
 from .case import Runner, parts, shown
 from .catalog_texts import CatalogText
-from .catalogs import CatalogMaker, broken
+from .catalogs import CatalogMaker, broken, tables
 from .meeting import meet_catalog
 from .reading_rows import read_row
 from .row_values import Values
@@ -25,13 +25,13 @@ ROWS = 40
 def case(chance: random.Random) -> "MadeCase":
     """A catalog that is sound by construction, one that is broken, or any."""
     maker = CatalogMaker(chance, lines=False)
-    tables = chance.randint(1, 3)
+    number = tables(chance)
     if chance.random() < 0.7:
-        catalog = maker.sound(tables, chance.randint(1, 6), 2)
+        catalog = maker.sound(number, chance.randint(1, 6), 2)
         if chance.random() < 0.5:
             catalog = broken(chance, catalog)
     else:
-        catalog = maker.any(tables, chance.randint(1, 5), chance.randint(1, 4))
+        catalog = maker.any(number, chance.randint(1, 5), chance.randint(1, 4))
     return MadeCase(chance, catalog)
 
 

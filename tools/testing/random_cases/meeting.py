@@ -3,7 +3,7 @@
 from collections import Counter
 
 from model.catalogs import Catalog, Filter, Row, Table
-from model.filters import CONNECTIVES, parts_of
+from model.filters import CONNECTIVES, atoms_of, parts_of
 from model.values import ENDS
 
 from .names import BARE
@@ -19,8 +19,12 @@ def meet_catalog(met: Met, catalog: Catalog) -> None:
     names = [it.name for it in (*catalog.tables, *catalog.publications, *catalog.subscriptions)]
     met["a name between quotes"] += any(not BARE.fullmatch(name) for name in names)
     met["a name of 63 bytes"] += any(len(name.encode()) == 63 for name in names)
+    met["over 3 tables"] += len(catalog.tables) > 3
+    met["64 tables"] += len(catalog.tables) == 64
+    met["over 10 publications"] += len(catalog.publications) > 10
     for it in catalog.subscriptions:
         met["a subscriber of three publications"] += len(it.publications) == 3
+        met["a subscription of over 10 publications"] += len(it.publications) > 10
         met["a subscription of 64 publications"] += len(it.publications) == 64
     met["32 subscribers"] += len(catalog.subscriptions) == 32
     for it in catalog.publications:
@@ -29,6 +33,7 @@ def meet_catalog(met: Met, catalog: Catalog) -> None:
         met["a publication that leaves out an operation"] += len(it.operations) < 4
         for _, filter in it.entries:
             meet_filter(met, filter if filter is not None else ("whole",))
+            met["a filter of over 10 atoms"] += filter is not None and len(atoms_of(filter)) > 10
     for table in catalog.tables:
         meet_table(met, table)
 
@@ -37,15 +42,19 @@ def meet_table(met: Met, table: Table) -> None:
     """What a table has."""
     for column in table.columns:
         met[f"a column of {column.kind}"] += 1
+    met["a table of over 5 columns"] += len(table.columns) > 5
+    met["a table of 100 columns"] += len(table.columns) == 100
     met["a key of several columns"] += len(table.key) > 1
     met["identity " + (table.identity if isinstance(table.identity, str) else "USING INDEX")] += 1
     for index in table.indexes:
         nullable = any(not table.columns[at].not_null and at not in table.key for at in index.columns)
+        met["a unique index of two columns"] += len(index.columns) > 1
         met["a unique index" + (" over a column that may be null" if nullable else "")] += 1
 
 
 def meet_filter(met: Met, it: Filter) -> None:
     """What a filter has."""
+    met["NOT of NOT of NOT of NOT"] += is_nested(it, 4)
     if it[0] in ("not", "and", "or"):
         met[f"a filter with {it[0]}"] += 1
     elif it[0] == "is":
@@ -56,6 +65,11 @@ def meet_filter(met: Met, it: Filter) -> None:
         met["a list of 100"] += it[0] == "in" and len(it[3]) == 100
     for part in parts_of(it) if it[0] in CONNECTIVES else ():
         meet_filter(met, part)
+
+
+def is_nested(it: Filter, times: int) -> bool:
+    """Whether a filter begins with so many NOTs."""
+    return times == 0 or it[0] == "not" and is_nested(it[1], times - 1)
 
 
 def meet_row(met: Met, table: Table, row: Row) -> None:

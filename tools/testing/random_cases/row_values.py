@@ -24,7 +24,7 @@ class Values:
         self.chance = chance
         self.table = table
         self.lines = lines
-        self.long = long
+        self.long = long / max(1, len(table.columns) // 5)
         self.near: list[list[Value]] = [[] for _ in table.columns]
         for atom in [atom for it in filters for atom in all_atoms(it)]:
             self.near[atom[1]] += literals_of(atom)

@@ -35,11 +35,15 @@ class ScriptMaker:
             for number, table in enumerate(catalog.tables)]
         self.steps: list[Step] = []
         self.lines: list[str] = []
+        self.letters = 0
 
     def add(self, step: Step) -> None:
         """One more step."""
         self.steps.append(step)
         self.lines += self.world.step(step)
+        if step[0] == "commit":
+            values = [value for command in step[1] for row in command[2:] for value in row]
+            self.letters += sum(len(value) for value in values if isinstance(value, str))
 
     def add_any(self) -> None:
         """One more step by chance."""

@@ -12,23 +12,24 @@ from model.worlds import World
 
 from .case import Case, Runner, parts, shown
 from .catalog_texts import CatalogText
-from .catalogs import CatalogMaker
-from .checks import certificates_of
+from .catalogs import CatalogMaker, tables
+from .checks import MOST_ATOMS, certificates_of
 from .meeting import meet_catalog, meet_script
 from .scripts import ScriptMaker, ScriptText
-
-# With more atoms, certificates are not looked for by the model.
-MOST_ATOMS = 20
+# No step is added to a script whose texts have more: an input has at most 16,777,216 bytes.
+MOST_LETTERS = 3_000_000
 
 
 def case(chance: random.Random) -> "Simulation":
     """A catalog, and a script of up to 300 steps."""
     subscribers = chance.choice([1, 2, 2, 3, 4, 6])
-    catalog = CatalogMaker(chance).sound(chance.choice([1, 1, 2, 3]), subscribers, chance.choice([1, 2, 4]))
+    each = chance.choices([1, 2, 4, 64 // subscribers], [32, 32, 32, 4])[0]
+    catalog = CatalogMaker(chance).sound(tables(chance), subscribers, each)
     limit = chance.randint(1, 12) if chance.random() < 0.1 else None
     world = World(catalog, limit or 1_000_000)
     made = ScriptMaker(chance, catalog, world)
-    for _ in range(chance.choice([5, 20, 50, 100, 300])):
+    number = chance.choice([5, 20, 50, 100, 300])
+    while len(made.steps) < number and made.letters < MOST_LETTERS:
         made.add_any()
     made.add(("view",))
     found = Simulation(chance, catalog, made, limit)

@@ -79,7 +79,7 @@ class Splitter:
 
     def by_filter(self, _: int) -> Conditions:
         """Whether a filter is true, false or null."""
-        it = self.filters.filter(1)
+        it = self.filters.filter(1) if self.chance.random() < 0.97 else self.filters.any()
         if self.chance.random() < 0.5:
             return [("is", True, it), ("not", ("is", True, it))]
         return [it, ("not", it), ("is", None, it)]

@@ -26,11 +26,12 @@ class TableMaker:
         self.names |= {name: self.new_names() for name in found}
         return found
 
-    def table(self, with_nothing: bool = False, widest: int = 5) -> Table:
+    def table(self, with_nothing: bool = False) -> Table:
         """A table in one of the schemas. Where it may have no identity, it sometimes has none."""
         chance = self.chance
         schema = chance.choice(list(self.names))
-        columns = self.columns(chance.randint(1, widest))
+        fewest, most = chance.choices([(1, 5), (6, 20), (100, 100)], [960, 35, 5])[0]
+        columns = self.columns(chance.randint(fewest, most))
         key = tuple(chance.sample(range(len(columns)), chance.choice([1, 1, 1, min(2, len(columns)), len(columns)])))
         indexes = self.indexes(schema, columns)
         identities: list[str | int] = [FULL, FULL, DEFAULT]
