@@ -25,12 +25,16 @@ class CatalogText:
 
     def text(self) -> str:
         """The catalog's text. Its last line ends."""
-        statements = [["CREATE", "SCHEMA", self.name(schema)] for schema in self.catalog.schemas]
+        return "".join(joined(it, self.chance, self.noise) + "\n" for it in self.statements())
+
+    def statements(self) -> list[list[str]]:
+        """The tokens of each statement."""
+        found = [["CREATE", "SCHEMA", self.name(schema)] for schema in self.catalog.schemas]
         for table in self.catalog.tables:
-            statements += self.of_table(table)
-        statements += [self.of_publication(it) for it in self.catalog.publications]
-        statements += [self.of_subscription(it) for it in self.catalog.subscriptions]
-        return "".join(joined([*it, ";"], self.chance, self.noise) + "\n" for it in statements)
+            found += self.of_table(table)
+        found += [self.of_publication(it) for it in self.catalog.publications]
+        found += [self.of_subscription(it) for it in self.catalog.subscriptions]
+        return [[*it, ";"] for it in found]
 
     def name(self, name: str) -> Exact:
         """A name as a text has it."""

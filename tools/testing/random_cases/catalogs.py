@@ -30,7 +30,8 @@ class Sharding:
             return [(chance.randrange(self.subscribers), None)]
         splitter = Splitter(chance, table, table.identity_columns())
         for _ in range(10):
-            conditions = splitter.conditions(chance.randint(1, min(2 * self.subscribers, 6)))
+            most = 6 if chance.random() < 0.9 else 20
+            conditions = splitter.conditions(chance.randint(1, min(2 * self.subscribers, most)))
             owners = [chance.randrange(self.subscribers) for _ in conditions]
             if is_within(conditions * 2):
                 return list(zip(owners, conditions))

@@ -27,7 +27,7 @@ ROWS = [
 ]
 
 INPUTS = [
-    "the answer input",
+    "the answer input", "a bad character, bad_token", "a bad character, bad_step",
     *(f"a control character in_{part}" for part in (
         "catalog", "name", "literal", "comment", "certificate", "script", "text_of_script", "rows")),
 ]
@@ -62,7 +62,7 @@ LIMITS = [
     *(f"rows of a subscriber in a view: over {number}" for number in ("5", "9,999", "19,999")),
     *(f"changes for a subscriber in a commit: over {number}" for number in ("50", "950", "999")),
     *(f"bytes heard in a piece: over {number}" for number in ("100", "65,600")),
-    *(f"bytes delivered in a piece: over {number}" for number in ("1,000", "65,600")),
+    *(f"bytes delivered in a piece: over {number}" for number in ("1,000", "65,600", "1,000,000")),
 ]
 
 WANTED = [*CATALOGS, *FILTERS, *ROWS, *INPUTS, *CERTIFICATES, *STEPS, *LIMITS]

@@ -4,10 +4,15 @@ that end too early."""
 import random
 from collections.abc import Callable
 
-from model.certificates import check_lines
 from model.catalogs import Catalog, Column, Publication, Subscription, Table
+from model.certificates import check_lines
+from model.worlds import World
 
 from .case import Case, parts
+from .catalog_texts import CatalogText
+from .catalogs import CatalogMaker
+from .row_texts import NO_TOKENS
+from .scripts import ScriptMaker, ScriptText
 
 CONTROLS = [*map(chr, range(32)), "\x7f"]
 WHITE = "\t\n\r\f"
@@ -134,6 +139,32 @@ def ends_early(chance: random.Random) -> Case:
     return Case(("simulate",), parts(CATALOG, "o 0\n", text), 3, f"script {len(text)} Expected\n")
 
 
+def bad_token(chance: random.Random) -> Case:
+    """A catalog with a character that begins no token, between two of its tokens."""
+    catalog = CatalogMaker(chance).any(chance.randint(1, 3), chance.randint(1, 4), chance.randint(0, 3))
+    text, place = with_bad_token(chance, CatalogText(catalog, chance, False).statements())
+    return Case(("make",), parts(text), *faulty("catalog", place))
+
+
+def bad_step(chance: random.Random) -> Case:
+    """A script with a character that begins no token, between two of its tokens."""
+    catalog = CatalogMaker(chance).sound(chance.randint(1, 2), 2, 1)
+    made = ScriptMaker(chance, catalog, World(catalog))
+    for _ in range(chance.randint(1, 20)):
+        made.add_any()
+    writer = ScriptText(catalog, chance, True)
+    text, place = with_bad_token(chance, [writer.statement(step) for step in made.steps])
+    return Case(("simulate",), parts(CatalogText(catalog, chance, True).text(), "", text), *faulty("script", place))
+
+
+def with_bad_token(chance: random.Random, statements: list[list[str]]) -> tuple[str, int]:
+    """A text in which some token is followed by a character that begins none, and its place."""
+    tokens = [token for statement in statements for token in statement]
+    at = chance.randrange(len(tokens) + 1)
+    before = "".join(f"{token} " for token in tokens[:at])
+    return f"{before}{chance.choice(NO_TOKENS)} {' '.join(tokens[at:])}\n", len(before.encode())
+
+
 def case(chance: random.Random, number: int) -> Case:
     """The case of a number from 0: first each character in each part."""
     if number < len(CONTROLS) * len(BY_CONTROL):
@@ -141,6 +172,8 @@ def case(chance: random.Random, number: int) -> Case:
         found = maker(chance, control)
         found.met[f"a control character {maker.__name__}"] += 1
         return found
-    found = chance.choice([other_parts, ends_early])(chance)
+    maker = chance.choice([other_parts, ends_early, bad_token, bad_step])
+    found = maker(chance)
     found.met["the answer input"] += found.output == "input\n"
+    found.met[f"a bad character, {maker.__name__}"] += maker in (bad_token, bad_step)
     return found

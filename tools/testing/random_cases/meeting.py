@@ -110,7 +110,7 @@ def meet_script(met: Met, catalog: Catalog, made: ScriptMaker) -> None:
 # Numbers that are passed in some case.
 MOST = {
     "bytes heard in a piece": [100, 65_600],
-    "bytes delivered in a piece": [1_000, 65_600],
+    "bytes delivered in a piece": [1_000, 65_600, 1_000_000],
     "changes for a subscriber in a commit": [50, 950, 999],
     "connections lost within a frame": [0],
     "connections opened at a position": [64],

@@ -11,7 +11,7 @@ Maker = Callable[[random.Random, int], object]
 # How many cases there are of each kind, in the order of their numbers, and what makes the case of a number from 0.
 PLAN: dict[str, tuple[int, Maker]] = {
     "large": (len(large.MAKERS), large.case),
-    "inputs": (300, inputs.case),
+    "inputs": (500, inputs.case),
     "simulate": (1_800, lambda chance, _: simulations.case(chance)),
     "make": (1_000, lambda chance, _: makes.case(chance)),
     "check": (1_600, lambda chance, _: checks.case(chance)),

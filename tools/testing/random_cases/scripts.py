@@ -121,7 +121,11 @@ class ScriptText:
 
     def text(self, steps: list[Step]) -> str:
         """The script's text."""
-        return "".join(joined([*self.tokens(step), ";"], self.chance, self.noise) + "\n" for step in steps)
+        return "".join(joined(self.statement(step), self.chance, self.noise) + "\n" for step in steps)
+
+    def statement(self, step: Step) -> list[str]:
+        """A step with its end."""
+        return [*self.tokens(step), ";"]
 
     def tokens(self, step: Step) -> list[str]:
         """A step."""

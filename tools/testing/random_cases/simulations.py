@@ -16,14 +16,17 @@ from .catalogs import CatalogMaker, tables
 from .checks import MOST_ATOMS, certificates_of
 from .meeting import meet_catalog, meet_script
 from .scripts import ScriptMaker, ScriptText
+MOST_PUBLICATIONS = 64
+
 # No step is added to a script whose texts have more: an input has at most 16,777,216 bytes.
 MOST_LETTERS = 3_000_000
 
 
 def case(chance: random.Random) -> "Simulation":
     """A catalog, and a script of up to 300 steps."""
-    subscribers = chance.choice([1, 2, 2, 3, 4, 6])
-    each = chance.choices([1, 2, 4, 64 // subscribers], [32, 32, 32, 4])[0]
+    subscribers = chance.choices([1, 2, 3, 4, 6, 12, 32], [16, 32, 16, 16, 16, 2, 2])[0]
+    most = MOST_PUBLICATIONS // subscribers
+    each = min(most, chance.choices([1, 2, 4, most], [32, 32, 32, 4])[0])
     catalog = CatalogMaker(chance).sound(tables(chance), subscribers, each)
     limit = chance.randint(1, 12) if chance.random() < 0.1 else None
     world = World(catalog, limit or 1_000_000)
