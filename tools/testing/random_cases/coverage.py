@@ -57,8 +57,8 @@ STEPS = [
 ]
 
 LIMITS = [
-    "100,000 steps", "a clock past 60,000", "a log of over 6,000 commits", "a log of 100,000 commits",
-    "a table of over 10,100 rows",
+    "100,000 steps", "1,000 connections lost", "a clock past 60,000", "a log of over 6,000 commits",
+    "a log of 100,000 commits", "a table of over 10,100 rows",
     *(f"rows of a subscriber in a view: over {number}" for number in ("5", "9,999", "19,999")),
     *(f"changes for a subscriber in a commit: over {number}" for number in ("50", "950", "999")),
     *(f"bytes heard in a piece: over {number}" for number in ("100", "65,600")),

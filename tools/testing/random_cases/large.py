@@ -132,6 +132,17 @@ def long_pieces(chance: random.Random) -> tuple[Catalog, list[Step]]:
     return two_halves(chance, chance.choice([0, 50, 100])), [*steps, *both("pump")]
 
 
+def many_connections(chance: random.Random) -> tuple[Catalog, list[Step]]:
+    """Thousands of connections, one after another, each of which is lost after some bytes in both directions."""
+    steps: list[Step] = []
+    for number in range(3_000):
+        i = chance.randrange(2)
+        steps += [("commit", inserts([number], "\t")), ("open", i), ("hear", i, chance.choice([90, 91, 92, ALL]))]
+        steps += [("take", i), ("take", i), ("deliver", i, chance.randrange(700)), ("report", i, False)]
+        steps += [("hear", i, chance.randrange(45)), ("lose", i)]
+    return two_halves(chance, 1_500), [*steps, *both("open"), *both("pump"), ("view",)]
+
+
 def parts_of_publications(chance: random.Random, subscribers: int, each: int) -> tuple[Catalog, list[Step]]:
     """Rows of all ranges for subscribers of many publications, by one connection after another."""
     keys = chance.sample(range(-5, 10 * subscribers * each + 5), 8 * subscribers)
@@ -154,7 +165,7 @@ MAKERS: list[Maker] = [
     lambda chance: many_rows(chance, 10_000, 0),
     lambda chance: many_rows(chance, chance.randint(10_101, 15_000), chance.random()),
     large_commits, large_commits, large_commits,
-    long_script, long_pieces, long_pieces,
+    long_script, long_pieces, long_pieces, many_connections,
     lambda chance: parts_of_publications(chance, 1, 64),
     lambda chance: parts_of_publications(chance, 32, 2),
     lambda chance: parts_of_publications(chance, 32, 1),

@@ -88,6 +88,7 @@ def meet_row(met: Met, table: Table, row: Row) -> None:
 def meet_script(met: Met, catalog: Catalog, made: ScriptMaker) -> None:
     """What a script and its answers have."""
     met["a clock past 60,000"] += len(made.steps) > 60_000
+    met["1,000 connections lost"] += made.lines.count("lost") > 1_000
     met["100,000 steps"] += len(made.steps) == 100_000
     for step in made.steps:
         met[f"a step {step[0].upper()}"] += 1

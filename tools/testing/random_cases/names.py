@@ -27,6 +27,8 @@ class Names:
     def name(self) -> str:
         """A name of at most 63 bytes."""
         found = self.chance.choice(SPECIAL if self.chance.random() < self.special else PLAIN)
+        if self.chance.random() < 0.03:
+            found = self.chance.choice("ab_") * self.chance.randint(1, 63)
         if "\n" in found and not self.lines:
             found = "line"
         number = 0

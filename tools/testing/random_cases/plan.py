@@ -15,7 +15,7 @@ PLAN: dict[str, tuple[int, Maker]] = {
     "simulate": (1_800, lambda chance, _: simulations.case(chance)),
     "make": (1_000, lambda chance, _: makes.case(chance)),
     "check": (1_600, lambda chance, _: checks.case(chance)),
-    "eval": (1_200, lambda chance, _: evals.case(chance)),
+    "eval": (1_200, evals.case),
 }
 
 CASES = sum(count for count, _ in PLAN.values())

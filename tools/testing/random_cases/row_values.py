@@ -58,6 +58,8 @@ class Values:
         chance, kind = self.chance, self.chance.random()
         if kind < self.long:
             return chance.choice(["x" * LONGEST_TEXT, "'" * LONGEST_TEXT, "é" * (LONGEST_TEXT // 2)])
+        if kind < 0.01:
+            return chance.choice("ab'\t") * chance.randint(1, 5_000)
         if kind < 0.02:
             return ALL_ASCII
         if kind < 0.04 and self.lines:

@@ -24,7 +24,7 @@ MOST_LETTERS = 3_000_000
 
 def case(chance: random.Random) -> "Simulation":
     """A catalog, and a script of up to 300 steps."""
-    subscribers = chance.choices([1, 2, 3, 4, 6, 12, 32], [16, 32, 16, 16, 16, 2, 2])[0]
+    subscribers = chance.choices([1, 2, 3, 4, 6, chance.randint(5, 32)], [16, 32, 16, 16, 16, 4])[0]
     most = MOST_PUBLICATIONS // subscribers
     each = min(most, chance.choices([1, 2, 4, most], [32, 32, 32, 4])[0])
     catalog = CatalogMaker(chance).sound(tables(chance), subscribers, each)
