@@ -62,7 +62,7 @@ class CatalogText:
         return statements
 
     def has_own_key(self, table: Table) -> bool:
-        """Whether the key is said beside its only column: for every table with such a key whose name is short."""
+        """Whether the key is said beside its only column, which both statements of a table's parts have to agree on."""
         return len(table.key) == 1 and len(table.name) % 2 == 1
 
     def column(self, table: Table, number: int) -> list[str]:

@@ -4,7 +4,6 @@ import random
 from dataclasses import replace
 
 from model.catalogs import NOTHING, OPERATIONS, Catalog, Filter, Publication, Subscription, Table
-from model.filters import columns_of
 
 from .filters import FilterMaker, is_within
 from .names import Names
@@ -194,10 +193,3 @@ def broken(chance: random.Random, catalog: Catalog) -> Catalog:
             return replace(catalog, tables=tuple(tables))
     publications[at] = it
     return replace(catalog, publications=tuple(publications))
-
-
-def is_covered(catalog: Catalog) -> bool:
-    """Whether all filters name only columns of identities."""
-    return all(
-        set(columns_of(it)) <= set(catalog.tables[number].identity_columns())
-        for publication in catalog.publications for number, it in publication.entries if it is not None)

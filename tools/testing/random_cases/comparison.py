@@ -5,6 +5,7 @@ import functools
 import multiprocessing
 import os
 import pathlib
+import shutil
 import tempfile
 from collections import Counter
 from collections.abc import Iterator
@@ -101,6 +102,8 @@ def check_random(tally: Tally, seed: int) -> None:
     """Makes all cases of a seed. Each case is a check, and so is what they met."""
     if not pathlib.Path(program()).exists():
         return tally.check("the program that random cases try", f"{program()} is not there", "it is built")
+    if shutil.which("cc") is None:
+        print("skipped: counts of what the system refuses in random cases, since no C compiler is installed")
     met: Counter[str] = Counter()
     total: Counter[str] = Counter()
     for result in results(seed, list(range(CASES))):

@@ -3,11 +3,10 @@
 import random
 
 from model.catalogs import Filter, Table
-from model.filters import term_of
 from model.knowledge import is_declared
 from model.values import ENDS
 
-from .filters import FilterMaker
+from .filters import DIVISORS, FilterMaker
 
 Conditions = list[Filter]
 
@@ -56,12 +55,12 @@ class Splitter:
             return found
         unknown = ("null", atom[1]) if self.chance.random() < 0.6 else ("is", None, atom)
         if self.chance.random() < 0.2:
-            return [atom, ("is", self.chance.choice([False]), ("is", True, atom))]
+            return [atom, ("is", False, ("is", True, atom))]
         return [*found, unknown]
 
     def by_bound(self, column: int) -> Conditions:
         """Numbers below one and from it on, each said by a comparison of its own."""
-        _, divisor = term_of(self.filters.atom()) if self.chance.random() < 0.1 else (0, 0)
+        divisor = self.chance.choice(DIVISORS) if self.chance.random() < 0.1 else 0
         bound = self.filters.literal("integer")
         low, high = self.chance.choice([("<", ">="), ("<=", ">")])
         return self.with_null(column, [("cmp", column, divisor, it, bound) for it in (low, high)])
