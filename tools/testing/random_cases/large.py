@@ -105,17 +105,20 @@ def long_log(chance: random.Random, commits: int) -> tuple[Catalog, list[Step]]:
 
 
 def long_script(chance: random.Random) -> tuple[Catalog, list[Step]]:
-    """100,000 steps of all kinds, with pieces of statuses and keepalives that are long."""
+    """100,000 steps: first pieces of many statuses and keepalives, and then, by late clocks, steps of all kinds."""
     steps: list[Step] = [*both("open"), *both("hear", ALL), ("commit", inserts([1, 30]))]
-    while len(steps) < MOST_STEPS - 60_010:
+    steps += [("report", 0, True)] * 30_000 + [("keep", 1, True)] * 30_000
+    steps += [*both("hear", ALL), *both("deliver", ALL)]
+    while len(steps) < MOST_STEPS - 20:
         i = chance.randrange(2)
         steps += [("take", i), ("keep", i, chance.random() < 0.5), ("report", i, chance.random() < 0.5)]
-        steps += [("hear", i, chance.randrange(80)), ("deliver", i, chance.randrange(80))]
-    steps += [("report", 0, True)] * 30_000 + [("keep", 1, True)] * 29_990
-    steps += [*both("hear", ALL), *both("deliver", ALL), *both("pump"), ("view",)]
-    while len(steps) < MOST_STEPS:
-        steps.append(("commit", [("update", 0, (30,), (30, "x", len(steps) % 10))]))
-    return two_halves(chance, 20), steps
+        steps += [("hear", i, chance.randrange(80)), ("deliver", i, chance.randrange(300))]
+        if chance.random() < 0.3:
+            steps.append(("commit", [("update", 0, (i * 29 + 1,), (i * 29 + 1, "x", len(steps) % 10))]))
+        if chance.random() < 0.02:
+            steps += [("lose", i), ("open", i), ("pump", i), ("view",)]
+    steps += [*both("pump"), ("view",)]
+    return two_halves(chance, 20), [*steps, *[("commit", [])] * (MOST_STEPS - len(steps))]
 
 
 def long_pieces(chance: random.Random) -> tuple[Catalog, list[Step]]:
