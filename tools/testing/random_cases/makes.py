@@ -114,11 +114,12 @@ class MadeCase:
     def counter_faults(self, table: int, shares: list[str | Filter | None], text: str) -> Iterator[str]:
         """What is wrong with a row that shows a fault."""
         row, rest = read_row(text)
-        found = owners(shares, row) if isinstance(row, tuple) else []
-        names = ",".join(self.catalog.subscriptions[number].name for number in found) or "none"
         if row is None or row_fault(self.catalog.tables[table], row):
             yield f"{shown(text)} is no row of the table"
-        elif len(found) == 1 or rest != f" owners {names}":
+            return
+        found = owners(shares, row)
+        names = ",".join(self.catalog.subscriptions[number].name for number in found) or "none"
+        if len(found) == 1 or rest != f" owners {names}":
             yield f"{shown(text)} goes to {names}"
 
 
