@@ -1,0 +1,102 @@
+"""The command line of tools/front, and its connections."""
+
+import argparse
+import itertools
+import signal
+import socket
+import sys
+import threading
+
+from fronting.answers import Answers
+from fronting.catalog import Catalog
+from fronting.session import Session
+
+VERSIONS = ["15.18", "13.18"]
+
+ENDED, BAD_COMMAND, NO_PORT = 0, 2, 4
+
+# The signals by which it is asked to end.
+ENDINGS = (signal.SIGTERM, signal.SIGINT, signal.SIGHUP)
+
+
+class Ending(Exception):
+    """It is asked to end."""
+
+
+def options_of(words: list[str], help: str) -> argparse.Namespace:
+    parser = argparse.ArgumentParser(
+        prog="front", description=help, formatter_class=argparse.RawDescriptionHelpFormatter, allow_abbrev=False)
+    parser.add_argument("--port", type=port, required=True, metavar="P", help="where clients connect, at 127.0.0.1")
+    parser.add_argument("--backend", type=port, required=True, metavar="PORT", help="where pgshard serve listens there")
+    parser.add_argument(
+        "--catalog", type=catalog, metavar="FILE",
+        help="the input of pgshard serve, or its first part: CREATE SUBSCRIPTION asks for the tables of publications")
+    parser.add_argument(
+        "--server-version", choices=VERSIONS, default=VERSIONS[0], dest="version",
+        help="what clients are told; for 15.18 their starts are put into protocol version 1 (default: %(default)s)")
+    return parser.parse_args(words)
+
+
+def port(word: str) -> int:
+    number = int(word)
+    if not 1 <= number <= 65535:
+        raise ValueError
+    return number
+
+
+def catalog(path: str) -> Catalog:
+    """The catalog at the front of a file, which a line %% ends."""
+    try:
+        with open(path, encoding="utf-8", newline="") as file:
+            text = file.read()
+    except (OSError, UnicodeDecodeError) as fault:
+        raise argparse.ArgumentTypeError(f"cannot read {path}: {fault}") from fault
+    try:
+        return Catalog(f"\n{text}".split("\n%%\n")[0])
+    except LookupError as fault:
+        raise argparse.ArgumentTypeError(f"{path} is not a catalog that pgshard reads") from fault
+
+
+def run(words: list[str], help: str) -> int:
+    """Runs the command, and answers its exit status."""
+    options = options_of(words, help)
+    for ending in ENDINGS:
+        signal.signal(ending, end)
+    try:
+        listener = listening_at(options.port)
+    except OSError as fault:
+        print(f"front: cannot listen at port {options.port}: {fault.strerror}", file=sys.stderr)
+        return NO_PORT
+    try:
+        print(f"listening {options.port}", flush=True)
+        accept(listener, Answers(options.version, options.catalog), options.backend)
+    except Ending:
+        return ENDED
+    finally:
+        listener.close()
+
+
+def end(number: int, frame: object) -> None:
+    for ending in ENDINGS:
+        signal.signal(ending, signal.SIG_IGN)
+    raise Ending
+
+
+def listening_at(number: int) -> socket.socket:
+    listener = socket.socket()
+    listener.setsockopt(socket.SOL_SOCKET, socket.SO_REUSEADDR, 1)
+    try:
+        listener.bind(("127.0.0.1", number))
+        listener.listen()
+    except OSError:
+        listener.close()
+        raise
+    return listener
+
+
+def accept(listener: socket.socket, answers: Answers, backend: int) -> None:
+    """Serves each client in a thread of its own. The end of the program ends them all."""
+    for number in itertools.count(1):
+        connection, _ = listener.accept()
+        session = Session(connection, answers, backend, number)
+        threading.Thread(target=session.run, daemon=True).start()
