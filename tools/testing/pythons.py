@@ -1,4 +1,4 @@
-"""Which Python has pglast, by which judge reads filters."""
+"""Which Python has a library: Debian's packages are for the system's own, which need not be the first one on the path."""
 
 import subprocess
 import sys
@@ -6,11 +6,11 @@ import sys
 PYTHONS = [sys.executable, "/usr/bin/python3"]
 
 
-def python_with_pglast() -> str | None:
+def python_with(library: str) -> str | None:
     """The first of some Pythons that has it, or None."""
     for python in PYTHONS:
         try:
-            answer = subprocess.run([python, "-c", "import pglast"], stderr=subprocess.DEVNULL)
+            answer = subprocess.run([python, "-c", f"import {library}"], stderr=subprocess.DEVNULL)
         except OSError:
             continue
         if answer.returncode == 0:
