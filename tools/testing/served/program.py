@@ -107,4 +107,4 @@ def use_up(program: Started, port: int) -> None:
     while program.is_running() and time.monotonic() < until:
         with contextlib.suppress(OSError):
             socket.create_connection(("127.0.0.1", port), timeout=1).close()
-        time.sleep(0.01)
+        time.sleep(0.002)

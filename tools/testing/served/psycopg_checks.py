@@ -7,9 +7,8 @@ import time
 from server import environment
 from tally import Tally
 
-from . import shop
 from .program import SECONDS, fronting, serving, use_up
-from .subscribers_checks import input_of
+from .shop import SHOP, TOKYO
 
 CLIENT = pathlib.Path(__file__).resolve().parent / "psycopg_client.py"
 
@@ -25,25 +24,25 @@ Transactions = list[list[tuple[int, bytes]]]
 
 def check_psycopg(tally: Tally, python: str) -> None:
     """The first client reads some transactions and confirms them; the second asks for all and gets the others."""
-    publisher = shop.publisher()
-    first = publisher.transactions(shop.TOKYO)[:READ_FIRST]
+    publisher = SHOP.publisher()
+    first = publisher.transactions(TOKYO)[:READ_FIRST]
     confirmed = first[-1][-1][0] + 64
-    others = publisher.transactions(shop.TOKYO, confirmed)
+    others = publisher.transactions(TOKYO, confirmed)
     with (
-        serving(input_of(shop.CATALOG, shop.script()), "--connections", str(CONNECTIONS)) as (program, port),
+        serving(SHOP.input(), "--connections", str(CONNECTIONS)) as (program, port),
         fronting(port) as (_, front_port),
     ):
         tally.check("psycopg2 reads and confirms", read(python, front_port, first, confirmed), lines_of(first))
         tally.check("psycopg2 reads what it did not confirm", read(python, front_port, others, 0), lines_of(others))
         tally.check("psycopg2 reads the same once more", read(python, front_port, others, 0), lines_of(others))
         use_up(program, port)
-        expected = 0, [f"closed {len(shop.COMMITS)} {CONNECTIONS}\n"]
+        expected = 0, [f"closed {len(SHOP.commits)} {CONNECTIONS}\n"]
         tally.check("the end of serve after psycopg2", program.end(), expected)
 
 
 def read(python: str, port: int, transactions: Transactions, confirmed: int) -> str:
     """What a client prints that reads so many messages as these have."""
-    words = [port, shop.TOKYO.slot, ",".join(shop.TOKYO.publications), sum(map(len, transactions)), confirmed]
+    words = [port, TOKYO.slot, ",".join(TOKYO.publications), sum(map(len, transactions)), confirmed]
     until = time.monotonic() + SECONDS
     while True:
         answer = subprocess.run(

@@ -185,11 +185,6 @@ def end_of(number: int) -> int:
     return 64 * number + 64
 
 
-def script_of(commits: list[list[Command]]) -> str:
-    """A script's text, a step a line."""
-    return "".join(f"COMMIT {', '.join(map(command_text, commands))};\n" for commands in commits)
-
-
 def command_text(command: Command) -> str:
     match command:
         case Insert(table, row):

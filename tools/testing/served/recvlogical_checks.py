@@ -7,16 +7,16 @@ import tempfile
 from server import PROGRAMS, environment
 from tally import Tally
 
-from . import messages, shop
+from . import messages
 from .program import SECONDS, fronting, serving, use_up
 from .publisher import Subscriber
-from .subscribers_checks import input_of
+from .shop import LONDON, SHOP, TOKYO
 
 # Where the third start begins: after a transaction that is confirmed, in the middle of the log.
 LATER = 64 * 5
 
 # What is asked in order: a slot, and the position that is asked for.
-STARTS = [(shop.TOKYO, 0), (shop.LONDON, 0), (shop.LONDON, LATER)]
+STARTS = [(TOKYO, 0), (LONDON, 0), (LONDON, LATER)]
 
 
 def check_recvlogical(tally: Tally) -> None:
@@ -24,7 +24,7 @@ def check_recvlogical(tally: Tally) -> None:
     # A slot that confirmed all of the log has nothing more to tell, so each start has a publisher of its own.
     for subscriber, position in STARTS:
         name = f"pg_recvlogical of {subscriber.slot} from {messages.written(position)}"
-        input_text = input_of(shop.CATALOG, shop.script())
+        input_text = SHOP.input()
         with (
             tempfile.TemporaryDirectory() as folder,
             serving(input_text) as (program, port),
@@ -37,14 +37,14 @@ def check_recvlogical(tally: Tally) -> None:
             tally.check(f"{name}: its messages", found.hex(), written_messages(subscriber, position).hex())
             tally.check(f"{name}: a slot is dropped", run(front_port, subscriber, "--drop-slot"), (0, ""))
             use_up(program, port)
-            tally.check(f"{name}: the end of serve", program.end(), (0, [f"closed {len(shop.COMMITS)} 2\n"]))
+            tally.check(f"{name}: the end of serve", program.end(), (0, [f"closed {len(SHOP.commits)} 2\n"]))
 
 
 def start_words(subscriber: Subscriber, position: int, file: pathlib.Path) -> list[str]:
     """It ends by itself at the end of the log, which the last Commit comes with."""
     return [
         "--start", "--no-loop", "-o", "proto_version=1", "-o", f"publication_names={','.join(subscriber.publications)}",
-        "-I", messages.written(position), "--endpos", messages.written(shop.publisher().end()), "-f", str(file)]
+        "-I", messages.written(position), "--endpos", messages.written(SHOP.publisher().end()), "-f", str(file)]
 
 
 def run(port: int, subscriber: Subscriber, *words: str) -> tuple[int | None, str]:
@@ -61,5 +61,5 @@ def run(port: int, subscriber: Subscriber, *words: str) -> tuple[int | None, str
 
 def written_messages(subscriber: Subscriber, position: int) -> bytes:
     """Each with the newline that pg_recvlogical writes after it."""
-    transactions = shop.publisher().transactions(subscriber, position)
+    transactions = SHOP.publisher().transactions(subscriber, position)
     return b"".join(message + b"\n" for transaction in transactions for _, message in transaction)

@@ -1,6 +1,7 @@
 """A shop whose three tables are identified in three ways, divided over two subscribers, and a script of commits."""
 
-from .publisher import Delete, Insert, Publisher, Subscriber, Table, Truncate, Update, script_of
+from .publisher import Delete, Insert, Subscriber, Table, Truncate, Update
+from .sharding import Sharding
 
 CATALOG = """\
 CREATE TABLE orders (id bigint PRIMARY KEY, region integer, cents bigint NOT NULL, note text, is_paid boolean);
@@ -81,14 +82,4 @@ COMMITS = [
     ],
 ]
 
-
-def publisher() -> Publisher:
-    """With all commits made."""
-    made = Publisher(TABLES)
-    for step, commands in enumerate(COMMITS, 1):
-        made.commit(commands, step)
-    return made
-
-
-def script() -> str:
-    return script_of(COMMITS)
+SHOP = Sharding(CATALOG, TABLES, (LONDON, TOKYO), COMMITS)

@@ -9,16 +9,15 @@ import tempfile
 import time
 from collections.abc import Iterator
 
-from programs import pgshard, without_subscriptions
+from programs import without_subscriptions
 from server import Server
 from tally import Tally
 
-from . import messages, shop
+from . import messages
 from .cutter import Cutter, cutting
 from .program import SECONDS, fronting, serving, use_up
 from .publisher import Command, Delete, Insert, Truncate, Update, literal, row_text
-
-SUBSCRIBERS = (shop.LONDON, shop.TOKYO)
+from .shop import FILTERS, SHOP, TOKYO
 
 # More than the subscribers and a lost connection need, since a subscriber may try again before its slot is free.
 CONNECTIONS = 30
@@ -35,35 +34,29 @@ def check_subscribers(tally: Tally, server: Server, version: str) -> None:
     name = f"subscribers of a publisher {version}"
     for setting in SETTINGS:
         server.psql("postgres", setting)
-    input_text = input_of(shop.CATALOG, shop.script())
+    input_text = SHOP.input()
     with tempfile.NamedTemporaryFile("w", suffix=".txt") as file, databases(server, version) as made:
         file.write(input_text)
         file.flush()
         with (
             serving(input_text, "--connections", str(CONNECTIONS)) as (program, port),
-            cutting(port, shop.TOKYO.slot, cut_at()) as cutter,
+            cutting(port, TOKYO.slot, cut_at()) as cutter,
             fronting(cutter.port, "--catalog", file.name, "--server-version", version) as (front, front_port),
         ):
             subscribe(server, made, front_port)
-            tally.check(f"{name}: how far they come", reached(server, made), [messages.written(shop.publisher().end())] * 2)
+            tally.check(f"{name}: how far they come", reached(server, made), [messages.written(SHOP.publisher().end())] * 2)
             check_rows(tally, server, name, made)
             tally.check(f"{name}: what tokyo asks for when it is back", asked_again(cutter), True)
             unsubscribe(server, made)
             use_up(program, port)
-            tally.check(f"{name}: the end of serve", program.end(), (0, [f"closed {len(shop.COMMITS)} {CONNECTIONS}\n"]))
+            tally.check(f"{name}: the end of serve", program.end(), (0, [f"closed {len(SHOP.commits)} {CONNECTIONS}\n"]))
             front.process.terminate()
             tally.check(f"{name}: the end of front", front.end(), (0, []))
 
 
-def input_of(catalog: str, script: str) -> str:
-    """The input of serve, with the certificates that make finds."""
-    _, certificates = pgshard("make", text=catalog, seconds=SECONDS)
-    return f"{catalog}%%\n{certificates}%%\n{script}"
-
-
 def cut_at() -> int:
     """The number of bytes that come before the middle of a transaction of tokyo's."""
-    transactions = shop.publisher().transactions(shop.TOKYO)
+    transactions = SHOP.publisher().transactions(TOKYO)
     whole = sum(map(length, transactions[:CUT - 1]))
     return len(messages.COPY_BOTH_RESPONSE) + whole + length(transactions[CUT - 1]) // 2
 
@@ -77,8 +70,8 @@ def databases(server: Server, version: str) -> Iterator[dict[str, str]]:
     """A database for each subscriber by its slot, and one of the publisher with all rows, by the name `publisher`."""
     made = {name: f"{name}_{version.partition('.')[0]}" for name in ("london", "tokyo", "publisher")}
     for database in made.values():
-        server.create(database, without_subscriptions(shop.CATALOG))
-    server.psql(made["publisher"], "\n".join(map(transaction_text, shop.COMMITS)))
+        server.create(database, without_subscriptions(SHOP.catalog))
+    server.psql(made["publisher"], "\n".join(map(transaction_text, SHOP.commits)))
     yield made
 
 
@@ -101,16 +94,16 @@ def sql_text(command: Command) -> str:
 
 
 def columns_of(table: str) -> tuple[tuple[str, str], ...]:
-    return next(it.columns for it in shop.TABLES if it.name == table)
+    return next(it.columns for it in SHOP.tables if it.name == table)
 
 
 def condition(table: str, key: tuple) -> str:
-    numbers = next(it.key for it in shop.TABLES if it.name == table)
+    numbers = next(it.key for it in SHOP.tables if it.name == table)
     return " AND ".join(f"{columns_of(table)[at][0]} = {literal(value)}" for at, value in zip(numbers, key))
 
 
 def subscribe(server: Server, made: dict[str, str], port: int) -> None:
-    for subscriber in SUBSCRIBERS:
+    for subscriber in SHOP.subscribers:
         server.psql(made[subscriber.slot], f"""
             CREATE SUBSCRIPTION {made[subscriber.slot]}
             CONNECTION 'host=127.0.0.1 port={port} user=postgres dbname=shop'
@@ -120,7 +113,7 @@ def subscribe(server: Server, made: dict[str, str], port: int) -> None:
 
 
 def unsubscribe(server: Server, made: dict[str, str]) -> None:
-    for subscriber in SUBSCRIBERS:
+    for subscriber in SHOP.subscribers:
         server.psql(made[subscriber.slot], f"""
             SET client_min_messages = error;
             DROP SUBSCRIPTION {made[subscriber.slot]};
@@ -129,10 +122,10 @@ def unsubscribe(server: Server, made: dict[str, str]) -> None:
 
 def reached(server: Server, made: dict[str, str]) -> list[str]:
     """How far the subscribers are in the end."""
-    end = messages.written(shop.publisher().end())
+    end = messages.written(SHOP.publisher().end())
     until = time.monotonic() + SECONDS
     while True:
-        found = [applied(server, made[subscriber.slot]) for subscriber in SUBSCRIBERS]
+        found = [applied(server, made[subscriber.slot]) for subscriber in SHOP.subscribers]
         if all(position == end for position in found) or time.monotonic() > until:
             return found
         time.sleep(0.05)
@@ -149,11 +142,11 @@ def applied(server: Server, subscription: str) -> str:
 
 def check_rows(tally: Tally, server: Server, name: str, made: dict[str, str]) -> None:
     """Each subscriber has its rows, and all have all rows."""
-    for table in shop.TABLES:
+    for table in SHOP.tables:
         found = []
-        for subscriber in SUBSCRIBERS:
+        for subscriber in SHOP.subscribers:
             shard = rows_of(server, made[subscriber.slot], table.name)
-            expected = rows_of(server, made["publisher"], table.name, shop.FILTERS[subscriber.slot][table.name])
+            expected = rows_of(server, made["publisher"], table.name, FILTERS[subscriber.slot][table.name])
             tally.check(f"{name}: {table.name} of {subscriber.slot}", shard, expected)
             found += shard
         tally.check(f"{name}: all {table.name}", sorted(found), rows_of(server, made["publisher"], table.name))
@@ -166,7 +159,7 @@ def rows_of(server: Server, database: str, table: str, condition: str = "true") 
 
 def asked_again(cutter: Cutter) -> bool:
     """Whether the first start after the loss is where a transaction ends that had come whole."""
-    whole = shop.publisher().transactions(shop.TOKYO)[:CUT - 1]
+    whole = SHOP.publisher().transactions(TOKYO)[:CUT - 1]
     ends = {"0/0", *(messages.written(transaction[0][0] + 64) for transaction in whole)}
     asked = [re.search(rb"LOGICAL (\S+)", start)[1].decode() for start in cutter.starts]
     return len(asked) > 1 and asked[1] in ends

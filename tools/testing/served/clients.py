@@ -1,0 +1,90 @@
+"""A client that speaks to `pgshard serve` itself, byte by byte where it is asked to."""
+
+import contextlib
+import itertools
+import socket
+import time
+from collections.abc import Iterator
+
+from . import messages
+from .program import SECONDS
+from .publisher import Publisher, Subscriber
+
+
+class Client:
+    """A connection. What it reads is cut short where the publisher ends it, or sends nothing for too long."""
+
+    def __init__(self, port: int, room: int | None = None) -> None:
+        self.connection = socket.socket()
+        if room is not None:
+            self.connection.setsockopt(socket.SOL_SOCKET, socket.SO_RCVBUF, room)
+        self.connection.settimeout(SECONDS)
+        self.connection.connect(("127.0.0.1", port))
+        self.connection.setsockopt(socket.IPPROTO_TCP, socket.TCP_NODELAY, 1)
+
+    def send(self, given: bytes) -> None:
+        self.connection.sendall(given)
+
+    def send_slowly(self, given: bytes) -> None:
+        """Each byte by itself."""
+        for byte in given:
+            self.send(bytes([byte]))
+            time.sleep(0.001)
+
+    def start(self, subscriber: Subscriber, position: int = 0) -> None:
+        self.send(messages.start(subscriber.slot, position, list(subscriber.publications)))
+
+    def receive(self, count: int) -> bytes:
+        """So many bytes, without clocks."""
+        received = bytearray()
+        with contextlib.suppress(OSError):
+            while len(received) < count:
+                piece = self.connection.recv(min(count - len(received), 1 << 16))
+                if not piece:
+                    break
+                received += piece
+        return messages.without_clocks(bytes(received))
+
+    def receive_all(self) -> bytes:
+        """All up to the connection's end."""
+        return self.receive(1 << 30)
+
+    def finish(self) -> bytes:
+        """Says that the stream is done, and reads what still comes."""
+        self.send(messages.COPY_DONE)
+        return self.receive_all()
+
+    def close(self) -> None:
+        self.connection.close()
+
+
+@contextlib.contextmanager
+def client(port: int, room: int | None = None) -> Iterator[Client]:
+    made = Client(port, room)
+    try:
+        yield made
+    finally:
+        made.close()
+
+
+def stream_of(made: Client, publisher: Publisher, subscriber: Subscriber, position: int = 0) -> bytes:
+    """What a client that has started gets, as many bytes as its stream has, and then of the end of the stream."""
+    return made.receive(len(publisher.stream(subscriber, position))) + made.finish()
+
+
+def whole_stream(publisher: Publisher, subscriber: Subscriber, position: int = 0) -> bytes:
+    """What it has to get: its stream and CopyDone, and nothing more."""
+    return publisher.stream(subscriber, position) + messages.COPY_DONE
+
+
+@contextlib.contextmanager
+def back_again(port: int, subscriber: Subscriber, position: int) -> Iterator[Client]:
+    """A client that was lost and has started again. Its slot may be in use for a moment, and then it tries again."""
+    until = time.monotonic() + SECONDS
+    for tries in itertools.count(1):
+        with client(port) as made:
+            made.start(subscriber, position)
+            if made.connection.recv(1, socket.MSG_PEEK) != b"E" or time.monotonic() > until:
+                yield made
+                return
+        time.sleep(0.02 * tries)
