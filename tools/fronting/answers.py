@@ -13,7 +13,7 @@ def question(words: str) -> re.Pattern:
 
 NAME = r"""(?:"(?P<quoted>(?:[^"]|"")*)"|(?P<word>\w+))"""
 IDENTITY = question("IDENTIFY_SYSTEM")
-SETTING = question(r"SHOW (?P<name>.*)")
+SETTING = question(r"SHOW (?P<name>.*?)")
 SEARCH_PATH = question(r"SELECT pg_catalog\.set_config\('search_path', '', false\)")
 CREATE_SLOT = question(rf'CREATE_REPLICATION_SLOT {NAME}(?: TEMPORARY)? LOGICAL "?pgoutput"?(?P<options>.*)')
 DROP_SLOT = question(rf"DROP_REPLICATION_SLOT {NAME}(?: WAIT)?")

@@ -7,7 +7,7 @@ import struct
 from fronting import frames, starting
 from fronting.answers import Answers
 from fronting.frames import LONGEST_FROM_CLIENT, LONGEST_FROM_PUBLISHER, Lost, Peer
-from fronting.streaming import relay
+from fronting.streaming import COPY_BOTH, LOST, TERMINATE, relay
 
 CANCEL, TLS, GSS = 80877102, 80877103, 80877104
 VERSION_3 = 3 << 16
@@ -15,7 +15,7 @@ VERSION_3 = 3 << 16
 # Texts are sent as they are, in UTF-8.
 ENCODINGS = {"", "UTF8", "UNICODE", "SQLASCII"}
 
-TERMINATE, QUERY, SYNC = b"X", b"Q", b"S"
+QUERY, SYNC = b"Q", b"S"
 # Frames of the extended query protocol; the next Sync is answered by ReadyForQuery.
 EXTENDED = (b"P", b"B", b"D", b"E", b"C", b"H", b"F")
 
@@ -121,10 +121,14 @@ class Session:
     def stream_from(self, publisher: Peer, query: str) -> bool:
         if self.answers.version.startswith("15."):
             query = starting.in_version_1(query)
-        publisher.send(frames.frame(QUERY, frames.text(query)))
-        kind, body = publisher.frame()
+        try:
+            publisher.send(frames.frame(QUERY, frames.text(query)))
+            kind, body = publisher.frame()
+        except Lost:
+            self.client.send(LOST)
+            return False
         self.client.send(frames.frame(kind, body))
-        if kind != b"W":
+        if kind != COPY_BOTH:
             return True
         if not relay(self.client, publisher):
             return False

@@ -5,7 +5,7 @@ import threading
 from fronting import frames
 from fronting.frames import Lost, Peer
 
-COPY_DATA, COPY_DONE, TERMINATE = b"d", b"c", b"X"
+COPY_BOTH, COPY_DATA, COPY_DONE, TERMINATE = b"W", b"d", b"c", b"X"
 
 # Where in an XLogData its two positions are, the letter of its message, and in a Commit the end of the transaction.
 POSITIONS = slice(1, 17)

@@ -45,6 +45,16 @@ class Client:
                 received += piece
         return messages.without_clocks(bytes(received))
 
+    def receive_until(self, end: bytes) -> bytes:
+        """All up to some bytes."""
+        received = b""
+        while not received.endswith(end):
+            byte = self.receive(1)
+            if not byte:
+                break
+            received += byte
+        return received
+
     def receive_all(self) -> bytes:
         """All up to the connection's end."""
         return self.receive(1 << 30)
