@@ -30,7 +30,7 @@ SNAPSHOTS = re.compile(r"'(export|use)'|\b(EXPORT|USE)_SNAPSHOT\b", re.I)
 
 NO_COPY = frames.error(
     "0A000", "pgshard serve has no initial copy of tables",
-    "Its tables are empty before the first commit. Create the subscription WITH (create_slot = false, copy_data = false).")
+    "Its tables begin empty. Create the subscription WITH (create_slot = false, copy_data = false).")
 NO_SQL = frames.error(
     "0A000", "this is tools/front before pgshard serve, which takes no SQL",
     "It takes START_REPLICATION SLOT .. LOGICAL, and what clients ask before that.")
@@ -96,8 +96,8 @@ class Answers:
 
     @staticmethod
     def slot(created: re.Match) -> bytes:
-        """Slots are fixed by the catalog of pgshard serve, so nothing is made. One that is not there is refused when its
-        stream is started."""
+        """Slots are fixed by the catalog of pgshard serve, so nothing is made. A slot that is not there is refused when
+        its stream is started."""
         if SNAPSHOTS.search(created["options"]):
             return NO_COPY
         name = created["word"].lower() if created["word"] else created["quoted"].replace('""', '"')

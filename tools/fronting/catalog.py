@@ -33,7 +33,8 @@ class Catalog:
 
     def tables_of(self, publications: list[str]) -> list[Table]:
         """The tables that some of these publications carry."""
-        return [table for table in self.tables if any(table in self.publications.get(name, []) for name in publications)]
+        carried = [table for name in publications for table in self.publications.get(name, [])]
+        return [table for table in self.tables if table in carried]
 
 
 def is_first(tokens: list[str], *words: str) -> bool:

@@ -6,6 +6,7 @@ import signal
 import socket
 import sys
 import threading
+from typing import NoReturn
 
 from fronting.answers import Answers
 from fronting.catalog import Catalog
@@ -60,20 +61,12 @@ def catalog(path: str) -> Catalog:
 def run(words: list[str], help: str) -> int:
     """Runs the command, and answers its exit status."""
     options = options_of(words, help)
-    for ending in ENDINGS:
-        signal.signal(ending, end)
     try:
-        listener = listening_at(options.port)
-    except OSError as fault:
-        print(f"front: cannot listen at port {options.port}: {fault.strerror}", file=sys.stderr)
-        return NO_PORT
-    try:
-        print(f"listening {options.port}", flush=True)
-        accept(listener, Answers(options.version, options.catalog), options.backend)
+        for ending in ENDINGS:
+            signal.signal(ending, end)
+        return listen(options)
     except Ending:
         return ENDED
-    finally:
-        listener.close()
 
 
 def end(number: int, frame: object) -> None:
@@ -82,19 +75,19 @@ def end(number: int, frame: object) -> None:
     raise Ending
 
 
-def listening_at(number: int) -> socket.socket:
-    listener = socket.socket()
-    listener.setsockopt(socket.SOL_SOCKET, socket.SO_REUSEADDR, 1)
+def listen(options: argparse.Namespace) -> int:
+    """Only a signal ends it, but where the port can't be had."""
     try:
-        listener.bind(("127.0.0.1", number))
-        listener.listen()
-    except OSError:
-        listener.close()
-        raise
-    return listener
+        listener = socket.create_server(("127.0.0.1", options.port))
+    except OSError as fault:
+        print(f"front: cannot listen at port {options.port}: {fault.strerror}", file=sys.stderr)
+        return NO_PORT
+    with listener:
+        print(f"listening {options.port}", flush=True)
+        accept(listener, Answers(options.version, options.catalog), options.backend)
 
 
-def accept(listener: socket.socket, answers: Answers, backend: int) -> None:
+def accept(listener: socket.socket, answers: Answers, backend: int) -> NoReturn:
     """Serves each client in a thread of its own. The end of the program ends them all."""
     for number in itertools.count(1):
         connection, _ = listener.accept()

@@ -1,8 +1,9 @@
-"""Which Python has a library: Debian's packages are for the system's own, which need not be the first one on the path."""
+"""Which Python has a library."""
 
 import subprocess
 import sys
 
+# Debian's packages are for the second, which need not be the first one on the path.
 PYTHONS = [sys.executable, "/usr/bin/python3"]
 
 

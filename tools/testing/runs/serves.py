@@ -133,7 +133,8 @@ def written_bytes(port: int, publisher: Publisher) -> Findings:
             made.start(subscriber)
             for letter, value in (values | {"K": "0" * 16}).items():
                 text = text.replace(letter, value)
-            yield f"what {subscriber.slot} gets", stream_of(made, publisher, subscriber).hex(), bytes.fromhex(text).hex()
+            found = stream_of(made, publisher, subscriber)
+            yield f"what {subscriber.slot} gets", found.hex(), bytes.fromhex(text).hex()
 
 
 def together(subscribers: tuple[Subscriber, ...]) -> Callable[[int, Publisher], Findings]:
@@ -160,9 +161,9 @@ def byte_by_byte(port: int, publisher: Publisher) -> Findings:
         first.send_slowly(messages.start("london", 0, ["low"]) + messages.status(0) + messages.status(0))
         second.start(TOKYO)
         yield from got_whole(first, publisher, LONDON)
-        whole = publisher.stream(TOKYO)
-        found = b"".join(second.receive(1) for _ in whole)
-        yield "what tokyo gets byte by byte", messages.without_clocks(found) + second.finish(), whole_stream(publisher, TOKYO)
+        bytes_of = b"".join(second.receive(1) for _ in publisher.stream(TOKYO))
+        found = messages.without_clocks(bytes_of) + second.finish()
+        yield "what tokyo gets byte by byte", found, whole_stream(publisher, TOKYO)
 
 
 def late(port: int, publisher: Publisher) -> Findings:
@@ -177,12 +178,11 @@ def late(port: int, publisher: Publisher) -> Findings:
 
 
 def from_positions(port: int, publisher: Publisher) -> Findings:
-    """One starts in the middle of the log, the other at its end, from where nothing comes."""
-    with client(port) as first, client(port) as second:
-        first.start(LONDON, end_of(4))
-        yield from got_whole(first, publisher, LONDON, end_of(4))
-        second.start(TOKYO, publisher.end())
-        yield from got_whole(second, publisher, TOKYO, publisher.end())
+    """One starts in the middle of the log, the other at its end, from where nothing comes; each once the log is so
+    long."""
+    for subscriber, position in (LONDON, end_of(4)), (TOKYO, publisher.end()):
+        with back_again(port, subscriber, position) as made:
+            yield from got_whole(made, publisher, subscriber, position)
 
 
 # ---- clients that come back
@@ -349,7 +349,7 @@ def runs() -> Iterator[Run]:
     yield Run("serve of 32 subscribers", crowded, together(crowded.subscribers))
     yield Run("serve byte by byte", SHOP, byte_by_byte)
     yield Run("serve of a client that is late", SHOP, late)
-    yield Run("serve from other positions", SHOP, from_positions)
+    yield Run("serve from other positions", SHOP, from_positions, MANY)
     yield Run("serve of a client that is lost", SHOP, lost_and_back, MANY)
     yield Run("serve of a client that confirms", SHOP, confirms, MANY)
     yield Run("serve of a client that confirms too much", SHOP, confirms_too_much, MANY)
@@ -368,7 +368,8 @@ def inputs() -> Iterator[Case]:
     for place, script in (0, "VIEW;"), (26, f"{commit} OPEN 0; {commit}"), (27, f"{commit}\n\nPUMP 0;"):
         yield Case(f"serve of {script!r}", words, three_parts(b, C, script), 3, f"script {place} Expected\n")
     yield Case("serve of a bad script", words, three_parts(b, C, "COMMIT"), 3, "script 6 Expected\n")
-    yield Case("serve of a refused sharding", words, three_parts(b, "o 0\n", commit), 1, "refused NotOwner public.t 0\n")
+    refused = "refused NotOwner public.t 0\n"
+    yield Case("serve of a refused sharding", words, three_parts(b, "o 0\n", commit), 1, refused)
     yield Case("serve of a bad certificate", words, three_parts(b, "x\n", commit), 3, "certificate 1 BadToken\n")
     yield Case("serve of a bad catalog", words, three_parts("CREATE;\n", C, commit), 3, "catalog 6 Expected\n")
     yield Case("serve of two parts", words, f"{b}%%\n{C}", 3, "input\n")

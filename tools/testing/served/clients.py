@@ -89,7 +89,8 @@ def whole_stream(publisher: Publisher, subscriber: Subscriber, position: int = 0
 
 @contextlib.contextmanager
 def back_again(port: int, subscriber: Subscriber, position: int) -> Iterator[Client]:
-    """A client that was lost and has started again. Its slot may be in use for a moment, and then it tries again."""
+    """A client that has started, as one does that was lost. Where it is refused it tries again, since its slot may be
+    in use for a moment, or its position ahead of a log that grows."""
     until = time.monotonic() + SECONDS
     for tries in itertools.count(1):
         with client(port) as made:

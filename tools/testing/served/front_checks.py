@@ -22,8 +22,7 @@ NO_SQL = (
     "HINT:  It takes START_REPLICATION SLOT .. LOGICAL, and what clients ask before that.\n")
 NO_COPY = (
     "ERROR:  pgshard serve has no initial copy of tables\n"
-    "HINT:  Its tables are empty before the first commit. Create the subscription WITH (create_slot = false, "
-    "copy_data = false).\n")
+    "HINT:  Its tables begin empty. Create the subscription WITH (create_slot = false, copy_data = false).\n")
 
 # What psql sends, and what it prints.
 QUERIES = [
@@ -113,7 +112,7 @@ STARTS = [
 PACKETS = [
     ("TLS is asked for", struct.pack("!I", 80877103), b"N"),
     ("GSS encryption is asked for", struct.pack("!I", 80877104), b"N"),
-    ("version 3.2 is asked for", struct.pack("!I", 0x30002) + b"user\0postgres\0\0", bytes.fromhex("76 0000000c 00000000 00000000 52")),
+    ("version 3.2 is asked for", b"\0\3\0\2user\0postgres\0\0", bytes.fromhex("76 0000000c 00000000 00000000 52")),
     ("version 2 is asked for", struct.pack("!I", 0x20000) + bytes(292), b"E"),
     ("a query is canceled", struct.pack("!III", 80877102, 1, 1), b""),
     ("the packet has no version", b"", b"E"),
@@ -202,11 +201,12 @@ def check_extended(tally: Tally, port: int) -> None:
     """A query of the extended protocol is refused, and the connection goes on."""
     with client(port) as made:
         made.send(packet(STARTUP))
-        made.send(b"".join(messages.frame(kind, b"\0\0\0\0") for kind in (b"P", b"B", b"E")) + messages.frame(b"S", b""))
+        for kind in b"P", b"B", b"E", b"S":
+            made.send(messages.frame(kind, bytes(4)))
         made.send(messages.query("SHOW TimeZone") + messages.TERMINATE)
         frames, _ = messages.frames_of(made.receive_all())
         kinds = b"".join(whole[:1] for whole in frames)
-        tally.check("the frames around a query of the extended protocol", kinds, b"R" + b"S" * 11 + b"KZ" + b"EZ" + b"TDCZ")
+        tally.check("the frames of a query of the extended protocol", kinds, b"RSSSSSSSSSSSKZ" + b"EZ" + b"TDCZ")
 
 
 def check_loss(tally: Tally, program: Started, port: int) -> None:
@@ -240,9 +240,7 @@ def check_command_lines(tally: Tally) -> None:
         ports = {"PORT": str(free_port()), "TAKEN": str(taken.getsockname()[1])}
         for words, status in COMMAND_LINES:
             given = [ports.get(word, word) for word in words]
-            answer = subprocess.run(
-                [TOOLS / "front", *given], stdin=subprocess.DEVNULL, stdout=subprocess.DEVNULL, stderr=subprocess.DEVNULL,
-                timeout=SECONDS)
+            answer = subprocess.run([TOOLS / "front", *given], capture_output=True, timeout=SECONDS)
             tally.check(f"front {' '.join(words)}", answer.returncode, status)
 
 

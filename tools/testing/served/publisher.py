@@ -148,8 +148,8 @@ class Publisher:
 
     def stream(self, subscriber: Subscriber, position: int = 0) -> bytes:
         """All that a connection is sent, with no clocks."""
-        sent = (messages.xlog_data(*it) for transaction in self.transactions(subscriber, position) for it in transaction)
-        return messages.COPY_BOTH_RESPONSE + b"".join(sent)
+        told = [it for transaction in self.transactions(subscriber, position) for it in transaction]
+        return messages.COPY_BOTH_RESPONSE + b"".join(messages.xlog_data(*it) for it in told)
 
     def said(self, subscriber: Subscriber, change: Change, told: set[str]) -> list[bytes]:
         """The message of a change, after the Relations of tables that come for the first time; nothing where the

@@ -9,39 +9,41 @@ from tally import Tally
 
 from . import messages
 from .program import SECONDS, fronting, serving, use_up
-from .publisher import Subscriber
+from .publisher import Subscriber, end_of
 from .shop import LONDON, SHOP, TOKYO
 
-# Where the third start begins: after a transaction that is confirmed, in the middle of the log.
-LATER = 64 * 5
-
-# What is asked in order: a slot, and the position that is asked for.
-STARTS = [(TOKYO, 0), (LONDON, 0), (LONDON, LATER)]
+# What is asked for in turn of one publisher: slots, and positions. It can't be asked twice for a slot, since whatever
+# was read is confirmed.
+ASKED = [
+    [(TOKYO, 0), (LONDON, end_of(4))],
+    [(LONDON, 0)],
+]
 
 
 def check_recvlogical(tally: Tally) -> None:
-    """What it writes of each start, and that it ends by itself; and that it takes what it is told of slots."""
-    # A slot that confirmed all of the log has nothing more to tell, so each start has a publisher of its own.
-    for subscriber, position in STARTS:
-        name = f"pg_recvlogical of {subscriber.slot} from {messages.written(position)}"
-        input_text = SHOP.input()
-        with (
-            tempfile.TemporaryDirectory() as folder,
-            serving(input_text) as (program, port),
-            fronting(port) as (_, front_port),
-        ):
-            file = pathlib.Path(folder) / "messages"
-            tally.check(f"{name}: a slot is made", run(front_port, subscriber, "--create-slot", "-P", "pgoutput"), (0, ""))
-            tally.check(f"{name}: its end", run(front_port, subscriber, *start_words(subscriber, position, file)), (0, ""))
-            found = file.read_bytes() if file.exists() else b""
-            tally.check(f"{name}: its messages", found.hex(), written_messages(subscriber, position).hex())
-            tally.check(f"{name}: a slot is dropped", run(front_port, subscriber, "--drop-slot"), (0, ""))
+    for starts in ASKED:
+        with serving(SHOP.input()) as (program, port), fronting(port) as (_, front_port):
+            for subscriber, position in starts:
+                check_start(tally, front_port, subscriber, position)
             use_up(program, port)
-            tally.check(f"{name}: the end of serve", program.end(), (0, [f"closed {len(SHOP.commits)} 2\n"]))
+            ended = f"closed {len(SHOP.commits)} 2\n"
+            tally.check("the end of serve after pg_recvlogical", program.end(), (0, [ended]))
+
+
+def check_start(tally: Tally, port: int, subscriber: Subscriber, position: int) -> None:
+    """What it writes, that it ends by itself at the end of the log, and what it is told of its slot."""
+    name = f"pg_recvlogical of {subscriber.slot} from {messages.written(position)}"
+    with tempfile.TemporaryDirectory() as folder:
+        file = pathlib.Path(folder) / "messages"
+        words = start_words(subscriber, position, file)
+        tally.check(f"{name}: a slot is made", run(port, subscriber, "--create-slot", "-P", "pgoutput"), (0, ""))
+        tally.check(f"{name}: its end", run(port, subscriber, *words), (0, ""))
+        found = file.read_bytes() if file.exists() else b""
+        tally.check(f"{name}: its messages", found.hex(), written_messages(subscriber, position).hex())
+        tally.check(f"{name}: a slot is dropped", run(port, subscriber, "--drop-slot"), (0, ""))
 
 
 def start_words(subscriber: Subscriber, position: int, file: pathlib.Path) -> list[str]:
-    """It ends by itself at the end of the log, which the last Commit comes with."""
     return [
         "--start", "--no-loop", "-o", "proto_version=1", "-o", f"publication_names={','.join(subscriber.publications)}",
         "-I", messages.written(position), "--endpos", messages.written(SHOP.publisher().end()), "-f", str(file)]

@@ -3,11 +3,9 @@
 What each is to have is what a third database says, in which the script's commits are made by SQL.
 """
 
-import contextlib
 import re
 import tempfile
 import time
-from collections.abc import Iterator
 
 from programs import without_subscriptions
 from server import Server
@@ -35,7 +33,8 @@ def check_subscribers(tally: Tally, server: Server, version: str) -> None:
     for setting in SETTINGS:
         server.psql("postgres", setting)
     input_text = SHOP.input()
-    with tempfile.NamedTemporaryFile("w", suffix=".txt") as file, databases(server, version) as made:
+    made = databases(server, version)
+    with tempfile.NamedTemporaryFile("w", suffix=".txt") as file:
         file.write(input_text)
         file.flush()
         with (
@@ -44,12 +43,14 @@ def check_subscribers(tally: Tally, server: Server, version: str) -> None:
             fronting(cutter.port, "--catalog", file.name, "--server-version", version) as (front, front_port),
         ):
             subscribe(server, made, front_port)
-            tally.check(f"{name}: how far they come", reached(server, made), [messages.written(SHOP.publisher().end())] * 2)
+            end = messages.written(SHOP.publisher().end())
+            tally.check(f"{name}: how far they come", reached(server, made, end), [end, end])
             check_rows(tally, server, name, made)
             tally.check(f"{name}: what tokyo asks for when it is back", asked_again(cutter), True)
             unsubscribe(server, made)
             use_up(program, port)
-            tally.check(f"{name}: the end of serve", program.end(), (0, [f"closed {len(SHOP.commits)} {CONNECTIONS}\n"]))
+            ended = f"closed {len(SHOP.commits)} {CONNECTIONS}\n"
+            tally.check(f"{name}: the end of serve", program.end(), (0, [ended]))
             front.process.terminate()
             tally.check(f"{name}: the end of front", front.end(), (0, []))
 
@@ -65,14 +66,13 @@ def length(transaction: list[tuple[int, bytes]]) -> int:
     return sum(len(messages.xlog_data(*it)) for it in transaction)
 
 
-@contextlib.contextmanager
-def databases(server: Server, version: str) -> Iterator[dict[str, str]]:
+def databases(server: Server, version: str) -> dict[str, str]:
     """A database for each subscriber by its slot, and one of the publisher with all rows, by the name `publisher`."""
     made = {name: f"{name}_{version.partition('.')[0]}" for name in ("london", "tokyo", "publisher")}
     for database in made.values():
         server.create(database, without_subscriptions(SHOP.catalog))
     server.psql(made["publisher"], "\n".join(map(transaction_text, SHOP.commits)))
-    yield made
+    return made
 
 
 def transaction_text(commands: list[Command]) -> str:
@@ -120,9 +120,8 @@ def unsubscribe(server: Server, made: dict[str, str]) -> None:
         """)
 
 
-def reached(server: Server, made: dict[str, str]) -> list[str]:
-    """How far the subscribers are in the end."""
-    end = messages.written(SHOP.publisher().end())
+def reached(server: Server, made: dict[str, str], end: str) -> list[str]:
+    """How far the subscribers come, which is the end if they come so far in time."""
     until = time.monotonic() + SECONDS
     while True:
         found = [applied(server, made[subscriber.slot]) for subscriber in SHOP.subscribers]
