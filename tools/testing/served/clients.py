@@ -11,8 +11,12 @@ from .program import SECONDS
 from .publisher import Publisher, Subscriber
 
 
+# What is read where nothing more comes, and no end.
+NO_END = b" and no end"
+
+
 class Client:
-    """A connection. What it reads is cut short where the publisher ends it, or sends nothing for too long."""
+    """A connection. What it reads is cut short where the publisher ends it."""
 
     def __init__(self, port: int, room: int | None = None) -> None:
         self.connection = socket.socket()
@@ -37,12 +41,16 @@ class Client:
     def receive(self, count: int) -> bytes:
         """So many bytes, without clocks."""
         received = bytearray()
-        with contextlib.suppress(OSError):
+        try:
             while len(received) < count:
                 piece = self.connection.recv(min(count - len(received), 1 << 16))
                 if not piece:
                     break
                 received += piece
+        except TimeoutError:
+            received += NO_END
+        except OSError:
+            pass
         return messages.without_clocks(bytes(received))
 
     def receive_until(self, end: bytes) -> bytes:
@@ -50,7 +58,7 @@ class Client:
         received = b""
         while not received.endswith(end):
             byte = self.receive(1)
-            if not byte:
+            if len(byte) != 1:
                 break
             received += byte
         return received

@@ -26,15 +26,21 @@ class Cutter:
                 threading.Thread(target=self.relay, args=(client,), daemon=True).start()
 
     def relay(self, client: socket.socket) -> None:
-        publisher = socket.create_connection(("127.0.0.1", self.backend))
+        with contextlib.suppress(OSError), client:
+            with socket.create_connection(("127.0.0.1", self.backend)) as publisher:
+                self.relay_to(publisher, client)
+
+    def relay_to(self, publisher: socket.socket, client: socket.socket) -> None:
         start = client.recv(1 << 16)
         publisher.sendall(start)
         left = None
         if self.slot in start:
             self.starts.append(start)
             left = self.after if len(self.starts) == 1 else None
-        threading.Thread(target=pump, args=(client, publisher, None), daemon=True).start()
+        up = threading.Thread(target=pump, args=(client, publisher, None), daemon=True)
+        up.start()
         pump(publisher, client, left)
+        up.join()
 
 
 def pump(source: socket.socket, sink: socket.socket, left: int | None) -> None:
