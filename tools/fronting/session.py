@@ -7,7 +7,7 @@ import struct
 from fronting import frames, starting
 from fronting.answers import Answers
 from fronting.frames import LONGEST_FROM_CLIENT, LONGEST_FROM_PUBLISHER, Lost, Peer
-from fronting.streaming import COPY_BOTH, LOST, TERMINATE, relay
+from fronting.streaming import COPY_BOTH, LOST, TERMINATE, Stream
 
 CANCEL, TLS, GSS = 80877102, 80877103, 80877104
 VERSION_3 = 3 << 16
@@ -130,7 +130,7 @@ class Session:
         self.client.send(frames.frame(kind, body))
         if kind != COPY_BOTH:
             return True
-        if not relay(self.client, publisher):
+        if not Stream(self.client, publisher).relay():
             return False
         self.client.send(frames.complete("COPY 0"))
         return True

@@ -9,7 +9,7 @@ from dataclasses import dataclass
 
 from programs import pgshard
 from served import messages
-from served.clients import Client, back_again, client, stream_of, whole_stream
+from served.clients import Connection, back_again, client, stream_of, whole_stream
 from served.program import NotStarted, serving, use_up
 from served.publisher import Delete, Insert, Publisher, Subscriber, Update, end_of
 from served.sharding import Sharding
@@ -149,7 +149,7 @@ def together(subscribers: tuple[Subscriber, ...]) -> Callable[[int, Publisher], 
     return findings
 
 
-def got_whole(made: Client, publisher: Publisher, subscriber: Subscriber, position: int = 0) -> Findings:
+def got_whole(made: Connection, publisher: Publisher, subscriber: Subscriber, position: int = 0) -> Findings:
     """The stream that a started client gets, and what it has to get."""
     found = stream_of(made, publisher, subscriber, position)
     yield f"what {subscriber.slot} gets", found, whole_stream(publisher, subscriber, position)

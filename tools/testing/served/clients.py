@@ -15,19 +15,16 @@ from .publisher import Publisher, Subscriber
 NO_END = b" and no end"
 
 
-class Client:
-    """A connection. What it reads is cut short where the publisher ends it."""
+class Connection:
+    """One end of a connection. What it reads is cut short where the other ends it."""
 
-    def __init__(self, port: int, room: int | None = None) -> None:
-        self.connection = socket.socket()
-        if room is not None:
-            self.connection.setsockopt(socket.SOL_SOCKET, socket.SO_RCVBUF, room)
-        self.connection.settimeout(SECONDS)
-        self.connection.connect(("127.0.0.1", port))
-        self.connection.setsockopt(socket.IPPROTO_TCP, socket.TCP_NODELAY, 1)
+    def __init__(self, opened: socket.socket) -> None:
+        opened.settimeout(SECONDS)
+        opened.setsockopt(socket.IPPROTO_TCP, socket.TCP_NODELAY, 1)
+        self.opened = opened
 
     def send(self, given: bytes) -> None:
-        self.connection.sendall(given)
+        self.opened.sendall(given)
 
     def send_slowly(self, given: bytes) -> None:
         """Each byte by itself."""
@@ -43,7 +40,7 @@ class Client:
         received = bytearray()
         try:
             while len(received) < count:
-                piece = self.connection.recv(min(count - len(received), 1 << 16))
+                piece = self.opened.recv(min(count - len(received), 1 << 16))
                 if not piece:
                     break
                 received += piece
@@ -72,20 +69,19 @@ class Client:
         self.send(messages.COPY_DONE)
         return self.receive_all()
 
-    def close(self) -> None:
-        self.connection.close()
-
 
 @contextlib.contextmanager
-def client(port: int, room: int | None = None) -> Iterator[Client]:
-    made = Client(port, room)
-    try:
-        yield made
-    finally:
-        made.close()
+def client(port: int, room: int | None = None) -> Iterator[Connection]:
+    """A client, which may have little room for what it does not read."""
+    with socket.socket() as opened:
+        if room is not None:
+            opened.setsockopt(socket.SOL_SOCKET, socket.SO_RCVBUF, room)
+        opened.settimeout(SECONDS)
+        opened.connect(("127.0.0.1", port))
+        yield Connection(opened)
 
 
-def stream_of(made: Client, publisher: Publisher, subscriber: Subscriber, position: int = 0) -> bytes:
+def stream_of(made: Connection, publisher: Publisher, subscriber: Subscriber, position: int = 0) -> bytes:
     """What a client that has started gets, as many bytes as its stream has, and then of the end of the stream."""
     return made.receive(len(publisher.stream(subscriber, position))) + made.finish()
 
@@ -96,14 +92,14 @@ def whole_stream(publisher: Publisher, subscriber: Subscriber, position: int = 0
 
 
 @contextlib.contextmanager
-def back_again(port: int, subscriber: Subscriber, position: int) -> Iterator[Client]:
+def back_again(port: int, subscriber: Subscriber, position: int) -> Iterator[Connection]:
     """A client that has started, as one does that was lost. Where it is refused it tries again, since its slot may be
     in use for a moment, or its position ahead of a log that grows."""
     until = time.monotonic() + SECONDS
     for tries in itertools.count(1):
         with client(port) as made:
             made.start(subscriber, position)
-            if made.connection.recv(1, socket.MSG_PEEK) != b"E" or time.monotonic() > until:
+            if made.opened.recv(1, socket.MSG_PEEK) != b"E" or time.monotonic() > until:
                 yield made
                 return
         time.sleep(0.02 * tries)

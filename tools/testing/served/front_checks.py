@@ -10,7 +10,7 @@ from server import environment
 from tally import Tally
 
 from . import messages
-from .clients import client
+from .clients import Connection, client
 from .program import SECONDS, Started, free_port, fronting, serving
 from .publisher import Insert
 from .shardings import halves
@@ -119,6 +119,15 @@ PACKETS = [
 ]
 START = "START_REPLICATION SLOT s0 LOGICAL 0/0 (proto_version '{version}', publication_names 'pa')"
 LOST = messages.frame(b"E", b"SFATAL\0VFATAL\0C08006\0Mthe connection to pgshard serve has ended\0\0")
+# Frames of the publisher in turn, as the client gets them, and how far it is told to be then.
+BEGIN, COMMIT = messages.begin(64, 1, 3), messages.commit(64, 128, 1)
+RELAYED = [
+    (messages.xlog_data(64, BEGIN), messages.xlog_data(64, BEGIN), 0),
+    (messages.xlog_data(64, COMMIT), messages.xlog_data(128, COMMIT), 128),
+    (messages.keepalive(192), messages.keepalive(192), 192),
+    (2 * messages.xlog_data(64, COMMIT), 2 * messages.xlog_data(128, COMMIT), 128),
+]
+DONE = messages.COPY_DONE + messages.frame(b"C", b"COPY 0\0") + messages.frame(b"Z", b"I")
 STARTUP = struct.pack("!I", 0x30000) + b"user\0postgres\0database\0shop\0replication\0database\0\0"
 
 # Words of the command line, and the status. PORT and TAKEN are ports.
@@ -150,6 +159,7 @@ def check_front(tally: Tally) -> None:
                 tally.check("the end of front with a client", front.end(), (0, []))
     check_before_publisher(tally)
     check_starts(tally)
+    check_relay(tally)
 
 
 def check_before_publisher(tally: Tally) -> None:
@@ -233,6 +243,38 @@ def check_starts(tally: Tally) -> None:
                     tally.check(f"how {start} is passed on", found, messages.query(expected))
                     frames, _ = messages.frames_of(made.receive_all())
                     tally.check("what a client is told of a start that nobody answers", frames[-1], LOST)
+
+
+def check_relay(tally: Tally) -> None:
+    """A stream, frame by frame: what each side gets, and the replies that front gives itself."""
+    with socket.create_server(("127.0.0.1", 0)) as listener, fronting(listener.getsockname()[1]) as (_, port):
+        listener.settimeout(SECONDS)
+        with client(port) as made:
+            made.send(packet(STARTUP))
+            # A client may start again once a stream is done.
+            for _ in range(2):
+                made.send(messages.query(START.format(version=1)))
+                accepted, _ = listener.accept()
+                with accepted:
+                    check_frames(tally, made, Connection(accepted))
+
+
+def check_frames(tally: Tally, made: Connection, publisher: Connection) -> None:
+    publisher.receive(len(messages.query(START.format(version=1))))
+    publisher.send(messages.COPY_BOTH_RESPONSE)
+    made.receive_until(messages.COPY_BOTH_RESPONSE)
+    for told, expected, position in RELAYED:
+        publisher.send(told)
+        tally.check(f"what a client gets of {told.hex()}", made.receive(len(expected)), expected)
+        asked, reply = messages.status(position, wants_reply=True), messages.keepalive(position)
+        made.send(asked)
+        tally.check("the reply that front gives", made.receive(len(reply)), reply)
+        tally.check("what the publisher gets of a status", publisher.receive(len(asked)), asked)
+    last = messages.status(0) + messages.COPY_DONE
+    made.send(last)
+    tally.check("what the publisher gets at the end", publisher.receive(len(last)), last)
+    publisher.send(messages.COPY_DONE)
+    tally.check("what a client gets at the end", made.receive(len(DONE)), DONE)
 
 
 def check_command_lines(tally: Tally) -> None:
