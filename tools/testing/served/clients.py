@@ -36,7 +36,10 @@ class Connection:
         self.send(messages.start(subscriber.slot, position, list(subscriber.publications)))
 
     def receive(self, count: int) -> bytes:
-        """So many bytes, without clocks."""
+        """So many bytes, with no clocks and no times."""
+        return messages.without_times(self.receive_as_is(count))
+
+    def receive_as_is(self, count: int) -> bytes:
         received = bytearray()
         try:
             while len(received) < count:
@@ -48,7 +51,7 @@ class Connection:
             received += NO_END
         except OSError:
             pass
-        return messages.without_clocks(bytes(received))
+        return bytes(received)
 
     def receive_until(self, end: bytes) -> bytes:
         """All up to some bytes."""

@@ -120,7 +120,7 @@ PACKETS = [
 START = "START_REPLICATION SLOT s0 LOGICAL 0/0 (proto_version '{version}', publication_names 'pa')"
 LOST = messages.frame(b"E", b"SFATAL\0VFATAL\0C08006\0Mthe connection to pgshard serve has ended\0\0")
 # Frames of the publisher in turn, as the client gets them, and how far it is told to be then.
-BEGIN, COMMIT = messages.begin(64, 1, 3), messages.commit(64, 128, 1)
+BEGIN, COMMIT = messages.begin(64, 3), messages.commit(64, 128)
 RELAYED = [
     (messages.xlog_data(64, BEGIN), messages.xlog_data(64, BEGIN), 0),
     (messages.xlog_data(64, COMMIT), messages.xlog_data(128, COMMIT), 128),

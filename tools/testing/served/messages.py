@@ -9,16 +9,22 @@ COPY_BOTH_RESPONSE = bytes.fromhex("57 00000007 00 0000")
 COPY_DONE = bytes.fromhex("63 00000004")
 TERMINATE = bytes.fromhex("58 00000004")
 
-# Where the clock is in the body of an XLogData, and in that of a keepalive.
+# Where the clock is in the body of an XLogData and of a keepalive, and the time in a Begin and a Commit.
 CLOCKS = {b"w": 17, b"k": 9}
+TIMES = {b"B": 9, b"C": 18}
+
+# Where the message is in the frame of an XLogData.
+MESSAGE = 30
 
 
-def begin(position: int, time: int, xid: int) -> bytes:
-    return b"B" + struct.pack("!QQI", position, time, xid)
+def begin(position: int, xid: int) -> bytes:
+    """With no time."""
+    return b"B" + struct.pack("!QQI", position, 0, xid)
 
 
-def commit(position: int, end: int, time: int) -> bytes:
-    return b"C\0" + struct.pack("!QQQ", position, end, time)
+def commit(position: int, end: int) -> bytes:
+    """With no time."""
+    return b"C\0" + struct.pack("!QQQ", position, end, 0)
 
 
 def relation(oid: int, name: str, identity: str, columns: list[tuple[bool, str, str]]) -> bytes:
@@ -117,12 +123,30 @@ def frames_of(sent: bytes) -> tuple[list[bytes], bytes]:
     return frames, sent[at:]
 
 
-def without_clocks(sent: bytes) -> bytes:
-    """The same bytes with the clocks of whole frames set to 0."""
+def without_times(sent: bytes) -> bytes:
+    """The same bytes with no clocks of whole frames and no times of their messages."""
     frames, left = frames_of(sent)
     return b"".join(map(without_clock, frames)) + left
 
 
 def without_clock(whole: bytes) -> bytes:
-    at = CLOCKS.get(whole[5:6]) if whole[:1] == b"d" else None
-    return whole if at is None else whole[:5 + at] + bytes(8) + whole[13 + at:]
+    """A frame with no clock, and its message with no time."""
+    letter = whole[5:6] if whole[:1] == b"d" else b""
+    if letter in CLOCKS:
+        whole = blanked(whole, 5 + CLOCKS[letter])
+    return whole[:MESSAGE] + without_time(whole[MESSAGE:]) if letter == b"w" else whole
+
+
+def without_time(message: bytes) -> bytes:
+    """A message with no time."""
+    return blanked(message, TIMES[message[:1]]) if message[:1] in TIMES else message
+
+
+def blanked(given: bytes, at: int) -> bytes:
+    return given[:at] + bytes(8) + given[at + 8:]
+
+
+def time_of(message: bytes) -> int | None:
+    """The time of a Begin or a Commit."""
+    at = TIMES.get(message[:1])
+    return None if at is None else int.from_bytes(message[at:at + 8], "big")

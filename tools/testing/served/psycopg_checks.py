@@ -7,6 +7,7 @@ import time
 from server import environment
 from tally import Tally
 
+from . import messages
 from .program import SECONDS, fronting, serving, use_up
 from .shop import SHOP, TOKYO
 
@@ -49,8 +50,16 @@ def read(python: str, port: int, transactions: Transactions, confirmed: int) -> 
             [python, CLIENT, *map(str, words)], stdin=subprocess.DEVNULL, stdout=subprocess.PIPE,
             stderr=subprocess.STDOUT, encoding="utf-8", timeout=SECONDS, env=environment())
         if answer.stdout != IN_USE or time.monotonic() > until:
-            return answer.stdout
+            return "".join(map(without_time, answer.stdout.splitlines(keepends=True)))
         time.sleep(0.1)
+
+
+def without_time(line: str) -> str:
+    """A line with its message, if it has one, with no time."""
+    position, _, message = line.removesuffix("\n").partition(" ")
+    if not position.isdigit():
+        return line
+    return f"{position} {messages.without_time(bytes.fromhex(message)).hex()}\n"
 
 
 def lines_of(transactions: Transactions) -> str:

@@ -2,7 +2,6 @@
 documentation, and nothing of it by pgshard.
 
 Commit n has the LSN 64 n, ends at 64 n + 64, and has the transaction n + 2; table n, from 0, has the OID 16384 + n.
-A commit's time is the number of its step.
 """
 
 from collections.abc import Callable
@@ -94,7 +93,7 @@ class Publisher:
 
     tables: tuple[Table, ...]
     rows: dict[str, dict[Row, Row]] = field(default_factory=dict)
-    log: list[tuple[int, list[Change]]] = field(default_factory=list)
+    log: list[list[Change]] = field(default_factory=list)
 
     def __post_init__(self) -> None:
         self.rows = {table.name: {} for table in self.tables}
@@ -103,9 +102,9 @@ class Publisher:
         """A table with its OID."""
         return next((16384 + at, table) for at, table in enumerate(self.tables) if table.name == name)
 
-    def commit(self, commands: list[Command], step: int) -> None:
+    def commit(self, commands: list[Command]) -> None:
         """Makes a commit whose commands have no fault."""
-        self.log.append((step, [self.change(command) for command in commands]))
+        self.log.append([self.change(command) for command in commands])
 
     def change(self, command: Command) -> Change:
         match command:
@@ -132,22 +131,22 @@ class Publisher:
         return sorted(row for row in self.rows[table].values() if subscriber.takes(table, row))
 
     def transactions(self, subscriber: Subscriber, position: int = 0) -> list[list[tuple[int, bytes]]]:
-        """The messages of each commit that a subscriber is told of from a position on, each with the position in the
-        log that it is sent with."""
+        """The messages of each commit that a subscriber is told of from a position on, with no times, each with the
+        position in the log that it is sent with."""
         told: set[str] = set()
         found = []
-        for number, (step, changes) in enumerate(self.log, 1):
+        for number, changes in enumerate(self.log, 1):
             if 64 * number < position:
                 continue
             said = [it for change in changes for it in self.said(subscriber, change, told)]
             if said:
-                first = messages.begin(64 * number, step, number + 2)
-                last = messages.commit(64 * number, end_of(number), step)
+                first = messages.begin(64 * number, number + 2)
+                last = messages.commit(64 * number, end_of(number))
                 found.append([(64 * number, message) for message in [first, *said, last]])
         return found
 
     def stream(self, subscriber: Subscriber, position: int = 0) -> bytes:
-        """All that a connection is sent, with no clocks."""
+        """All that a connection is sent, with no clocks and no times."""
         told = [it for transaction in self.transactions(subscriber, position) for it in transaction]
         return messages.COPY_BOTH_RESPONSE + b"".join(messages.xlog_data(*it) for it in told)
 

@@ -39,7 +39,8 @@ def check_start(tally: Tally, port: int, subscriber: Subscriber, position: int) 
         tally.check(f"{name}: a slot is made", run(port, subscriber, "--create-slot", "-P", "pgoutput"), (0, ""))
         tally.check(f"{name}: its end", run(port, subscriber, *words), (0, ""))
         found = file.read_bytes() if file.exists() else b""
-        tally.check(f"{name}: its messages", found.hex(), written_messages(subscriber, position).hex())
+        expected = written_messages(subscriber, position)
+        tally.check(f"{name}: its messages", lines_of(cut(found, expected)), lines_of(expected))
         tally.check(f"{name}: a slot is dropped", run(port, subscriber, "--drop-slot"), (0, ""))
 
 
@@ -61,7 +62,20 @@ def run(port: int, subscriber: Subscriber, *words: str) -> tuple[int | None, str
     return answer.returncode, answer.stdout
 
 
-def written_messages(subscriber: Subscriber, position: int) -> bytes:
+def written_messages(subscriber: Subscriber, position: int) -> list[bytes]:
     """Each with the newline that pg_recvlogical writes after it."""
     transactions = SHOP.publisher().transactions(subscriber, position)
-    return b"".join(message + b"\n" for transaction in transactions for _, message in transaction)
+    return [message + b"\n" for transaction in transactions for _, message in transaction]
+
+
+def cut(found: bytes, expected: list[bytes]) -> list[bytes]:
+    """What was written in pieces as long as those that are expected, with no times, and then what is left."""
+    pieces = []
+    for message in expected:
+        pieces.append(messages.without_time(found[:len(message)]))
+        found = found[len(message):]
+    return [*pieces, found] if found else pieces
+
+
+def lines_of(pieces: list[bytes]) -> str:
+    return "".join(f"{piece.hex()}\n" for piece in pieces)

@@ -10,7 +10,7 @@ from .publisher import Command, Publisher, Subscriber, Table, command_text
 
 @dataclass(frozen=True)
 class Sharding:
-    """A catalog text, what it says, and commits, those that are refused without their commands' effects."""
+    """A catalog text, what it says, and commits, of which some are refused, by their numbers from 1."""
 
     catalog: str
     tables: tuple[Table, ...]
@@ -19,11 +19,11 @@ class Sharding:
     refused: frozenset[int] = frozenset()
 
     def publisher(self) -> Publisher:
-        """A publisher that has made the commits, each at its step's number."""
+        """A publisher that has made the other commits."""
         made = Publisher(self.tables)
-        for step, commands in enumerate(self.commits, 1):
-            if step not in self.refused:
-                made.commit(commands, step)
+        for number, commands in enumerate(self.commits, 1):
+            if number not in self.refused:
+                made.commit(commands)
         return made
 
     def input(self) -> str:
