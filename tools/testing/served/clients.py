@@ -8,8 +8,11 @@ from collections.abc import Iterator
 
 from . import messages
 from .program import SECONDS
-from .publisher import Publisher, Subscriber
+from .publisher import Subscriber
 
+
+# How little room a client may have for what it does not read, in bytes.
+LITTLE = 4096
 
 # What is read where nothing more comes, and no end.
 NO_END = b" and no end"
@@ -82,16 +85,6 @@ def client(port: int, room: int | None = None) -> Iterator[Connection]:
         opened.settimeout(SECONDS)
         opened.connect(("127.0.0.1", port))
         yield Connection(opened)
-
-
-def stream_of(made: Connection, publisher: Publisher, subscriber: Subscriber, position: int = 0) -> bytes:
-    """What a client that has started gets, as many bytes as its stream has, and then of the end of the stream."""
-    return made.receive(len(publisher.stream(subscriber, position))) + made.finish()
-
-
-def whole_stream(publisher: Publisher, subscriber: Subscriber, position: int = 0) -> bytes:
-    """What it has to get: its stream and CopyDone, and nothing more."""
-    return publisher.stream(subscriber, position) + messages.COPY_DONE
 
 
 @contextlib.contextmanager

@@ -150,3 +150,9 @@ def time_of(message: bytes) -> int | None:
     """The time of a Begin or a Commit."""
     at = TIMES.get(message[:1])
     return None if at is None else int.from_bytes(message[at:at + 8], "big")
+
+
+def end_in(frames: list[bytes], before: int) -> int:
+    """Where the last transaction of some frames ends, as its Commit says, or where the stream was before."""
+    ends = [whole[MESSAGE + 10:MESSAGE + 18] for whole in frames if whole[MESSAGE:MESSAGE + 1] == b"C"]
+    return int.from_bytes(ends[-1], "big") if ends else before

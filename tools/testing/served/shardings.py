@@ -19,9 +19,9 @@ CROWD = 32
 # How often each row of the crowd goes on to the next subscriber.
 ROUNDS = 10
 
-# Rows of one subscriber that take 10 MB, more than what a system keeps of a connection that nobody reads.
+# Rows of one subscriber that take 7 MB, more than what a system keeps of a connection that nobody reads.
 LARGE = 60_000
-LARGE_ROWS = 170
+LARGE_ROWS = 120
 
 
 def halves(commits: list[list[Command]], refused: frozenset[int] = frozenset()) -> Sharding:
