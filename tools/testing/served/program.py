@@ -10,8 +10,12 @@ from collections.abc import Iterator
 
 from programs import PGSHARD, TOOLS, decoded
 
-# How long anything here may take, but for the first line of a program that reads a large input.
+# How long anything here may take.
 SECONDS = 20
+
+# How many ports are tried, and the status of a program that can't have one.
+PORTS = 3
+NO_PORT = 4
 
 
 class Started:
@@ -35,10 +39,14 @@ class Started:
             self.process.stdin.close()
 
     def line(self, seconds: float = SECONDS) -> str | None:
-        """The next line, or None where it does not come."""
-        with contextlib.suppress(queue.Empty):
-            return self.lines.get(timeout=seconds)
-        return None
+        """The next line, or None where there is no further one, or it does not come."""
+        try:
+            line = self.lines.get(timeout=seconds)
+        except queue.Empty:
+            return None
+        if line is None:
+            self.lines.put(None)
+        return line
 
     def is_running(self) -> bool:
         return self.process.poll() is None
@@ -73,32 +81,38 @@ def free_port() -> int:
         return taken.getsockname()[1]
 
 
+class NotStarted(Exception):
+    """A program does not listen."""
+
+
+@contextlib.contextmanager
+def listening(words: list[str], text: str = "") -> Iterator[tuple[Started, int]]:
+    """A program that listens, and its port, which it is told by `--port`. Another port is tried where somebody else has
+    taken the first one."""
+    for tries in range(1, PORTS + 1):
+        port = free_port()
+        with started([*words, "--port", str(port)], text) as program:
+            line = program.line()
+            if line == f"listening {port}\n":
+                yield program, port
+                return
+            status, _ = program.end()
+        if status != NO_PORT or tries == PORTS:
+            raise NotStarted(f"{' '.join(words)} wrote {line!r} and has the status {status}")
+
+
 @contextlib.contextmanager
 def serving(text: str, *words: str) -> Iterator[tuple[Started, int]]:
     """pgshard serve that listens, and its port."""
-    port = free_port()
-    with started([PGSHARD, "serve", "--port", str(port), *words], text) as program:
-        yield listening(program, "serve", port), port
+    with listening([PGSHARD, "serve", *words], text) as program:
+        yield program
 
 
 @contextlib.contextmanager
 def fronting(backend: int, *words: str) -> Iterator[tuple[Started, int]]:
     """tools/front before a publisher, and its port."""
-    port = free_port()
-    words = [str(TOOLS / "front"), "--port", str(port), "--backend", str(backend), *words]
-    with started(words) as program:
-        yield listening(program, "front", port), port
-
-
-class NotStarted(Exception):
-    """A program does not listen."""
-
-
-def listening(program: Started, name: str, port: int) -> Started:
-    line = program.line()
-    if line != f"listening {port}\n":
-        raise NotStarted(f"{name} wrote {line!r} in place of listening {port}")
-    return program
+    with listening([str(TOOLS / "front"), "--backend", str(backend), *words]) as program:
+        yield program
 
 
 def use_up(program: Started, port: int) -> None:
