@@ -10,6 +10,7 @@ from .front_checks import check_front
 from .program import NotStarted
 from .psycopg_checks import check_psycopg
 from .recvlogical_checks import check_recvlogical
+from .server_checks import check_messages
 from .subscribers_checks import check_subscribers
 
 VERSIONS = ["15.18", "13.18"]
@@ -18,6 +19,7 @@ VERSIONS = ["15.18", "13.18"]
 def check_clients(tally: Tally, server: Server) -> None:
     """tools/front, and clients that pgshard serve feeds through it."""
     try:
+        check_messages(tally, server)
         check_front(tally)
         check_recvlogical(tally)
         for version in VERSIONS:
