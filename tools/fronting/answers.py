@@ -113,12 +113,10 @@ class Answers:
     def tables(self, asked: list[str], with_columns: bool) -> bytes:
         if self.catalog is None:
             return NO_CATALOG
-        columns = [("schemaname", frames.TEXT), ("tablename", frames.TEXT)]
-        found = [(table.schema, table.name) for table in self.catalog.tables_of(asked)]
-        if with_columns:
-            columns.append(("attnames", frames.NAMES))
-            found = [(table.schema, table.name, array(table.columns)) for table in self.catalog.tables_of(asked)]
-        return frames.rows(columns, found, f"SELECT {len(found)}")
+        columns = [("schemaname", frames.TEXT), ("tablename", frames.TEXT), ("attnames", frames.NAMES)]
+        width = 3 if with_columns else 2
+        found = [(it.schema, it.name, array(it.columns))[:width] for it in self.catalog.tables_of(asked)]
+        return frames.rows(columns[:width], found, f"SELECT {len(found)}")
 
 
 def names_in(asked: re.Match) -> list[str]:

@@ -65,7 +65,8 @@ def objects_of(tokens: list[str]) -> tuple[set[str], set[tuple[str, str]]]:
 
 def entries_of(tokens: list[str]) -> Iterator[list[str]]:
     """The parts of a list that commas outside of parentheses separate, up to WITH."""
-    entry, depth = [], 0
+    entry: list[str] = []
+    depth = 0
     for token in tokens:
         depth += (token == "(") - (token == ")")
         if depth == 0 and token.upper() == "WITH":

@@ -6,7 +6,6 @@ import signal
 import socket
 import sys
 import threading
-from typing import NoReturn
 
 from fronting.answers import Answers
 from fronting.catalog import Catalog
@@ -64,9 +63,15 @@ def run(words: list[str], help: str) -> int:
     try:
         for ending in ENDINGS:
             signal.signal(ending, end)
-        return listen(options)
+        listener = listener_at(options.port)
+        if listener is None:
+            return NO_PORT
+        with listener:
+            print(f"listening {options.port}", flush=True)
+            accept(listener, Answers(options.version, options.catalog), options.backend)
     except Ending:
-        return ENDED
+        pass
+    return ENDED
 
 
 def end(number: int, frame: object) -> None:
@@ -75,19 +80,16 @@ def end(number: int, frame: object) -> None:
     raise Ending
 
 
-def listen(options: argparse.Namespace) -> int:
-    """Only a signal ends it, but where the port can't be had."""
+def listener_at(number: int) -> socket.socket | None:
+    """None, after a line that says why, where the port can't be had."""
     try:
-        listener = socket.create_server(("127.0.0.1", options.port))
+        return socket.create_server(("127.0.0.1", number))
     except OSError as fault:
-        print(f"front: cannot listen at port {options.port}: {fault.strerror}", file=sys.stderr)
-        return NO_PORT
-    with listener:
-        print(f"listening {options.port}", flush=True)
-        accept(listener, Answers(options.version, options.catalog), options.backend)
+        print(f"front: cannot listen at port {number}: {fault.strerror}", file=sys.stderr)
+        return None
 
 
-def accept(listener: socket.socket, answers: Answers, backend: int) -> NoReturn:
+def accept(listener: socket.socket, answers: Answers, backend: int) -> None:
     """Serves each client in a thread of its own. The end of the program ends them all."""
     for number in itertools.count(1):
         connection, _ = listener.accept()

@@ -2,6 +2,7 @@
 
 import socket
 import struct
+from collections.abc import Sequence
 
 # No client of a front has more to say at once.
 LONGEST_FROM_CLIENT = 1 << 20
@@ -42,7 +43,7 @@ class Peer:
             raise Lost
         self.waiting += piece
 
-    def bytes(self, count: int) -> bytes:
+    def take(self, count: int) -> bytes:
         while len(self.waiting) < count:
             self.fill()
         taken = bytes(self.waiting[:count])
@@ -51,12 +52,12 @@ class Peer:
 
     def startup_body(self) -> bytes:
         """The body of a first packet, which has no kind."""
-        return self.bytes(self.length(self.bytes(4)))
+        return self.take(self.length(self.take(4)))
 
     def frame(self) -> tuple[bytes, bytes]:
         """The next frame's kind and body."""
-        head = self.bytes(5)
-        return head[:1], self.bytes(self.length(head[1:]))
+        head = self.take(5)
+        return head[:1], self.take(self.length(head[1:]))
 
     def frames(self) -> list[tuple[bytes, bytes]]:
         """The frames that are whole, at least one."""
@@ -111,7 +112,7 @@ def complete(tag: str) -> bytes:
     return frame(b"C", text(tag))
 
 
-def rows(columns: list[tuple[str, int]], listed: list[tuple[str | None, ...]], tag: str) -> bytes:
+def rows(columns: Sequence[tuple[str, int]], listed: Sequence[tuple[str | None, ...]], tag: str) -> bytes:
     """The answer of a query: its columns with the OIDs of their types, and its rows."""
     described = b"".join(text(name) + struct.pack("!IHIhih", 0, 0, oid, -1, -1, 0) for name, oid in columns)
     answer = frame(b"T", struct.pack("!H", len(columns)) + described)

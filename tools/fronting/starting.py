@@ -18,8 +18,8 @@ def is_start(query: str) -> bool:
 
 def in_version_1(query: str) -> str:
     """The same command for protocol version 1 without permissions, where its options are read, and else as it is."""
-    command = COMMAND.match(query).group()
-    options = options_of(query[len(command):].strip().removesuffix(";").strip())
+    begin = COMMAND.match(query).end()
+    options = options_of(query[begin:].strip().removesuffix(";").strip())
     if options is None:
         return query
     written = []
@@ -29,7 +29,7 @@ def in_version_1(query: str) -> str:
                 written.append(f"{name} '1'")
             case word if word not in PERMISSIONS:
                 written.append(f"{name} {value}" if value else name)
-    return f"{command.strip()} ({', '.join(written)})"
+    return f"{query[:begin].strip()} ({', '.join(written)})"
 
 
 def options_of(text: str) -> list[tuple[str, str | None]] | None:

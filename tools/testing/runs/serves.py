@@ -7,7 +7,7 @@ from dataclasses import dataclass
 from programs import pgshard
 from served import beside, lost, whole
 from served.program import NotStarted, serving, use_up
-from served.publisher import Delete, Insert, Publisher, Update
+from served.publisher import Command, Delete, Insert, Publisher, Update
 from served.sharding import Sharding
 from served.shardings import HALVES_CATALOG, S0, S1, crowd, halves, large
 from served.shop import LONDON, SHOP, TOKYO
@@ -18,7 +18,7 @@ from .catalogs import C
 from .simulations import three_parts
 
 # Commits of which some are refused, by the numbers of their steps.
-SOME_REFUSED = [
+SOME_REFUSED: list[list[Command]] = [
     [Insert("t", (1, "a"))],
     [Insert("t", (2, "b")), Insert("t", (1, "b"))],
     [],

@@ -1,6 +1,6 @@
 """A shop whose three tables are identified in three ways, divided over two subscribers, and a script of commits."""
 
-from .publisher import Delete, Insert, Subscriber, Table, Truncate, Update
+from .publisher import Command, Delete, Insert, Subscriber, Table, Truncate, Update
 from .sharding import Sharding
 
 CATALOG = """\
@@ -45,7 +45,7 @@ FILTERS = {
     "tokyo": {"orders": "region >= 100 OR region IS NULL", "stock": "place >= 10", "accounts": "code <> 'a'"},
 }
 
-COMMITS = [
+COMMITS: list[list[Command]] = [
     [
         Insert("orders", (1, 20, 500, "first", True)),
         Insert("orders", (2, 250, 700, None, False)),

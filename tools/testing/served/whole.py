@@ -6,7 +6,7 @@ from collections.abc import Callable, Iterator
 
 from . import messages
 from .clients import LITTLE, Connection, back_again, client
-from .publisher import Insert, Publisher, Subscriber, end_of
+from .publisher import Command, Insert, Publisher, Subscriber, end_of
 from .shardings import S0, S1
 from .shop import LONDON, TOKYO
 
@@ -15,7 +15,7 @@ Findings = Iterator[tuple[str, object, object]]
 
 # Commits of halves, and what each client is sent of them, with P in place of a position, and 0 in place of K, a clock,
 # and of T, a time.
-TWO_COMMITS = [[Insert("t", (7, "eu"))], [Insert("t", (150, "us"))]]
+TWO_COMMITS: list[list[Command]] = [[Insert("t", (7, "eu"))], [Insert("t", (150, "us"))]]
 TWO_STREAMS = [
     (S0, """
         57 00000007 00 0000
@@ -102,8 +102,8 @@ def times(port: int, publisher: Publisher) -> Findings:
             sent, _ = messages.frames_of(made.receive_as_is(len(publisher.stream(subscriber))))
             clocks = [before, *(int.from_bytes(whole[22:30], "big") for whole in sent[1:]), clock()]
             yield f"the clocks of {subscriber.slot} in order", clocks, sorted(clocks)
-            found = [messages.time_of(whole[messages.MESSAGE:]) for whole in sent[1:]]
-            found = [time for time in found if time is not None]
+            told = [messages.time_of(whole[messages.MESSAGE:]) for whole in sent[1:]]
+            found = [it for it in told if it is not None]
             yield f"the times of {subscriber.slot} in order", found, sorted(found)
             yield f"the times of {subscriber.slot} that begin and end", found[::2], found[1::2]
 
