@@ -19,20 +19,25 @@ def check_messages(tally: Tally, server: Server) -> None:
     """The messages of each subscriber."""
     server.create(DATABASE, without_subscriptions(SHOP.catalog))
     for subscriber in SHOP.subscribers:
-        server.psql(DATABASE, f"SELECT pg_create_logical_replication_slot('{subscriber.slot}', 'pgoutput');")
+        server.psql(DATABASE, f"SELECT pg_create_logical_replication_slot('{slot_of(subscriber)}', 'pgoutput');")
     server.psql(DATABASE, "\n".join(map(transaction_text, SHOP.commits)))
     for subscriber in SHOP.subscribers:
         here = [message for transaction in SHOP.publisher().transactions(subscriber) for _, message in transaction]
         there = messages_of(server, subscriber)
         tally.check(f"what {subscriber.slot} is told here, and by a server", lines_of(here), lines_of(there))
-        server.psql(DATABASE, f"SELECT pg_drop_replication_slot('{subscriber.slot}');")
+        server.psql(DATABASE, f"SELECT pg_drop_replication_slot('{slot_of(subscriber)}');")
+
+
+def slot_of(subscriber: Subscriber) -> str:
+    """A slot of the server that no other test has."""
+    return f"{DATABASE}_{subscriber.slot}"
 
 
 def messages_of(server: Server, subscriber: Subscriber) -> list[bytes]:
     """All that comes of a slot."""
     listed = server.psql(DATABASE, f"""
         SELECT encode(data, 'hex') FROM pg_logical_slot_get_binary_changes(
-            '{subscriber.slot}', NULL, NULL, 'proto_version', '1',
+            '{slot_of(subscriber)}', NULL, NULL, 'proto_version', '1',
             'publication_names', '{','.join(subscriber.publications)}');
     """)
     return [bytes.fromhex(line) for line in listed.splitlines()]
