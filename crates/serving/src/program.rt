@@ -1,0 +1,117 @@
+//! The whole program, over any reader and writer.
+
+ghost use Rattle.std.specs.Prelude.{◌≡◌, false, map};
+ghost use Rattle.subcommands.specs.Outcomes.{IsRun};
+ghost use Rattle.subcommands.specs.Requests.{reader_of};
+ghost use Rattle.serving.specs.Words.{names_serve};
+
+use crate::arguments::{Asked, Service, parse};
+use crate::serve::serve_input;
+use std::convert::AsStr;
+use std::io::{Read, Write};
+use std::net::{Net, TcpListener, TcpStream};
+use std::sync::Wait;
+use std::thread::Threads;
+use std::time::Clock;
+use subcommands::{Failure, Input, Status, read_input, report, run, write_line};
+
+/// Whether the first word after the program's name is `serve`.
+fn is_serve<S: AsStr>(words: &[S]) -> bool
+    ensures { result ≡ names_serve (map S.text words.now) }
+{
+    match words.get(1) {
+        Some(word) => word.as_str() == "serve",
+        None => false,
+    }
+}
+
+/// Writes the help or the version.
+fn write_help<'a, W: Write>(mut text: String, writer: &mut W) -> Result<Status, Failure<'a>> {
+    write_line(&mut text, writer)?;
+    Ok(Status::Done)
+}
+
+/// Serves what the reader gives.
+fn serve_reader<
+    'a,
+    I: Read + Drop,
+    W: Write,
+    R: AllocGlobal + Threads + Wait + Clock + Net<Listener = TcpListener, Stream = TcpStream> + Sync,
+>(
+    rt: &R,
+    service: Service,
+    input: Input<I>,
+    writer: &mut W,
+) -> Result<Status, Failure<'a>> {
+    let input = read_input(rt.alloc(), input)?;
+    serve_input(rt, rt.alloc(), service, input.as_str(), writer)
+}
+
+/// Does what the words ask.
+fn answer_words<
+    'a,
+    S: AsStr,
+    I: Read + Drop,
+    W: Write,
+    R: AllocGlobal + Threads + Wait + Clock + Net<Listener = TcpListener, Stream = TcpStream> + Sync,
+>(
+    rt: &R,
+    words: &'a [S],
+    input: Input<I>,
+    writer: &mut W,
+) -> Result<Status, Failure<'a>> {
+    match parse(rt.alloc(), words)? {
+        Asked::Help(text) => write_help(text, writer),
+        Asked::Serve(service) => serve_reader(rt, service, input, writer),
+    }
+}
+
+/// Does what the words ask, and reports a failure.
+fn outcome<
+    S: AsStr,
+    I: Read + Drop,
+    W: Write,
+    R: AllocGlobal + Threads + Wait + Clock + Net<Listener = TcpListener, Stream = TcpStream> + Sync,
+>(
+    rt: &R,
+    words: &[S],
+    input: Input<I>,
+    writer: &mut W,
+) -> Status {
+    match answer_words(rt, words, input, writer) {
+        Ok(status) => status,
+        Err(failure) => report(rt.alloc(), failure, writer),
+    }
+}
+
+/// Runs the program on the words of a command line, the program's name first, and gives its exit status. Where the first
+/// word is `serve`, subscribers are served over sockets, and the status is 0 where all connections have ended and the
+/// publisher was closed, 1 where the sharding is refused or the publisher can't be closed, 2 where the words ask nothing,
+/// 3 where the input is not taken, 4 where the writer fails, the port can't be had or the listening socket fails, 5 where
+/// memory runs out. Other words are run as `run` does.
+pub fn run_serving<
+    S: AsStr,
+    I: Read + Drop,
+    W: Write,
+    R: AllocGlobal + Threads + Wait + Clock + Net<Listener = TcpListener, Stream = TcpStream> + Sync,
+>(
+    rt: &R,
+    words: &[S],
+    input: Input<I>,
+    writer: &mut W,
+) -> u8
+    ensures other { names_serve (map S.text words.now) ≡ false → IsRun (map S.text words.now)
+        (I.remaining (reader_of input)) (W.contents writer.old) (W.contents writer.new) result }
+{
+    if !is_serve(words) {
+        return run(rt.alloc(), words, input, writer);
+    }
+    let status = outcome(rt, words, input, writer);
+    if status == Status::Output {
+        return status as u8;
+    }
+    match writer.flush() {
+        Ok(()) => status as u8,
+        Err(_) => Status::Output as u8,
+    }
+}
