@@ -1,1 +1,5 @@
+pub mod CommandLine
+pub mod Scripts
+pub mod Serving
+pub mod Telling
 pub mod Words

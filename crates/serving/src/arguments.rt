@@ -1,5 +1,14 @@
 //! The command line of `serve`.
 
+ghost use Rattle.std.specs.Prelude.{◌≡◌, ℕ, Option, None, false, IfErr, IfOk, IfSome, map};
+ghost use Rattle.std.specs.Option.{option_map};
+ghost use Rattle.clap.specs.Words.{app_of, found_of, kind_of, rows_of, subcommand_rows_of};
+ghost use Rattle.clap.specs.declared.builder.command.Command.TheViews.{out-Command};
+ghost use Rattle.subcommands.specs.CommandLine.{IsHelpKind, IsLimit, IsOfError};
+ghost use Rattle.serving.specs.CommandLine as spec;
+ghost use Rattle.serving.specs.CommandLine.{AreConnections, IsAsking, IsHelp, IsOfWords, IsPort, IsService, TakesServe};
+ghost use Rattle.serving.specs.declared.arguments.Service.{Service as ServiceType};
+
 use clap::error::ErrorKind;
 use clap::{Arg, ArgAction, ArgMatches, Command};
 use std::alloc::{AllocError, Global};
@@ -43,7 +52,10 @@ Exit status:
   4  the output is not taken, the port can't be had, or the listening socket failed
   5  memory ran out";
 
-fn serve_command<'a>(alloc: Global) -> Result<Command<'a>, AllocError> {
+fn serve_command<'a>(alloc: Global) -> Result<Command<'a>, AllocError>
+    ensures shape { IfOk result (λ command. app_of command ≡ spec.serve) }
+    ensures local { IfOk result (λ command. (out-Command command).has_globals ≡ false) }
+{
     let port = Arg::new(alloc, "port")
         .long("port")
         .value_name("P")
@@ -68,7 +80,9 @@ fn serve_command<'a>(alloc: Global) -> Result<Command<'a>, AllocError> {
         .arg(connections)
 }
 
-fn command<'a>(alloc: Global) -> Result<Command<'a>, AllocError> {
+fn command<'a>(alloc: Global) -> Result<Command<'a>, AllocError>
+    ensures { IfOk result (λ command. app_of command ≡ spec.serving) }
+{
     let serve = serve_command(alloc)?;
     Command::new(alloc, "pgshard")
         .version("0.1.0")
@@ -84,7 +98,10 @@ fn rendered(alloc: Global, error: &clap::Error) -> Result<String, AllocError> {
 }
 
 /// What is asked by words that clap answers with an error.
-fn asked_by<'a>(alloc: Global, error: &clap::Error) -> Result<Asked, Failure<'a>> {
+fn asked_by<'a>(alloc: Global, error: &clap::Error) -> Result<Asked, Failure<'a>>
+    ensures help { IfOk result (λ asked. IsHelp asked × IsHelpKind (kind_of error.now)) }
+    ensures stopped { IfErr result (IsOfError (kind_of error.now)) }
+{
     match error.kind() {
         ErrorKind::OutOfMemory => Err(Failure::OutOfMemory),
         ErrorKind::DisplayHelp | ErrorKind::DisplayVersion => {
@@ -94,11 +111,25 @@ fn asked_by<'a>(alloc: Global, error: &clap::Error) -> Result<Asked, Failure<'a>
     }
 }
 
-/// The port that a word spells.
-fn read_port(word: &str) -> Option<u16> {
-    match word.parse::<u16>() {
+/// The port that the word spells, if there is one.
+fn port_by(word: Option<&str>) -> Option<u16>
+    ensures some { IfSome result (IsPort (option_map (λ word. word.now) word)) }
+    ensures none { result ≡ None → (port : ℕ) → IsPort (option_map (λ word. word.now) word) port → ⊥ }
+{
+    match word?.parse::<u16>() {
         Ok(port) if 1 <= port => Some(port),
         _ => None,
+    }
+}
+
+/// The most commits that the log takes, if the word is read.
+fn limit_by(word: Option<&str>) -> Option<u32>
+    ensures some { IfSome result (IsLimit (option_map (λ word. word.now) word)) }
+    ensures none { result ≡ None → (limit : ℕ) → IsLimit (option_map (λ word. word.now) word) limit → ⊥ }
+{
+    match word {
+        Some(word) => read_limit(word),
+        None => Some(LIMIT),
     }
 }
 
@@ -106,7 +137,10 @@ fn read_port(word: &str) -> Option<u16> {
 const MOST_CONNECTIONS: usize = 1_000;
 
 /// The number of connections that a word spells, if so many may be accepted.
-fn read_count(word: &str) -> Option<usize> {
+fn read_count(word: &str) -> Option<usize>
+    ensures some { IfSome result (spec.Spells 1000 word.now) }
+    ensures none { result ≡ None → (count : ℕ) → spec.Spells 1000 word.now count → ⊥ }
+{
     match word.parse::<usize>() {
         Ok(count) if 1 <= count && count <= MOST_CONNECTIONS => Some(count),
         _ => None,
@@ -114,31 +148,44 @@ fn read_count(word: &str) -> Option<usize> {
 }
 
 /// How many connections are accepted in all, if the word is read; none where there is no word.
-fn read_connections(word: Option<&str>) -> Option<Option<usize>> {
+fn connections_by(word: Option<&str>) -> Option<Option<usize>>
+    ensures some { IfSome result (AreConnections (option_map (λ word. word.now) word)) }
+    ensures none { result ≡ None → (connections : Option ℕ)
+        → AreConnections (option_map (λ word. word.now) word) connections → ⊥ }
+{
     match word {
-        Some(word) => Some(Some(read_count(word)?)),
+        Some(word) => {
+            let count = read_count(word)?;
+            Some(Some(count))
+        }
         None => Some(None),
     }
 }
 
-/// The most commits that the log takes, if the word is read.
-fn limit_by(word: Option<&str>) -> Option<u32> {
-    match word {
-        Some(word) => read_limit(word),
-        None => Some(LIMIT),
-    }
-}
-
 /// What the arguments of `serve` ask.
-fn service_of<'a>(serve: &ArgMatches<'a>) -> Option<Service> {
-    let port = read_port(serve.get_str("port")?)?;
+fn service_of<'a>(serve: &ArgMatches<'a>) -> Option<Service>
+    ensures some { IfSome result (IsService (rows_of (found_of serve.now))) }
+    ensures none { result ≡ None → (service : ServiceType) → IsService (rows_of (found_of serve.now)) service → ⊥ }
+{
+    let port = port_by(serve.get_str("port"))?;
     let limit = limit_by(serve.get_str("limit"))?;
-    let connections = read_connections(serve.get_str("connections"))?;
+    let connections = connections_by(serve.get_str("connections"))?;
     Some(Service {
         port,
         limit,
         connections,
     })
+}
+
+/// What is asked by the subcommand that the words name.
+fn request_of<'a>(matches: &ArgMatches<'a>) -> Option<Service>
+    ensures some { IfSome result (TakesServe (subcommand_rows_of matches.now)) }
+    ensures none { result ≡ None → (service : ServiceType) → TakesServe (subcommand_rows_of matches.now) service → ⊥ }
+{
+    if let Some(serve) = matches.subcommand_matches("serve") {
+        return service_of(serve);
+    }
+    None
 }
 
 /// Reads the words of a command line of `serve`, the program's name first.
@@ -148,17 +195,16 @@ fn service_of<'a>(serve: &ArgMatches<'a>) -> Option<Service> {
 /// `CommandLine` where the words are not `serve` with one `--port` of 1 to 65535, at most one `--limit` of 1 to
 /// 1,000,000,000 and at most one `--connections` of 1 to 1,000, nor ask for the help or the version, with a text for the
 /// user; `OutOfMemory`.
-pub fn parse<'a, S: AsStr>(alloc: Global, words: &'a [S]) -> Result<Asked, Failure<'a>> {
+pub fn parse<'a, S: AsStr>(alloc: Global, words: &'a [S]) -> Result<Asked, Failure<'a>>
+    ensures asked { IfOk result (IsAsking (map S.text words.entry.now)) }
+    ensures stopped { IfErr result (IsOfWords (map S.text words.entry.now)) }
+{
     let mut command = command(alloc)?;
     let matches = match command.try_get_matches_from_mut(words) {
         Ok(matches) => matches,
         Err(error) => return asked_by(alloc, &error),
     };
-    let service = match matches.subcommand_matches("serve") {
-        Some(serve) => service_of(serve),
-        None => None,
-    };
-    match service {
+    match request_of(&matches) {
         Some(service) => Ok(Asked::Serve(service)),
         None => Err(Failure::CommandLine(String::from_str(
             alloc,

@@ -1,6 +1,6 @@
 //! The connections that are accepted, each served from its accept on.
 
-use senders::{End, FromRead, OpenGate, Publisher, Publishing, Served, ToWrite, serve};
+use senders::{FromRead, OpenGate, Publisher, Publishing, Served, ToWrite, serve};
 use std::alloc::{AllocError, Global};
 use std::io::ErrorKind;
 use std::net::{TcpListener, TcpStream};

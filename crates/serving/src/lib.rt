@@ -9,6 +9,7 @@ mod commits;
 mod connections;
 mod listening;
 mod program;
+mod running;
 mod script;
 mod serve;
 

@@ -1,6 +1,7 @@
 //! The whole program, over any reader and writer.
 
 ghost use Rattle.std.specs.Prelude.{◌≡◌, false, map};
+ghost use Rattle.subcommands.specs.CommandLine.{IsWithin};
 ghost use Rattle.subcommands.specs.Outcomes.{IsRun};
 ghost use Rattle.subcommands.specs.Requests.{reader_of};
 ghost use Rattle.serving.specs.Words.{names_serve};
@@ -42,12 +43,15 @@ fn serve_reader<
     service: Service,
     input: Input<I>,
     writer: &mut W,
-) -> Result<Status, Failure<'a>> {
+) -> Result<Status, Failure<'a>>
+    requires { IsWithin service.limit }
+{
     let input = read_input(rt.alloc(), input)?;
     serve_input(rt, rt.alloc(), service, input.as_str(), writer)
 }
 
 /// Does what the words ask.
+#[tactic(auto, using(crate::proofs::Asking::asked_within))]
 fn answer_words<
     'a,
     S: AsStr,

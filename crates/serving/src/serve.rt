@@ -1,14 +1,17 @@
 //! `serve`: the subscribers of a sharding are served over sockets.
 
-ghost use Rattle.std.specs.Prelude.{◌≡◌, ◌≤◌};
+ghost use Rattle.std.specs.Prelude.{◌≡◌};
 ghost use Rattle.std.specs.Arc.{arc_value};
 ghost use Rattle.shard_checker.specs.CheckedView.{checked_view};
+ghost use Rattle.subcommands.specs.CommandLine.{IsWithin};
+ghost use Rattle.serving.specs.Serving.{EndsService};
+ghost use Rattle.serving.specs.Telling.{Tells};
 
 use crate::arguments::Service;
 use crate::closing::{close_and_tell, served_in};
-use crate::commits::commit_and_finish;
-use crate::connections::{fill_all, open_places};
+use crate::connections::open_places;
 use crate::listening::listen;
+use crate::running::run_both;
 use crate::script::read_lists;
 use pub_reader::read_catalog;
 use senders::{Publisher, Publishing};
@@ -19,7 +22,7 @@ use std::marker::Brand;
 use std::net::{Net, TcpListener, TcpStream};
 use std::sync::ledger::Blank;
 use std::sync::{Arc, Wait};
-use std::thread::{Threads, join};
+use std::thread::Threads;
 use std::time::Clock;
 use subcommands::{
     Failure, InputFault, Status, lines_of, three_parts, verdict_of, write_refused,
@@ -46,8 +49,8 @@ fn publish<
     requires seats { blank.parts ≡ 1000 }
     requires checked { checked_view (arc_value checked) ≡ P.checked }
     requires limit { service.limit ≡ P.limit }
-    requires some { 1 ≤ service.limit }
-    requires within { service.limit ≤ 1000000000 }
+    requires within { IsWithin service.limit }
+    ensures { Tells service.port (W.contents writer.old) (W.contents writer.new) result }
 {
     let subscriptions = checked.catalog().subscriptions.len();
     let mut places = open_places(alloc, service.connections.unwrap_or(subscriptions))?;
@@ -56,15 +59,8 @@ fn publish<
         unreachable!()
     };
     let listener = listen(rt, alloc, service.port, writer)?;
-    let shared = &publisher;
-    let waiting = &listener;
     let free = places.as_mut_slice();
-    let session = &mut seat;
-    let (committed, ()) = join(
-        rt,
-        || commit_and_finish(rt, shared, session, lists),
-        || fill_all(rt, shared, waiting, free),
-    );
+    let committed = run_both(rt, &publisher, &mut seat, lists, &listener, free);
     let served = served_in(alloc, places)?;
     committed?;
     close_and_tell(alloc, publisher, seat, served, writer)
@@ -80,8 +76,8 @@ pub fn serve_input<'a, W: Write, R: Threads + Wait + Clock + Net<Listener = TcpL
     input: &str,
     writer: &mut W,
 ) -> Result<Status, Failure<'a>>
-    requires some { 1 ≤ service.limit }
-    requires within { service.limit ≤ 1000000000 }
+    requires { IsWithin service.limit }
+    ensures { EndsService service.entry input.now (W.contents writer.old) (W.contents writer.new) result }
 {
     let (text, certificates, script) = three_parts(input).ok_or(InputFault::Parts)?;
     let catalog = read_catalog(alloc, text)?;
