@@ -1,4 +1,6 @@
 pub mod CommandLine
+pub mod Outcomes
+pub mod Requests
 pub mod Scripts
 pub mod Serving
 pub mod Telling

@@ -2,9 +2,9 @@
 
 ghost use Rattle.std.specs.Prelude.{◌≡◌, ℕ, Option, None, false, IfErr, IfOk, IfSome, map};
 ghost use Rattle.std.specs.Option.{option_map};
-ghost use Rattle.clap.specs.Words.{app_of, found_of, kind_of, rows_of, subcommand_rows_of};
+ghost use Rattle.clap.specs.Words.{app_of, found_of, kind_of, rows_of, rule_of, subcommand_rows_of};
 ghost use Rattle.clap.specs.declared.builder.command.Command.TheViews.{out-Command};
-ghost use Rattle.subcommands.specs.CommandLine.{IsHelpKind, IsLimit, IsOfError};
+ghost use Rattle.subcommands.specs.CommandLine.{limit_rule, IsHelpKind, IsLimit, IsOfError};
 ghost use Rattle.serving.specs.CommandLine as spec;
 ghost use Rattle.serving.specs.CommandLine.{AreConnections, IsAsking, IsHelp, IsOfWords, IsPort, IsService, TakesServe};
 ghost use Rattle.serving.specs.declared.arguments.Service.{Service as ServiceType};
@@ -52,26 +52,47 @@ Exit status:
   4  the output is not taken, the port can't be had, or the listening socket failed
   5  memory ran out";
 
-fn serve_command<'a>(alloc: Global) -> Result<Command<'a>, AllocError>
-    ensures shape { IfOk result (λ command. app_of command ≡ spec.serve) }
-    ensures local { IfOk result (λ command. (out-Command command).has_globals ≡ false) }
+fn port_argument<'a>(alloc: Global) -> Arg<'a>
+    ensures rule { rule_of result ≡ spec.port_rule }
+    ensures local { result.global ≡ false }
 {
-    let port = Arg::new(alloc, "port")
+    Arg::new(alloc, "port")
         .long("port")
         .value_name("P")
         .help("the port of 127.0.0.1 to listen on: 1 to 65535")
         .required(true)
-        .action(ArgAction::Set);
-    let limit = Arg::new(alloc, "limit")
+        .action(ArgAction::Set)
+}
+
+fn limit_argument<'a>(alloc: Global) -> Arg<'a>
+    ensures rule { rule_of result ≡ limit_rule }
+    ensures local { result.global ≡ false }
+{
+    Arg::new(alloc, "limit")
         .long("limit")
         .value_name("N")
         .help("the most commits that the log takes: 1 to 1000000000, 1000000 where it is not said")
-        .action(ArgAction::Set);
-    let connections = Arg::new(alloc, "connections")
+        .action(ArgAction::Set)
+}
+
+fn connections_argument<'a>(alloc: Global) -> Arg<'a>
+    ensures rule { rule_of result ≡ spec.connections_rule }
+    ensures local { result.global ≡ false }
+{
+    Arg::new(alloc, "connections")
         .long("connections")
         .value_name("N")
         .help("how many connections are accepted in all: 1 to 1000, one for each subscription where it is not said")
-        .action(ArgAction::Set);
+        .action(ArgAction::Set)
+}
+
+fn serve_command<'a>(alloc: Global) -> Result<Command<'a>, AllocError>
+    ensures shape { IfOk result (λ command. app_of command ≡ spec.serve) }
+    ensures local { IfOk result (λ command. (out-Command command).has_globals ≡ false) }
+{
+    let port = port_argument(alloc);
+    let limit = limit_argument(alloc);
+    let connections = connections_argument(alloc);
     Command::new(alloc, "serve")
         .about("reads a catalog, certificates and a script, and serves subscribers over sockets")
         .after_help(SERVE_HELP)
@@ -113,8 +134,8 @@ fn asked_by<'a>(alloc: Global, error: &clap::Error) -> Result<Asked, Failure<'a>
 
 /// The port that the word spells, if there is one.
 fn port_by(word: Option<&str>) -> Option<u16>
-    ensures some { IfSome result (IsPort (option_map (λ word. word.now) word)) }
-    ensures none { result ≡ None → (port : ℕ) → IsPort (option_map (λ word. word.now) word) port → ⊥ }
+    ensures some { IfSome result (IsPort (option_map (λ word. word.now) word.entry)) }
+    ensures none { result ≡ None → (port : ℕ) → IsPort (option_map (λ word. word.now) word.entry) port → ⊥ }
 {
     match word?.parse::<u16>() {
         Ok(port) if 1 <= port => Some(port),
@@ -124,8 +145,8 @@ fn port_by(word: Option<&str>) -> Option<u16>
 
 /// The most commits that the log takes, if the word is read.
 fn limit_by(word: Option<&str>) -> Option<u32>
-    ensures some { IfSome result (IsLimit (option_map (λ word. word.now) word)) }
-    ensures none { result ≡ None → (limit : ℕ) → IsLimit (option_map (λ word. word.now) word) limit → ⊥ }
+    ensures some { IfSome result (IsLimit (option_map (λ word. word.now) word.entry)) }
+    ensures none { result ≡ None → (limit : ℕ) → IsLimit (option_map (λ word. word.now) word.entry) limit → ⊥ }
 {
     match word {
         Some(word) => read_limit(word),
@@ -149,9 +170,9 @@ fn read_count(word: &str) -> Option<usize>
 
 /// How many connections are accepted in all, if the word is read; none where there is no word.
 fn connections_by(word: Option<&str>) -> Option<Option<usize>>
-    ensures some { IfSome result (AreConnections (option_map (λ word. word.now) word)) }
+    ensures some { IfSome result (AreConnections (option_map (λ word. word.now) word.entry)) }
     ensures none { result ≡ None → (connections : Option ℕ)
-        → AreConnections (option_map (λ word. word.now) word) connections → ⊥ }
+        → AreConnections (option_map (λ word. word.now) word.entry) connections → ⊥ }
 {
     match word {
         Some(word) => {

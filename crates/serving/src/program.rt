@@ -1,9 +1,15 @@
 //! The whole program, over any reader and writer.
 
-ghost use Rattle.std.specs.Prelude.{◌≡◌, false, map};
+ghost use Rattle.std.specs.Prelude.{◌≡◌, true, false, map, IfErr, IfOk, OnOk};
+ghost use Rattle.std.specs.Io.KnownBytes.{Appends};
+ghost use Rattle.std.specs.String.{string_bytes};
 ghost use Rattle.subcommands.specs.CommandLine.{IsWithin};
-ghost use Rattle.subcommands.specs.Outcomes.{IsRun};
+ghost use Rattle.subcommands.specs.Outcomes as subcommands_outcomes;
+ghost use Rattle.subcommands.specs.Output.{StopsText, ended};
 ghost use Rattle.subcommands.specs.Requests.{reader_of};
+ghost use Rattle.subcommands.specs.declared.failure.Status.TheVariants.{Done};
+ghost use Rattle.serving.specs.Outcomes.{IsEnding, IsOutcome, IsRun};
+ghost use Rattle.serving.specs.Requests.{ServesReader};
 ghost use Rattle.serving.specs.Words.{names_serve};
 
 use crate::arguments::{Asked, Service, parse};
@@ -27,7 +33,13 @@ fn is_serve<S: AsStr>(words: &[S]) -> bool
 }
 
 /// Writes the help or the version.
-fn write_help<'a, W: Write>(mut text: String, writer: &mut W) -> Result<Status, Failure<'a>> {
+fn write_help<'a, W: Write>(mut text: String, writer: &mut W) -> Result<Status, Failure<'a>>
+    ensures status { IfOk result (λ status. status ≡ Done) }
+    ensures written { OnOk result (Appends (W.contents writer.old) (W.contents writer.new)
+        (ended (string_bytes text.entry))) }
+    ensures stopped { IfErr result (StopsText (ended (string_bytes text.entry)) (W.contents writer.old)
+        (W.contents writer.new)) }
+{
     write_line(&mut text, writer)?;
     Ok(Status::Done)
 }
@@ -45,6 +57,8 @@ fn serve_reader<
     writer: &mut W,
 ) -> Result<Status, Failure<'a>>
     requires { IsWithin service.limit }
+    ensures { ServesReader service.entry (I.remaining (reader_of input)) (W.contents writer.old)
+        (W.contents writer.new) result }
 {
     let input = read_input(rt.alloc(), input)?;
     serve_input(rt, rt.alloc(), service, input.as_str(), writer)
@@ -63,7 +77,10 @@ fn answer_words<
     words: &'a [S],
     input: Input<I>,
     writer: &mut W,
-) -> Result<Status, Failure<'a>> {
+) -> Result<Status, Failure<'a>>
+    ensures { IsEnding (map S.text words.entry.now) (I.remaining (reader_of input)) (W.contents writer.old)
+        (W.contents writer.new) result }
+{
     match parse(rt.alloc(), words)? {
         Asked::Help(text) => write_help(text, writer),
         Asked::Serve(service) => serve_reader(rt, service, input, writer),
@@ -71,6 +88,7 @@ fn answer_words<
 }
 
 /// Does what the words ask, and reports a failure.
+#[tactic(auto, using(crate::proofs::Exits::whole_outcome))]
 fn outcome<
     S: AsStr,
     I: Read + Drop,
@@ -81,10 +99,39 @@ fn outcome<
     words: &[S],
     input: Input<I>,
     writer: &mut W,
-) -> Status {
+) -> Status
+    ensures { IsOutcome (map S.text words.now) (I.remaining (reader_of input)) (W.contents writer.old)
+        (W.contents writer.new) result }
+{
     match answer_words(rt, words, input, writer) {
         Ok(status) => status,
         Err(failure) => report(rt.alloc(), failure, writer),
+    }
+}
+
+/// Does what the words of `serve` ask, and gives the exit status.
+#[tactic(auto, using(crate::proofs::Exits::ran, crate::proofs::Exits::ran_at_once, crate::proofs::Exits::ran_unflushed))]
+fn run_serve<
+    S: AsStr,
+    I: Read + Drop,
+    W: Write,
+    R: AllocGlobal + Threads + Wait + Clock + Net<Listener = TcpListener, Stream = TcpStream> + Sync,
+>(
+    rt: &R,
+    words: &[S],
+    input: Input<I>,
+    writer: &mut W,
+) -> u8
+    ensures { IsRun (map S.text words.now) (I.remaining (reader_of input)) (W.contents writer.old)
+        (W.contents writer.new) result }
+{
+    let status = outcome(rt, words, input, writer);
+    if status == Status::Output {
+        return status as u8;
+    }
+    match writer.flush() {
+        Ok(()) => status as u8,
+        Err(_) => Status::Output as u8,
     }
 }
 
@@ -104,18 +151,13 @@ pub fn run_serving<
     input: Input<I>,
     writer: &mut W,
 ) -> u8
-    ensures other { names_serve (map S.text words.now) ≡ false → IsRun (map S.text words.now)
+    ensures serve { names_serve (map S.text words.now) ≡ true → IsRun (map S.text words.now)
+        (I.remaining (reader_of input)) (W.contents writer.old) (W.contents writer.new) result }
+    ensures other { names_serve (map S.text words.now) ≡ false → subcommands_outcomes.IsRun (map S.text words.now)
         (I.remaining (reader_of input)) (W.contents writer.old) (W.contents writer.new) result }
 {
     if !is_serve(words) {
         return run(rt.alloc(), words, input, writer);
     }
-    let status = outcome(rt, words, input, writer);
-    if status == Status::Output {
-        return status as u8;
-    }
-    match writer.flush() {
-        Ok(()) => status as u8,
-        Err(_) => Status::Output as u8,
-    }
+    run_serve(rt, words, input, writer)
 }
