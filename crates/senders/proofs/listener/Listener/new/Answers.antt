@@ -1,0 +1,14 @@
+use Rattle.std.proofs.Common.{◌≡◌, [], ◌∙◌, subst, ap, rules}
+use Rattle.std.specs.Arc.{arc_value}
+use Rattle.shard_checker.specs.CheckedView.{CheckedOf, checked_view}
+use Rattle.shard_checker.specs.declared.checked.Checked.{Checked}
+use Rattle.copy_both.specs.HeardFrames.{HasHeard}
+use Rattle.copy_both.proofs.PiecesHeard.{nothing_is_heard}
+use Rattle.senders.proofs.listener.Listener.new.Goals as goal
+
+pub returns-clause-heard : goal.returns-clause-heard
+returns-clause-heard c =
+    let new = c.new-ear in
+    let same : arc_value c.in_ok-try_clone.field-0 ≡ arc_value c.args.checked.now = c.in_ok-try_clone.ensures in
+    subst (λ (checked : CheckedOf). HasHeard checked [] new.result) (new.ensures.checked ∙ ap (λ (checked : Checked). checked_view checked) same)
+    (nothing_is_heard new.result new.ensures.phase new.ensures.started new.ensures.held)

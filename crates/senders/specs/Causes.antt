@@ -1,0 +1,24 @@
+-- Which cause of an end is told: the first that was met (the project's own).
+use Rattle.std.specs.Prelude.{Bool, true, false, Option, Some, None}
+use Rattle.copy_both.specs.declared.link_fault.LinkFault.TheVariants as fault
+use Rattle.served_connections.specs.declared.end.End.{End}
+use Rattle.served_connections.specs.declared.end.End.TheVariants as end
+use Rattle.senders.specs.Refusing.{cause_by}
+use Rattle.senders.specs.declared.ending.Ending.{Ending}
+use Rattle.senders.specs.declared.stop.Stop.{Stop}
+use Rattle.senders.specs.declared.stop.Stop.TheVariants as stop
+
+abbrev pub end_by : Stop → End
+end_by stop.Told = end.Link fault.OutOfMemory
+end_by stop.Finished = end.Finished
+end_by stop.WriteFault = end.WriteFault
+end_by stop.OutOfMemory = end.Link fault.OutOfMemory
+
+-- the sender's, where it came first or the listener has none
+abbrev pub chosen_by : Stop → Bool → Ending → End
+chosen_by stop true why = end_by stop
+chosen_by stop false why = cause_by why
+
+abbrev pub chosen : Stop → Bool → Option Ending → End
+chosen stop is_first None = end_by stop
+chosen stop is_first (Some why) = chosen_by stop is_first why

@@ -1,0 +1,46 @@
+-- What a connection has heard of all bytes that were read from it: PostgreSQL 15, 55.4. Streaming Replication Protocol, and 55.7. Message Formats.
+use Rattle.std.specs.Prelude.{◌≡◌, ◌≤◌, ℕ, min, List, [], ◌++◌, Option, Some, None, Result, Ok, Err}
+use Rattle.shard_checker.specs.CheckedView.{CheckedOf}
+use Rattle.tables_log.specs.Slots.{end_after}
+use Rattle.copy_both.specs.Ears.{ear_started, ear_refusal, IsAnsweredBy}
+use Rattle.copy_both.specs.HeardFrames.{frames_in, AsksIfStarted, GoesOnOrEnds, HasHeard, HasFault}
+use Rattle.copy_both.specs.Hearing.{first_sent}
+use Rattle.copy_both.specs.declared.ear.Ear.{Ear}
+use Rattle.copy_both.specs.declared.heard.Heard.{Heard}
+use Rattle.copy_both.specs.declared.link_fault.LinkFault.{LinkFault}
+
+-- A sent position is not before the start of the stream, which is 64 for a start at 0.
+abbrev pub IsSentFrom : Option (ℕ × ℕ) → ℕ → Type 0
+IsSentFrom None sent = Unit {0}
+IsSentFrom (Some started) sent = first_sent started.1 ≤ sent
+
+-- The bytes have this fault, where the log has some number of commits, and some position from the start on was sent.
+pub record HoldsFault (checked : CheckedOf) (bytes : List ℕ) (started : Option (ℕ × ℕ)) (fault : LinkFault) : Type 0 where
+  pub sent : ℕ
+  pub commits : ℕ
+  pub from : IsSentFrom started sent
+  pub has : HasFault checked bytes (min sent (end_after commits)) fault
+
+-- What was started stays so.
+abbrev pub StaysStarted : Ear → Ear → Type 0
+StaysStarted old new = (started : ℕ × ℕ) → ear_started old ≡ Some started → ear_started new ≡ Some started
+
+-- A fault is in the bytes, and a start that was refused has its response.
+pub record Faults (checked : CheckedOf) (bytes : List ℕ) (started : Option (ℕ × ℕ)) (response : List ℕ) (fault : LinkFault) : Type 0 where
+  pub holds : HoldsFault checked bytes started fault
+  pub answered : IsAnsweredBy fault [] response
+
+-- an ear hears on, or a frame ended the connection, or there is a fault
+abbrev pub IsExplained : CheckedOf → List ℕ → Ear → Result Heard LinkFault → Type 0
+IsExplained checked bytes ear (Ok heard) = GoesOnOrEnds checked bytes ear heard.ended
+IsExplained checked bytes ear (Err fault) = Faults checked bytes (ear_started ear) (ear_refusal ear) fault
+
+-- With the last piece of these bytes the ear heard this.
+pub record Hears (checked : CheckedOf) (bytes : List ℕ) (old new : Ear) (heard : Result Heard LinkFault) : Type 0 where
+  pub stays : StaysStarted old new
+  pub asks : AsksIfStarted checked (frames_in bytes) (ear_started new)
+  pub explained : IsExplained checked bytes new heard
+
+-- So it is of each list of bytes that the ear had heard before the piece.
+pub record HearsPiece (checked : CheckedOf) (piece : List ℕ) (old new : Ear) (heard : Result Heard LinkFault) : Type 0 where
+  pub each : (bytes : List ℕ) → HasHeard checked bytes old → Hears checked (bytes ++ piece) old new heard

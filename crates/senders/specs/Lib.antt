@@ -1,0 +1,11 @@
+pub mod Causes
+pub mod Flushing
+pub mod Following
+pub mod Hearing
+pub mod Listening
+pub mod Pieces
+pub mod Refusing
+pub mod Running
+pub mod Sending
+pub mod Serving
+pub mod Speaking

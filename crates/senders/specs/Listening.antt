@@ -1,0 +1,107 @@
+-- What a listener does with what it reads: PostgreSQL 15, 55.4. Streaming Replication Protocol.
+use Rattle.std.specs.Prelude.{◌≡◌, ◌<◌, ℕ, Bool, true, List, [], ◌++◌, length, take, Option, Some, None, Result, Ok, Err, IfErr}
+use Rattle.std.specs.Io.KnownBytes.{Consumes}
+use Rattle.filter_tree.specs.Memory.{Answers}
+use Rattle.shard_checker.specs.CheckedView.{CheckedOf}
+use Rattle.tables_log.specs.declared.book.Book.{Book}
+use Rattle.copy_both.specs.Ears.{HearLeaves, IsAnsweredBy, ear_phase, ear_refusal, ear_started, hear_answer}
+use Rattle.copy_both.specs.HeardFrames.{frames_in, AsksIfStarted, HasEnd, HasHeard}
+use Rattle.copy_both.specs.Voices.{told_fault}
+use Rattle.copy_both.specs.declared.ear.Ear.{Ear}
+use Rattle.copy_both.specs.declared.heard.Heard.{Heard}
+use Rattle.copy_both.specs.declared.link_fault.LinkFault.{LinkFault}
+use Rattle.senders.specs.Hearing.{Faults, IsSentFrom, StaysStarted}
+use Rattle.senders.specs.declared.begun.Begun.{Begun}
+use Rattle.senders.specs.declared.begun.Begun.TheVariants as begun
+use Rattle.senders.specs.declared.ending.Ending.{Ending}
+use Rattle.senders.specs.declared.ending.Ending.TheVariants as ending
+use Rattle.senders.specs.declared.listener.Listened.{Listened}
+use Rattle.senders.specs.declared.listener.Listener.{Listener}
+use Rattle.senders.specs.declared.next.Next.{Next}
+use Rattle.senders.specs.declared.next.Next.TheVariants as next
+
+-- ---- under the lock
+
+-- the bytes that are to be heard
+abbrev pub piece_of : Listener → List ℕ
+piece_of listener = take listener.filled listener.piece.items
+
+-- The ear heard the piece, with some sent position from its start on.
+pub record HeardPiece (before after : Listener) (old new : Book) (heard : Result Heard LinkFault) : Type 0 where
+  pub sent : ℕ
+  pub from : IsSentFrom (ear_started before.ear) sent
+  pub answer : Answers (λ heard. heard) told_fault (hear_answer before.ear old (piece_of before) sent) heard
+  pub refused : IfErr heard (λ fault. IsAnsweredBy fault [] (ear_refusal after.ear))
+  pub left : HearLeaves (ear_phase before.ear) before.ear after.ear old new (piece_of before) sent heard
+  pub room : length after.piece.items ≡ length before.piece.items
+
+-- ---- outside of it
+
+-- An ear has heard these bytes, and hears on. What it had started stays so.
+pub record HearsOn (checked : CheckedOf) (bytes : List ℕ) (old new : Ear) : Type 0 where
+  pub has : HasHeard checked bytes new
+  pub stays : StaysStarted old new
+
+-- More bytes were read and heard, and the ear hears on.
+pub record HearsMore (checked : CheckedOf) (before after : Option (List ℕ)) (old new : Listener) : Type 0 where
+  pub more : List ℕ
+  pub read : Consumes before after more
+  pub heard : (bytes : List ℕ) → HasHeard checked bytes old.ear → HearsOn checked (bytes ++ more) old.ear new.ear
+  pub room : length new.piece.items ≡ length old.piece.items
+
+-- Why it ended, by the bytes, by the response that it has to a refused start, and by what the source says of itself.
+abbrev pub EndsFor : CheckedOf → List ℕ → Option (ℕ × ℕ) → List ℕ → Bool → Bool → Ending → Type 0
+EndsFor checked bytes started response failed ended ending.ReadFault = failed ≡ true
+EndsFor checked bytes started response failed ended ending.NoMore = ended ≡ true
+EndsFor checked bytes started response failed ended (ending.Frame kind) = HasEnd (frames_in bytes) kind
+EndsFor checked bytes started response failed ended (ending.Fault fault) = Faults checked bytes started response fault
+
+pub record EndsOf (checked : CheckedOf) (bytes : List ℕ) (old new : Ear) (failed ended : Bool) (why : Ending) : Type 0 where
+  pub asks : AsksIfStarted checked (frames_in bytes) (ear_started new)
+  pub ends : EndsFor checked bytes (ear_started new) (ear_refusal new) failed ended why
+  pub stays : StaysStarted old new
+
+-- More bytes were read and heard, and the listener ended.
+pub record HearsLast (checked : CheckedOf) (before after : Option (List ℕ)) (failed ended : Bool) (old new : Listener) (why : Ending) : Type 0 where
+  pub more : List ℕ
+  pub read : Consumes before after more
+  pub ends : (bytes : List ℕ) → HasHeard checked bytes old.ear → EndsOf checked (bytes ++ more) old.ear new.ear failed ended why
+
+-- what comes of a piece
+abbrev pub next_by_end : Bool → Option ℕ → Next
+next_by_end was_over None = next.GoesOn was_over
+next_by_end was_over (Some kind) = next.Ends (ending.Frame kind)
+
+abbrev pub next_by : Bool → Result Heard LinkFault → Next
+next_by was_over (Err fault) = next.Ends (ending.Fault fault)
+next_by was_over (Ok heard) = next_by_end was_over heard.ended
+
+abbrev pub next_after : Listened → Next
+next_after listened = next_by listened.was_over listened.heard
+
+-- One read: it goes on, where the connection had ended before or not, or ends.
+abbrev pub HearsNext : CheckedOf → Option (List ℕ) → Option (List ℕ) → Bool → Bool → Listener → Listener → Next → Type 0
+HearsNext checked before after failed ended old new (next.GoesOn was_over) = HearsMore checked before after old new
+HearsNext checked before after failed ended old new (next.Ends why) = HearsLast checked before after failed ended old new why
+
+-- All reads: it ends, or its sender had ended.
+abbrev pub HearsAll : CheckedOf → Option (List ℕ) → Option (List ℕ) → Bool → Bool → Listener → Listener → Option Ending → Type 0
+HearsAll checked before after failed ended old new None = HearsMore checked before after old new
+HearsAll checked before after failed ended old new (Some why) = HearsLast checked before after failed ended old new why
+
+-- ---- until a stream starts
+
+-- The stream started, and goes on.
+pub record StartsOn (checked : CheckedOf) (before after : Option (List ℕ)) (old new : Listener) (started : ℕ × ℕ) : Type 0 where
+  pub hears : HearsMore checked before after old new
+  pub started_is : ear_started new.ear ≡ Some started
+
+-- The connection ended, with a stream or without.
+pub record EndsAt (checked : CheckedOf) (before after : Option (List ℕ)) (failed ended : Bool) (old new : Listener) (started : Option (ℕ × ℕ)) (why : Ending) : Type 0 where
+  pub hears : HearsLast checked before after failed ended old new why
+  pub started_is : ear_started new.ear ≡ started
+
+abbrev pub BeginsAs : CheckedOf → Option (List ℕ) → Option (List ℕ) → Bool → Bool → Listener → Listener → Begun → Type 0
+BeginsAs checked before after failed ended old new (begun.Started started) = StartsOn checked before after old new started
+BeginsAs checked before after failed ended old new (begun.Ended started why) = EndsAt checked before after failed ended old new (Some started) why
+BeginsAs checked before after failed ended old new (begun.Refused why) = EndsAt checked before after failed ended old new None why

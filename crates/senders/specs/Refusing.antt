@@ -1,0 +1,27 @@
+-- What is written where no stream was started, and why a connection ended: PostgreSQL 15, 55.4. Streaming Replication Protocol.
+use Rattle.std.specs.Prelude.{◌≡◌, ℕ, Bool, false, List, [], ◌++◌, Option}
+use Rattle.std.specs.Io.KnownBytes.{Appends}
+use Rattle.copy_both.specs.declared.link_fault.LinkFault.TheVariants as fault
+use Rattle.served_connections.specs.declared.end.End.{End}
+use Rattle.served_connections.specs.declared.end.End.TheVariants as end
+use Rattle.senders.specs.declared.ending.Ending.{Ending}
+use Rattle.senders.specs.declared.ending.Ending.TheVariants as ending
+
+-- The first of these bytes were written, all but where the sink failed.
+pub record WritesFirst (before after : Option (List ℕ)) (failed : Bool) (bytes : List ℕ) : Type 0 where
+  pub written : List ℕ
+  pub rest : List ℕ
+  pub bytes_are : written ++ rest ≡ bytes
+  pub put : Appends before after written
+  pub all : failed ≡ false → rest ≡ []
+
+-- the response to a start that was refused, and else nothing
+abbrev pub AnswersAs : Ending → Option (List ℕ) → Option (List ℕ) → Bool → List ℕ → Type 0
+AnswersAs (ending.Fault (fault.BadStart state)) before after failed response = WritesFirst before after failed response
+AnswersAs other before after failed response = Appends before after []
+
+abbrev pub cause_by : Ending → End
+cause_by ending.ReadFault = end.ReadFault
+cause_by ending.NoMore = end.Client
+cause_by (ending.Frame kind) = end.Client
+cause_by (ending.Fault fault) = end.Link fault

@@ -1,0 +1,68 @@
+-- What a sender writes of a stream, and which commits it takes up: PostgreSQL 15, 55.4. Streaming Replication Protocol.
+use Rattle.std.specs.Prelude.{◌≡◌, ℕ, List, [], ◌∷◌, ◌++◌, All, length, Option, Some, None}
+use Rattle.std.specs.Io.KnownBytes.{Appends}
+use Rattle.shard_checker.specs.CheckedView.{CheckedOf}
+use Rattle.tables_log.specs.Commits.{CommitOf}
+use Rattle.copy_frames.specs.Contents.{copy_both_response}
+use Rattle.copy_both.specs.LinkLaws.{started_at}
+use Rattle.copy_both.specs.Streams.{stream}
+use Rattle.copy_both.specs.StreamLaws.{Start}
+use Rattle.copy_both.specs.Tellings.{telling_of}
+use Rattle.copy_both.specs.VoiceLaws.{AreAt, Follow, Told, IsTelling, first_of, takes_in}
+use Rattle.copy_both.specs.Voices.{voice_output}
+use Rattle.copy_both.specs.declared.voice.Voice.{Voice}
+use Rattle.stream_laws.specs.Sayable.{IsClocked}
+use Rattle.senders.specs.declared.stop.Stop.{Stop}
+use Rattle.senders.specs.declared.stop.Stop.TheVariants as stop
+
+-- what was told of the stream of this slot that starts here, directly after these bytes were passed on
+abbrev pub started_telling : CheckedOf → ℕ → ℕ → List ℕ → Told
+started_telling checked slot start passed = record { checked = checked; start = started_at checked (slot, start); taken = []; moves = []; passed = passed }
+
+-- What was passed on and what waits are the stream of the moves, and then these bytes.
+pub record Spells (told : Told) (output last : List ℕ) : Type 0 where
+  pub follow : Follow (first_of told) told.taken
+  pub takes : takes_in told.moves ≡ length told.taken
+  pub bytes : (log : List CommitOf) → AreAt log (first_of told) told.taken
+      → told.passed ++ output ≡ stream (telling_of told.checked) log told.start.slot told.start.tables told.start.position told.moves ++ last
+
+-- A voice tells on, and nothing waits.
+pub record IsQuiet (voice : Voice) (told : Told) : Type 0 where
+  pub tells : IsTelling voice told
+  pub none : voice_output voice ≡ []
+
+-- It tells of the same stream, took these commits more, and passed these bytes on.
+pub record Follows (old new : Told) (taken : List CommitOf) (bytes : List ℕ) : Type 0 where
+  pub checked_is : new.checked ≡ old.checked
+  pub start_is : new.start ≡ old.start
+  pub taken_is : new.taken ≡ old.taken ++ taken
+  pub passed_is : new.passed ≡ old.passed ++ bytes
+
+-- The voice goes on with what it told, and these bytes were written.
+pub record GoesOn (before after : Option (List ℕ)) (taken : List CommitOf) (voice : Voice) (told : Told) : Type 0 where
+  pub now : Told
+  pub bytes : List ℕ
+  pub put : Appends before after bytes
+  pub follows : Follows told now taken bytes
+  pub clocks : All IsClocked now.moves
+  pub quiet : IsQuiet voice now
+
+-- The sender stopped in the midst of it.
+pub record Breaks (before after : Option (List ℕ)) (taken : List CommitOf) (voice : Voice) (told : Told) : Type 0 where
+  pub now : Told
+  pub bytes : List ℕ
+  pub put : Appends before after bytes
+  pub follows : Follows told now taken bytes
+  pub clocks : All IsClocked now.moves
+  pub spells : Spells now (voice_output voice) []
+
+-- Memory was refused while nothing waited.
+pub record Starves (before after : Option (List ℕ)) (taken : List CommitOf) (voice : Voice) (told : Told) : Type 0 where
+  pub breaks : Breaks before after taken voice told
+  pub none : voice_output voice ≡ []
+
+abbrev pub StopsAs : Stop → Option (List ℕ) → Option (List ℕ) → List CommitOf → Voice → Told → Type 0
+StopsAs stop.Told before after taken voice told = GoesOn before after taken voice told
+StopsAs stop.Finished before after taken voice told = GoesOn before after taken voice told
+StopsAs stop.WriteFault before after taken voice told = Breaks before after taken voice told
+StopsAs stop.OutOfMemory before after taken voice told = Starves before after taken voice told

@@ -1,0 +1,61 @@
+//! Connections that are served at once.
+
+ghost use Rattle.std.specs.Prelude.{◌<◌, ℕ, IsSomeAnd, length, slice_index_or};
+ghost use Rattle.senders.specs.Serving.{IsServed};
+
+use crate::serving::serve;
+use connection_io::{Gate, Sink, Source};
+use publisher_desk::{Publisher, Publishing};
+use served_connections::Served;
+use std::sync::Wait;
+use std::thread;
+use std::thread::Threads;
+use std::time::Clock;
+
+/// A connection: what it is read from and written to, and what came of it, once it was served.
+#[derive(Debug, Drop)]
+pub struct Conn<S, W> {
+    pub reader: S,
+    pub writer: W,
+    pub served: Option<Served>,
+}
+
+/// Serves a connection, and keeps what came of it there.
+fn serve_one<
+    P: Publishing + Sync,
+    S: Source + Send + Drop,
+    W: Sink + Send + Drop,
+    G: Gate + Sync,
+    R: Threads + Wait + Clock + Sync,
+>(rt: &R, publisher: &Publisher<P>, connection: &mut Conn<S, W>, gate: &G) {
+    let served = serve(
+        rt,
+        publisher,
+        &mut connection.reader,
+        &mut connection.writer,
+        gate,
+    );
+    connection.served = Some(served);
+}
+
+/// Serves connections side by side, each as `serve`, until all have ended, and keeps in each what came of it.
+///
+/// PostgreSQL 15, 55.4. Streaming Replication Protocol.
+pub fn run_all<
+    P: Publishing + Sync,
+    S: Source + Send + Drop,
+    W: Sink + Send + Drop,
+    G: Gate + Sync,
+    R: Threads + Wait + Clock + Sync,
+>(rt: &R, publisher: &Publisher<P>, connections: &mut [Conn<S, W>], gate: &G) {
+    if connections.is_empty() {
+        return;
+    }
+    let count = connections.len();
+    thread::for_each_mut(
+        rt,
+        connections,
+        count,
+        &|_, connection| { serve_one(rt, publisher, connection, gate) },
+    );
+}

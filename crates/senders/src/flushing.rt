@@ -1,0 +1,26 @@
+//! What a voice says, as it is written.
+
+ghost use Rattle.std.specs.Prelude.{◌≡◌, [], MatchResult, OnOk, true};
+ghost use Rattle.copy_both.specs.Voices.{voice_output};
+ghost use Rattle.senders.specs.Flushing.{Flushes};
+
+use connection_io::{Failed, Sink};
+use copy_both::Voice;
+
+/// Writes all that waits, in as many pushes as the sink takes.
+///
+/// # Errors
+///
+/// `Failed` where the sink fails: what it did not take waits still.
+pub(crate) fn flush<W: Sink>(voice: &mut Voice, writer: &mut W) -> Result<(), Failed>
+    ensures flushes { Flushes (W.taken writer.old) (W.taken writer.new) voice.old voice.new }
+    ensures all { OnOk result (voice_output voice.new ≡ []) }
+    ensures failed { MatchResult result (λ done. W.has_failed writer.new ≡ W.has_failed writer.old)
+        (λ failed. W.has_failed writer.new ≡ true) }
+{
+    while !voice.output().is_empty() {
+        let count = writer.push(voice.output())?;
+        voice.passed(count);
+    }
+    Ok(())
+}

@@ -1,0 +1,114 @@
+//! What is read of connections, and heard.
+
+ghost use Rattle.std.specs.Prelude.{◌≡◌, ◌<◌, length};
+ghost use Rattle.senders.specs.Hearing.{HearsPiece};
+ghost use Rattle.senders.specs.Listening.{BeginsAs, HearsAll, HearsNext, next_after, piece_of};
+ghost use Rattle.senders.specs.Pieces.{Pulls};
+
+use crate::begun::Begun;
+use crate::ending::Ending;
+use crate::listener::{Listened, Listener};
+use crate::next::Next;
+use connection_io::{Failed, Source};
+use publisher_desk::{Publisher, Publishing};
+use std::sync::Wait;
+
+/// Reads the next piece. None where the source has no more bytes.
+fn pull<S: Source>(listener: &mut Listener, reader: &mut S) -> Result<bool, Failed>
+    requires { 0 < length listener.old.piece.items }
+    ensures { Pulls (S.left reader.old) (S.left reader.new) (S.has_failed reader.new) (S.has_ended reader.new)
+        listener.old listener.new result }
+{
+    let count = reader.pull(listener.piece.as_mut_slice())?;
+    listener.filled = count;
+    Ok(0 < count)
+}
+
+/// Hears the piece under the lock.
+fn hear_piece<P: Publishing, R: Wait>(
+    rt: &R,
+    publisher: &Publisher<P>,
+    listener: &mut Listener,
+) -> Listened
+    ensures hears { HearsPiece P.checked (piece_of listener.old) listener.old.ear listener.new.ear result.heard }
+    ensures room { length listener.new.piece.items ≡ length listener.old.piece.items }
+{
+    publisher.lend(rt, listener)
+}
+
+/// What comes of a piece.
+fn next_of(listened: &Listened) -> Next
+    ensures { result ≡ next_after listened.now }
+{
+    match listened.heard {
+        Err(fault) => Next::Ends(Ending::Fault(fault)),
+        Ok(heard) => match heard.ended {
+            Some(kind) => Next::Ends(Ending::Frame(kind)),
+            None => Next::GoesOn(listened.was_over),
+        },
+    }
+}
+
+/// Reads the next bytes of a connection and hears them.
+fn hear_next<P: Publishing, S: Source, R: Wait>(
+    rt: &R,
+    publisher: &Publisher<P>,
+    listener: &mut Listener,
+    reader: &mut S,
+) -> Next
+    requires { 0 < length listener.old.piece.items }
+    ensures { HearsNext P.checked (S.left reader.old) (S.left reader.new) (S.has_failed reader.new)
+        (S.has_ended reader.new) listener.old listener.new result }
+{
+    match pull(listener, reader) {
+        Err(_) => return Next::Ends(Ending::ReadFault),
+        Ok(false) => return Next::Ends(Ending::NoMore),
+        Ok(true) => {}
+    }
+    let listened = hear_piece(rt, publisher, listener);
+    next_of(&listened)
+}
+
+/// Hears a connection until its stream starts, or it ends.
+pub(crate) fn begin<P: Publishing, S: Source, R: Wait>(
+    rt: &R,
+    publisher: &Publisher<P>,
+    listener: &mut Listener,
+    reader: &mut S,
+) -> Begun
+    requires { 0 < length listener.old.piece.items }
+    ensures { BeginsAs P.checked (S.left reader.old) (S.left reader.new) (S.has_failed reader.new)
+        (S.has_ended reader.new) listener.old listener.new result }
+{
+    for _ in rt.forever() {
+        let next = hear_next(rt, publisher, listener, reader);
+        match (listener.ear.started(), next) {
+            (Some(started), Next::GoesOn(_)) => return Begun::Started(started),
+            (Some(started), Next::Ends(why)) => return Begun::Ended(started, why),
+            (None, Next::Ends(why)) => return Begun::Refused(why),
+            (None, Next::GoesOn(_)) => {}
+        }
+    }
+    unreachable!()
+}
+
+/// Hears a connection to its end, and answers why it ended; none where its sender had ended it.
+pub(crate) fn listen<P: Publishing, S: Source, R: Wait>(
+    rt: &R,
+    publisher: &Publisher<P>,
+    listener: &mut Listener,
+    reader: &mut S,
+) -> Option<Ending>
+    requires { 0 < length listener.old.piece.items }
+    ensures { HearsAll P.checked (S.left reader.old) (S.left reader.new) (S.has_failed reader.new)
+        (S.has_ended reader.new) listener.old listener.new result }
+{
+    for _ in rt.forever() {
+        match hear_next(rt, publisher, listener, reader) {
+            Next::Ends(why) => return Some(why),
+            Next::GoesOn(true) => return None,
+            Next::GoesOn(false) => {}
+        }
+    }
+    unreachable!()
+}

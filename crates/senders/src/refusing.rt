@@ -1,0 +1,45 @@
+//! Connections on which no stream was started.
+
+ghost use Rattle.std.specs.Prelude.{◌≡◌, [], None};
+ghost use Rattle.copy_both.specs.Ears.{ear_refusal};
+ghost use Rattle.senders.specs.Refusing.{AnswersAs, WritesFirst, cause_by};
+
+use crate::ending::Ending;
+use crate::listener::Listener;
+use connection_io::Sink;
+use copy_both::LinkFault;
+use served_connections::End;
+
+/// Writes the first bytes that the sink takes: all, if it does not fail.
+fn write_all<W: Sink>(bytes: &[u8], writer: &mut W)
+    ensures { WritesFirst (W.taken writer.old) (W.taken writer.new) (W.has_failed writer.new) bytes.now }
+{
+    let mut rest = bytes;
+    while !rest.is_empty() {
+        let Ok(count) = writer.push(rest) else {
+            return;
+        };
+        rest = &rest[count..];
+    }
+}
+
+/// Why a connection ended that its listener ended.
+pub(crate) fn cause_of(why: Ending) -> End
+    ensures { result ≡ cause_by why }
+{
+    match why {
+        Ending::ReadFault => End::ReadFault,
+        Ending::NoMore | Ending::Frame(_) => End::Client,
+        Ending::Fault(fault) => End::Link(fault),
+    }
+}
+
+/// Writes the response to a start that was refused, if that is why it ended.
+pub(crate) fn answer<W: Sink>(listener: &Listener, why: Ending, writer: &mut W)
+    ensures { AnswersAs why (W.taken writer.old) (W.taken writer.new) (W.has_failed writer.new)
+        (ear_refusal listener.now.ear) }
+{
+    if let Ending::Fault(LinkFault::BadStart(_)) = why {
+        write_all(listener.ear.refusal(), writer);
+    }
+}

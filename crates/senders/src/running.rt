@@ -1,0 +1,133 @@
+//! Connections whose stream has started: one thread sends, and one listens.
+
+ghost use Rattle.std.specs.Prelude.{◌≡◌, ◌<◌, length, map, true};
+ghost use Rattle.std.specs.Arc.{arc_value};
+ghost use Rattle.copy_frames.specs.Contents.{copy_both_response};
+ghost use Rattle.senders.specs.Listening.{HearsAll};
+ghost use Rattle.senders.specs.Sending.{IsQuiet, StopsAs, started_telling};
+ghost use Rattle.senders.specs.declared.stop.Stop.TheVariants.{WriteFault};
+
+use crate::ending::Ending;
+use crate::leaving::leave;
+use crate::listener::Listener;
+use crate::listening::listen;
+use crate::sending::send_all;
+use crate::stop::Stop;
+use connection_io::{Gate, Sink, Source};
+use copy_both::Voice;
+use publisher_desk::{Publisher, Publishing};
+use std::alloc::Global;
+use std::sync::{Arc, Wait};
+use std::thread::{Threads, join_mut};
+use std::time::Clock;
+use tables_log::Commit;
+
+/// What a sender did: which commits it took up, why it stopped, and whether it was the one that ended the connection.
+#[derive(Drop)]
+pub struct Sent {
+    pub taken: Vec<Arc<Commit, Global>>,
+    pub stop: Stop,
+    pub is_first: bool,
+}
+
+/// Sends, and ends the connection where sending failed.
+pub(crate) fn send<P: Publishing, W: Sink, G: Gate, R: Wait + Clock>(
+    rt: &R,
+    publisher: &Publisher<P>,
+    started: (usize, u64),
+    voice: &mut Voice,
+    writer: &mut W,
+    gate: &G,
+) -> Sent
+    requires { IsQuiet voice.old (started_telling P.checked started.0 started.1 copy_both_response) }
+    ensures sent { StopsAs result.stop (W.taken writer.old) (W.taken writer.new)
+        (map (λ commit. arc_value commit) result.taken.items) voice.new
+        (started_telling P.checked started.0 started.1 copy_both_response) }
+    ensures failed { result.stop ≡ WriteFault → W.has_failed writer.new ≡ true }
+{
+    let (taken, stop) = send_all(rt, publisher, started, voice, writer, gate);
+    let is_first = match stop {
+        Stop::Told => false,
+        Stop::Finished => true,
+        Stop::WriteFault | Stop::OutOfMemory => leave(rt, publisher, started.0),
+    };
+    Sent {
+        taken,
+        stop,
+        is_first,
+    }
+}
+
+/// Listens, and ends the connection where its client did.
+fn hear<P: Publishing, S: Source, R: Wait>(
+    rt: &R,
+    publisher: &Publisher<P>,
+    slot: usize,
+    listener: &mut Listener,
+    reader: &mut S,
+) -> Option<Ending>
+    requires { 0 < length listener.old.piece.items }
+    ensures { HearsAll P.checked (S.left reader.old) (S.left reader.new) (S.has_failed reader.new)
+        (S.has_ended reader.new) listener.old listener.new result }
+{
+    let why = listen(rt, publisher, listener, reader);
+    if why.is_some() {
+        leave(rt, publisher, slot);
+    }
+    why
+}
+
+/// Whether a thread can be started.
+pub(crate) fn starts_threads<R: Threads>(rt: &R) -> bool {
+    match std::thread::spawn(rt, || ()) {
+        Ok(child) => {
+            child.join(rt);
+            true
+        }
+        Err(_) => false,
+    }
+}
+
+/// Sends and listens side by side, to the end of the connection.
+pub(crate) fn run_both<
+    P: Publishing + Sync,
+    S: Source + Send,
+    W: Sink + Send,
+    G: Gate + Sync,
+    R: Threads + Wait + Clock + Sync,
+>(
+    rt: &R,
+    publisher: &Publisher<P>,
+    started: (usize, u64),
+    voice: &mut Voice,
+    listener: &mut Listener,
+    reader: &mut S,
+    writer: &mut W,
+    gate: &G,
+) -> (Sent, Option<Ending>)
+    requires quiet { IsQuiet voice.old (started_telling P.checked started.0 started.1 copy_both_response) }
+    requires room { 0 < length listener.old.piece.items }
+    ensures sent { StopsAs result.0.stop (W.taken writer.old) (W.taken writer.new)
+        (map (λ commit. arc_value commit) result.0.taken.items) voice.new
+        (started_telling P.checked started.0 started.1 copy_both_response) }
+    ensures failed { result.0.stop ≡ WriteFault → W.has_failed writer.new ≡ true }
+    ensures heard { HearsAll P.checked (S.left reader.old) (S.left reader.new) (S.has_failed reader.new)
+        (S.has_ended reader.new) listener.old listener.new result.1 }
+{
+    let (slot, start) = started;
+    join_mut(
+        rt,
+        &mut || -> Sent
+            requires { IsQuiet voice.now (started_telling P.checked slot start copy_both_response) }
+            ensures sent { StopsAs result.stop (W.taken writer.entry.now) (W.taken writer.exit.now)
+                (map (λ commit. arc_value commit) result.taken.items) voice.exit.now
+                (started_telling P.checked slot start copy_both_response) }
+            ensures failed { result.stop ≡ WriteFault → W.has_failed writer.exit.now ≡ true }
+        { send(rt, publisher, (slot, start), voice, writer, gate) },
+        &mut || -> Option<Ending>
+            requires { 0 < length listener.now.piece.items }
+            ensures { HearsAll P.checked (S.left reader.entry.now) (S.left reader.exit.now)
+                (S.has_failed reader.exit.now) (S.has_ended reader.exit.now) listener.entry.now listener.exit.now result }
+        { hear(rt, publisher, slot, listener, reader) },
+    )
+}

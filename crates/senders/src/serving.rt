@@ -1,0 +1,202 @@
+//! How a connection is served.
+
+ghost use Rattle.std.specs.Prelude.{◌≡◌, ◌<◌, [], length, map, None, Some};
+ghost use Rattle.std.specs.Arc.{arc_value};
+ghost use Rattle.senders.specs.Causes.{chosen, end_by};
+ghost use Rattle.senders.specs.Running.{Concludes, IsWithout, RunsOn, Streams};
+ghost use Rattle.senders.specs.Speaking.{IsQuietAt};
+ghost use Rattle.senders.specs.Serving.{IsServed};
+
+use crate::begun::Begun;
+use crate::ending::Ending;
+use crate::leaving::{leave, lose};
+use crate::listener::Listener;
+use crate::listening::begin;
+use crate::refusing::{answer, cause_of};
+use crate::running::{Sent, run_both, send, starts_threads};
+use crate::speaking::{open, say_last};
+use crate::stop::Stop;
+use connection_io::{Gate, Sink, Source};
+use copy_both::{LinkFault, Voice};
+use publisher_desk::{Publisher, Publishing};
+use served_connections::{End, Served};
+use std::alloc::Global;
+use std::sync::Wait;
+use std::thread::Threads;
+use std::time::Clock;
+
+/// Why a connection ended that its sender ended.
+fn end_of(stop: Stop) -> End
+    ensures { result ≡ end_by stop }
+{
+    match stop {
+        Stop::Finished => End::Finished,
+        Stop::WriteFault => End::WriteFault,
+        // (nobody but its listener tells a sender of an end, and then the listener has a cause)
+        Stop::OutOfMemory | Stop::Told => End::Link(LinkFault::OutOfMemory),
+    }
+}
+
+/// The first cause of an end: the sender's where it came first, or where the listener has none; else the listener's.
+fn first_cause(stop: Stop, is_first: bool, why: Option<Ending>) -> End
+    ensures { result ≡ chosen stop is_first why }
+{
+    match why {
+        None => end_of(stop),
+        Some(why) => {
+            if is_first {
+                end_of(stop)
+            } else {
+                cause_of(why)
+            }
+        }
+    }
+}
+
+/// What came of a connection on which no stream was started.
+fn unstarted(alloc: Global, end: End) -> Served
+    ensures slot { result.slot ≡ None }
+    ensures start { result.start ≡ None }
+    ensures taken { result.taken.items ≡ [] }
+    ensures end { result.end ≡ end }
+{
+    Served {
+        slot: None,
+        start: None,
+        taken: Vec::new(alloc),
+        end,
+    }
+}
+
+/// What came of a connection whose sender stopped before it took a commit up.
+fn without_commits(alloc: Global, started: (usize, u64), stop: Stop) -> Served
+    ensures { IsWithout started.0 started.1 stop result }
+{
+    Served {
+        slot: Some(started.0),
+        start: Some(started.1),
+        taken: Vec::new(alloc),
+        end: end_of(stop),
+    }
+}
+
+/// What came of a connection whose sender stopped, and whose listener ended for this reason, if it did. The last is said
+/// to its client.
+fn conclude<W: Sink>(
+    started: (usize, u64),
+    voice: &mut Voice,
+    sent: Sent,
+    why: Option<Ending>,
+    writer: &mut W,
+) -> Served
+    requires { IsQuietAt sent.stop voice.old }
+    ensures { Concludes started.0 started.1 sent why (W.taken writer.old) (W.taken writer.new)
+        (W.has_failed writer.old) (W.has_failed writer.new) result }
+{
+    say_last(voice, sent.stop, why, writer);
+    let end = first_cause(sent.stop, sent.is_first, why);
+    Served {
+        slot: Some(started.0),
+        start: Some(started.1),
+        taken: sent.taken,
+        end,
+    }
+}
+
+/// Serves a connection whose stream was started by the piece that ended it.
+fn serve_ended<P: Publishing, W: Sink, G: Gate, R: Wait + Clock>(
+    rt: &R,
+    publisher: &Publisher<P>,
+    started: (usize, u64),
+    why: Ending,
+    writer: &mut W,
+    gate: &G,
+) -> Served
+    ensures { Streams P.checked started.0 started.1 (W.taken writer.old) (W.taken writer.new)
+        (W.has_failed writer.new) (Some why) result }
+{
+    let mut voice = match open(publisher, started, writer) {
+        Ok(voice) => voice,
+        Err(stop) => return without_commits(publisher.allocator(), started, stop),
+    };
+    leave(rt, publisher, started.0);
+    let sent = send(rt, publisher, started, &mut voice, writer, gate);
+    conclude(started, &mut voice, sent, Some(why), writer)
+}
+
+/// Serves a connection whose stream has started.
+fn serve_started<
+    P: Publishing + Sync,
+    S: Source + Send,
+    W: Sink + Send,
+    G: Gate + Sync,
+    R: Threads + Wait + Clock + Sync,
+>(
+    rt: &R,
+    publisher: &Publisher<P>,
+    started: (usize, u64),
+    listener: &mut Listener,
+    reader: &mut S,
+    writer: &mut W,
+    gate: &G,
+) -> Served
+    requires { 0 < length listener.old.piece.items }
+    ensures { RunsOn P.checked started.0 started.1 (S.left reader.old) (S.left reader.new) (S.has_failed reader.new)
+        (S.has_ended reader.new) (W.taken writer.old) (W.taken writer.new) (W.has_failed writer.new)
+        listener.old listener.new result }
+{
+    let mut voice = match open(publisher, started, writer) {
+        Ok(voice) => voice,
+        Err(stop) => return without_commits(publisher.allocator(), started, stop),
+    };
+    if !starts_threads(rt) {
+        return without_commits(publisher.allocator(), started, Stop::OutOfMemory);
+    }
+    let (sent, why) = run_both(
+        rt, publisher, started, &mut voice, listener, reader, writer, gate,
+    );
+    conclude(started, &mut voice, sent, why, writer)
+}
+
+/// Serves one connection to its end, and tells what came of it. Its client asks for the stream of a slot by a Query;
+/// then one thread sends it each commit from there on, as it is made, and another hears what it confirms. It ends where
+/// what it is read from or written to fails, where its client ends it or sends what it may not, or once the publisher is
+/// finished and all commits are taken up; then it has given its slot back.
+///
+/// Where the sender failed, or has taken up all, the connection is heard until it has no more bytes.
+///
+/// PostgreSQL 15, 55.4. Streaming Replication Protocol.
+pub fn serve<
+    P: Publishing + Sync,
+    S: Source + Send,
+    W: Sink + Send,
+    G: Gate + Sync,
+    R: Threads + Wait + Clock + Sync,
+>(rt: &R, publisher: &Publisher<P>, reader: &mut S, writer: &mut W, gate: &G) -> Served
+    ensures { IsServed P.checked (S.left reader.old) (S.left reader.new) (S.has_failed reader.new)
+        (S.has_ended reader.new) (W.taken writer.old) (W.taken writer.new) (W.has_failed writer.new) result }
+{
+    let alloc = publisher.allocator();
+    let Ok(mut listener) = Listener::new(alloc, publisher.checked()) else {
+        return unstarted(alloc, End::Link(LinkFault::OutOfMemory));
+    };
+    let served = match begin(rt, publisher, &mut listener, reader) {
+        Begun::Refused(why) => {
+            answer(&listener, why, writer);
+            unstarted(alloc, cause_of(why))
+        }
+        Begun::Ended(started, why) => serve_ended(rt, publisher, started, why, writer, gate),
+        Begun::Started(started) => serve_started(
+            rt,
+            publisher,
+            started,
+            &mut listener,
+            reader,
+            writer,
+            gate,
+        ),
+    };
+    let Listener { ear, .. } = listener;
+    lose(rt, publisher, ear);
+    served
+}
