@@ -37,7 +37,7 @@ closes line status old new (Ok told) last says = record {
   whole = record { line = line; are = says.whole.0; last = subst (λ (s : Status). IsLast line s) (sym says.whole.1) last };
   appends = says.appends;
 }
-closes line status old new (Err f.OutOfMemory) last says = says
+closes line status old new (Err f.OutOfMemory) last says = record { lines = says.lines; begun = says.begun; appends = says.appends }
 closes line status old new (Err f.Output) last says = record {
   lines = says.lines;
   part = elim says.part [

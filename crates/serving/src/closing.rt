@@ -8,8 +8,7 @@ ghost use Rattle.serving.specs.Telling.{Closes, IsStop, Says};
 
 use crate::connections::Place;
 use copy_both::LinkFault;
-use senders::{End, Publisher, Publishing, Seat, Served};
-use senders_close::{CloseError, close};
+use senders::{CloseError, End, Publisher, Publishing, Seat, Served, close};
 use std::alloc::Global;
 use std::io::Write;
 use subcommands::{Failure, Status, write_line};
@@ -51,7 +50,7 @@ fn name_of(error: CloseError) -> Option<&'static str>
 
 /// Writes a line, and tells this status.
 fn say<'a, W: Write>(mut line: String, status: Status, writer: &mut W) -> Result<Status, Failure<'a>>
-    ensures { Says (string_bytes line.entry) status (W.contents writer.old) (W.contents writer.new) result }
+    ensures { Says (string_bytes line) status (W.contents writer.old) (W.contents writer.new) result }
 {
     match write_line(&mut line, writer) {
         Ok(()) => Ok(status),

@@ -36,8 +36,8 @@ fn is_serve<S: AsStr>(words: &[S]) -> bool
 fn write_help<'a, W: Write>(mut text: String, writer: &mut W) -> Result<Status, Failure<'a>>
     ensures status { IfOk result (λ status. status ≡ Done) }
     ensures written { OnOk result (Appends (W.contents writer.old) (W.contents writer.new)
-        (ended (string_bytes text.entry))) }
-    ensures stopped { IfErr result (StopsText (ended (string_bytes text.entry)) (W.contents writer.old)
+        (ended (string_bytes text))) }
+    ensures stopped { IfErr result (StopsText (ended (string_bytes text)) (W.contents writer.old)
         (W.contents writer.new)) }
 {
     write_line(&mut text, writer)?;
