@@ -20,7 +20,7 @@ use Rattle.served_connections.specs.declared.end.End.TheVariants as end
 use Rattle.served_connections.specs.declared.served.Served.{Served}
 use Rattle.std.proofs.lemmas.List.Elements.{All-nil}
 use Rattle.stream_laws.specs.Sayable.{IsClocked}
-use Rattle.senders.specs.Causes.{chosen, chosen_by, end_by}
+use Rattle.senders.specs.Causes.{chosen, chosen_by, end_by, unopened_by}
 use Rattle.senders.specs.Refusing.{cause_by}
 use Rattle.senders.specs.Running.{Concludes, IsEndOf, IsWithout, Memory, Writing, Whole, Heard, Streams}
 use Rattle.senders.specs.Sending.{Breaks, Follows, GoesOn, Spells, Starves, StopsAs, started_telling}
@@ -200,15 +200,30 @@ module _ (checked : CheckedOf) (slot start : ℕ) (before last : Option (List �
         ends = ends;
       }
 
-  pub streams_not : (s : Stop) → FailsToOpen before last failed s → IsWithout slot start s served → Streams checked slot start before last failed why served
+  not_opened : (is : End) → WritesPart before last failed → IsWithout slot start is served → (is ≡ end.Finished → ⊥) → IsEndOf why failed served.end
+      → Streams checked slot start before last failed why served
+  not_opened is fails without_it not ends =
+      without fails.written fails.rest fails.put fails.bytes without_it.slot_is without_it.start_is without_it.none (λ sound memory. cc) (λ finished. not (sym without_it.end_is ∙ finished)) ends
+
+  starved : Appends before last [] → IsWithout slot start (end.Link fault.OutOfMemory) served → Streams checked slot start before last failed why served
+  starved put is =
+      without [] copy_both_response put refl is.slot_is is.start_is is.none (λ sound memory. absurd (memory is.end_is)) (λ finished. cc) (Memory is.end_is)
+
+  pub streams_not : (s : Stop) → FailsToOpen before last failed s → IsWithout slot start (end_by s) served → Streams checked slot start before last failed why served
   streams_not stop.Told fails is = absurd fails
   streams_not stop.Finished fails is = absurd fails
-  streams_not stop.WriteFault fails is =
-      without fails.written fails.rest fails.put fails.bytes is.slot_is is.start_is is.none (λ sound memory. cc) (λ finished. cc) (Writing is.end_is fails.fails)
-  streams_not stop.OutOfMemory fails is =
-      without [] copy_both_response fails refl is.slot_is is.start_is is.none (λ sound memory. absurd (memory is.end_is)) (λ finished. cc) (Memory is.end_is)
+  streams_not stop.WriteFault fails is = not_opened end.WriteFault fails is (λ finished. cc) (Writing is.end_is fails.fails)
+  streams_not stop.OutOfMemory fails is = starved fails is
+
+  -- the client had ended it
+  pub streams_ended : (s : Stop) (ending : Ending) → why ≡ Some ending → FailsToOpen before last failed s → IsWithout slot start (unopened_by s ending) served
+      → Streams checked slot start before last failed why served
+  streams_ended stop.Told ending some fails is = absurd fails
+  streams_ended stop.Finished ending some fails is = absurd fails
+  streams_ended stop.WriteFault ending some fails is = not_opened (cause_by ending) fails is (heard_unfinished ending) (Heard ending some is.end_is)
+  streams_ended stop.OutOfMemory ending some fails is = starved fails is
 
   -- no thread could be started
-  pub streams_no_further : Appends before last copy_both_response → IsWithout slot start stop.OutOfMemory served → Streams checked slot start before last failed why served
+  pub streams_no_further : Appends before last copy_both_response → IsWithout slot start (end.Link fault.OutOfMemory) served → Streams checked slot start before last failed why served
   streams_no_further put is =
       without copy_both_response [] put (append-nil copy_both_response) is.slot_is is.start_is is.none (λ sound memory. refl) (λ finished. cc) (Memory is.end_is)

@@ -11,7 +11,7 @@ use Rattle.served_connections.specs.declared.end.End.{End}
 use Rattle.served_connections.specs.declared.end.End.TheVariants as end
 use Rattle.served_connections.specs.declared.served.Served.{Served}
 use Rattle.stream_laws.specs.Sayable.{IsClocked}
-use Rattle.senders.specs.Causes.{chosen, end_by}
+use Rattle.senders.specs.Causes.{chosen}
 use Rattle.senders.specs.Listening.{HearsAll}
 use Rattle.senders.specs.Refusing.{cause_by}
 use Rattle.senders.specs.Serving.{IsTail, commits_of}
@@ -19,14 +19,13 @@ use Rattle.senders.specs.Speaking.{IsSaid, SaysLast}
 use Rattle.senders.specs.declared.ending.Ending.{Ending}
 use Rattle.senders.specs.declared.listener.Listener.{Listener}
 use Rattle.senders.specs.declared.running.Sent.{Sent}
-use Rattle.senders.specs.declared.stop.Stop.{Stop}
 
 -- No commit was taken up.
-pub record IsWithout (slot start : ℕ) (stop : Stop) (served : Served) : Type 0 where
+pub record IsWithout (slot start : ℕ) (is : End) (served : Served) : Type 0 where
   pub slot_is : served.slot ≡ Some slot
   pub start_is : served.start ≡ Some start
   pub none : served.taken.items ≡ []
-  pub end_is : served.end ≡ end_by stop
+  pub end_is : served.end ≡ is
 
 -- The last was said, and the first cause is told.
 pub record Concludes (slot start : ℕ) (sent : Sent) (why : Option Ending) (before after : Option (List ℕ)) (was_failed failed : Bool) (served : Served) : Type 0 where
