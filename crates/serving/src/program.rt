@@ -57,7 +57,7 @@ fn serve_reader<
     writer: &mut W,
 ) -> Result<Status, Failure<'a>>
     requires { IsWithin service.limit }
-    ensures { ServesReader service.entry (I.remaining (reader_of input)) (W.contents writer.old)
+    ensures { ServesReader service (I.remaining (reader_of input)) (W.contents writer.old)
         (W.contents writer.new) result }
 {
     let input = read_input(rt.alloc(), input)?;

@@ -77,7 +77,7 @@ pub fn serve_input<'a, W: Write, R: Threads + Wait + Clock + Net<Listener = TcpL
     writer: &mut W,
 ) -> Result<Status, Failure<'a>>
     requires { IsWithin service.limit }
-    ensures { EndsService service.entry input.now (W.contents writer.old) (W.contents writer.new) result }
+    ensures { EndsService service input.now (W.contents writer.old) (W.contents writer.new) result }
 {
     let (text, certificates, script) = three_parts(input).ok_or(InputFault::Parts)?;
     let catalog = read_catalog(alloc, text)?;

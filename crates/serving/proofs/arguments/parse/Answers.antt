@@ -1,5 +1,6 @@
-use Rattle.std.proofs.Common.{◌≡◌, [], ap, inr, map, rules, subst}
-use Rattle.clap.specs.Words.{App, HasKind, fault_of, is_simple_and_free, kind_of, subcommand_of}
+use Rattle.std.proofs.Common.{◌≡◌, ℕ, List, [], ap, inr, map, rules, subst, sym}
+use Rattle.std.specs.Prelude.{Option}
+use Rattle.clap.specs.Words.{App, HasKind, Row, fault_of, is_simple_and_free, kind_of, subcommand_of, subcommand_rows_of}
 use Rattle.serving.specs.CommandLine.{TakesServe, serving}
 use Rattle.serving.specs.declared.arguments.Service.{Service}
 use Rattle.serving.proofs.Asking.{error_asks, error_stops}
@@ -32,5 +33,7 @@ returns-clause-stopped g c =
     let words = map g.S.AsStr.text c.args.words.now in
     let simple = c.in_ok-command.ensures in
     let none : fault_of serving words ≡ [] = subst (λ (a : App). fault_of a words ≡ []) simple (c.in-Ok.ensures.kinds (ap is_simple_and_free simple)) in
-    let nothing : (service : Service) → TakesServe (subcommand_of serving words) service → ⊥ = search rules in
+    let same : subcommand_rows_of c.in-Ok.matches ≡ subcommand_of serving words = search rules in
+    let nothing : (service : Service) → TakesServe (subcommand_of serving words) service → ⊥ =
+    λ service takes. c.request_of.ensures.none c.in-None.is service (subst (λ (taken : Option (List ℕ × List Row)). TakesServe taken service) (sym same) takes) in
     inr (record { faultless = none; nothing = nothing })
