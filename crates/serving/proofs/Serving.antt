@@ -1,6 +1,6 @@
 -- What `serve` answers, from what its parts gave.
-use Rattle.std.proofs.Common.{◌≡◌, ℕ, inl, inr, ◌⊎◌, List, [], ◌∷◌, Option, Some, None, refl, sym, subst}
-use Rattle.std.specs.Prelude.{IfErr, IfOk, IsErrAnd, OnOk, Result, Ok, Err}
+use Rattle.std.proofs.Common.{◌≡◌, ℕ, inl, inr, ◌⊎◌, Bool, true, false, if◌then◌else◌, List, [], ◌∷◌, Option, Some, None, refl, sym, subst}
+use Rattle.std.specs.Prelude.{IfErr, IfOk, IsErrAnd, OnOk, Result, Ok, Err, is_none}
 use Rattle.std.specs.Io.KnownBytes.{Appends}
 use Rattle.filter_tree.specs.Expr.{Expr}
 use Rattle.pub_catalog.specs.Catalogs.{CatalogOf}
@@ -10,11 +10,14 @@ use Rattle.shard_checker.specs.CatalogTruth.{ShardingIsWrong}
 use Rattle.shard_checker.specs.Sound.{IsSound}
 use Rattle.shard_checker.specs.Texts.{text_fault, trees_in}
 use Rattle.shard_checker.specs.declared.error.CheckError.{CheckError}
+use Rattle.sql_reader.specs.Reading.{Tells as TellsFault, told}
 use Rattle.sql_reader.specs.Written.{as_filter}
+use Rattle.sql_reader.specs.declared.error.ReadError.{ReadError}
 use Rattle.subcommands.proofs.Writing.{ends_as, text_of-one, unwritten}
 use Rattle.subcommands.specs.Check.Certificates.{IsOfLines}
 use Rattle.subcommands.specs.Check.Checking.{IsFirstRefusal}
 use Rattle.subcommands.specs.Check.Refusals.{refused_line}
+use Rattle.subcommands.specs.Failures.{failure_of_read}
 use Rattle.subcommands.specs.Output.{StopsText, WritesFirst, ended}
 use Rattle.subcommands.specs.Parts.{CutTwice, lines_of, three_parts}
 use Rattle.subcommands.specs.declared.failure.Failure.{Failure}
@@ -34,6 +37,17 @@ out_of_memory service input old new e = record { lines = []; begun = inl refl; a
 pub memory_returned : (service : Service) (input : List ℕ) (old : Option (List ℕ)) (result : Result Status Failure) → IsErrAnd result (λ failed. failed ≡ f.OutOfMemory) → EndsService service input old old result
 memory_returned service input old (Ok told) is = absurd is
 memory_returned service input old (Err failed) is = subst (λ (told : Failure). EndsService service input old old (Err told)) (sym is) (out_of_memory service input old old refl)
+
+-- the first part is no catalog
+module _ (service : Service) (input : List ℕ) (cut : CutTwice) (parts : three_parts input ≡ Some cut) (old : Option (List ℕ)) (error : ReadError) (tells : TellsFault error (catalog_by as_filter cut.first)) where
+  catalog_told : (is_memory : Bool) → is_none (told error) ≡ is_memory → EndsService service input old old (Err (if is_memory then f.OutOfMemory else f.Input (i.Catalog error)))
+  catalog_told true e = out_of_memory service input old old refl
+  catalog_told false e = (inl (record { cut = cut; parts = parts; tells = tells; known = e }), refl)
+
+  -- the same of what a `?` gives
+  pub catalog_returned : (result : Result Status Failure) → IsErrAnd result (λ failed. failed ≡ failure_of_read error) → EndsService service input old old result
+  catalog_returned (Ok status) is = absurd is
+  catalog_returned (Err failed) is = subst (λ (failure : Failure). EndsService service input old old (Err failure)) (sym is) (catalog_told (is_none (told error)) refl)
 
 module _ (service : Service) (input : List ℕ) (cut : CutTwice) (catalog : CatalogOf Expr) (parts : three_parts input ≡ Some cut) (reads : catalog_by as_filter cut.first ≡ Ok catalog) where
   -- ---- there is no answer

@@ -82,7 +82,9 @@ fn connections_argument<'a>(alloc: Global) -> Arg<'a>
     Arg::new(alloc, "connections")
         .long("connections")
         .value_name("N")
-        .help("how many connections are accepted in all: 1 to 1000, one for each subscription where it is not said")
+        .help(
+            "how many connections are accepted in all: 1 to 1000, one for each subscription where it is not said",
+        )
         .action(ArgAction::Set)
 }
 

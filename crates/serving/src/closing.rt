@@ -49,7 +49,11 @@ fn name_of(error: CloseError) -> Option<&'static str>
 }
 
 /// Writes a line, and tells this status.
-fn say<'a, W: Write>(mut line: String, status: Status, writer: &mut W) -> Result<Status, Failure<'a>>
+fn say<'a, W: Write>(
+    mut line: String,
+    status: Status,
+    writer: &mut W,
+) -> Result<Status, Failure<'a>>
     ensures { Says (string_bytes line) status (W.contents writer.old) (W.contents writer.new) result }
 {
     match write_line(&mut line, writer) {
@@ -72,7 +76,11 @@ fn say_closed<'a, W: Write>(
 }
 
 /// Says why a publisher can't be closed.
-fn say_error<'a, W: Write>(alloc: Global, error: CloseError, writer: &mut W) -> Result<Status, Failure<'a>>
+fn say_error<'a, W: Write>(
+    alloc: Global,
+    error: CloseError,
+    writer: &mut W,
+) -> Result<Status, Failure<'a>>
     ensures { Closes (W.contents writer.old) (W.contents writer.new) result }
 {
     let name = name_of(error).ok_or(Failure::OutOfMemory)?;

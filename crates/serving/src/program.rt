@@ -49,13 +49,13 @@ fn serve_reader<
     'a,
     I: Read + Drop,
     W: Write,
-    R: AllocGlobal + Threads + Wait + Clock + Net<Listener = TcpListener, Stream = TcpStream> + Sync,
->(
-    rt: &R,
-    service: Service,
-    input: Input<I>,
-    writer: &mut W,
-) -> Result<Status, Failure<'a>>
+    R: AllocGlobal
+        + Threads
+        + Wait
+        + Clock
+        + Net<Listener = TcpListener, Stream = TcpStream>
+        + Sync,
+>(rt: &R, service: Service, input: Input<I>, writer: &mut W) -> Result<Status, Failure<'a>>
     requires { IsWithin service.limit }
     ensures { ServesReader service (I.remaining (reader_of input)) (W.contents writer.old)
         (W.contents writer.new) result }
@@ -71,13 +71,13 @@ fn answer_words<
     S: AsStr,
     I: Read + Drop,
     W: Write,
-    R: AllocGlobal + Threads + Wait + Clock + Net<Listener = TcpListener, Stream = TcpStream> + Sync,
->(
-    rt: &R,
-    words: &'a [S],
-    input: Input<I>,
-    writer: &mut W,
-) -> Result<Status, Failure<'a>>
+    R: AllocGlobal
+        + Threads
+        + Wait
+        + Clock
+        + Net<Listener = TcpListener, Stream = TcpStream>
+        + Sync,
+>(rt: &R, words: &'a [S], input: Input<I>, writer: &mut W) -> Result<Status, Failure<'a>>
     ensures { IsEnding (map S.text words.entry.now) (I.remaining (reader_of input)) (W.contents writer.old)
         (W.contents writer.new) result }
 {
@@ -93,13 +93,13 @@ fn outcome<
     S: AsStr,
     I: Read + Drop,
     W: Write,
-    R: AllocGlobal + Threads + Wait + Clock + Net<Listener = TcpListener, Stream = TcpStream> + Sync,
->(
-    rt: &R,
-    words: &[S],
-    input: Input<I>,
-    writer: &mut W,
-) -> Status
+    R: AllocGlobal
+        + Threads
+        + Wait
+        + Clock
+        + Net<Listener = TcpListener, Stream = TcpStream>
+        + Sync,
+>(rt: &R, words: &[S], input: Input<I>, writer: &mut W) -> Status
     ensures { IsOutcome (map S.text words.now) (I.remaining (reader_of input)) (W.contents writer.old)
         (W.contents writer.new) result }
 {
@@ -115,13 +115,13 @@ fn run_serve<
     S: AsStr,
     I: Read + Drop,
     W: Write,
-    R: AllocGlobal + Threads + Wait + Clock + Net<Listener = TcpListener, Stream = TcpStream> + Sync,
->(
-    rt: &R,
-    words: &[S],
-    input: Input<I>,
-    writer: &mut W,
-) -> u8
+    R: AllocGlobal
+        + Threads
+        + Wait
+        + Clock
+        + Net<Listener = TcpListener, Stream = TcpStream>
+        + Sync,
+>(rt: &R, words: &[S], input: Input<I>, writer: &mut W) -> u8
     ensures { IsRun (map S.text words.now) (I.remaining (reader_of input)) (W.contents writer.old)
         (W.contents writer.new) result }
 {
@@ -144,13 +144,13 @@ pub fn run_serving<
     S: AsStr,
     I: Read + Drop,
     W: Write,
-    R: AllocGlobal + Threads + Wait + Clock + Net<Listener = TcpListener, Stream = TcpStream> + Sync,
->(
-    rt: &R,
-    words: &[S],
-    input: Input<I>,
-    writer: &mut W,
-) -> u8
+    R: AllocGlobal
+        + Threads
+        + Wait
+        + Clock
+        + Net<Listener = TcpListener, Stream = TcpStream>
+        + Sync,
+>(rt: &R, words: &[S], input: Input<I>, writer: &mut W) -> u8
     ensures serve { names_serve (map S.text words.now) ≡ true → IsRun (map S.text words.now)
         (I.remaining (reader_of input)) (W.contents writer.old) (W.contents writer.new) result }
     ensures other { names_serve (map S.text words.now) ≡ false → subcommands_outcomes.IsRun (map S.text words.now)

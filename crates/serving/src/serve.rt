@@ -24,9 +24,7 @@ use std::sync::ledger::Blank;
 use std::sync::{Arc, Wait};
 use std::thread::Threads;
 use std::time::Clock;
-use subcommands::{
-    Failure, InputFault, Status, lines_of, three_parts, verdict_of, write_refused,
-};
+use subcommands::{Failure, InputFault, Status, lines_of, three_parts, verdict_of, write_refused};
 use table_changes::Command;
 
 /// Serves connections of a publisher while a session commits the lists, and closes it when all have ended.
@@ -69,7 +67,11 @@ fn publish<
 /// Serves an input: a catalog, the texts of the certificates of its tables, one a line, and a script of commits, with
 /// lines `%%` between them. Faults of the input are those of `simulate`, in its order, and that a step isn't COMMIT is a
 /// fault of the script.
-pub fn serve_input<'a, W: Write, R: Threads + Wait + Clock + Net<Listener = TcpListener, Stream = TcpStream> + Sync>(
+pub fn serve_input<
+    'a,
+    W: Write,
+    R: Threads + Wait + Clock + Net<Listener = TcpListener, Stream = TcpStream> + Sync,
+>(
     rt: &R,
     alloc: Global,
     service: Service,

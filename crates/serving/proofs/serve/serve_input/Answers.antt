@@ -10,7 +10,7 @@ use Rattle.subcommands.specs.Check.Checking.{IsFirstRefusal}
 use Rattle.subcommands.specs.Check.Refusals.{refused_line}
 use Rattle.subcommands.specs.Output.{StopsText, ended}
 use Rattle.subcommands.specs.Parts.{CutTwice, lines_of, three_parts}
-use Rattle.serving.proofs.Serving.{served, sharding_refused}
+use Rattle.serving.proofs.Serving.{catalog_returned, script_returned, served, sharding_refused}
 use Rattle.serving.proofs.serve.serve_input.Goals as goal
 
 pub returns-in-Ok : goal.returns-in-Ok
@@ -50,3 +50,19 @@ returns g c =
     c.write_refused.ensures.status
     (subst (λ (named : CatalogOf Expr). OnOk result (Appends old new (ended (refused_line named refusal)))) again c.write_refused.ensures.written)
     (subst (λ (named : CatalogOf Expr). IfErr result (StopsText (ended (refused_line named refusal)) old new)) again c.write_refused.ensures.stopped)
+
+pub returns-in_err-lists : goal.returns-in_err-lists
+returns-in_err-lists g c =
+    let cut : CutTwice = record { first = c.in_ok-text.text.now; second = c.in_ok-text.certificates.now; third = c.in_ok-text.script.now } in
+    let parts : three_parts c.args.input.now ≡ Some cut = search rules in
+    let same : texts_view c.as_slice.result.now ≡ lines_of cut.second = ap texts_view c.as_slice.ensures.value ∙ c.in_ok-texts.ensures in
+    script_returned c.args.service c.args.input.now cut (catalog_view c.in_ok-catalog.catalog) parts c.in_ok-catalog.ensures.catalog
+    (ap (text_fault 1) (sym same) ∙ c.in_ok-verdict.ensures.read)
+    (g.W.Write.contents c.args.writer.now) c.in_err-lists.field-0.0 c.from_residual-in_err-lists.result c.in_err-lists.ensures.err c.from_residual-in_err-lists.ensures.1
+
+pub returns-in_err-catalog-in-Err : goal.returns-in_err-catalog-in-Err
+returns-in_err-catalog-in-Err g c =
+    let cut : CutTwice = record { first = c.in_ok-text.text.now; second = c.in_ok-text.certificates.now; third = c.in_ok-text.script.now } in
+    let parts : three_parts c.args.input.now ≡ Some cut = search rules in
+    catalog_returned c.args.service c.args.input.now cut parts (g.W.Write.contents c.args.writer.now) c.in_err-catalog-in-Err.field-0.0 c.in_err-catalog-in-Err.ensures.catalog
+    c.from_residual-in_err-catalog-in-Err.result c.from_residual-in_err-catalog-in-Err.ensures.1
