@@ -9,8 +9,8 @@ ghost use Rattle.std.specs.Prelude.{◌≡◌, ◌⊎◌, IfErr};
 ghost use Rattle.subcommands.specs.Failures.{status_of_failure};
 ghost use Rattle.subcommands.specs.declared.failure.Status.TheVariants.{CommandLine, OutOfMemory};
 
-use std::io::{BufWriter, ErrorKind, Write};
 use serving::run_serving;
+use std::io::{BufWriter, ErrorKind, Write};
 use std::process::ExitCode;
 use std::{env, io};
 use subcommands::{Failure, Input, report};

@@ -215,9 +215,9 @@ fn request_of<'a>(matches: &ArgMatches<'a>) -> Option<Service>
 ///
 /// # Errors
 ///
-/// `CommandLine` where the words are not `serve` with one `--port` of 1 to 65535, at most one `--limit` of 1 to
-/// 1,000,000,000 and at most one `--connections` of 1 to 1,000, nor ask for the help or the version, with a text for the
-/// user; `OutOfMemory`.
+/// `CommandLine`, with a text for the user, where the words are not `serve` with one `--port` of 1 to 65,535, at most
+/// one `--limit` of 1 to 1,000,000,000 and at most one `--connections` of 1 to 1,000, nor ask for the help or the
+/// version; `OutOfMemory`.
 pub fn parse<'a, S: AsStr>(alloc: Global, words: &'a [S]) -> Result<Asked, Failure<'a>>
     ensures asked { IfOk result (IsAsking (map S.text words.entry.now)) }
     ensures stopped { IfErr result (IsOfWords (map S.text words.entry.now)) }

@@ -135,11 +135,11 @@ fn run_serve<
     }
 }
 
-/// Runs the program on the words of a command line, the program's name first, and gives its exit status. Where the first
-/// word is `serve`, subscribers are served over sockets, and the status is 0 where all connections have ended and the
-/// publisher was closed, 1 where the sharding is refused or the publisher can't be closed, 2 where the words ask nothing,
-/// 3 where the input is not taken, 4 where the writer fails, the port can't be had or the listening socket fails, 5 where
-/// memory runs out. Other words are run as `run` does.
+/// Runs the program on the words of a command line, the program's name first, and gives its exit status. Where the
+/// first word is `serve`, subscribers are served over sockets. The status is then 0 where all connections have ended
+/// and the publisher was closed, or the help or the version was asked; 1 where the sharding is refused or the publisher
+/// can't be closed; 2 where the words ask nothing; 3 where the input is not taken; 4 where the writer fails, the port
+/// can't be had or the listening socket fails; 5 where memory runs out. Other words are run as `run` does.
 pub fn run_serving<
     S: AsStr,
     I: Read + Drop,

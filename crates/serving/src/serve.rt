@@ -64,9 +64,9 @@ fn publish<
     close_and_tell(alloc, publisher, seat, served, writer)
 }
 
-/// Serves an input: a catalog, the texts of the certificates of its tables, one a line, and a script of commits, with
-/// lines `%%` between them. Faults of the input are those of `simulate`, in its order, and that a step isn't COMMIT is a
-/// fault of the script.
+/// Serves an input: a catalog, the texts of the certificates of its tables, one a line, and a script, with lines `%%`
+/// between them. Faults of the input are those of `simulate`, in its order. That a step isn't COMMIT is a fault of the
+/// script.
 pub fn serve_input<
     'a,
     W: Write,
