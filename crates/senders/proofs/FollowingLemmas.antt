@@ -18,7 +18,6 @@ use Rattle.tables_log.specs.BookView.{book_checked, book_log}
 use Rattle.tables_log.specs.Commits.{CommitOf}
 use Rattle.tables_log.specs.StandsFor.{Transaction, AreAccepted, StandsFor}
 use Rattle.tables_log.specs.declared.book.Book.{Book}
-use Rattle.copy_frames.specs.Contents.{copy_done}
 use Rattle.copy_frames.specs.declared.frame.Frame.{Frame}
 use Rattle.copy_both.specs.Streams.{Move, count_before, stream}
 use Rattle.copy_both.specs.Tellings.{telling_of}
@@ -33,14 +32,13 @@ use Rattle.senders_close.specs.Histories.{transaction_of, transactions_of}
 use Rattle.senders_close.specs.Taking.{IsTaken}
 use Rattle.stream_laws.specs.Cutting.{whole_in}
 use Rattle.stream_laws.specs.Following.{Follows, IsPublished, IsSentItem, log_of}
-use Rattle.stream_laws.specs.FollowingBytes.{AreFirst, StopsFollowing, SubFollows, items_from, position_in}
+use Rattle.stream_laws.specs.FollowingBytes.{AreFirst, StopsFollowing, items_from, position_in}
 use Rattle.stream_laws.specs.Sayable.{IsClocked, IsTimedTransaction}
 use Rattle.stream_laws.proofs.FollowingBytesLemmas.{fed_follow, stopped_follow}
 use Rattle.stream_laws.proofs.SayableLemmas.{logs_can_be_said}
 use Rattle.stream_laws.proofs.SentItems.{streams_can_be_sent}
-use Rattle.test_subscriber.specs.Subscribers.{Feeds, Opens, sub_machine}
-use Rattle.test_subscriber.specs.declared.subscriber.Subscriber.{Subscriber}
-use Rattle.senders.specs.Following.{AreTold, ClientsFollow, ClientsStop, ClosedAreFollowed, ClosedAreTold, ClosedTellTheLog, IsFirstPart, IsLastPart, NoBytes, OfDone, ServedAreFirstParts}
+use Rattle.test_subscriber.specs.Subscribers.{sub_machine}
+use Rattle.senders.specs.Following.{ClientsFollow, ClientsStop, ClosedAreFollowed, ClosedAreTold, ClosedTellTheLog, IsFirstPart, IsLastPart, NoBytes, OfDone, ServedAreFirstParts}
 use Rattle.senders.specs.Serving.{IsLast, IsStream, IsTail, commits_of}
 use Rattle.senders.specs.Serving as serving
 

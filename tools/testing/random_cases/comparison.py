@@ -61,10 +61,9 @@ class Watched:
         answer = run(words, text, self.library)
         self.refused += answer.refused
         self.late += answer.status is None
-        if answer.gives_up() and not answer.refused and not (self.expects_input and answer.output == "input\n"):
-            last = answer.output.rstrip("\n").rpartition("\n")[2]
-            self.gave_up.append(
-                f"{words[0]} gives up without a cause: status {answer.status}, last line {last[:200]!r}")
+        how = answer.giving_up()
+        if how is not None and not answer.refused and not (self.expects_input and answer.output == "input\n"):
+            self.gave_up.append(f"{words[0]} gives up without a cause: {how}")
         return answer
 
 

@@ -4,15 +4,16 @@ import random
 from collections import Counter
 from collections.abc import Iterator
 
-from model.catalogs import Catalog, Filter
-from model.certificates import catalog_refusal, nodes_of, reading_fault, table_refusal
-from model.making import counter_row
+from model.catalogs import Catalog, Filter, Table
+from model.certificates import Walk, catalog_refusal, nodes_of, reading_fault, table_refusal
+from model.making import certificate, counter_row
 from model.passing import WHOLE, owners, shares_of
 from model.values import row_fault
 
 from .case import Runner, parts, shown
 from .catalog_texts import CatalogText
 from .catalogs import CatalogMaker, broken, tables
+from .checks import MOST_ATOMS
 from .meeting import meet_catalog
 from .reading_rows import read_row
 from .row_values import Values
@@ -95,6 +96,8 @@ class MadeCase:
                 yield f"{name} is sound, and make says {shown(line)}"
         elif line not in (f"unknown {name}", f"too large {name}"):
             yield f"a line is {shown(line)}"
+        elif isinstance(truth, tuple) or has_certificate(self.catalog.tables[table], shares):
+            yield f"make says {line}, and the model finds a row or a certificate"
 
     def certificate_faults(self, table: int, shares: list[str | Filter | None], text: str) -> Iterator[str]:
         """What is wrong with a certificate, by the model and by rows."""
@@ -114,12 +117,18 @@ class MadeCase:
     def counter_faults(self, table: int, shares: list[str | Filter | None], text: str) -> Iterator[str]:
         """What is wrong with a row that shows a fault."""
         row, rest = read_row(text)
-        found = owners(shares, row) if isinstance(row, tuple) else []
-        names = ",".join(self.catalog.subscriptions[number].name for number in found) or "none"
         if row is None or row_fault(self.catalog.tables[table], row):
             yield f"{shown(text)} is no row of the table"
-        elif len(found) == 1 or rest != f" owners {names}":
+            return
+        found = owners(shares, row)
+        names = ",".join(self.catalog.subscriptions[number].name for number in found) or "none"
+        if len(found) == 1 or rest != f" owners {names}":
             yield f"{shown(text)} goes to {names}"
+
+
+def has_certificate(table: Table, shares: list[str | Filter | None]) -> bool:
+    """Whether the model's plain search finds a certificate."""
+    return len(Walk(table, shares).atoms) <= MOST_ATOMS and certificate(table, shares) is not None
 
 
 def is_certificate(line: str) -> bool:

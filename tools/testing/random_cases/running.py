@@ -27,11 +27,14 @@ class Answer:
     output: str
     refused: int = 0
 
-    def gives_up(self) -> bool:
-        """Whether the program says that memory, its input or its output failed."""
-        return (
-            self.status is None or self.status < 0 or self.status > 3 or self.output == "input\n"
-            or GIVEN_UP.search(self.output) is not None)
+    def giving_up(self) -> str | None:
+        """How the program says that memory, its input or its output failed, if it does."""
+        line = GIVEN_UP.search(self.output)
+        if line is not None:
+            return f"a line is {line[0]!r}"
+        if self.status is None or not 0 <= self.status <= 3:
+            return f"the status is {self.status}"
+        return "the line is 'input'" if self.output == "input\n" else None
 
 
 def program() -> str:
