@@ -14,7 +14,7 @@ from sending import insert, receivers, sent, used
 from simulating import catalog, condition
 
 CONNECTIONS = (1, 2, 8, 32)
-ROWS = 100_000
+ROWS = 400_000
 IN_A_COMMIT = 1_000
 # What the last row that each subscriber is told of has, and no row before it.
 LAST = b"the last one"

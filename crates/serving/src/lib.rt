@@ -3,7 +3,6 @@
 #![tactic(auto)]
 
 mod arguments;
-mod clock;
 mod closing;
 mod commits;
 mod connections;
