@@ -19,7 +19,7 @@ pub use arguments::{LIMIT, read_limit};
 pub use check::{lines_of, verdict_of, write_refused};
 pub use failure::{Failure, InputFault, Status};
 pub use input::Input;
-pub use output::{write_line, write_text};
+pub use output::write_line;
 pub use parts::three_parts;
 pub use program::{report, run};
 pub use reading::read_input;

@@ -92,8 +92,8 @@ def byte_by_byte(port: int, publisher: Publisher) -> Findings:
 
 
 def times(port: int, publisher: Publisher) -> Findings:
-    """The clock of each frame is that of the run. The time of a transaction is the same in its Begin and its Commit,
-    and not before that of an earlier one."""
+    """The clock of each frame is that of the run. The time of a transaction is the number of its step, in its Begin and
+    in its Commit."""
     before = clock()
     with client(port) as first, client(port) as second:
         first.start(LONDON)
@@ -103,9 +103,8 @@ def times(port: int, publisher: Publisher) -> Findings:
             clocks = [before, *(int.from_bytes(whole[22:30], "big") for whole in sent[1:]), clock()]
             yield f"the clocks of {subscriber.slot} in order", clocks, sorted(clocks)
             told = [messages.time_of(whole[messages.MESSAGE:]) for whole in sent[1:]]
-            found = [it for it in told if it is not None]
-            yield f"the times of {subscriber.slot} in order", found, sorted(found)
-            yield f"the times of {subscriber.slot} that begin and end", found[::2], found[1::2]
+            steps = [messages_of[0][0] // 64 for messages_of in publisher.transactions(subscriber)]
+            yield f"the times of {subscriber.slot}", [it for it in told if it is not None], sorted(steps + steps)
 
 
 def clock() -> int:
