@@ -1,0 +1,5 @@
+pub mod ClosingLemmas
+pub mod GatheringLemmas
+pub mod NumberLemmas
+pub mod ReplayLemmas
+pub mod TakenLemmas

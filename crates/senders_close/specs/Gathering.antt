@@ -1,0 +1,38 @@
+-- The receipts and the readings of all seats, and the numbers of receipts: PostgreSQL 15, 3.4. Transactions.
+use Rattle.std.specs.Prelude.{ℕ, ◌<◌, ◌≤◌, List, [], ◌∷◌, map}
+use Rattle.std.specs.List.{flat_map}
+use Rattle.publisher_desk.specs.Receipts.{ReceiptOf}
+use Rattle.publisher_desk.specs.declared.note.Note.{Note}
+use Rattle.publisher_desk.specs.declared.note.Note.TheVariants.{Committed, Looked}
+use Rattle.publisher_desk.specs.declared.note.Reading.{Reading}
+
+-- the receipts among a seat's notes, in their order
+abbrev pub receipts_in : List Note → List ReceiptOf
+receipts_in [] = []
+receipts_in (Committed receipt ∷ notes) = receipt ∷ receipts_in notes
+receipts_in (Looked reading ∷ notes) = receipts_in notes
+
+-- the readings among them
+abbrev pub readings_in : List Note → List Reading
+readings_in [] = []
+readings_in (Committed receipt ∷ notes) = readings_in notes
+readings_in (Looked reading ∷ notes) = reading ∷ readings_in notes
+
+-- seat by seat
+abbrev pub all_receipts : List (List Note) → List ReceiptOf
+all_receipts seats = flat_map receipts_in seats
+
+abbrev pub all_readings : List (List Note) → List Reading
+all_readings seats = flat_map readings_in seats
+
+abbrev pub numbers_of : List ReceiptOf → List ℕ
+numbers_of receipts = map (λ (receipt : ReceiptOf). receipt.number) receipts
+
+-- Each number is greater than the one before, and the first than `low`. None is above `high`.
+abbrev pub RiseTo : ℕ → ℕ → List ℕ → Type 0
+RiseTo high low [] = Unit {0}
+RiseTo high low (number ∷ numbers) = (low < number) × (number ≤ high) × RiseTo high number numbers
+
+-- The numbers of a seat's receipts rise, from 1 at least to `high` at most.
+abbrev pub IsRising : ℕ → List Note → Type 0
+IsRising high notes = RiseTo high 0 (numbers_of (receipts_in notes))
