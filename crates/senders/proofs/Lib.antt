@@ -1,4 +1,5 @@
 pub mod FlushingLemmas
+pub mod FollowingLemmas
 pub mod HearingLemmas
 pub mod RefusedLemmas
 pub mod SendingLemmas

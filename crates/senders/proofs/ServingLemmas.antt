@@ -18,7 +18,7 @@ use Rattle.served_connections.specs.declared.served.Served.{Served}
 use Rattle.senders.specs.Hearing.{Faults, HoldsFault, StaysStarted}
 use Rattle.senders.specs.Listening.{EndsAt, EndsFor, EndsOf, HearsAll, HearsLast, HearsMore, HearsOn, StartsOn}
 use Rattle.senders.specs.Refusing.{AnswersAs, WritesFirst, cause_by}
-use Rattle.senders.specs.Running.{All, Heard, IsEndOf, Memory, RunsOn, Streams, Writing}
+use Rattle.senders.specs.Running.{Heard, IsEndOf, Memory, RunsOn, Streams, Whole, Writing}
 use Rattle.senders.specs.Serving.{IsCause, IsEnded, IsLast, IsServed, IsServedFor, IsStream, IsWritten, commits_of, started_of}
 use Rattle.senders.specs.Serving as serving
 use Rattle.senders.specs.Speaking.{IsSaid}
@@ -58,7 +58,7 @@ module _ (checked : CheckedOf) (bytes : List ℕ) (slot start : ℕ) (source_fai
   stream_cause : (is : End) → IsEndOf why sink_failed is → IsCause checked bytes (Some (slot, start)) source_failed source_ended sink_failed is
   stream_cause is (Writing same failed) = subst (IsCause checked bytes (Some (slot, start)) source_failed source_ended sink_failed) (sym same) failed
   stream_cause is (Memory same) = subst (IsCause checked bytes (Some (slot, start)) source_failed source_ended sink_failed) (sym same) (memory_cause checked bytes slot start)
-  stream_cause is (All same) = subst (IsCause checked bytes (Some (slot, start)) source_failed source_ended sink_failed) (sym same) tt
+  stream_cause is (Whole same) = subst (IsCause checked bytes (Some (slot, start)) source_failed source_ended sink_failed) (sym same) tt
   stream_cause is (Heard ending some same) =
       subst (IsCause checked bytes (Some (slot, start)) source_failed source_ended sink_failed) (sym same)
       (heard_cause checked bytes (Some (slot, start)) knows.response source_failed source_ended sink_failed ending (knows.ends ending some))
@@ -69,6 +69,7 @@ module _ (checked : CheckedOf) (bytes : List ℕ) (slot start : ℕ) (source_fai
         asks = knows.asks;
         follow = streams.follow;
         moves = streams.moves;
+        clocks = streams.clocks;
         takes = streams.takes;
         rest = streams.rest;
         last = streams.last;

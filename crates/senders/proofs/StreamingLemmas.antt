@@ -1,6 +1,6 @@
 -- What was written of a stream, from its first bytes to its last.
 use Rattle.std.proofs.Common.{◌≡◌, ℕ, List, [], ◌∷◌, ◌++◌, length, map, refl, sym, ◌∙◌, ap, subst, append_assoc, append-nil}
-use Rattle.std.specs.Prelude.{◌≢◌, Bool, true, false, Option, Some, None}
+use Rattle.std.specs.Prelude.{◌≢◌, All, Bool, true, false, Option, Some, None}
 use Rattle.std.specs.Arc.{arc_value}
 use Rattle.std.specs.Io.KnownBytes.{Appends}
 use Rattle.std.proofs.KnownBytes.{Appends-nil, Appends-trans}
@@ -18,9 +18,11 @@ use Rattle.copy_both.specs.declared.voice.Voice.{Voice}
 use Rattle.served_connections.specs.declared.end.End.{End}
 use Rattle.served_connections.specs.declared.end.End.TheVariants as end
 use Rattle.served_connections.specs.declared.served.Served.{Served}
-use Rattle.senders.specs.Causes.{chosen, chosen_by, end_by}
+use Rattle.std.proofs.lemmas.List.Elements.{All-nil}
+use Rattle.stream_laws.specs.Sayable.{IsClocked}
+use Rattle.senders.specs.Causes.{chosen, chosen_by, end_by, unopened_by}
 use Rattle.senders.specs.Refusing.{cause_by}
-use Rattle.senders.specs.Running.{Concludes, IsEndOf, IsWithout, Memory, Writing, All, Heard, Streams}
+use Rattle.senders.specs.Running.{Concludes, IsEndOf, IsWithout, Memory, Writing, Whole, Heard, Streams}
 use Rattle.senders.specs.Sending.{Breaks, Follows, GoesOn, Spells, Starves, StopsAs, started_telling}
 use Rattle.senders.specs.Serving.{IsTail, commits_of}
 use Rattle.senders.specs.Speaking.{Closes, FailsToOpen, IsSaid, Nothing, Opens, SaysLast, SaysNothing, WritesPart}
@@ -35,19 +37,21 @@ use Rattle.senders.proofs.SendingLemmas.{spells}
 pub record Wrote (checked : CheckedOf) (slot start : ℕ) (taken : List CommitOf) (passed output : List ℕ) : Type 0 where
   pub follow : Follow (count_before start) taken
   pub moves : List Move
+  pub clocks : All IsClocked moves
   pub takes : takes_in moves ≡ length taken
   pub bytes : (log : List CommitOf) → AreAt log (count_before start) taken
       → passed ++ output ≡ stream (telling_of checked) log slot (length checked.catalog.tables) start moves
 
 module _ (checked : CheckedOf) (slot start : ℕ) where
-  wrote : (taken : List CommitOf) (now : Told) (bytes output : List ℕ) → Follows (started_telling checked slot start copy_both_response) now taken bytes → Spells now output []
+  wrote : (taken : List CommitOf) (now : Told) (bytes output : List ℕ) → All IsClocked now.moves → Follows (started_telling checked slot start copy_both_response) now taken bytes → Spells now output []
       → Wrote checked slot start taken (copy_both_response ++ bytes) output
-  wrote taken now bytes output follows spelled =
+  wrote taken now bytes output clocks follows spelled =
       let position : first_of now ≡ count_before start = ap (λ (s : Start). count_before s.position) follows.start_is in
       let here : Start = started_at checked (slot, start) in
       record {
         follow = subst (Follow (count_before start)) follows.taken_is (subst (λ (n : ℕ). Follow n now.taken) position spelled.follow);
         moves = now.moves;
+        clocks = clocks;
         takes = spelled.takes ∙ ap length follows.taken_is;
         bytes = λ log are.
             let at : AreAt log (first_of now) now.taken =
@@ -63,7 +67,7 @@ module _ (checked : CheckedOf) (slot start : ℕ) where
     after_all : GoesOn opened sent taken voice (started_telling checked slot start copy_both_response) → Closes why sent last failed → Streams checked slot start before last failed why served
     after_all goes closes =
         let front : List ℕ = copy_both_response ++ goes.bytes in
-        let w : Wrote checked slot start taken front (voice_output voice) = wrote taken goes.now goes.bytes (voice_output voice) goes.follows (spells voice goes.now goes.quiet.tells) in
+        let w : Wrote checked slot start taken front (voice_output voice) = wrote taken goes.now goes.bytes (voice_output voice) goes.clocks goes.follows (spells voice goes.now goes.quiet.tells) in
         record {
           slot_is = slot_is;
           start_is = start_is;
@@ -71,6 +75,7 @@ module _ (checked : CheckedOf) (slot start : ℕ) where
           put = Appends-trans before sent last front closes.written (Appends-trans before opened sent copy_both_response goes.bytes put goes.put) closes.put;
           follow = subst (Follow (count_before start)) (sym taken_is) w.follow;
           moves = w.moves;
+          clocks = w.clocks;
           takes = w.takes ∙ ap length (sym taken_is);
           rest = closes.rest;
           last = closes.last;
@@ -88,7 +93,7 @@ module _ (checked : CheckedOf) (slot start : ℕ) where
         → (failed ≡ false → voice_output voice ≡ []) → (served.end ≡ end.Finished → ⊥) → Streams checked slot start before last failed why served
     after_part breaks says all unfinished =
         let front : List ℕ = copy_both_response ++ breaks.bytes in
-        let w : Wrote checked slot start taken front (voice_output voice) = wrote taken breaks.now breaks.bytes (voice_output voice) breaks.follows breaks.spells in
+        let w : Wrote checked slot start taken front (voice_output voice) = wrote taken breaks.now breaks.bytes (voice_output voice) breaks.clocks breaks.follows breaks.spells in
         record {
           slot_is = slot_is;
           start_is = start_is;
@@ -96,6 +101,7 @@ module _ (checked : CheckedOf) (slot start : ℕ) where
           put = Appends-trans before sent last front [] (Appends-trans before opened sent copy_both_response breaks.bytes put breaks.put) says.put;
           follow = subst (Follow (count_before start)) (sym taken_is) w.follow;
           moves = w.moves;
+          clocks = w.clocks;
           takes = w.takes ∙ ap length (sym taken_is);
           rest = voice_output voice;
           last = [];
@@ -129,7 +135,7 @@ unfinished s false (Some why) not is = heard_unfinished why is
 
 stop_ends : (s : Stop) (why : Option Ending) (failed : Bool) (is : End) → (s ≡ stop.WriteFault → failed ≡ true) → is ≡ end_by s → IsEndOf why failed is
 stop_ends stop.Told why failed is fails same = Memory same
-stop_ends stop.Finished why failed is fails same = All same
+stop_ends stop.Finished why failed is fails same = Whole same
 stop_ends stop.WriteFault why failed is fails same = Writing same (fails refl)
 stop_ends stop.OutOfMemory why failed is fails same = Memory same
 
@@ -183,6 +189,7 @@ module _ (checked : CheckedOf) (slot start : ℕ) (before last : Option (List �
         put = put;
         follow = subst (Follow (count_before start)) (sym no_commits) tt;
         moves = [];
+        clocks = All-nil IsClocked;
         takes = ap length (sym no_commits);
         rest = rest;
         last = [];
@@ -193,15 +200,30 @@ module _ (checked : CheckedOf) (slot start : ℕ) (before last : Option (List �
         ends = ends;
       }
 
-  pub streams_not : (s : Stop) → FailsToOpen before last failed s → IsWithout slot start s served → Streams checked slot start before last failed why served
+  not_opened : (is : End) → WritesPart before last failed → IsWithout slot start is served → (is ≡ end.Finished → ⊥) → IsEndOf why failed served.end
+      → Streams checked slot start before last failed why served
+  not_opened is fails without_it not ends =
+      without fails.written fails.rest fails.put fails.bytes without_it.slot_is without_it.start_is without_it.none (λ sound memory. cc) (λ finished. not (sym without_it.end_is ∙ finished)) ends
+
+  starved : Appends before last [] → IsWithout slot start (end.Link fault.OutOfMemory) served → Streams checked slot start before last failed why served
+  starved put is =
+      without [] copy_both_response put refl is.slot_is is.start_is is.none (λ sound memory. absurd (memory is.end_is)) (λ finished. cc) (Memory is.end_is)
+
+  pub streams_not : (s : Stop) → FailsToOpen before last failed s → IsWithout slot start (end_by s) served → Streams checked slot start before last failed why served
   streams_not stop.Told fails is = absurd fails
   streams_not stop.Finished fails is = absurd fails
-  streams_not stop.WriteFault fails is =
-      without fails.written fails.rest fails.put fails.bytes is.slot_is is.start_is is.none (λ sound memory. cc) (λ finished. cc) (Writing is.end_is fails.fails)
-  streams_not stop.OutOfMemory fails is =
-      without [] copy_both_response fails refl is.slot_is is.start_is is.none (λ sound memory. absurd (memory is.end_is)) (λ finished. cc) (Memory is.end_is)
+  streams_not stop.WriteFault fails is = not_opened end.WriteFault fails is (λ finished. cc) (Writing is.end_is fails.fails)
+  streams_not stop.OutOfMemory fails is = starved fails is
+
+  -- the client had ended it
+  pub streams_ended : (s : Stop) (ending : Ending) → why ≡ Some ending → FailsToOpen before last failed s → IsWithout slot start (unopened_by s ending) served
+      → Streams checked slot start before last failed why served
+  streams_ended stop.Told ending some fails is = absurd fails
+  streams_ended stop.Finished ending some fails is = absurd fails
+  streams_ended stop.WriteFault ending some fails is = not_opened (cause_by ending) fails is (heard_unfinished ending) (Heard ending some is.end_is)
+  streams_ended stop.OutOfMemory ending some fails is = starved fails is
 
   -- no thread could be started
-  pub streams_no_further : Appends before last copy_both_response → IsWithout slot start stop.OutOfMemory served → Streams checked slot start before last failed why served
+  pub streams_no_further : Appends before last copy_both_response → IsWithout slot start (end.Link fault.OutOfMemory) served → Streams checked slot start before last failed why served
   streams_no_further put is =
       without copy_both_response [] put (append-nil copy_both_response) is.slot_is is.start_is is.none (λ sound memory. refl) (λ finished. cc) (Memory is.end_is)

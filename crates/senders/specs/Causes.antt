@@ -14,6 +14,13 @@ end_by stop.Finished = end.Finished
 end_by stop.WriteFault = end.WriteFault
 end_by stop.OutOfMemory = end.Link fault.OutOfMemory
 
+-- the client ended it by the bytes that started the stream, so that nothing but want of memory comes before that
+abbrev pub unopened_by : Stop → Ending → End
+unopened_by stop.Told why = end_by stop.Told
+unopened_by stop.Finished why = end_by stop.Finished
+unopened_by stop.WriteFault why = cause_by why
+unopened_by stop.OutOfMemory why = end_by stop.OutOfMemory
+
 -- the sender's, where it came first or the listener has none
 abbrev pub chosen_by : Stop → Bool → Ending → End
 chosen_by stop true why = end_by stop

@@ -1,5 +1,6 @@
 pub mod Causes
 pub mod Flushing
+pub mod Following
 pub mod Hearing
 pub mod Listening
 pub mod Pieces

@@ -1,5 +1,5 @@
 -- What a connection whose stream has started wrote, whatever was read from it: PostgreSQL 15, 55.4. Streaming Replication Protocol.
-use Rattle.std.specs.Prelude.{◌≡◌, ◌≢◌, ℕ, Bool, true, false, List, [], ◌++◌, length, Option, Some}
+use Rattle.std.specs.Prelude.{◌≡◌, ◌≢◌, ℕ, Bool, true, false, List, [], ◌++◌, All, length, Option, Some}
 use Rattle.std.specs.Io.KnownBytes.{Appends}
 use Rattle.shard_checker.specs.CheckedView.{CheckedOf}
 use Rattle.tables_log.specs.Commits.{CommitOf}
@@ -10,7 +10,8 @@ use Rattle.copy_both.specs.declared.link_fault.LinkFault.TheVariants as fault
 use Rattle.served_connections.specs.declared.end.End.{End}
 use Rattle.served_connections.specs.declared.end.End.TheVariants as end
 use Rattle.served_connections.specs.declared.served.Served.{Served}
-use Rattle.senders.specs.Causes.{chosen, end_by}
+use Rattle.stream_laws.specs.Sayable.{IsClocked}
+use Rattle.senders.specs.Causes.{chosen}
 use Rattle.senders.specs.Listening.{HearsAll}
 use Rattle.senders.specs.Refusing.{cause_by}
 use Rattle.senders.specs.Serving.{IsTail, commits_of}
@@ -18,14 +19,13 @@ use Rattle.senders.specs.Speaking.{IsSaid, SaysLast}
 use Rattle.senders.specs.declared.ending.Ending.{Ending}
 use Rattle.senders.specs.declared.listener.Listener.{Listener}
 use Rattle.senders.specs.declared.running.Sent.{Sent}
-use Rattle.senders.specs.declared.stop.Stop.{Stop}
 
 -- No commit was taken up.
-pub record IsWithout (slot start : ℕ) (stop : Stop) (served : Served) : Type 0 where
+pub record IsWithout (slot start : ℕ) (is : End) (served : Served) : Type 0 where
   pub slot_is : served.slot ≡ Some slot
   pub start_is : served.start ≡ Some start
   pub none : served.taken.items ≡ []
-  pub end_is : served.end ≡ end_by stop
+  pub end_is : served.end ≡ is
 
 -- The last was said, and the first cause is told.
 pub record Concludes (slot start : ℕ) (sent : Sent) (why : Option Ending) (before after : Option (List ℕ)) (was_failed failed : Bool) (served : Served) : Type 0 where
@@ -39,7 +39,7 @@ pub record Concludes (slot start : ℕ) (sent : Sent) (why : Option Ending) (bef
 pub data IsEndOf (why : Option Ending) (failed : Bool) (is : End) : Type 0 where
   Writing : is ≡ end.WriteFault → failed ≡ true → IsEndOf why failed is
   Memory : is ≡ end.Link fault.OutOfMemory → IsEndOf why failed is
-  All : is ≡ end.Finished → IsEndOf why failed is
+  Whole : is ≡ end.Finished → IsEndOf why failed is
   Heard : (ending : Ending) → why ≡ Some ending → is ≡ cause_by ending → IsEndOf why failed is
 
 -- What was written is a first part of the stream of the commits that were taken up, and then of what was said last.
@@ -50,6 +50,7 @@ pub record Streams (checked : CheckedOf) (slot start : ℕ) (before after : Opti
   pub put : Appends before after written
   pub follow : Follow (count_before start) (commits_of served)
   pub moves : List Move
+  pub clocks : All IsClocked moves
   pub takes : takes_in moves ≡ length (commits_of served)
   pub rest : List ℕ
   pub last : List ℕ

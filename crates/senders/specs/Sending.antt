@@ -1,5 +1,5 @@
 -- What a sender writes of a stream, and which commits it takes up: PostgreSQL 15, 55.4. Streaming Replication Protocol.
-use Rattle.std.specs.Prelude.{◌≡◌, ℕ, List, [], ◌∷◌, ◌++◌, length, Option, Some, None}
+use Rattle.std.specs.Prelude.{◌≡◌, ℕ, List, [], ◌∷◌, ◌++◌, All, length, Option, Some, None}
 use Rattle.std.specs.Io.KnownBytes.{Appends}
 use Rattle.shard_checker.specs.CheckedView.{CheckedOf}
 use Rattle.tables_log.specs.Commits.{CommitOf}
@@ -11,6 +11,7 @@ use Rattle.copy_both.specs.Tellings.{telling_of}
 use Rattle.copy_both.specs.VoiceLaws.{AreAt, Follow, Told, IsTelling, first_of, takes_in}
 use Rattle.copy_both.specs.Voices.{voice_output}
 use Rattle.copy_both.specs.declared.voice.Voice.{Voice}
+use Rattle.stream_laws.specs.Sayable.{IsClocked}
 use Rattle.senders.specs.declared.stop.Stop.{Stop}
 use Rattle.senders.specs.declared.stop.Stop.TheVariants as stop
 
@@ -43,6 +44,7 @@ pub record GoesOn (before after : Option (List ℕ)) (taken : List CommitOf) (vo
   pub bytes : List ℕ
   pub put : Appends before after bytes
   pub follows : Follows told now taken bytes
+  pub clocks : All IsClocked now.moves
   pub quiet : IsQuiet voice now
 
 -- The sender stopped in the midst of it.
@@ -51,6 +53,7 @@ pub record Breaks (before after : Option (List ℕ)) (taken : List CommitOf) (vo
   pub bytes : List ℕ
   pub put : Appends before after bytes
   pub follows : Follows told now taken bytes
+  pub clocks : All IsClocked now.moves
   pub spells : Spells now (voice_output voice) []
 
 -- Memory was refused while nothing waited.

@@ -1,5 +1,5 @@
 -- What came of a connection that was served: which stream was started for it, what was written, and why it ended: PostgreSQL 15, 55.4. Streaming Replication Protocol.
-use Rattle.std.specs.Prelude.{◌≡◌, ◌≢◌, ◌⊎◌, ℕ, Bool, true, false, List, [], ◌++◌, length, map, Option, Some, None}
+use Rattle.std.specs.Prelude.{◌≡◌, ◌≢◌, ◌⊎◌, ℕ, Bool, true, false, List, [], ◌++◌, All, length, map, Option, Some, None}
 use Rattle.std.specs.Arc.{arc_value}
 use Rattle.std.specs.Io.KnownBytes.{Appends, Consumes}
 use Rattle.shard_checker.specs.CheckedView.{CheckedOf}
@@ -16,6 +16,7 @@ use Rattle.copy_both.specs.declared.sql_state.SqlState.{SqlState}
 use Rattle.served_connections.specs.declared.end.End.{End}
 use Rattle.served_connections.specs.declared.end.End.TheVariants as end
 use Rattle.served_connections.specs.declared.served.Served.{Served}
+use Rattle.stream_laws.specs.Sayable.{IsClocked}
 use Rattle.senders.specs.Hearing.{HoldsFault}
 
 -- ---- what was written
@@ -35,6 +36,7 @@ pub record IsStream (checked : CheckedOf) (frames : List Frame) (slot start : �
   pub asks : AsksFor checked frames slot start
   pub follow : Follow (count_before start) taken
   pub moves : List Move
+  pub clocks : All IsClocked moves
   pub takes : takes_in moves ≡ length taken
   pub rest : List ℕ
   pub last : List ℕ

@@ -1,5 +1,7 @@
 //! The clock of streams.
 
+ghost use Rattle.std.specs.Prelude.{◌<◌, ◌^◌};
+
 use std::time::Clock;
 
 /// How many seconds after 1970-01-01 2000-01-01 is.
@@ -8,7 +10,9 @@ const SECONDS_TO_2000: u64 = 946_684_800;
 /// The time in microseconds since 2000-01-01, as messages have it; 0 where the clock can't be read.
 ///
 /// PostgreSQL 15, 55.4. Streaming Replication Protocol.
-pub(crate) fn clock<R: Clock>(rt: &R) -> u64 {
+pub(crate) fn clock<R: Clock>(rt: &R) -> u64
+    ensures { result < 2 ^ 64 }
+{
     let Ok(time) = rt.since_1970() else {
         return 0;
     };

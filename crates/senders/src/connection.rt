@@ -27,7 +27,11 @@ fn serve_one<
     W: Sink + Send + Drop,
     G: Gate + Sync,
     R: Threads + Wait + Clock + Sync,
->(rt: &R, publisher: &Publisher<P>, connection: &mut Conn<S, W>, gate: &G) {
+>(rt: &R, publisher: &Publisher<P>, connection: &mut Conn<S, W>, gate: &G)
+    ensures { IsSomeAnd connection.new.served (IsServed P.checked (S.left connection.old.reader)
+        (S.left connection.new.reader) (S.has_failed connection.new.reader) (S.has_ended connection.new.reader)
+        (W.taken connection.old.writer) (W.taken connection.new.writer) (W.has_failed connection.new.writer)) }
+{
     let served = serve(
         rt,
         publisher,
@@ -47,7 +51,17 @@ pub fn run_all<
     W: Sink + Send + Drop,
     G: Gate + Sync,
     R: Threads + Wait + Clock + Sync,
->(rt: &R, publisher: &Publisher<P>, connections: &mut [Conn<S, W>], gate: &G) {
+>(rt: &R, publisher: &Publisher<P>, connections: &mut [Conn<S, W>], gate: &G)
+    ensures { (place : ℕ) (other : _) → place < length connections.old
+        → IsSomeAnd (slice_index_or connections.new place other).served (IsServed P.checked
+        (S.left (slice_index_or connections.old place other).reader)
+        (S.left (slice_index_or connections.new place other).reader)
+        (S.has_failed (slice_index_or connections.new place other).reader)
+        (S.has_ended (slice_index_or connections.new place other).reader)
+        (W.taken (slice_index_or connections.old place other).writer)
+        (W.taken (slice_index_or connections.new place other).writer)
+        (W.has_failed (slice_index_or connections.new place other).writer)) }
+{
     if connections.is_empty() {
         return;
     }

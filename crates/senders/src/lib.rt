@@ -7,6 +7,7 @@ mod clock;
 mod connection;
 mod ending;
 mod flushing;
+mod laws;
 mod leaving;
 mod listener;
 mod listening;
@@ -20,8 +21,10 @@ mod stop;
 
 pub use connection::{Conn, run_all};
 pub use connection_io::{Failed, FromRead, Gate, OpenGate, Sink, Source, ToWrite};
+pub use laws::{clients_of_connections_follow, served_streams_tell_the_log};
 pub use publisher_desk::{
     Note, Publisher, Publishing, ReadFault, Reading, Receipt, Seat, Seats, threads_share_publishers,
 };
+pub use senders_close::{CloseError, Closed, close};
 pub use served_connections::{End, Served};
 pub use serving::serve;

@@ -43,25 +43,25 @@ fn sent_position(started: Option<(usize, u64)>, wishes: &[Wish]) -> u64
     }
 }
 
-/// What is wanted of a connection after a piece was heard, which started its stream or not.
+/// What is wanted of a connection after a piece was heard, which started its stream or not, and ended it or not.
 fn wish_after(old: Wish, begins: bool, heard: &Result<Heard, LinkFault>) -> Wish
     ensures { result.sent ≤ old.sent }
 {
-    let wants_reply = match heard {
-        Ok(heard) => 0 < heard.replies,
-        Err(_) => false,
+    let (wants_reply, ends) = match heard {
+        Ok(heard) => (0 < heard.replies, heard.ended.is_some()),
+        Err(_) => (false, true),
     };
     if begins {
         return Wish {
             sent: 0,
             wants_reply,
-            has_ended: false,
+            has_ended: ends,
         };
     }
     Wish {
         sent: old.sent,
         wants_reply: old.wants_reply || wants_reply,
-        has_ended: old.has_ended,
+        has_ended: old.has_ended || ends,
     }
 }
 

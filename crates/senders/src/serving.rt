@@ -2,14 +2,14 @@
 
 ghost use Rattle.std.specs.Prelude.{◌≡◌, ◌<◌, [], length, map, None, Some};
 ghost use Rattle.std.specs.Arc.{arc_value};
-ghost use Rattle.senders.specs.Causes.{chosen, end_by};
+ghost use Rattle.senders.specs.Causes.{chosen, end_by, unopened_by};
 ghost use Rattle.senders.specs.Running.{Concludes, IsWithout, RunsOn, Streams};
 ghost use Rattle.senders.specs.Speaking.{IsQuietAt};
 ghost use Rattle.senders.specs.Serving.{IsServed};
 
 use crate::begun::Begun;
 use crate::ending::Ending;
-use crate::leaving::{leave, lose};
+use crate::leaving::lose;
 use crate::listener::Listener;
 use crate::listening::begin;
 use crate::refusing::{answer, cause_of};
@@ -68,15 +68,25 @@ fn unstarted(alloc: Global, end: End) -> Served
     }
 }
 
-/// What came of a connection whose sender stopped before it took a commit up.
-fn without_commits(alloc: Global, started: (usize, u64), stop: Stop) -> Served
-    ensures { IsWithout started.0 started.1 stop result }
+/// What came of a connection for which no commit was taken up.
+fn without_commits(alloc: Global, started: (usize, u64), end: End) -> Served
+    ensures { IsWithout started.0 started.1 end result }
 {
     Served {
         slot: Some(started.0),
         start: Some(started.1),
         taken: Vec::new(alloc),
-        end: end_of(stop),
+        end,
+    }
+}
+
+/// Why a connection ended whose client had ended it before CopyBothResponse could not be written.
+fn unopened_end(stop: Stop, why: Ending) -> End
+    ensures { result ≡ unopened_by stop why }
+{
+    match stop {
+        Stop::WriteFault => cause_of(why),
+        Stop::Told | Stop::Finished | Stop::OutOfMemory => end_of(stop),
     }
 }
 
@@ -117,9 +127,11 @@ fn serve_ended<P: Publishing, W: Sink, G: Gate, R: Wait + Clock>(
 {
     let mut voice = match open(publisher, started, writer) {
         Ok(voice) => voice,
-        Err(stop) => return without_commits(publisher.allocator(), started, stop),
+        Err(stop) => {
+            let end = unopened_end(stop, why);
+            return without_commits(publisher.allocator(), started, end);
+        }
     };
-    leave(rt, publisher, started.0);
     let sent = send(rt, publisher, started, &mut voice, writer, gate);
     conclude(started, &mut voice, sent, Some(why), writer)
 }
@@ -147,10 +159,10 @@ fn serve_started<
 {
     let mut voice = match open(publisher, started, writer) {
         Ok(voice) => voice,
-        Err(stop) => return without_commits(publisher.allocator(), started, stop),
+        Err(stop) => return without_commits(publisher.allocator(), started, end_of(stop)),
     };
     if !starts_threads(rt) {
-        return without_commits(publisher.allocator(), started, Stop::OutOfMemory);
+        return without_commits(publisher.allocator(), started, end_of(Stop::OutOfMemory));
     }
     let (sent, why) = run_both(
         rt, publisher, started, &mut voice, listener, reader, writer, gate,
@@ -163,7 +175,8 @@ fn serve_started<
 /// what it is read from or written to fails, where its client ends it or sends what it may not, or once the publisher is
 /// finished and all commits are taken up; then it has given its slot back.
 ///
-/// Where the sender failed, or has taken up all, the connection is heard until it has no more bytes.
+/// Where the sender has taken up all, the connection is heard until it has no more bytes, and where the sender failed,
+/// until it has given one more piece. Until then it has its slot.
 ///
 /// PostgreSQL 15, 55.4. Streaming Replication Protocol.
 pub fn serve<

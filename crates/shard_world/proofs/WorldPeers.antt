@@ -25,7 +25,9 @@ pub use Rattle.shard_world.specs.WorldLaws.{StartsAt}
 use Rattle.stream_laws.proofs.CuttingLemmas.{cut_nothing}
 use Rattle.stream_laws.proofs.FollowingBytesLemmas.{follows_alike, opened_followed}
 use Rattle.stream_laws.proofs.ItemLemmas.{streams_are_items}
-use Rattle.shard_world.proofs.WorldItems.{whole_more, more_raise, items_append, IsClocked, stream_sent}
+use Rattle.shard_world.proofs.WorldItems.{whole_more, more_raise, items_append}
+use Rattle.stream_laws.specs.Sayable.{IsClocked}
+use Rattle.stream_laws.proofs.SentItems.{stream_sent}
 
 -- ---- what is so of a connection
 

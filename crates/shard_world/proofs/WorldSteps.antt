@@ -16,7 +16,7 @@ use Rattle.shard_world.specs.World.{Connection, Peer, PeerEvent, Open, Hear, Tak
 use Rattle.shard_world.specs.World as w
 use Rattle.stream_laws.specs.Sayable.{IsSayable}
 use Rattle.shard_world.proofs.WorldHearing.{hears_good}
-use Rattle.shard_world.proofs.WorldItems.{IsClocked}
+use Rattle.stream_laws.specs.Sayable.{IsClocked}
 use Rattle.shard_world.proofs.WorldPeers.{StartsAt, IsReported, IsConnectedAt, IsGood, bytes_of_items, loses_good, moves_connected, delivers_connected, reports_connected}
 
 -- ---- a step on a connection

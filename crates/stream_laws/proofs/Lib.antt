@@ -14,6 +14,7 @@ pub mod NamedLemmas
 pub mod RelationSteps
 pub mod Safety
 pub mod SayableLemmas
+pub mod SentItems
 pub mod StartAnswered
 pub mod StartLengths
 pub mod StartTexts

@@ -8,7 +8,9 @@ use Rattle.tables_log.specs.Commits.{CommitOf}
 use Rattle.tables_log.specs.StandsFor.{Transaction, AreAccepted}
 use Rattle.pgoutput_msgs.specs.Sent.{IsSent}
 use Rattle.pgoutput_msgs.specs.Telling.{messages_for}
-use Rattle.stream_laws.specs.Following.{log_of}
+use Rattle.copy_both.specs.Streams.{Move, Take, Keep, count_before}
+use Rattle.stream_laws.specs.Following.{log_of, IsSentItem}
+use Rattle.stream_laws.specs.Items.{stream_items}
 
 -- the layouts have room for what is told of each commit
 pub record IsSayable (checked : CheckedOf) (transactions : List Transaction) : Type 0 where
@@ -20,10 +22,21 @@ pub record IsSayable (checked : CheckedOf) (transactions : List Transaction) : T
 abbrev pub IsTimedTransaction : Transaction → Type 0
 IsTimedTransaction transaction = transaction.time < 2 ^ 64
 
--- ---- the law
+-- the clock of a move has 64 bits
+abbrev pub IsClocked : Move → Type 0
+IsClocked (Take clock) = clock < 2 ^ 64
+IsClocked (Keep clock want) = clock < 2 ^ 64
+
+-- ---- the laws
 
 -- So the layouts have room for what is told of each commit of a log of such transactions.
 abbrev pub LogsCanBeSaid : Type 0
 LogsCanBeSaid = (checked : CheckedOf) → Covered (setting_in checked) → IsLimited checked.catalog
     → (transactions : List Transaction) → AreAccepted (setting_in checked) no_rows transactions → All IsTimedTransaction transactions → length transactions ≤ 1000000000
     → IsSayable checked transactions
+
+-- And they have room for each item of a stream of such a log, whatever its moves, where it starts at a position that the log reaches, and clocks have 64 bits.
+abbrev pub StreamsCanBeSent : Type 0
+StreamsCanBeSent = (checked : CheckedOf) (transactions : List Transaction) → AreAccepted (setting_in checked) no_rows transactions → IsSayable checked transactions
+    → (subscriber position : ℕ) (moves : List Move) → count_before position ≤ length transactions → All IsClocked moves
+    → All IsSentItem (stream_items checked (log_of checked transactions) subscriber position moves)

@@ -5,7 +5,7 @@ ghost use Rattle.stream_laws.specs.Cutting.{FirstPartsAreCut};
 ghost use Rattle.stream_laws.specs.Following.{ItemsAreFollowed};
 ghost use Rattle.stream_laws.specs.FollowingBytes.{BytesAreFollowed, FedFollow, NothingIsFed, StoppedFollow, LostFollow, FirstFollows, FollowsLonger};
 ghost use Rattle.stream_laws.specs.Items.{StreamsAreItems};
-ghost use Rattle.stream_laws.specs.Sayable.{LogsCanBeSaid};
+ghost use Rattle.stream_laws.specs.Sayable.{LogsCanBeSaid, StreamsCanBeSent};
 
 /// A law, and no code, of streams. A stream is the frames of its items, one after another (`spelled`), and bytes that
 /// are a first part of it are cut into the frames that are whole in them, and a rest that is no whole frame (`cut`).
@@ -55,6 +55,14 @@ pub fn fed_subscribers_follow()
 #[tactic(auto, using(crate::proofs::SayableLemmas::logs_can_be_said))]
 pub fn logs_can_be_said()
     ensures { LogsCanBeSaid }
+{}
+
+/// A law, and no code, of streams: where the layouts have room for what is told of the log, and clocks have 64 bits, they
+/// have room for each item of a stream that starts at a position which the log reaches, whatever its moves.
+///
+/// PostgreSQL 15, 55.4. Streaming Replication Protocol.
+pub fn streams_can_be_sent()
+    ensures { StreamsCanBeSent }
 {}
 
 /// A law, and no code, of the command by which a subscriber asks for its stream. The publisher reads what was meant:

@@ -1,11 +1,15 @@
+use Rattle.std.proofs.Common.{refl, subst}
 use Rattle.std.specs.Prelude.{Some}
-use Rattle.senders.proofs.StreamingLemmas.{streams_not, streams_to_its_end}
+use Rattle.served_connections.specs.declared.end.End.{End}
+use Rattle.senders.specs.Running.{IsWithout}
+use Rattle.senders.proofs.StreamingLemmas.{streams_ended, streams_to_its_end}
 use Rattle.senders.proofs.serving.serve_ended.Goals as goal
 
 pub returns-in-Err : goal.returns-in-Err
 returns-in-Err g c =
-    streams_not g.P.Publishing.checked c.args.started.0 c.args.started.1 (g.W.Sink.taken c.args.writer.now) (g.W.Sink.taken c.open.new.writer) (g.W.Sink.has_failed c.open.new.writer) (Some c.args.why)
-    c.without_commits.result c.in-Err.stop c.in-Err.ensures.err c.without_commits.ensures
+    streams_ended g.P.Publishing.checked c.args.started.0 c.args.started.1 (g.W.Sink.taken c.args.writer.now) (g.W.Sink.taken c.open.new.writer) (g.W.Sink.has_failed c.open.new.writer) (Some c.args.why)
+    c.without_commits.result c.in-Err.stop c.args.why refl c.in-Err.ensures.err
+    (subst (λ (is : End). IsWithout c.args.started.0 c.args.started.1 is c.without_commits.result) c.unopened_end-end.ensures c.without_commits.ensures)
 
 pub returns : goal.returns
 returns g c =

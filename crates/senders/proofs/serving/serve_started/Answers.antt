@@ -1,4 +1,7 @@
+use Rattle.std.proofs.Common.{subst}
 use Rattle.std.specs.Prelude.{None}
+use Rattle.served_connections.specs.declared.end.End.{End}
+use Rattle.senders.specs.Running.{IsWithout}
 use Rattle.senders.proofs.HearingLemmas.{hears_nothing}
 use Rattle.senders.proofs.StreamingLemmas.{streams_no_further, streams_not, streams_to_its_end}
 use Rattle.senders.proofs.serving.serve_started.Goals as goal
@@ -8,7 +11,8 @@ returns-in-Err g c = record {
   why = None;
   hears = hears_nothing g.P.Publishing.checked (g.S.Source.left c.args.reader.now) c.args.listener.now;
   streams = streams_not g.P.Publishing.checked c.args.started.0 c.args.started.1 (g.W.Sink.taken c.args.writer.now) (g.W.Sink.taken c.open.new.writer) (g.W.Sink.has_failed c.open.new.writer) None
-      c.without_commits.result c.in-Err.stop c.in-Err.ensures.err c.without_commits.ensures;
+      c.without_commits.result c.in-Err.stop c.in-Err.ensures.err
+      (subst (λ (is : End). IsWithout c.args.started.0 c.args.started.1 is c.without_commits.result) c.end_of.ensures c.without_commits.ensures);
 }
 
 pub returns-then-not-starts_threads : goal.returns-then-not-starts_threads
@@ -16,7 +20,9 @@ returns-then-not-starts_threads g c = record {
   why = None;
   hears = hears_nothing g.P.Publishing.checked (g.S.Source.left c.args.reader.now) c.args.listener.now;
   streams = streams_no_further g.P.Publishing.checked c.args.started.0 c.args.started.1 (g.W.Sink.taken c.args.writer.now) (g.W.Sink.taken c.open.new.writer) (g.W.Sink.has_failed c.open.new.writer) None
-      c.without_commits-then-not-starts_threads.result c.in-Ok.ensures.ok.put c.without_commits-then-not-starts_threads.ensures;
+      c.without_commits-then-not-starts_threads.result c.in-Ok.ensures.ok.put
+      (subst (λ (is : End). IsWithout c.args.started.0 c.args.started.1 is c.without_commits-then-not-starts_threads.result) c.end_of-then-not-starts_threads.ensures
+      c.without_commits-then-not-starts_threads.ensures);
 }
 
 pub returns : goal.returns

@@ -1,0 +1,155 @@
+-- What was written is a first part of a stream over the log, and who is fed it follows.
+use Rattle.std.proofs.Common.{◌≡◌, ℕ, suc, List, [], ◌∷◌, ◌++◌, length, refl, sym, ◌∙◌, ap, subst, append-nil, length-append, arith}
+use Rattle.std.specs.Prelude.{◌≤◌, All, Bool}
+use Rattle.shard_checker.specs.CheckedView.{CheckedOf, checked_view, setting_in}
+use Rattle.shard_checker.specs.declared.checked.Checked.{Checked}
+use Rattle.shard_checker.proofs.LimitFacts.{checked_limited}
+use Rattle.shard_checker.proofs.PlanFacts.{kept_own}
+use Rattle.shard_checker.proofs.SoundFacts.{kept_sound}
+use Rattle.shard_checker.proofs.StandingLemmas.{own_apart, own_covered}
+use Rattle.pub_catalog.specs.CatalogView.{catalog_view}
+use Rattle.replica_identity.specs.Plans.{plan_view}
+use Rattle.table_changes.specs.Tables.{no_rows}
+use Rattle.tables_log.specs.BookView.{book_checked, book_log}
+use Rattle.tables_log.specs.Commits.{CommitOf}
+use Rattle.tables_log.specs.StandsFor.{Transaction, AreAccepted, StandsFor}
+use Rattle.tables_log.specs.declared.book.Book.{Book}
+use Rattle.copy_frames.specs.Contents.{copy_done}
+use Rattle.copy_frames.specs.declared.frame.Frame.{Frame}
+use Rattle.copy_both.specs.Streams.{Move, count_before, stream}
+use Rattle.copy_both.specs.Tellings.{telling_of}
+use Rattle.copy_both.specs.VoiceLaws.{AreAt}
+use Rattle.served_connections.specs.declared.end.End.{End}
+use Rattle.stream_laws.specs.Cutting.{whole_in}
+use Rattle.stream_laws.specs.Following.{Follows, IsPublished, IsSentItem, log_of}
+use Rattle.stream_laws.specs.FollowingBytes.{AreFirst, StopsFollowing, SubFollows, items_from, position_in}
+use Rattle.stream_laws.specs.Sayable.{IsClocked, IsTimedTransaction}
+use Rattle.stream_laws.proofs.FollowingBytesLemmas.{fed_follow, stopped_follow}
+use Rattle.stream_laws.proofs.SayableLemmas.{logs_can_be_said}
+use Rattle.stream_laws.proofs.SentItems.{streams_can_be_sent}
+use Rattle.test_subscriber.specs.Subscribers.{Feeds, Opens, sub_machine}
+use Rattle.test_subscriber.specs.declared.subscriber.Subscriber.{Subscriber}
+use Rattle.senders.specs.Following.{ClientsFollow, ClientsStop, IsFirstPart, IsLastPart, NoBytes, OfDone, ServedAreFirstParts}
+use Rattle.senders.specs.Serving.{IsLast, IsStream, IsTail}
+use Rattle.senders.specs.Serving as serving
+
+-- ---- a list that is cut in two ways
+
+data Cut (a b c d : List ℕ) : Type 0 where
+  Before : (middle : List ℕ) → c ≡ a ++ middle → b ≡ middle ++ d → Cut a b c d
+  After : (middle : List ℕ) → a ≡ c ++ middle → d ≡ middle ++ b → Cut a b c d
+
+cut_cons : (x y : ℕ) (a b c d : List ℕ) → x ≡ y → Cut a b c d → Cut (x ∷ a) b (y ∷ c) d
+cut_cons x y a b c d same (Before middle left right) = Before middle (ap (λ (z : ℕ). z ∷ c) (sym same) ∙ ap (λ (l : List ℕ). x ∷ l) left) right
+cut_cons x y a b c d same (After middle left right) = After middle (ap (λ (z : ℕ). z ∷ a) same ∙ ap (λ (l : List ℕ). y ∷ l) left) right
+
+cut : (a b c d : List ℕ) → a ++ b ≡ c ++ d → Cut a b c d
+cut [] b c d e = Before c refl e
+cut (x ∷ a) b [] d e = After (x ∷ a) refl (sym e)
+cut (x ∷ a) b (y ∷ c) d e =
+    let same : x ≡ y = cc in
+    let rest : a ++ b ≡ c ++ d = cc in
+    cut_cons x y a b c d same (cut a b c d rest)
+
+-- ---- what was written
+
+front_none : (front rest : List ℕ) → front ++ rest ≡ [] → front ≡ []
+front_none [] rest none = refl
+front_none (x ∷ front) rest none = absurd cc
+
+last_part : (frames : List Frame) (last front rest : List ℕ) → last ≡ front ++ rest → IsLast frames last → IsLastPart frames front
+last_part frames last front rest is (serving.Nothing none) = NoBytes (front_none front rest (sym is ∙ none))
+last_part frames last front rest is (serving.Done done ends) = OfDone rest (sym is ∙ done) ends
+
+nothing : (list : List ℕ) → length list ≡ 0 → list ≡ []
+nothing [] none = refl
+nothing (x ∷ list) none = absurd (let some : length (x ∷ list) ≡ suc (length list) = refl in omega arith)
+
+-- where the whole stream was written, nothing of it is left
+none_between : (middle last rest : List ℕ) → IsTail rest last → rest ≡ middle ++ last → middle ≡ []
+none_between middle last rest tail is =
+    nothing middle (omega (arith, ap length is, ap length tail.list_is, length-append middle last, length-append tail.front rest))
+
+module _ (checked : CheckedOf) (transactions : List Transaction) (frames : List Frame) (slot start : ℕ) (taken : List CommitOf) (written : List ℕ) (failed : Bool) (why : End)
+    (is : IsStream checked frames slot start taken written failed why) where
+  by_cut : (all : List ℕ) → all ≡ stream (telling_of checked) (log_of checked transactions) slot (length checked.catalog.tables) start is.moves → Cut written is.rest all is.last
+      → IsFirstPart checked transactions frames slot start taken written why
+  by_cut all whole (Before middle left right) = record {
+    moves = is.moves;
+    clocks = is.clocks;
+    takes = is.takes;
+    front = written;
+    last = [];
+    written_is = sym (append-nil written);
+    last_is = NoBytes refl;
+    others = middle;
+    first = sym left ∙ whole;
+    uncut = λ some. absurd (some refl);
+    whole = λ finished. none_between middle is.last is.rest (is.whole finished) right;
+  }
+  by_cut all whole (After middle left right) = record {
+    moves = is.moves;
+    clocks = is.clocks;
+    takes = is.takes;
+    front = all;
+    last = middle;
+    written_is = left;
+    last_is = last_part frames is.last middle is.rest right is.last_is;
+    others = [];
+    first = append-nil all ∙ whole;
+    uncut = λ some. refl;
+    whole = λ finished. refl;
+  }
+
+log_is : (checked : CheckedOf) (book : Book) (transactions : List Transaction) → book_checked book ≡ checked → StandsFor book transactions → book_log book ≡ log_of checked transactions
+log_is checked book transactions named stands = stands.log ∙ ap (λ (k : CheckedOf). log_of k transactions) named
+
+pub served_are_first_parts : ServedAreFirstParts
+served_are_first_parts checked book transactions named stands frames slot start taken written failed why is at =
+    let log : List CommitOf = log_of checked transactions in
+    let there : AreAt log (count_before start) taken = subst (λ (l : List CommitOf). AreAt l (count_before start) taken) (log_is checked book transactions named stands) at in
+    by_cut checked transactions frames slot start taken written failed why is
+    (stream (telling_of checked) log slot (length checked.catalog.tables) start is.moves) refl
+    (cut written is.rest (stream (telling_of checked) log slot (length checked.catalog.tables) start is.moves) is.last (is.bytes log there))
+
+-- ---- who is fed it
+
+-- what is so of a catalog that was checked, and of a log of transactions that were accepted
+module _ (checked : Checked) (transactions : List Transaction) (accepted : AreAccepted (setting_in (checked_view checked)) no_rows transactions) (timed : All IsTimedTransaction transactions)
+    (few : length transactions ≤ 1000000000) where
+  published : IsPublished (checked_view checked) transactions
+  published =
+      let catalog = catalog_view checked.catalog in
+      let plan = plan_view checked.plan in
+      let own = kept_own catalog plan checked.own in
+      let sound = kept_sound catalog checked.sound in
+      record { covered = own_covered catalog plan own sound; apart = own_apart catalog plan own sound; accepted = accepted }
+
+  sent : (slot position : ℕ) (moves : List Move) → count_before position ≤ length transactions → All IsClocked moves
+      → All IsSentItem (items_from (checked_view checked) transactions slot position moves)
+  unfolding published
+  sent slot position moves low clocks =
+      streams_can_be_sent (checked_view checked) transactions accepted
+      (logs_can_be_said (checked_view checked) published.covered (checked_limited checked) transactions accepted timed few) slot position moves low clocks
+
+pub clients_follow : ClientsFollow
+clients_follow checked transactions accepted timed few slot start moves clocks old between new follows at opens bytes others first feeds =
+    let view : CheckedOf = checked_view checked in
+    let position : ℕ = (sub_machine old).position in
+    let here : AreFirst view transactions slot position moves bytes others = subst (λ (p : ℕ). AreFirst view transactions slot p moves bytes others) (sym at) first in
+    subst (λ (p : ℕ). Follows view transactions slot (position_in view transactions slot p moves bytes) (sub_machine new)) at
+    (fed_follow view transactions (published checked transactions accepted timed few) slot old between new follows opens moves
+    (sent checked transactions accepted timed few slot position moves follows.within clocks) bytes others here feeds)
+
+pub clients_stop : ClientsStop
+clients_stop checked transactions accepted timed few slot start moves clocks old between middle new follows at opens bytes piece others error first feeds stops =
+    let view : CheckedOf = checked_view checked in
+    let position : ℕ = (sub_machine old).position in
+    let here : AreFirst view transactions slot position moves (bytes ++ piece) others =
+    subst (λ (p : ℕ). AreFirst view transactions slot p moves (bytes ++ piece) others) (sym at) first in
+    let stopped = stopped_follow view transactions (published checked transactions accepted timed few) slot old between middle new follows opens moves
+    (sent checked transactions accepted timed few slot position moves follows.within clocks) bytes piece others error here feeds stops in (
+      stopped.0,
+      subst (λ (p : ℕ). StopsFollowing view transactions slot p (whole_in (length bytes) (items_from view transactions slot p moves))
+          (whole_in (length (bytes ++ piece)) (items_from view transactions slot p moves)) new) at stopped.1,
+    )

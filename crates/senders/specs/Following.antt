@@ -1,0 +1,69 @@
+-- That a connection that was served told its client of a log: what was written are the first bytes of the stream of its commits, and a subscriber that is fed them has its shard: PostgreSQL 15, 55.4. Streaming Replication Protocol, and "Logical Replication", 31.3 Row Filters.
+use Rattle.std.specs.Prelude.{◌≡◌, ◌≢◌, ◌≤◌, ℕ, Bool, List, [], ◌++◌, All, length, None}
+use Rattle.shard_checker.specs.CheckedView.{CheckedOf, checked_view, setting_in}
+use Rattle.shard_checker.specs.declared.checked.Checked.{Checked}
+use Rattle.table_changes.specs.Tables.{no_rows}
+use Rattle.tables_log.specs.BookView.{book_checked, book_log}
+use Rattle.tables_log.specs.Commits.{CommitOf}
+use Rattle.tables_log.specs.StandsFor.{Transaction, AreAccepted, StandsFor}
+use Rattle.tables_log.specs.declared.book.Book.{Book}
+use Rattle.copy_frames.specs.Contents.{copy_done}
+use Rattle.copy_frames.specs.declared.frame.Frame.{Frame}
+use Rattle.copy_both.specs.HeardFrames.{HasEnd}
+use Rattle.copy_both.specs.Streams.{Move, count_before}
+use Rattle.copy_both.specs.VoiceLaws.{AreAt, takes_in}
+use Rattle.served_connections.specs.declared.end.End.{End}
+use Rattle.served_connections.specs.declared.end.End.TheVariants.{Finished}
+use Rattle.stream_laws.specs.Following.{Follows}
+use Rattle.stream_laws.specs.Cutting.{whole_in}
+use Rattle.stream_laws.specs.FollowingBytes.{AreFirst, StopsFollowing, SubFollows, items_from, position_in}
+use Rattle.stream_laws.specs.Sayable.{IsClocked, IsTimedTransaction}
+use Rattle.test_subscriber.specs.Copies.{told}
+use Rattle.test_subscriber.specs.Subscribers.{FeedStops, Feeds, Opens, sub_machine}
+use Rattle.test_subscriber.specs.declared.fault.SubFault.{SubFault}
+use Rattle.test_subscriber.specs.declared.subscriber.Subscriber.{Subscriber}
+use Rattle.senders.specs.Serving.{IsStream}
+
+-- nothing, or the first bytes of the CopyDone that answers a client's
+pub data IsLastPart (frames : List Frame) (bytes : List ℕ) : Type 0 where
+  NoBytes : bytes ≡ [] → IsLastPart frames bytes
+  OfDone : (rest : List ℕ) → bytes ++ rest ≡ copy_done → HasEnd frames 99 → IsLastPart frames bytes
+
+-- What was written, but for a CopyDone at the end, are the first bytes of the stream over the log of these transactions, which starts at this position and takes these commits.
+pub record IsFirstPart (checked : CheckedOf) (transactions : List Transaction) (frames : List Frame) (slot start : ℕ) (taken : List CommitOf) (written : List ℕ) (why : End) : Type 0 where
+  pub moves : List Move
+  pub clocks : All IsClocked moves
+  pub takes : takes_in moves ≡ length taken
+  pub front : List ℕ
+  pub last : List ℕ
+  pub written_is : written ≡ front ++ last
+  pub last_is : IsLastPart frames last
+  pub others : List ℕ
+  pub first : AreFirst checked transactions slot start moves front others
+  -- CopyDone comes after the whole stream, and so does the end of a publisher that was finished
+  pub uncut : last ≢ [] → others ≡ []
+  pub whole : why ≡ Finished → others ≡ []
+
+-- So it is of each connection whose commits are those of a book's log from its start on.
+abbrev pub ServedAreFirstParts : Type 0
+ServedAreFirstParts = (checked : CheckedOf) (book : Book) (transactions : List Transaction) → book_checked book ≡ checked → StandsFor book transactions
+    → (frames : List Frame) (slot start : ℕ) (taken : List CommitOf) (written : List ℕ) (failed : Bool) (why : End) → IsStream checked frames slot start taken written failed why
+    → AreAt (book_log book) (count_before start) taken → IsFirstPart checked transactions frames slot start taken written why
+
+-- A subscriber that has its shard, opens a connection at its own position, and is fed any first bytes of such a stream, in whatever pieces, has its shard of the tables after the commits that its position counts.
+abbrev pub ClientsFollow : Type 0
+ClientsFollow = (checked : Checked) (transactions : List Transaction) → AreAccepted (setting_in (checked_view checked)) no_rows transactions → All IsTimedTransaction transactions
+    → length transactions ≤ 1000000000 → (slot start : ℕ) (moves : List Move) → All IsClocked moves
+    → (old between new : Subscriber) → SubFollows (checked_view checked) transactions slot old → (sub_machine old).position ≡ start → Opens old between
+    → (bytes others : List ℕ) → AreFirst (checked_view checked) transactions slot start moves bytes others → Feeds between bytes new
+    → Follows (checked_view checked) transactions slot (position_in (checked_view checked) transactions slot start moves bytes) (sub_machine new)
+
+-- Where a piece stops it, memory was refused, and it follows still, after all that is whole in the bytes before the piece, and some of what is whole with it.
+abbrev pub ClientsStop : Type 0
+ClientsStop = (checked : Checked) (transactions : List Transaction) → AreAccepted (setting_in (checked_view checked)) no_rows transactions → All IsTimedTransaction transactions
+    → length transactions ≤ 1000000000 → (slot start : ℕ) (moves : List Move) → All IsClocked moves
+    → (old between middle new : Subscriber) → SubFollows (checked_view checked) transactions slot old → (sub_machine old).position ≡ start → Opens old between
+    → (bytes piece others : List ℕ) (error : SubFault) → AreFirst (checked_view checked) transactions slot start moves (bytes ++ piece) others
+    → Feeds between bytes middle → FeedStops middle piece error new
+    → (told error ≡ None) × StopsFollowing (checked_view checked) transactions slot start (whole_in (length bytes) (items_from (checked_view checked) transactions slot start moves))
+    (whole_in (length (bytes ++ piece)) (items_from (checked_view checked) transactions slot start moves)) new
