@@ -18,7 +18,7 @@ pub(crate) struct Board {
     pub(crate) port: u16,
     /// The greatest number of a commit that has returned.
     returned: AtomicU64,
-    /// How many commits each slot's client has got.
+    /// How much each slot's client has got: the start of its stream counts one, and each commit one.
     got: Vec<AtomicU64>,
     /// How often something failed.
     failures: AtomicU64,
@@ -81,14 +81,14 @@ impl Board {
         self.returned.fetch_max(u64::from(number), Ordering::SeqCst);
     }
 
-    /// The client of the slot has got so many commits.
+    /// The client of the slot has got so much.
     pub(crate) fn gets(&self, slot: usize, count: u64) {
         if let Some(word) = self.got.get(slot) {
             word.store(count, Ordering::SeqCst);
         }
     }
 
-    /// Waits until the client of the slot has got so many commits. It is a failure if that does not come.
+    /// Waits until the client of the slot has got so much. It is a failure if that does not come.
     pub(crate) fn await_got<C: Clock>(&self, clock: &C, slot: usize, least: u64) {
         if let Some(word) = self.got.get(slot) {
             if !comes(clock, word, least) {
@@ -102,6 +102,16 @@ impl Board {
         if !comes(clock, &self.returned, 2) {
             self.fail();
         }
-        self.await_got(clock, 1, self.returned.load(Ordering::SeqCst));
+        let later = self.returned.load(Ordering::SeqCst);
+        self.await_got(clock, 1, later.saturating_add(1));
+    }
+
+    /// Waits until all streams have started, where the sessions begin no sooner.
+    pub(crate) fn await_starts<C: Clock>(&self, clock: &C) {
+        if self.work.begins_later() {
+            for slot in 0..self.work.slots() {
+                self.await_got(clock, slot, 1);
+            }
+        }
     }
 }

@@ -37,8 +37,7 @@ pub(crate) fn has_shard(
 ) -> Option<bool> {
     let rows = subscriber.rows(16_384).ok()?;
     let first = slot.saturating_mul(work.width());
-    let count = usize::try_from(work.sent()).ok()?;
-    are_rows(alloc, rows.as_slice(), first, count).ok()
+    are_rows(alloc, rows.as_slice(), first, work.sent()).ok()
 }
 
 /// Whether a subscriber of the slot that is fed these bytes has its shard then.
@@ -62,9 +61,9 @@ fn hear(stream: &mut TcpStream, subscriber: &mut Subscriber, piece: &mut [u8]) -
     subscriber.feed(&piece[..count]).ok()
 }
 
-/// How many commits it has got, where it is sent each one.
+/// How much it has got, where it is sent each commit.
 fn got(subscriber: &Subscriber) -> u64 {
-    (subscriber.position() / 64).saturating_sub(1)
+    subscriber.position() / 64
 }
 
 /// The first read of a client. It is slow where the board says so.
@@ -78,7 +77,7 @@ fn begin<C: Clock>(
     if slot == 0 && board.hold == Hold::Slow {
         let mut byte = [0; 1];
         hear(stream, subscriber, &mut byte)?;
-        board.await_got(clock, 1, board.work.sent());
+        board.await_got(clock, 1, board.work.in_all());
     }
     Some(())
 }
@@ -97,7 +96,7 @@ fn follow<R: Clock + Net<Listener = TcpListener, Stream = TcpStream>>(
     for _ in 0..u64::MAX {
         hear(&mut stream, &mut subscriber, &mut piece)?;
         board.gets(slot, got(&subscriber));
-        if board.work.sent() <= got(&subscriber) {
+        if board.work.in_all() <= got(&subscriber) {
             break;
         }
     }

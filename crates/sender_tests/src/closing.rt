@@ -3,8 +3,7 @@
 use crate::checks::same;
 use crate::work::Work;
 use publisher_desk::Step;
-use senders::{End, Publisher, Publishing, Seat, Seats, Served};
-use senders_close::{CloseError, close};
+use senders::{CloseError, End, Publisher, Publishing, Seat, Seats, Served, close};
 use std::alloc::{AllocError, Global};
 use std::process::Abort;
 use std::sync::{Arc, Wait};

@@ -7,8 +7,8 @@ use crate::work::Hold;
 use senders::{Failed, Sink, Source};
 use std::time::Clock;
 
-/// What a client writes: some bytes, and then it waits until it has got so many commits, and closes. Or the first read
-/// of it fails.
+/// What a client writes: some bytes, and then it waits until it has got so much, and closes. Or the first read of it
+/// fails.
 #[derive(Drop)]
 pub(crate) struct Asking<'a, C> {
     clock: &'a C,
@@ -87,8 +87,8 @@ impl<C: Clock> Source for Asking<'_, C> {
 }
 
 /// What a client reads, kept in memory. It has room for so many bytes and then fails, and takes at most so many at a
-/// time. It tells the board how many commits it has got: each is in a push of its own, or in several of which the last
-/// is taken whole.
+/// time. It tells the board how much it has got: what is said at once is in a push of its own, or in several of which
+/// the last is taken whole.
 #[derive(Drop)]
 pub(crate) struct Kept<'a, C> {
     clock: &'a C,
@@ -101,7 +101,7 @@ pub(crate) struct Kept<'a, C> {
     failed: bool,
 }
 
-/// How many commits a client has got whose writer failed: as many as anybody may wait for.
+/// How much a client has got whose writer failed: as much as anybody may wait for.
 const ALL: u64 = u64::MAX;
 
 impl<'a, C: Clock> Kept<'a, C> {
@@ -131,7 +131,9 @@ impl<'a, C: Clock> Kept<'a, C> {
         }
         match self.board.hold {
             Hold::Writer => self.board.await_later(self.clock),
-            Hold::Slow => self.board.await_got(self.clock, 1, self.board.work.sent()),
+            Hold::Slow => self
+                .board
+                .await_got(self.clock, 1, self.board.work.in_all()),
             Hold::Nobody | Hold::Gate => {}
         }
     }
@@ -145,12 +147,12 @@ impl<'a, C: Clock> Kept<'a, C> {
         Failed
     }
 
-    /// Tells how many commits were got.
+    /// Tells how much was got.
     fn tell(&mut self)
         ensures { self.new.failed ≡ self.old.failed }
     {
         self.whole = self.whole.saturating_add(1);
-        self.board.gets(self.slot, self.whole.saturating_sub(1));
+        self.board.gets(self.slot, self.whole);
     }
 }
 

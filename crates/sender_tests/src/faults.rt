@@ -61,7 +61,7 @@ fn served<P: Publishing + Sync, R: Threads + Wait + Clock + Sync>(
     room: usize,
 ) -> (Served, Vec<u8>) {
     board.gets(0, 0);
-    let mut reader = Asking::new(rt, board, 0, 1, query);
+    let mut reader = Asking::new(rt, board, 0, 2, query);
     let mut writer = Kept::new(rt, board, 0, room, usize::MAX);
     let served = serve(rt, publisher, &mut reader, &mut writer, &OpenGate);
     let Kept { bytes, .. } = writer;

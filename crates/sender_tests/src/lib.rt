@@ -1,5 +1,4 @@
-//! Tests of connections that threads serve, and of the closing comparison, by the public calls of `senders` and
-//! `senders_close`.
+//! Tests of connections that threads serve, and of the closing comparison, by the public calls of `senders`.
 #![tactic(auto)]
 
 #[cfg(test)]

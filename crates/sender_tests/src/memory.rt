@@ -53,7 +53,7 @@ fn connect<'a, R: Clock>(
 ) -> Result<Vec<Held<'a, R>>, AllocError> {
     let mut list = Vec::new(board.alloc);
     for (slot, query) in queries.iter().enumerate() {
-        let last = board.work.sent();
+        let last = board.work.in_all();
         list.push(Conn {
             reader: Asking::new(rt, board, slot, last, query.as_slice()),
             writer: Kept::new(rt, board, slot, usize::MAX, most(board, slot)),

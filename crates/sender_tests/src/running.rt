@@ -4,8 +4,9 @@ use crate::board::Board;
 use crate::checks::{holds, same};
 use crate::sessions::write;
 use crate::work::{Work, are_rows};
-use senders::{Conn, End, Gate, Note, Publisher, Publishing, Seat, Served, Sink, Source, run_all};
-use senders_close::close;
+use senders::{
+    Conn, End, Gate, Note, Publisher, Publishing, Seat, Served, Sink, Source, close, run_all,
+};
 use std::process::Abort;
 use std::sync::Wait;
 use std::test::Fail;

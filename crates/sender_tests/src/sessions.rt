@@ -8,6 +8,7 @@ use std::alloc::{AllocError, Global};
 use std::sync::Wait;
 use std::thread;
 use std::thread::Threads;
+use std::time::Clock;
 use table_changes::Command;
 
 /// Whether the reading answers this row.
@@ -95,7 +96,7 @@ fn last<P: Publishing, R: Wait>(
 }
 
 /// All sessions, each in a thread of its own, and the commits after them. Then the publisher is finished.
-pub(crate) fn write<P: Publishing + Sync, R: Threads + Wait + Sync>(
+pub(crate) fn write<P: Publishing + Sync, R: Threads + Wait + Clock + Sync>(
     rt: &R,
     publisher: &Publisher<P>,
     seats: &mut Vec<Seat<P>>,
@@ -105,6 +106,7 @@ pub(crate) fn write<P: Publishing + Sync, R: Threads + Wait + Sync>(
     if count == 0 {
         return;
     }
+    board.await_starts(rt);
     thread::for_each_mut(
         rt,
         seats.as_mut_slice(),

@@ -66,11 +66,27 @@ impl Work {
         }
     }
 
-    /// How many of them each subscriber is sent.
-    pub(crate) fn sent(self) -> u64 {
+    /// How many of them each subscriber is sent. Each gives it one row.
+    pub(crate) fn sent(self) -> usize {
         match self {
             Work::Pairs => 100,
             Work::Spread => 328,
+        }
+    }
+
+    /// What each subscriber gets in the end: the start of its stream, and the commits that it is sent.
+    pub(crate) fn in_all(self) -> u64 {
+        match self {
+            Work::Pairs => 101,
+            Work::Spread => 329,
+        }
+    }
+
+    /// Whether the sessions begin when all streams have started.
+    pub(crate) fn begins_later(self) -> bool {
+        match self {
+            Work::Pairs => false,
+            Work::Spread => true,
         }
     }
 
