@@ -20,6 +20,8 @@ pub(crate) struct Board {
     returned: AtomicU64,
     /// How much each slot's client has got: the start of its stream counts one, and each commit one.
     got: Vec<AtomicU64>,
+    /// How many clients are connected.
+    connected: AtomicU64,
     /// How often something failed.
     failures: AtomicU64,
 }
@@ -62,6 +64,7 @@ impl Board {
             port,
             returned: AtomicU64::new(0),
             got,
+            connected: AtomicU64::new(0),
             failures: AtomicU64::new(0),
         })
     }
@@ -95,6 +98,18 @@ impl Board {
                 self.fail();
             }
         }
+    }
+
+    /// Waits until the clients of all slots before this one are connected.
+    pub(crate) fn await_turn<C: Clock>(&self, clock: &C, slot: u64) {
+        if !comes(clock, &self.connected, slot) {
+            self.fail();
+        }
+    }
+
+    /// One more client is connected.
+    pub(crate) fn connects(&self) {
+        self.connected.fetch_add(1, Ordering::SeqCst);
     }
 
     /// Waits until a later commit than the first has returned, and the client of the second slot has got it.

@@ -82,13 +82,25 @@ fn begin<C: Clock>(
     Some(())
 }
 
+/// Connects, in the order of the slots.
+fn connect<R: Clock + Net<Listener = TcpListener, Stream = TcpStream>>(
+    rt: &R,
+    board: &Board,
+    slot: usize,
+) -> Option<TcpStream> {
+    board.await_turn(rt, slot as u64);
+    let stream = TcpStream::connect(rt, (Ipv4Addr::LOCALHOST, board.port)).ok()?;
+    board.connects();
+    Some(stream)
+}
+
 /// Follows the stream of the slot until it has all, and closes then. Whether it has its shard.
 fn follow<R: Clock + Net<Listener = TcpListener, Stream = TcpStream>>(
     rt: &R,
     board: &Board,
     slot: usize,
 ) -> Option<bool> {
-    let mut stream = TcpStream::connect(rt, (Ipv4Addr::LOCALHOST, board.port)).ok()?;
+    let mut stream = connect(rt, board, slot)?;
     let mut subscriber = subscriber(board.alloc, board.work, slot)?;
     ask(&mut stream, &subscriber)?;
     begin(rt, board, slot, &mut stream, &mut subscriber)?;
