@@ -1,4 +1,3 @@
-use mathlib.Core.List.{[]}
 use mir.Syntax.{of_param}
 use base.Fraction.{full_share}
 use denote.Param.{param}
@@ -23,12 +22,12 @@ join-requires-send-F g c κs within =
             (
               (tt, (tt, λ y. (part_keyless _ seats full_share y x.2.ref_ptr.0 x.2.ref_ptr.1, tt))),
               (
-                (tt, B.the_sync.shared x.3.now x.3.ref_ptr.0 x.3.ref_ptr.1 []),
+                (tt, B.the_sync.shared x.3.now x.3.ref_ptr.0 x.3.ref_ptr.1 _),
                 tt,
               ),
             ),
           ),
         ),
       );
-      leaving = λ k. Quiet-if (k (of_param 1)) _ _ (λ x w. (tt, (tt, (tt, (tt, tt))))) (λ x w. tt);
+      leaving = λ k. Quiet-if (k (of_param 1)) _ _ (λ x w. (tt, (tt, (tt, tt)))) (λ x w. tt);
     }

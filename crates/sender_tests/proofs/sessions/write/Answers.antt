@@ -1,5 +1,4 @@
 use denote.Param.{param}
-use mathlib.Core.List.{[]}
 use Rattle.publisher_desk.proofs.Crossing.{publisher_sync}
 use Rattle.sender_tests.proofs.board.Board.TheSendSync as B
 use Rattle.sender_tests.proofs.sessions.write.Goals as goal
@@ -15,7 +14,7 @@ for_each_mut-requires-sync-F g c κs within =
           (
             ((λ q. tt), publisher.shared x.1.now x.1.ref_ptr.0 x.1.ref_ptr.1 _),
             (
-              ((λ q. tt), B.the_sync.shared x.2.now x.2.ref_ptr.0 x.2.ref_ptr.1 []),
+              ((λ q. tt), B.the_sync.shared x.2.now x.2.ref_ptr.0 x.2.ref_ptr.1 _),
               tt,
             ),
           ),
