@@ -9,6 +9,9 @@ use std::time::{Clock, Duration};
 /// How often a thread looks before it gives up.
 const TURNS: u32 = 1_000_000;
 
+/// How much a client has got whose writer failed: as much as anybody may wait for.
+pub(crate) const LOST: u64 = u64::MAX;
+
 /// What the threads of a test share: who writes what, who is held, and how far they are.
 #[derive(Drop)]
 pub(crate) struct Board {
@@ -22,6 +25,8 @@ pub(crate) struct Board {
     got: Vec<AtomicU64>,
     /// How many clients are connected.
     connected: AtomicU64,
+    /// How often a client whose writer failed has said something since.
+    turns: AtomicU64,
     /// How often something failed.
     failures: AtomicU64,
 }
@@ -65,6 +70,7 @@ impl Board {
             returned: AtomicU64::new(0),
             got,
             connected: AtomicU64::new(0),
+            turns: AtomicU64::new(0),
             failures: AtomicU64::new(0),
         })
     }
@@ -82,6 +88,25 @@ impl Board {
     /// The commit of this number has returned.
     pub(crate) fn returns(&self, number: u32) {
         self.returned.fetch_max(u64::from(number), Ordering::SeqCst);
+    }
+
+    /// Whether the writer of the slot has failed.
+    pub(crate) fn is_lost(&self, slot: usize) -> bool {
+        match self.got.get(slot) {
+            Some(word) => word.load(Ordering::SeqCst) == LOST,
+            None => false,
+        }
+    }
+
+    /// Whether a client may say something once more. It is a failure if it has done so too often.
+    pub(crate) fn takes_turn<C: Clock>(&self, clock: &C) -> bool {
+        let turn = self.turns.fetch_add(1, Ordering::SeqCst);
+        if turn < u64::from(TURNS) {
+            rest(clock, turn as u32);
+            return true;
+        }
+        self.fail();
+        false
     }
 
     /// The client of the slot has got so much.

@@ -2,13 +2,13 @@
 
 ghost use Rattle.std.specs.Prelude.{◌≡◌, true};
 
-use crate::board::Board;
+use crate::board::{Board, LOST};
 use crate::work::Hold;
 use senders::{Failed, Sink, Source};
 use std::time::Clock;
 
-/// What a client writes: some bytes, and then it waits until it has got so much, and closes. Or the first read of it
-/// fails.
+/// What a client writes: some bytes, and then it waits until it has got so much, and closes; but where its writer has
+/// failed it goes on with statuses. Or the first read of it fails.
 #[derive(Drop)]
 pub(crate) struct Asking<'a, C> {
     clock: &'a C,
@@ -56,6 +56,22 @@ impl<'a, C: Clock> Asking<'a, C> {
     }
 }
 
+/// A status that nothing is flushed.
+const STATUS: &[u8] =
+    b"d\0\0\0\x26r\0\0\0\0\0\0\0\0\0\0\0\0\0\0\0\0\0\0\0\0\0\0\0\0\0\0\0\0\0\0\0\0\0";
+
+impl<C: Clock> Asking<'_, C> {
+    /// What the client writes when it has got so much: nothing, or a status where its writer has failed, so that the
+    /// connection ends by that and not by the client.
+    fn next(&self) -> &'static [u8] {
+        self.board.await_got(self.clock, self.slot, self.last);
+        if self.board.is_lost(self.slot) && self.board.takes_turn(self.clock) {
+            return STATUS;
+        }
+        &[]
+    }
+}
+
 impl<C: Clock> Source for Asking<'_, C> {
     ghost has_failed = { λ source. source.failed };
 
@@ -66,12 +82,14 @@ impl<C: Clock> Source for Asking<'_, C> {
             self.failed = true;
             return Err(Failed);
         }
+        if self.left.is_empty() {
+            self.left = self.next();
+        }
         let count = self.left.len().min(piece.len());
         let (now, later) = self.left.split_at(count);
         piece[..count].copy_from_slice(now);
         self.left = later;
         if count == 0 && !piece.is_empty() {
-            self.board.await_got(self.clock, self.slot, self.last);
             self.ended = true;
         }
         Ok(count)
@@ -100,9 +118,6 @@ pub(crate) struct Kept<'a, C> {
     pub(crate) bytes: Vec<u8>,
     failed: bool,
 }
-
-/// How much a client has got whose writer failed: as much as anybody may wait for.
-const ALL: u64 = u64::MAX;
 
 impl<'a, C: Clock> Kept<'a, C> {
     pub(crate) fn new(
@@ -143,7 +158,7 @@ impl<'a, C: Clock> Kept<'a, C> {
         ensures { self.new.failed ≡ true }
     {
         self.failed = true;
-        self.board.gets(self.slot, ALL);
+        self.board.gets(self.slot, LOST);
         Failed
     }
 
