@@ -3,7 +3,7 @@
 
     bench/run.py [--program FILE] [--core N] [--first] [--runs N] [PART ..]
 
-The parts are start, large, eval, check, make, simulate, send, book, messages and instructions; without one, all are run.
+The parts are start, large, eval, check, make, simulate, send, serve, book, messages and instructions; without one, all are run.
 The program has to be built, which the script `pgshard` does; send, book and messages build programs of their own, and so
 need `rt`.
 PostgreSQL 15, z3 and valgrind are left out where they are not installed.
@@ -21,6 +21,7 @@ import evaluation
 import instructions
 import messages
 import sending
+import serving
 import sharding
 import simulating
 import starting
@@ -34,6 +35,7 @@ PARTS = {
     "make": ("make", sharding.measure),
     "simulate": ("simulate", simulating.measure),
     "send": ("Sending", sending.measure),
+    "serve": ("serve", serving.measure),
     "book": ("The book", book.measure),
     "messages": ("Messages", messages.measure),
     "instructions": ("Instructions", instructions.measure),

@@ -4,6 +4,7 @@ import re
 from dataclasses import dataclass
 
 from judging import program, report, verdicts
+from judging.catalog_tokens import statements_of, stored, table_of
 from judging.faults import BAD_COMMAND, NO_PROGRAM, NOT_READ, NOT_SOUND, SOUND, Fault
 from judging.limits import LIMITS
 from judging.verdicts import Verdict
@@ -25,14 +26,6 @@ KINDS = {
     "TooDeep": "the filter nests over 64 deep",
     "TooMany": f"this is past a limit of pgshard: {'; '.join(LIMITS.values())}",
 }
-TOKEN = re.compile(r"""\s+|--[^\n\r]*|/\*|'(?:[^']|'')*'|"(?:[^"]|"")*"|[\w$]+|.""", re.S)
-
-
-@dataclass
-class Table:
-    name: str
-    written: str
-    columns: list
 
 
 @dataclass
@@ -100,42 +93,6 @@ def why_not_read(fault, catalog):
     ])
 
 
-def tokens_of(text):
-    """The tokens of a catalog, without white space and comments."""
-    at = 0
-    while at < len(text):
-        token = TOKEN.match(text, at).group()
-        if token == "/*":
-            at = end_of_comment(text, at)
-            continue
-        at += len(token)
-        if not token.isspace() and not token.startswith("--"):
-            yield token
-
-
-def end_of_comment(text, begin):
-    depth = 0
-    for mark in re.finditer(r"/\*|\*/", text[begin:]):
-        depth += 1 if mark.group() == "/*" else -1
-        if depth == 0:
-            return begin + mark.end()
-    return len(text)
-
-
-def statements_of(text):
-    statement = []
-    for token in tokens_of(text):
-        if token == ";":
-            yield statement
-            statement = []
-        else:
-            statement.append(token)
-
-
-def stored(token):
-    return token[1:-1].replace('""', '"') if token.startswith('"') else token.lower()
-
-
 def names_of(catalog):
     """Of a catalog that pgshard reads."""
     names = Names([], [], [], set())
@@ -149,17 +106,6 @@ def names_of(catalog):
             case ["CREATE", "SUBSCRIPTION"]:
                 names.subscriptions.append(stored(statement[2]))
     return names
-
-
-def table_of(tokens):
-    begin = tokens.index("(")
-    name = ".".join(stored(token) for token in tokens[:begin] if token != ".")
-    columns, depth = [], 0
-    for before, token in zip(tokens[begin:], tokens[begin + 1:]):
-        depth += (before == "(") - (before == ")")
-        if depth == 1 and before in "(," and token.upper() != "PRIMARY":
-            columns.append(stored(token))
-    return Table(name if "." in tokens[:begin] else f"public.{name}", "".join(tokens[:begin]), columns)
 
 
 def verdicts_of(catalog, names, made):

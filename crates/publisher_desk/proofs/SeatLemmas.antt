@@ -1,11 +1,12 @@
 -- What a seat keeps as a note is added.
-use Rattle.std.proofs.Common.{◌≡◌, ◌≢◌, ℕ, zero, suc, ◌+◌, ◌<◌, ◌≤◌, max, List, [], ◌∷◌, ◌++◌, length, refl, sym, ◌∙◌, ap, subst, arith, ltb}
+use Rattle.std.proofs.Common.{◌≡◌, ◌≢◌, ℕ, zero, suc, ◌+◌, ◌<◌, ◌≤◌, ◌^◌, max, List, [], ◌∷◌, ◌++◌, length, refl, sym, ◌∙◌, ap, subst, arith, ltb}
 use Rattle.std.specs.Prelude.{Some, ◌==◌, slice_get}
 use Rattle.std.proofs.lemmas.Bool.{ltb-true, ltb-false}
+use Rattle.std.proofs.lemmas.List.Elements.{All-nil, All-push}
 use Rattle.std.proofs.lemmas.Option.{slice_get_within}
 use Rattle.table_changes.proofs.TableLemmas.{by_test, some_is}
 use Rattle.tables_log.proofs.PlaceLemmas.{number_is, number_apart, get_front, get_last}
-use Rattle.publisher_desk.specs.Seats.{number_of, receipts, highest, HasLater, AreUpTo, IsForward, IsSeat}
+use Rattle.publisher_desk.specs.Seats.{number_of, receipts, highest, AreTimed, HasLater, HasTime, AreUpTo, IsForward, IsSeat}
 use Rattle.publisher_desk.specs.declared.note.Note.{Note}
 use Rattle.publisher_desk.specs.declared.note.Note.TheVariants.{Committed, Looked}
 use Rattle.publisher_desk.specs.declared.note.Reading.{Reading}
@@ -74,12 +75,14 @@ new_seat notes high parts amount none low one nothing = record {
   one = one;
   counted = nothing ∙ sym (ap receipts none);
   high_is = low ∙ sym (ap highest none);
+  timed = subst AreTimed (sym none) (All-nil HasTime);
   forward = λ earlier place note reading low' at found. let no : slice_get [] earlier ≡ Some note = subst (λ (list : List Note). slice_get list earlier ≡ Some note) none at in absurd cc;
 }
 
-receipt_kept : (notes : List Note) (receipt : ReceiptOf) (high last parts more amount count : ℕ) → last ≡ max high receipt.number → more ≡ parts → count ≡ amount + 1
+receipt_kept : (notes : List Note) (receipt : ReceiptOf) (high last parts more amount count : ℕ) → last ≡ max high receipt.number → receipt.time < 2 ^ 64 → more ≡ parts → count ≡ amount + 1
     → IsSeat notes high parts amount → IsSeat (notes ++ Committed receipt ∷ []) last more count
-receipt_kept notes receipt high last parts more amount count last_is same one seat = record {
+receipt_kept notes receipt high last parts more amount count last_is timed same one seat = record {
+  timed = All-push HasTime notes (Committed receipt) seat.timed timed;
   one = same ∙ seat.one;
   counted = let push = receipts_append notes (Committed receipt ∷ []) in omega (arith, push, seat.counted);
   high_is = let push = highest_append notes (Committed receipt ∷ []) in omega (arith, push, seat.high_is);
@@ -89,6 +92,7 @@ receipt_kept notes receipt high last parts more amount count last_is same one se
 reading_kept : (notes : List Note) (reading : Reading) (high last parts more amount count : ℕ) → last ≡ reading.number → high ≤ last → more ≡ parts → count ≡ amount
     → IsSeat notes high parts amount → IsSeat (notes ++ Looked reading ∷ []) last more count
 reading_kept notes reading high last parts more amount count last_is low same still seat = record {
+  timed = All-push HasTime notes (Looked reading) seat.timed tt;
   one = same ∙ seat.one;
   counted = let push = receipts_append notes (Looked reading ∷ []) in omega (arith, push, still, seat.counted);
   high_is = let push = highest_append notes (Looked reading ∷ []) in omega (arith, push, seat.high_is);
@@ -100,10 +104,10 @@ reading_kept notes reading high last parts more amount count last_is low same st
 
 module _ (notes roomy all : List Note) (same : roomy ≡ notes) where
   pub receipt_pushed : (receipt : ReceiptOf) (high last number parts more amount count : ℕ) → all ≡ roomy ++ Committed receipt ∷ [] → receipt.number ≡ number
-      → last ≡ max high number → more ≡ parts → count ≡ amount + 1 → IsSeat notes high parts amount → IsSeat all last more count
-  receipt_pushed receipt high last number parts more amount count pushed number_is last_is more_is count_is seat =
+      → last ≡ max high number → receipt.time < 2 ^ 64 → more ≡ parts → count ≡ amount + 1 → IsSeat notes high parts amount → IsSeat all last more count
+  receipt_pushed receipt high last number parts more amount count pushed number_is last_is timed more_is count_is seat =
       subst (λ (list : List Note). IsSeat list last more count) (sym (pushed ∙ ap (λ (list : List Note). list ++ Committed receipt ∷ []) same))
-      (receipt_kept notes receipt high last parts more amount count (omega (arith, last_is, number_is)) more_is count_is seat)
+      (receipt_kept notes receipt high last parts more amount count (omega (arith, last_is, number_is)) timed more_is count_is seat)
 
   pub reading_pushed : (reading : Reading) (high number parts more amount count : ℕ) → all ≡ roomy ++ Looked reading ∷ [] → reading.number ≡ number → high ≤ number
       → more ≡ parts → count ≡ amount → IsSeat notes high parts amount → IsSeat all number more count

@@ -1,5 +1,5 @@
 -- What a session keeps of its calls: its commits and what it read, in their order.
-use Rattle.std.specs.Prelude.{◌≡◌, ℕ, ◌+◌, ◌<◌, ◌≤◌, max, List, [], ◌∷◌, Some, slice_get}
+use Rattle.std.specs.Prelude.{◌≡◌, ℕ, ◌+◌, ◌<◌, ◌≤◌, ◌^◌, max, All, List, [], ◌∷◌, Some, slice_get}
 use Rattle.publisher_desk.specs.declared.note.Note.{Note}
 use Rattle.publisher_desk.specs.declared.note.Note.TheVariants.{Committed, Looked}
 use Rattle.publisher_desk.specs.declared.note.Reading.{Reading}
@@ -36,6 +36,14 @@ abbrev pub IsForward : List Note → Type 0
 IsForward notes = (earlier place : ℕ) (note : Note) (reading : Reading) → earlier < place → slice_get notes earlier ≡ Some note → slice_get notes place ≡ Some (Looked reading)
     → number_of note ≤ reading.number
 
+-- the time of a commit has 64 bits
+abbrev pub HasTime : Note → Type 0
+HasTime (Committed receipt) = receipt.time < 2 ^ 64
+HasTime (Looked reading) = Unit {0}
+
+abbrev pub AreTimed : List Note → Type 0
+AreTimed notes = All HasTime notes
+
 -- As many seats are free as the share has parts, and the share has no amount.
 pub record AreFree (left parts amount : ℕ) : Type 0 where
   pub parts_are : parts ≡ left
@@ -47,3 +55,4 @@ pub record IsSeat (notes : List Note) (high parts amount : ℕ) : Type 0 where
   pub counted : amount ≡ receipts notes
   pub high_is : high ≡ highest notes
   pub forward : IsForward notes
+  pub timed : AreTimed notes

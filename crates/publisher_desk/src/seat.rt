@@ -31,7 +31,7 @@ impl<P: Publishing> Model for Seat<P> {
 
 impl<P: Publishing> Seat<P> {
     ghost use Rattle.std.specs.Prelude.{◌≡◌, []};
-    ghost use Rattle.publisher_desk.specs.Seats.{IsForward};
+    ghost use Rattle.publisher_desk.specs.Seats.{AreTimed, IsForward};
 
     /// A seat without notes, which has this part of the ledger.
     #[tactic(auto, using(crate::proofs::SeatLemmas::new_seat))]
@@ -51,6 +51,7 @@ impl<P: Publishing> Seat<P> {
     pub fn notes(&self) -> &[Note]
         ensures shows { result.now ≡ self.now }
         ensures forward { IsForward self.now }
+        ensures timed { AreTimed self.now }
     {
         self.notes.as_slice()
     }

@@ -9,10 +9,11 @@ ghost use Rattle.std.specs.Prelude.{◌≡◌, ◌⊎◌, IfErr};
 ghost use Rattle.subcommands.specs.Failures.{status_of_failure};
 ghost use Rattle.subcommands.specs.declared.failure.Status.TheVariants.{CommandLine, OutOfMemory};
 
+use serving::run_serving;
 use std::io::{BufWriter, ErrorKind, Write};
 use std::process::ExitCode;
 use std::{env, io};
-use subcommands::{Failure, Input, report, run};
+use subcommands::{Failure, Input, report};
 
 /// The words of the command line, the program's name first.
 ///
@@ -38,17 +39,19 @@ fn words(rt: &HostRuntime) -> Result<Vec<String>, Failure<'static>>
     Ok(words)
 }
 
-/// Runs the program on the command line, the standard input and the standard output.
-fn run_on_host(rt: &HostRuntime) -> Result<u8, Failure<'static>> {
-    let words = words(rt)?;
-    let mut writer = BufWriter::new(rt.alloc(), io::writer(rt)).map_err(|_| Failure::OutOfMemory)?;
-    let input = Input::new(rt.stdin());
-    Ok(run(rt.alloc(), words.as_slice(), input, &mut writer))
+/// Says why the program ends, and gives its exit status.
+fn stop(rt: &HostRuntime, failure: Failure<'_>) -> ExitCode {
+    ExitCode::from(report(rt.alloc(), failure, &mut io::writer(rt)) as u8)
 }
 
 fn main(rt: HostRuntime) -> ExitCode {
-    match run_on_host(&rt) {
-        Ok(status) => ExitCode::from(status),
-        Err(failure) => ExitCode::from(report(rt.alloc(), failure, &mut io::writer(&rt)) as u8),
-    }
+    let words = match words(&rt) {
+        Ok(words) => words,
+        Err(failure) => return stop(&rt, failure),
+    };
+    let Ok(mut writer) = BufWriter::new(rt.alloc(), io::writer(&rt)) else {
+        return stop(&rt, Failure::OutOfMemory);
+    };
+    let input = Input::new(rt.stdin());
+    ExitCode::from(run_serving(&rt, words.as_slice(), input, &mut writer))
 }

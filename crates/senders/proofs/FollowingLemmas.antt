@@ -1,6 +1,10 @@
 -- What was written is a first part of a stream over the log, and who is fed it follows.
-use Rattle.std.proofs.Common.{◌≡◌, ℕ, suc, List, [], ◌∷◌, ◌++◌, length, refl, sym, ◌∙◌, ap, subst, append-nil, length-append, arith}
-use Rattle.std.specs.Prelude.{◌≤◌, All, Bool}
+use Rattle.std.proofs.Common.{◌≡◌, ℕ, suc, List, [], ◌∷◌, ◌++◌, length, refl, sym, ◌∙◌, ap, subst, append-nil, append_assoc, length-append, arith}
+use Rattle.std.specs.Prelude.{◌≤◌, ◌<◌, ◌^◌, All, Bool, Option, unwrap_or}
+use Rattle.std.specs.Arc.{arc_value}
+use Rattle.std.proofs.lemmas.List.{length-map}
+use Rattle.std.proofs.lemmas.List.Elements.{All-nil, All-cons, All-head, All-tail, All-append, All-contains}
+use Rattle.std.proofs.lemmas.List.Sorted.{All-permutation}
 use Rattle.shard_checker.specs.CheckedView.{CheckedOf, checked_view, setting_in}
 use Rattle.shard_checker.specs.declared.checked.Checked.{Checked}
 use Rattle.shard_checker.proofs.LimitFacts.{checked_limited}
@@ -14,23 +18,28 @@ use Rattle.tables_log.specs.BookView.{book_checked, book_log}
 use Rattle.tables_log.specs.Commits.{CommitOf}
 use Rattle.tables_log.specs.StandsFor.{Transaction, AreAccepted, StandsFor}
 use Rattle.tables_log.specs.declared.book.Book.{Book}
-use Rattle.copy_frames.specs.Contents.{copy_done}
 use Rattle.copy_frames.specs.declared.frame.Frame.{Frame}
 use Rattle.copy_both.specs.Streams.{Move, count_before, stream}
 use Rattle.copy_both.specs.Tellings.{telling_of}
 use Rattle.copy_both.specs.VoiceLaws.{AreAt}
 use Rattle.served_connections.specs.declared.end.End.{End}
+use Rattle.publisher_desk.specs.Receipts.{ReceiptOf}
+use Rattle.publisher_desk.specs.Seats.{AreTimed, HasTime}
+use Rattle.publisher_desk.specs.declared.note.Note.{Note}
+use Rattle.publisher_desk.specs.declared.note.Note.TheVariants.{Committed, Looked}
+use Rattle.senders_close.specs.Gathering.{all_receipts, receipts_in}
+use Rattle.senders_close.specs.Histories.{transaction_of, transactions_of}
+use Rattle.senders_close.specs.Taking.{IsTaken}
 use Rattle.stream_laws.specs.Cutting.{whole_in}
 use Rattle.stream_laws.specs.Following.{Follows, IsPublished, IsSentItem, log_of}
-use Rattle.stream_laws.specs.FollowingBytes.{AreFirst, StopsFollowing, SubFollows, items_from, position_in}
+use Rattle.stream_laws.specs.FollowingBytes.{AreFirst, StopsFollowing, items_from, position_in}
 use Rattle.stream_laws.specs.Sayable.{IsClocked, IsTimedTransaction}
 use Rattle.stream_laws.proofs.FollowingBytesLemmas.{fed_follow, stopped_follow}
 use Rattle.stream_laws.proofs.SayableLemmas.{logs_can_be_said}
 use Rattle.stream_laws.proofs.SentItems.{streams_can_be_sent}
-use Rattle.test_subscriber.specs.Subscribers.{Feeds, Opens, sub_machine}
-use Rattle.test_subscriber.specs.declared.subscriber.Subscriber.{Subscriber}
-use Rattle.senders.specs.Following.{ClientsFollow, ClientsStop, IsFirstPart, IsLastPart, NoBytes, OfDone, ServedAreFirstParts}
-use Rattle.senders.specs.Serving.{IsLast, IsStream, IsTail}
+use Rattle.test_subscriber.specs.Subscribers.{sub_machine}
+use Rattle.senders.specs.Following.{ClientsFollow, ClientsStop, ClosedAreFollowed, ClosedAreTold, ClosedTellTheLog, IsFirstPart, IsLastPart, NoBytes, OfDone, ServedAreFirstParts}
+use Rattle.senders.specs.Serving.{IsLast, IsStream, IsTail, commits_of}
 use Rattle.senders.specs.Serving as serving
 
 -- ---- a list that is cut in two ways
@@ -153,3 +162,52 @@ clients_stop checked transactions accepted timed few slot start moves clocks old
       subst (λ (p : ℕ). StopsFollowing view transactions slot p (whole_in (length bytes) (items_from view transactions slot p moves))
           (whole_in (length (bytes ++ piece)) (items_from view transactions slot p moves)) new) at stopped.1,
     )
+
+-- ---- in a publisher that was closed
+
+abbrev IsTimedReceipt : ReceiptOf → Type 0
+IsTimedReceipt receipt = receipt.time < 2 ^ 64
+
+receipts_timed : (notes : List Note) → All HasTime notes → All IsTimedReceipt (receipts_in notes)
+receipts_timed [] timed = All-nil IsTimedReceipt
+receipts_timed (Committed receipt ∷ notes) timed =
+    All-cons IsTimedReceipt receipt (receipts_in notes) (All-head HasTime (Committed receipt) notes timed)
+    (receipts_timed notes (All-tail HasTime (Committed receipt) notes timed))
+receipts_timed (Looked reading ∷ notes) timed = receipts_timed notes (All-tail HasTime (Looked reading) notes timed)
+
+all_timed : (seats : List (List Note)) → All AreTimed seats → All IsTimedReceipt (all_receipts seats)
+all_timed [] timed = All-nil IsTimedReceipt
+all_timed (notes ∷ seats) timed =
+    All-append IsTimedReceipt (receipts_in notes) (all_receipts seats) (receipts_timed notes (All-head AreTimed notes seats timed)) (all_timed seats (All-tail AreTimed notes seats timed))
+
+transactions_timed : (receipts : List ReceiptOf) → All IsTimedReceipt receipts → All IsTimedTransaction (transactions_of receipts)
+transactions_timed [] timed = All-nil IsTimedTransaction
+transactions_timed (receipt ∷ receipts) timed =
+    All-cons IsTimedTransaction (transaction_of receipt) (transactions_of receipts) (All-head IsTimedReceipt receipt receipts timed)
+    (transactions_timed receipts (All-tail IsTimedReceipt receipt receipts timed))
+
+pub closed_are_told : ClosedAreTold
+closed_are_told checked limit seats served book closed =
+    let order : List ReceiptOf = closed.order in
+    let each : All IsTimedReceipt order = All-permutation IsTimedReceipt (all_receipts seats) order closed.ordered.all (all_timed seats closed.timed) in
+    let long : length closed.transactions ≡ length order = ap length closed.told ∙ length-map order transaction_of in
+    let logged : length (book_log book) ≡ length book.log.items = length-map book.log.items (λ commit. arc_value commit) in
+    record {
+      accepted = subst (λ (c : CheckedOf). AreAccepted (setting_in c) no_rows closed.transactions) closed.named closed.stands.accepted;
+      timed = subst (λ (l : List Transaction). All IsTimedTransaction l) (sym closed.told) (transactions_timed order each);
+      few = omega (arith, long, logged, closed.counted, book.room, book.within);
+    }
+
+pub closed_tell_the_log : ClosedTellTheLog
+closed_tell_the_log checked limit seats served book closed one among frames slot start at written failed is =
+    let taken : IsTaken (book_log book) one = All-contains (IsTaken (book_log book)) served one closed.taken among in
+    served_are_first_parts checked book closed.transactions closed.named closed.stands frames slot start (commits_of one) written failed one.end is
+    (subst (λ (o : Option ℕ). AreAt (book_log book) (count_before (unwrap_or o 0)) (commits_of one)) at taken.at)
+
+pub closed_are_followed : ClosedAreFollowed
+closed_are_followed checked limit seats served book closed one frames slot start written part old between new follows at opens bytes rest is feeds =
+    let view : CheckedOf = checked_view checked in
+    let told = closed_are_told view limit seats served book closed in
+    let first : AreFirst view closed.transactions slot start part.moves bytes (rest ++ part.others) =
+    sym (append_assoc bytes rest part.others) ∙ ap (λ (l : List ℕ). l ++ part.others) is ∙ part.first in
+    clients_follow checked closed.transactions told.accepted told.timed told.few slot start part.moves part.clocks old between new follows at opens bytes (rest ++ part.others) first feeds

@@ -1,27 +1,22 @@
 -- What a listener has heard, piece by piece.
-use Rattle.std.proofs.Common.{◌≡◌, ◌≤◌, ℕ, List, [], ◌++◌, length, refl, sym, ◌∙◌, ap, subst, append_assoc, append-nil, arith}
+use Rattle.std.proofs.Common.{◌≡◌, ℕ, List, [], ◌++◌, length, refl, sym, ◌∙◌, ap, subst, append_assoc, append-nil, arith}
 use Rattle.std.specs.Prelude.{Bool, true, Option, Some, None, Result, Ok, Err, IfErr}
-use Rattle.std.specs.Io.KnownBytes.{Consumes}
 use Rattle.std.proofs.KnownBytes.{Consumes-nil, Consumes-trans}
 use Rattle.shard_checker.specs.CheckedView.{CheckedOf}
 use Rattle.tables_log.specs.BookView.{book_log}
 use Rattle.tables_log.specs.declared.book.Book.{Book}
 use Rattle.copy_both.specs.Ears.{ear_refusal, ear_started, IsAnsweredBy}
-use Rattle.copy_both.specs.HeardFrames.{AsksIfStarted, GoesOnOrEnds, HasHeard, HasHeardOn, Explains, frames_in, reach_of, sent_then, IsStartedBy}
-use Rattle.copy_both.specs.Hearing.{first_sent}
+use Rattle.copy_both.specs.HeardFrames.{AsksIfStarted, GoesOnOrEnds, HasHeard, Explains, frames_in, reach_of, sent_then, IsStartedBy}
 use Rattle.copy_both.specs.declared.ear.Ear.{Ear}
 use Rattle.copy_both.specs.declared.heard.Heard.{Heard}
 use Rattle.copy_both.specs.declared.link_fault.LinkFault.{LinkFault}
 use Rattle.copy_both.proofs.PiecesHeard.{pieces_are_heard}
-use Rattle.publisher_desk.specs.declared.wish.Wish.{Wish}
-use Rattle.publisher_desk.specs.Lending.{IsLent}
-use Rattle.senders.specs.Hearing.{Faults, Hears, HearsPiece, IsExplained, IsSentFrom, StaysStarted}
-use Rattle.senders.specs.Listening.{EndsOf, HeardPiece, HearsAll, HearsLast, HearsMore, HearsNext, HearsOn, next_by, next_by_end, piece_of}
+use Rattle.senders.specs.Hearing.{HearsPiece, IsExplained, IsSentFrom, StaysStarted}
+use Rattle.senders.specs.Listening.{EndsOf, HeardPiece, HearsLast, HearsMore, HearsNext, next_by, next_by_end, piece_of}
 use Rattle.connection_io.specs.declared.failed.Failed.{Failed}
 use Rattle.senders.specs.Pieces.{Pulls, PullsNothing, PullsPiece}
 use Rattle.senders.specs.declared.ending.Ending.{Ending}
 use Rattle.senders.specs.declared.ending.Ending.TheVariants as ending
-use Rattle.senders.specs.declared.listener.Listened.{Listened}
 use Rattle.senders.specs.declared.listener.Listener.{Listener}
 use Rattle.senders.specs.declared.next.Next.{Next}
 use Rattle.senders.specs.declared.next.Next.TheVariants as next

@@ -1,20 +1,19 @@
 -- What came of a connection on which no stream was started.
-use Rattle.std.proofs.Common.{◌≡◌, ℕ, List, [], ◌++◌, map, refl, sym, ◌∙◌, ap, subst}
-use Rattle.std.specs.Prelude.{Bool, true, false, Option, Some, None}
+use Rattle.std.proofs.Common.{◌≡◌, ℕ, List, [], map, refl, sym, ◌∙◌, ap, subst}
+use Rattle.std.specs.Prelude.{Bool, Option, None}
 use Rattle.std.specs.Arc.{arc_value}
 use Rattle.std.specs.Io.KnownBytes.{Appends}
 use Rattle.std.proofs.KnownBytes.{Appends-nil, Consumes-nil}
 use Rattle.shard_checker.specs.CheckedView.{CheckedOf}
-use Rattle.copy_both.specs.Ears.{ear_refusal, ear_started}
+use Rattle.copy_both.specs.Ears.{ear_refusal}
 use Rattle.copy_both.specs.HeardFrames.{HasHeard, frames_in}
 use Rattle.copy_both.specs.declared.link_fault.LinkFault.{LinkFault}
 use Rattle.copy_both.specs.declared.link_fault.LinkFault.TheVariants as fault
 use Rattle.served_connections.specs.declared.end.End.{End}
 use Rattle.served_connections.specs.declared.end.End.TheVariants as end
 use Rattle.served_connections.specs.declared.served.Served.{Served}
-use Rattle.senders.specs.Hearing.{Faults}
 use Rattle.senders.specs.Listening.{EndsAt, EndsFor}
-use Rattle.senders.specs.Refusing.{AnswersAs, WritesFirst, cause_by}
+use Rattle.senders.specs.Refusing.{AnswersAs, cause_by}
 use Rattle.senders.specs.Serving.{IsAnswer, IsCause, IsServed, IsServedFor, IsWritten, commits_of, started_of}
 use Rattle.senders.specs.declared.ending.Ending.{Ending}
 use Rattle.senders.specs.declared.ending.Ending.TheVariants as ending

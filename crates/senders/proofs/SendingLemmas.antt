@@ -9,8 +9,8 @@ use Rattle.std.proofs.KnownBytes.{Appends-nil, Appends-trans}
 use Rattle.tables_log.specs.Commits.{CommitOf}
 use Rattle.copy_both.specs.Streams.{Take, Keep, stream}
 use Rattle.copy_both.specs.Tellings.{telling_of}
-use Rattle.copy_both.specs.VoiceLaws.{AreAt, Told, IsTelling, first_of}
-use Rattle.copy_both.specs.Voices.{Closes, Says, StageOf, entry_bytes, entry_stage, kept_bytes, next_of, voice_checked, voice_output, voice_stage}
+use Rattle.copy_both.specs.VoiceLaws.{Told, IsTelling, first_of}
+use Rattle.copy_both.specs.Voices.{Closes, Says, entry_bytes, entry_stage, kept_bytes, next_of, voice_checked, voice_output, voice_stage}
 use Rattle.copy_both.specs.declared.voice.Voice.{Voice}
 use Rattle.copy_both.proofs.VoiceStreams.{voice_keeps, voice_stops, voice_takes}
 use Rattle.stream_laws.specs.Sayable.{IsClocked}

@@ -1,23 +1,18 @@
 -- What came of a connection: what was read of it, and what was written.
-use Rattle.std.proofs.Common.{◌≡◌, ◌⊎◌, ℕ, List, [], ◌++◌, length, map, refl, sym, ◌∙◌, ap, subst, inl, inr, append-nil, arith}
-use Rattle.std.specs.Prelude.{Bool, true, false, Option, Some, None}
-use Rattle.std.specs.Io.KnownBytes.{Appends, Consumes}
-use Rattle.std.proofs.KnownBytes.{Appends-nil, Consumes-nil, Consumes-trans}
+use Rattle.std.proofs.Common.{◌≡◌, ℕ, List, [], ◌++◌, sym, subst, inl, inr, arith}
+use Rattle.std.specs.Prelude.{Bool, Option, Some, None}
+use Rattle.std.proofs.KnownBytes.{Consumes-trans}
 use Rattle.shard_checker.specs.CheckedView.{CheckedOf}
-use Rattle.tables_log.specs.Commits.{CommitOf}
-use Rattle.copy_frames.specs.declared.frame.Frame.{Frame}
 use Rattle.copy_both.specs.Ears.{ear_refusal, ear_started}
-use Rattle.copy_both.specs.HeardFrames.{AsksFor, AsksIfStarted, HasEnd, HasHeard, IsStartedBy, frames_in}
+use Rattle.copy_both.specs.HeardFrames.{AsksFor, AsksIfStarted, HasHeard, frames_in}
 use Rattle.copy_both.specs.Hearing.{first_sent}
 use Rattle.copy_both.specs.declared.ear.Ear.{Ear}
-use Rattle.copy_both.specs.declared.link_fault.LinkFault.{LinkFault}
 use Rattle.copy_both.specs.declared.link_fault.LinkFault.TheVariants as fault
 use Rattle.served_connections.specs.declared.end.End.{End}
-use Rattle.served_connections.specs.declared.end.End.TheVariants as end
 use Rattle.served_connections.specs.declared.served.Served.{Served}
-use Rattle.senders.specs.Hearing.{Faults, HoldsFault, StaysStarted}
-use Rattle.senders.specs.Listening.{EndsAt, EndsFor, EndsOf, HearsAll, HearsLast, HearsMore, HearsOn, StartsOn}
-use Rattle.senders.specs.Refusing.{AnswersAs, WritesFirst, cause_by}
+use Rattle.senders.specs.Hearing.{HoldsFault}
+use Rattle.senders.specs.Listening.{EndsAt, EndsFor, EndsOf, HearsAll, StartsOn}
+use Rattle.senders.specs.Refusing.{cause_by}
 use Rattle.senders.specs.Running.{Heard, IsEndOf, Memory, RunsOn, Streams, Whole, Writing}
 use Rattle.senders.specs.Serving.{IsCause, IsEnded, IsLast, IsServed, IsServedFor, IsStream, IsWritten, commits_of, started_of}
 use Rattle.senders.specs.Serving as serving

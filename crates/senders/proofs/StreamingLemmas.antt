@@ -1,9 +1,9 @@
 -- What was written of a stream, from its first bytes to its last.
-use Rattle.std.proofs.Common.{◌≡◌, ℕ, List, [], ◌∷◌, ◌++◌, length, map, refl, sym, ◌∙◌, ap, subst, append_assoc, append-nil}
+use Rattle.std.proofs.Common.{◌≡◌, ℕ, List, [], ◌++◌, length, map, refl, sym, ◌∙◌, ap, subst, append_assoc, append-nil}
 use Rattle.std.specs.Prelude.{◌≢◌, All, Bool, true, false, Option, Some, None}
 use Rattle.std.specs.Arc.{arc_value}
 use Rattle.std.specs.Io.KnownBytes.{Appends}
-use Rattle.std.proofs.KnownBytes.{Appends-nil, Appends-trans}
+use Rattle.std.proofs.KnownBytes.{Appends-trans}
 use Rattle.shard_checker.specs.CheckedView.{CheckedOf}
 use Rattle.tables_log.specs.Commits.{CommitOf}
 use Rattle.copy_frames.specs.Contents.{copy_both_response}
@@ -20,12 +20,12 @@ use Rattle.served_connections.specs.declared.end.End.TheVariants as end
 use Rattle.served_connections.specs.declared.served.Served.{Served}
 use Rattle.std.proofs.lemmas.List.Elements.{All-nil}
 use Rattle.stream_laws.specs.Sayable.{IsClocked}
-use Rattle.senders.specs.Causes.{chosen, chosen_by, end_by, unopened_by}
+use Rattle.senders.specs.Causes.{chosen, end_by, unopened_by}
 use Rattle.senders.specs.Refusing.{cause_by}
 use Rattle.senders.specs.Running.{Concludes, IsEndOf, IsWithout, Memory, Writing, Whole, Heard, Streams}
-use Rattle.senders.specs.Sending.{Breaks, Follows, GoesOn, Spells, Starves, StopsAs, started_telling}
-use Rattle.senders.specs.Serving.{IsTail, commits_of}
-use Rattle.senders.specs.Speaking.{Closes, FailsToOpen, IsSaid, Nothing, Opens, SaysLast, SaysNothing, WritesPart}
+use Rattle.senders.specs.Sending.{Breaks, Follows, GoesOn, Spells, StopsAs, started_telling}
+use Rattle.senders.specs.Serving.{commits_of}
+use Rattle.senders.specs.Speaking.{Closes, FailsToOpen, Nothing, Opens, SaysLast, SaysNothing, WritesPart}
 use Rattle.senders.specs.declared.ending.Ending.{Ending}
 use Rattle.senders.specs.declared.ending.Ending.TheVariants as ending
 use Rattle.senders.specs.declared.running.Sent.{Sent}

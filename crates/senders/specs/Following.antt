@@ -1,5 +1,5 @@
 -- That a connection that was served told its client of a log: what was written are the first bytes of the stream of its commits, and a subscriber that is fed them has its shard: PostgreSQL 15, 55.4. Streaming Replication Protocol, and "Logical Replication", 31.3 Row Filters.
-use Rattle.std.specs.Prelude.{◌≡◌, ◌≢◌, ◌≤◌, ℕ, Bool, List, [], ◌++◌, All, length, None}
+use Rattle.std.specs.Prelude.{◌≡◌, ◌≢◌, ◌≤◌, ℕ, Bool, List, [], ◌++◌, All, Contains, Some, length, None}
 use Rattle.shard_checker.specs.CheckedView.{CheckedOf, checked_view, setting_in}
 use Rattle.shard_checker.specs.declared.checked.Checked.{Checked}
 use Rattle.table_changes.specs.Tables.{no_rows}
@@ -14,6 +14,9 @@ use Rattle.copy_both.specs.Streams.{Move, count_before}
 use Rattle.copy_both.specs.VoiceLaws.{AreAt, takes_in}
 use Rattle.served_connections.specs.declared.end.End.{End}
 use Rattle.served_connections.specs.declared.end.End.TheVariants.{Finished}
+use Rattle.served_connections.specs.declared.served.Served.{Served}
+use Rattle.publisher_desk.specs.declared.note.Note.{Note}
+use Rattle.senders_close.specs.Closing.{IsClosed}
 use Rattle.stream_laws.specs.Following.{Follows}
 use Rattle.stream_laws.specs.Cutting.{whole_in}
 use Rattle.stream_laws.specs.FollowingBytes.{AreFirst, StopsFollowing, SubFollows, items_from, position_in}
@@ -22,7 +25,7 @@ use Rattle.test_subscriber.specs.Copies.{told}
 use Rattle.test_subscriber.specs.Subscribers.{FeedStops, Feeds, Opens, sub_machine}
 use Rattle.test_subscriber.specs.declared.fault.SubFault.{SubFault}
 use Rattle.test_subscriber.specs.declared.subscriber.Subscriber.{Subscriber}
-use Rattle.senders.specs.Serving.{IsStream}
+use Rattle.senders.specs.Serving.{IsStream, commits_of}
 
 -- nothing, or the first bytes of the CopyDone that answers a client's
 pub data IsLastPart (frames : List Frame) (bytes : List ℕ) : Type 0 where
@@ -67,3 +70,31 @@ ClientsStop = (checked : Checked) (transactions : List Transaction) → AreAccep
     → Feeds between bytes middle → FeedStops middle piece error new
     → (told error ≡ None) × StopsFollowing (checked_view checked) transactions slot start (whole_in (length bytes) (items_from (checked_view checked) transactions slot start moves))
     (whole_in (length (bytes ++ piece)) (items_from (checked_view checked) transactions slot start moves)) new
+
+-- ---- in a publisher that was closed
+
+-- The transactions that explain the receipts were accepted one after another, have times of 64 bits, and are few enough.
+pub record AreTold (checked : CheckedOf) (transactions : List Transaction) : Type 0 where
+  pub accepted : AreAccepted (setting_in checked) no_rows transactions
+  pub timed : All IsTimedTransaction transactions
+  pub few : length transactions ≤ 1000000000
+
+abbrev pub ClosedAreTold : Type 0
+ClosedAreTold = (checked : CheckedOf) (limit : ℕ) (seats : List (List Note)) (served : List Served) (book : Book) (closed : IsClosed checked limit seats served book)
+    → AreTold checked closed.transactions
+
+-- So what was written to each connection, but for a CopyDone at the end, are the first bytes of the stream over the log of these transactions.
+abbrev pub ClosedTellTheLog : Type 0
+ClosedTellTheLog = (checked : CheckedOf) (limit : ℕ) (seats : List (List Note)) (served : List Served) (book : Book) (closed : IsClosed checked limit seats served book)
+    → (one : Served) → Contains served one → (frames : List Frame) (slot start : ℕ) → one.start ≡ Some start
+    → (written : List ℕ) (failed : Bool) → IsStream checked frames slot start (commits_of one) written failed one.end
+    → IsFirstPart checked closed.transactions frames slot start (commits_of one) written one.end
+
+-- And a subscriber that has its shard, opened this connection at its own position, and was fed any first bytes of what was written has its shard of the tables after the commits of these transactions that its position counts.
+abbrev pub ClosedAreFollowed : Type 0
+ClosedAreFollowed = (checked : Checked) (limit : ℕ) (seats : List (List Note)) (served : List Served) (book : Book) (closed : IsClosed (checked_view checked) limit seats served book)
+    → (one : Served) (frames : List Frame) (slot start : ℕ) (written : List ℕ)
+    → (part : IsFirstPart (checked_view checked) closed.transactions frames slot start (commits_of one) written one.end)
+    → (old between new : Subscriber) → SubFollows (checked_view checked) closed.transactions slot old → (sub_machine old).position ≡ start → Opens old between
+    → (bytes rest : List ℕ) → bytes ++ rest ≡ part.front → Feeds between bytes new
+    → Follows (checked_view checked) closed.transactions slot (position_in (checked_view checked) closed.transactions slot start part.moves bytes) (sub_machine new)

@@ -1,12 +1,10 @@
 -- What a sender writes of a stream, and which commits it takes up: PostgreSQL 15, 55.4. Streaming Replication Protocol.
-use Rattle.std.specs.Prelude.{◌≡◌, ℕ, List, [], ◌∷◌, ◌++◌, All, length, Option, Some, None}
+use Rattle.std.specs.Prelude.{◌≡◌, ℕ, List, [], ◌++◌, All, length, Option}
 use Rattle.std.specs.Io.KnownBytes.{Appends}
 use Rattle.shard_checker.specs.CheckedView.{CheckedOf}
 use Rattle.tables_log.specs.Commits.{CommitOf}
-use Rattle.copy_frames.specs.Contents.{copy_both_response}
 use Rattle.copy_both.specs.LinkLaws.{started_at}
 use Rattle.copy_both.specs.Streams.{stream}
-use Rattle.copy_both.specs.StreamLaws.{Start}
 use Rattle.copy_both.specs.Tellings.{telling_of}
 use Rattle.copy_both.specs.VoiceLaws.{AreAt, Follow, Told, IsTelling, first_of, takes_in}
 use Rattle.copy_both.specs.Voices.{voice_output}

@@ -21,7 +21,9 @@ mod stop;
 
 pub use connection::{Conn, run_all};
 pub use connection_io::{Failed, FromRead, Gate, OpenGate, Sink, Source, ToWrite};
-pub use laws::{clients_of_connections_follow, served_streams_tell_the_log};
+pub use laws::{
+    clients_of_connections_follow, closed_publishers_were_followed, served_streams_tell_the_log,
+};
 pub use publisher_desk::{
     Note, Publisher, Publishing, ReadFault, Reading, Receipt, Seat, Seats, threads_share_publishers,
 };

@@ -18,7 +18,7 @@ use Rattle.tables_log.specs.declared.slots.Slot.{Slot}
 use Rattle.tables_log.proofs.StandLemmas.{slots_keep_it}
 use Rattle.publisher_desk.specs.Held.{IsBookOf}
 use Rattle.publisher_desk.specs.Receipts.{ReceiptOf}
-use Rattle.publisher_desk.specs.Seats.{IsForward}
+use Rattle.publisher_desk.specs.Seats.{AreTimed, IsForward}
 use Rattle.publisher_desk.specs.declared.note.Note.{Note}
 use Rattle.publisher_desk.specs.declared.note.Reading.{Reading}
 use Rattle.senders_close.specs.Causes.{IsMissing, IsRepeated, IsNotLogged, IsToldBy, HasWrongReading, HasOtherTaken, IsCause, RefusedClose}
@@ -126,8 +126,9 @@ module _ (book fresh : Book) (seats : List (List Note)) (order : List ReceiptOf)
   }
 
   is_closed : (served : List Served) → All (IsRight (book_setting book) (transactions_of order)) (all_readings seats) → All (IsTaken (book_log fresh)) served
-      → All IsForward seats → IsClosed (book_checked book) (book_limit book) seats served fresh
-  is_closed served right taken forward = record {
+      → All IsForward seats → All AreTimed seats → IsClosed (book_checked book) (book_limit book) seats served fresh
+  is_closed served right taken forward timed = record {
+    timed = timed;
     named = replayed.named;
     limited = replayed.limited;
     order = order;
@@ -181,9 +182,9 @@ module _ (book fresh : Book) (seats : List (List Note)) (receipts seen : List (B
       unfolding seen_count seen_ordered seen_long seen_right
       taken_compared other = taken_cause book fresh seats (map (λ (one : Bor ReceiptOf). one.now) seen) seen_ordered seen_long replayed seen_count served seen_right other
 
-      pub closed_compared : All (IsTaken (book_log fresh)) served → All IsForward seats → IsClosed (book_checked book) (book_limit book) seats served fresh
+      pub closed_compared : All (IsTaken (book_log fresh)) served → All IsForward seats → All AreTimed seats → IsClosed (book_checked book) (book_limit book) seats served fresh
       unfolding seen_count seen_ordered seen_long seen_right
-      closed_compared taken forward = is_closed book fresh seats (map (λ (one : Bor ReceiptOf). one.now) seen) seen_ordered seen_long replayed seen_count served seen_right taken forward
+      closed_compared taken forward timed = is_closed book fresh seats (map (λ (one : Bor ReceiptOf). one.now) seen) seen_ordered seen_long replayed seen_count served seen_right taken forward timed
 
 -- ---- the closed book
 
@@ -200,6 +201,7 @@ still_closed checked limit seats served old new changes closed = record {
   counted = ap length changes.log ∙ closed.counted;
   right = closed.right;
   forward = closed.forward;
+  timed = closed.timed;
   taken = subst (λ (log : List CommitOf). All (IsTaken log) served) (sym changes.log) closed.taken;
 }
 

@@ -6,13 +6,13 @@ use Rattle.tables_log.specs.BookView.{book_checked, book_limit, book_log}
 use Rattle.tables_log.specs.StandsFor.{Transaction, StandsFor}
 use Rattle.tables_log.specs.declared.book.Book.{Book}
 use Rattle.publisher_desk.specs.Receipts.{ReceiptOf}
-use Rattle.publisher_desk.specs.Seats.{IsForward}
+use Rattle.publisher_desk.specs.Seats.{AreTimed, IsForward}
 use Rattle.publisher_desk.specs.declared.note.Note.{Note}
 use Rattle.senders_close.specs.Gathering.{all_readings}
 use Rattle.senders_close.specs.Histories.{transactions_of, AreInOrder, IsRight}
 use Rattle.senders_close.specs.Taking.{IsTaken}
 
--- The book is of the checked catalog, takes so many commits, and stands for the transactions of the receipts in the order of their numbers, of which its log has an entry each. Each reading is right by these transactions, and is of no fewer commits than an earlier note of its seat knows of. Each connection took the commits of the book's log.
+-- The book is of the checked catalog, takes so many commits, and stands for the transactions of the receipts in the order of their numbers, of which its log has an entry each. Each reading is right by these transactions, and is of no fewer commits than an earlier note of its seat knows of. Times have 64 bits. Each connection took the commits of the book's log.
 pub record IsClosed (checked : CheckedOf) (limit : ℕ) (seats : List (List Note)) (served : List Served) (book : Book) : Type 0 where
   pub named : book_checked book ≡ checked
   pub limited : book_limit book ≡ limit
@@ -24,4 +24,5 @@ pub record IsClosed (checked : CheckedOf) (limit : ℕ) (seats : List (List Note
   pub counted : length (book_log book) ≡ length order
   pub right : All (IsRight (setting_in checked) transactions) (all_readings seats)
   pub forward : All IsForward seats
+  pub timed : All AreTimed seats
   pub taken : All (IsTaken (book_log book)) served

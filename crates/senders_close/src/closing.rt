@@ -4,7 +4,7 @@ ghost use Rattle.std.specs.Prelude.{◌≡◌, List, All, map, length, IfOk, IfE
 ghost use Rattle.tables_log.specs.BookView.{book_log, book_slots, book_checked, book_limit};
 ghost use Rattle.tables_log.specs.Committing.{ChangesSlots, IsNew};
 ghost use Rattle.served_connections.specs.declared.served.Served.{Served};
-ghost use Rattle.publisher_desk.specs.Seats.{IsForward};
+ghost use Rattle.publisher_desk.specs.Seats.{AreTimed, IsForward};
 ghost use Rattle.senders_close.specs.Causes.{IsCause, RefusedClose};
 ghost use Rattle.senders_close.specs.Closing.{IsClosed};
 ghost use Rattle.senders_close.specs.Histories.{AreInOrder};
@@ -32,6 +32,7 @@ fn order_receipts<'a, P: Publishing>(
     ensures ok { IfOk result (λ receipts. AreInOrder seats.now (map (λ receipt. receipt.now) receipts.items)) }
     ensures long { IfOk result (λ receipts. IsAsLong book.now (map (λ receipt. receipt.now) receipts.items)) }
     ensures forward { OnOk result (All IsForward seats.now) }
+    ensures timed { OnOk result (All AreTimed seats.now) }
     ensures err { IfErr result (λ error. (served : List Served) → IsCause book.now seats.now served error) }
 {
     let mut receipts = receipts_of(alloc, seats)?;

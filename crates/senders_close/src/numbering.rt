@@ -1,7 +1,7 @@
 //! Whether the numbers of receipts rise.
 
 ghost use Rattle.std.specs.Prelude.{◌≡◌, All, IsTrue, MatchBool, map};
-ghost use Rattle.publisher_desk.specs.Seats.{IsForward};
+ghost use Rattle.publisher_desk.specs.Seats.{AreTimed, IsForward};
 ghost use Rattle.senders_close.specs.Gathering.{numbers_of, RiseTo, IsRising};
 
 use publisher_desk::{Note, Publishing, Receipt, Seat};
@@ -43,6 +43,7 @@ fn is_rising(notes: &[Note], high: u32) -> bool
 pub(crate) fn are_rising<P: Publishing>(seats: &[Seat<P>], high: u32) -> bool
     ensures rising { MatchBool result (All (IsRising high) seats.now) (¬ All (IsRising high) seats.now) }
     ensures forward { IsTrue result → All IsForward seats.now }
+    ensures timed { IsTrue result → All AreTimed seats.now }
 {
     for seat in seats {
         if !is_rising(seat.notes(), high) {

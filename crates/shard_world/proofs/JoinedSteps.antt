@@ -24,7 +24,6 @@ use Rattle.copy_both.specs.Streams.{Move, place_at, moved, taken_place}
 use Rattle.copy_both.specs.Tellings.{spelled_for, telling_of}
 use Rattle.copy_both.specs.Voices.{keep_answer, kept_bytes, taken_of}
 use Rattle.copy_both.specs.declared.link.Link.{Link}
-use Rattle.copy_both.specs.declared.link_fault.LinkFault.TheVariants as fault
 use Rattle.copy_both.specs.declared.taken.Taken.{Taken}
 use Rattle.copy_both.specs.declared.taken.Taken.TheVariants as taken
 use Rattle.copy_both.proofs.LinkStreams.{keeps_on, takes_on}

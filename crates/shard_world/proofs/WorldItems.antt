@@ -1,11 +1,10 @@
 -- Streams grow, and so do their items that are whole, and the position that they tell.
-use Rattle.std.proofs.Common.{◌≡◌, ℕ, zero, suc, ◌+◌, ◌-◌, ◌<◌, ◌≤◌, ◌^◌, true, false, List, [], ◌∷◌, ◌++◌, length, map, refl, sym, ◌∙◌, ap, subst, arith, append_assoc, length-append}
-use Rattle.std.specs.Prelude.{Option, Some, None, All, fold, nat_le, slice_get}
+use Rattle.std.proofs.Common.{◌≡◌, ℕ, zero, suc, ◌+◌, ◌-◌, ◌<◌, ◌≤◌, true, false, List, [], ◌∷◌, ◌++◌, length, refl, sym, ◌∙◌, ap, subst, arith, append_assoc, length-append}
+use Rattle.std.specs.Prelude.{fold, nat_le, slice_get}
 use Rattle.std.specs.List.{flat_map}
 use Rattle.std.proofs.lemmas.Bool.{leb-true, leb-false}
 use Rattle.std.proofs.lemmas.List.{append-nil}
 use Rattle.std.proofs.lemmas.Option.{slice_get_within}
-use Rattle.std.proofs.lemmas.List.Elements.{All-nil, All-cons, All-head, All-tail}
 use Rattle.table_changes.specs.Tables.{Tables, no_rows}
 use Rattle.table_changes.specs.Records.{record_of}
 use Rattle.table_changes.specs.Setting.{Setting}
@@ -13,20 +12,16 @@ use Rattle.table_changes.proofs.TableLemmas.{by_test}
 use Rattle.shard_checker.specs.CheckedView.{CheckedOf, setting_in}
 use Rattle.tables_log.specs.Commits as log
 use Rattle.tables_log.specs.Commits.{CommitOf}
-use Rattle.tables_log.specs.StandsFor.{Transaction, left_by, AreAccepted, entries_from}
-use Rattle.pgoutput_msgs.specs.Sent.{IsSent}
-use Rattle.pgoutput_msgs.specs.Telling.{messages_for}
+use Rattle.tables_log.specs.StandsFor.{Transaction, left_by, entries_from}
 use Rattle.pgoutput_msgs.specs.declared.message.Msg.{Msg}
 use Rattle.pgoutput_msgs.specs.declared.message.Msg.TheVariants as m
 use Rattle.copy_both.specs.StreamLaws.{IsThere, AllThere}
-use Rattle.copy_both.specs.Streams.{Place, Move, Take, Keep, count_before, place_at, place_after, taken_place, moved, all_moved}
+use Rattle.copy_both.specs.Streams.{Place, Move, Take, Keep, taken_place, moved, all_moved}
 use Rattle.copy_both.specs.Tellings.{telling_of}
 use Rattle.stream_laws.specs.Cutting.{if_whole, whole_in}
-use Rattle.stream_laws.specs.Following.{raised_by_message, raised_by, position_after, log_of, IsSentItem}
-use Rattle.stream_laws.specs.Items.{Item, Response, Carries, Alive, spelled, head_of, take_items, move_items, all_items, stream_items}
+use Rattle.stream_laws.specs.Following.{raised_by_message, raised_by, position_after, log_of}
+use Rattle.stream_laws.specs.Items.{Item, Response, Carries, Alive, spelled, take_items, move_items, all_items}
 use Rattle.stream_laws.specs.Sayable.{IsSayable}
-use Rattle.stream_laws.proofs.EntryLemmas.{entry_at}
-use Rattle.stream_laws.proofs.FollowingLemmas.{first_sent}
 
 -- ---- items that are whole
 

@@ -1,5 +1,5 @@
 -- What a pump makes happen on the connection of a subscriber, so that it gets all that was committed and says so: PostgreSQL 15, 55.4. Streaming Replication Protocol.
-use Rattle.std.specs.Prelude.{◌≡◌, ◌<◌, ◌⊎◌, ℕ, ◌+◌, ◌-◌, ◌^◌, false, List, [], ◌∷◌, ◌++◌, All, length, map, replicate, Some, Result, Ok, Err}
+use Rattle.std.specs.Prelude.{◌≡◌, ◌<◌, ◌⊎◌, ℕ, ◌-◌, ◌^◌, false, List, [], ◌∷◌, ◌++◌, All, length, map, replicate, Some, Result, Ok, Err}
 use Rattle.copy_both.specs.Streams.{end_of}
 use Rattle.tables_log.specs.BookView.{book_log}
 use Rattle.shard_world.specs.PeerCalls.{IsCounted}

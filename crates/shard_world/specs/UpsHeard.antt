@@ -1,5 +1,5 @@
 -- That the frames that a subscriber sends change what the publisher heard as they do in the world: PostgreSQL 15, 55.4. Streaming Replication Protocol (START_REPLICATION, Standby status update).
-use Rattle.std.specs.Prelude.{◌≡◌, ◌<◌, ◌≤◌, ◌+◌, ◌^◌, ℕ, max, min, false, List, ◌++◌, All, fold, length, map, replicate, Option, Some, None}
+use Rattle.std.specs.Prelude.{◌≡◌, ◌<◌, ◌≤◌, ◌^◌, ℕ, max, min, false, List, ◌++◌, All, fold, length, map, replicate, Option, Some, None}
 use Rattle.pub_catalog.specs.declared.catalog.Subscription.{Subscription}
 use Rattle.tables_log.specs.Slots.{end_after, confirmed_at, start_fault}
 use Rattle.copy_frames.specs.declared.status.Status.{Status}

@@ -45,7 +45,8 @@ pub enum Asked<'a> {
 const INPUT_HELP: &str =
     "The input comes from the standard input. Its parts are separated by lines that are exactly %%:
 eval takes a catalog and rows, check a catalog and certificates, make a catalog alone,
-simulate a catalog, certificates and a script.
+simulate a catalog, certificates and a script. One more subcommand, serve, takes the same as simulate and serves
+subscribers over sockets: pgshard serve --help tells of it.
 A catalog is SQL: CREATE SCHEMA, TABLE, UNIQUE INDEX, PUBLICATION and SUBSCRIPTION, and ALTER TABLE .. REPLICA IDENTITY.
 
 Exit status:
@@ -154,10 +155,10 @@ fn eval_request<'a>(eval: &ArgMatches<'a>) -> Option<Request<'a>>
 const MAX_LIMIT: u32 = 1_000_000_000;
 
 /// How many commits a log takes where it is not said.
-const LIMIT: u32 = 1_000_000;
+pub const LIMIT: u32 = 1_000_000;
 
 /// The number of commits that a word spells, if a log may take so many.
-fn read_limit(word: &str) -> Option<u32>
+pub fn read_limit(word: &str) -> Option<u32>
     ensures some { IfSome result (SpellsLimit word.now) }
     ensures none { result ≡ None → (limit : ℕ) → SpellsLimit word.now limit → ⊥ }
 {

@@ -103,7 +103,11 @@ fn write_steps<'a, W: Write>(
 
 /// Reads the steps of a script.
 #[tactic(auto, using(crate::proofs::ScriptLengths::script_is_short))]
-fn read_steps<'a>(alloc: Global, catalog: &Catalog, script: &str) -> Result<Vec<Line>, Failure<'a>>
+pub fn read_steps<'a>(
+    alloc: Global,
+    catalog: &Catalog,
+    script: &str,
+) -> Result<Vec<Line>, Failure<'a>>
     ensures read { IfOk result (λ lines. script_by (catalog_view catalog.now).tables script.now
         ≡ Ok (map line_view lines.items)) }
     ensures few { IfOk result (λ lines. length lines.items ≤ 100000) }

@@ -6,9 +6,13 @@ Each file has a topic, and its function `cases` gives the topic's runs.
 from programs import pgshard
 from tally import Tally
 
-from . import certificates, checks, command_lines, families, filters, forms, inputs, inserts, limits, makes, rows, simulations
+from . import (
+    certificates, checks, command_lines, families, filters, forms, inputs, inserts, limits, makes, most, rows, serves,
+    simulations)
 
-TOPICS = [checks, certificates, forms, makes, families, simulations, rows, inserts, filters, inputs, command_lines, limits]
+TOPICS = [
+    checks, certificates, forms, makes, families, simulations, serves, rows, inserts, filters, inputs, command_lines,
+    limits, most]
 
 
 def check_runs(tally: Tally) -> None:

@@ -31,4 +31,4 @@ pub returns-clause-ok : goal.returns-clause-ok
 returns-clause-ok g c =
     closed_compared c.args.book.now c.replay.new.fresh c.args.seats.now c.in_ok-receipts.receipts.items c.as_slice.result.now c.as_slice.ensures.value c.in_ok-receipts.ensures.ok c.in_ok-receipts.ensures.long
     c.in_ok-readings.readings.items c.sort_readings.new.readings.items c.as_slice-2.result.now c.in_ok-readings.ensures c.sort_readings.ensures.all c.as_slice-2.ensures.value
-    c.in_ok-replay.ensures.ok c.in_ok-replay.ensures.all (MatchBool-at_true _ _ c.if-not-branch.false c.in_ok-replay.ensures.right) c.args.served.now c.if-not-are_taken.ensures c.in_ok-receipts.ensures.forward
+    c.in_ok-replay.ensures.ok c.in_ok-replay.ensures.all (MatchBool-at_true _ _ c.if-not-branch.false c.in_ok-replay.ensures.right) c.args.served.now c.if-not-are_taken.ensures c.in_ok-receipts.ensures.forward c.in_ok-receipts.ensures.timed

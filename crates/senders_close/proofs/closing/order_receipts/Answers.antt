@@ -40,3 +40,6 @@ returns-clause-long g c =
 
 pub returns-clause-forward : goal.returns-clause-forward
 returns-clause-forward g c = c.if-not-are_rising.ensures.forward refl
+
+pub returns-clause-timed : goal.returns-clause-timed
+returns-clause-timed g c = c.if-not-are_rising.ensures.timed refl

@@ -1,4 +1,4 @@
-use Rattle.std.proofs.Common.{List, ap, map, subst}
+use Rattle.std.proofs.Common.{List, ap, arith, map, subst}
 use Rattle.shard_checker.specs.CheckedView.{setting_in}
 use Rattle.table_changes.specs.Commands.{command_view}
 use Rattle.table_changes.specs.declared.command.Command.{Command}
@@ -12,7 +12,7 @@ pub invariant_of-seat-2 : goal.invariant_of-seat-2
 invariant_of-seat-2 g c =
     receipt_pushed c.seat.inside.notes.items c.reserve.new.self.items c.push_reserved.new.self.items c.reserve.ensures.items c.new.result c.seat.inside.high c.max.result c.in-Ok.number
     c.seat.inside.mark.parts c.commit.new.mark.parts c.seat.inside.mark.amount c.commit.new.mark.amount c.push_reserved.ensures.items
-    (ap (λ (receipt : ReceiptOf). receipt.number) c.new.ensures) c.max.ensures c.in-Ok.ensures.parts c.in-Ok.ensures.counted c.seat.invariant
+    (ap (λ (receipt : ReceiptOf). receipt.number) c.new.ensures) c.max.ensures (omega (arith, ap (λ (receipt : ReceiptOf). receipt.time) c.new.ensures, c.ranges.time)) c.in-Ok.ensures.parts c.in-Ok.ensures.counted c.seat.invariant
 
 -- the list has the fault that the book answered
 pub returns-in-Err-clause-fault : goal.returns-in-Err-clause-fault

@@ -1,4 +1,4 @@
-use Rattle.std.proofs.Common.{◌≡◌, [], ◌∙◌, subst, ap, rules}
+use Rattle.std.proofs.Common.{◌≡◌, [], ◌∙◌, subst, ap}
 use Rattle.std.specs.Arc.{arc_value}
 use Rattle.shard_checker.specs.CheckedView.{CheckedOf, checked_view}
 use Rattle.shard_checker.specs.declared.checked.Checked.{Checked}

@@ -1,4 +1,4 @@
-use Rattle.std.proofs.Common.{◌≡◌, ap, subst, sym, ◌∙◌}
+use Rattle.std.proofs.Common.{ap, subst, sym, ◌∙◌}
 use Rattle.std.specs.Prelude.{map}
 use Rattle.table_changes.specs.Commands.{command_view}
 use Rattle.shard_world.specs.World.{Commit, event_view}

@@ -1,0 +1,5 @@
+pub mod Asking
+pub mod Crossing
+pub mod Exits
+pub mod Serving
+pub mod Telling

@@ -1,0 +1,1 @@
+"""What tools/front is made of."""

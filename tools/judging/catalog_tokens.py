@@ -1,0 +1,60 @@
+"""The statements of a catalog text that pgshard reads, as lists of tokens."""
+
+import re
+from dataclasses import dataclass
+
+TOKEN = re.compile(r"""\s+|--[^\n\r]*|/\*|'(?:[^']|'')*'|"(?:[^"]|"")*"|[\w$]+|.""", re.S)
+
+
+@dataclass
+class Table:
+    name: str
+    written: str
+    columns: list
+
+
+def tokens_of(text):
+    """The tokens of a catalog, without white space and comments."""
+    at = 0
+    while at < len(text):
+        token = TOKEN.match(text, at).group()
+        if token == "/*":
+            at = end_of_comment(text, at)
+            continue
+        at += len(token)
+        if not token.isspace() and not token.startswith("--"):
+            yield token
+
+
+def end_of_comment(text, begin):
+    depth = 0
+    for mark in re.finditer(r"/\*|\*/", text[begin:]):
+        depth += 1 if mark.group() == "/*" else -1
+        if depth == 0:
+            return begin + mark.end()
+    return len(text)
+
+
+def statements_of(text):
+    statement = []
+    for token in tokens_of(text):
+        if token == ";":
+            yield statement
+            statement = []
+        else:
+            statement.append(token)
+
+
+def stored(token):
+    return token[1:-1].replace('""', '"') if token.startswith('"') else token.lower()
+
+
+def table_of(tokens):
+    begin = tokens.index("(")
+    name = ".".join(stored(token) for token in tokens[:begin] if token != ".")
+    columns, depth = [], 0
+    for before, token in zip(tokens[begin:], tokens[begin + 1:]):
+        depth += (before == "(") - (before == ")")
+        if depth == 1 and before in "(," and token.upper() != "PRIMARY":
+            columns.append(stored(token))
+    return Table(name if "." in tokens[:begin] else f"public.{name}", "".join(tokens[:begin]), columns)

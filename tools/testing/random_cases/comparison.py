@@ -1,0 +1,137 @@
+"""All cases of a seed, by as many processes as there are processors."""
+
+import datetime
+import functools
+import multiprocessing
+import os
+import pathlib
+import shutil
+import tempfile
+from collections import Counter
+from collections.abc import Iterator
+from dataclasses import dataclass, field
+
+from tally import Tally, show
+
+from .case import Case
+from .coverage import WANTED
+from .plan import CASES, case_of, kind_of
+from .running import Answer, compiled, program, run
+
+
+# Of so many cases that fail, what is wrong is shown.
+MOST_SHOWN = 20
+
+# After so many runs that do not end, no more are made.
+MOST_LATE = 20
+
+
+# In so many cases the system may refuse memory, a read or a write; they are not compared.
+MOST_REFUSED = 20
+
+
+@dataclass
+class Result:
+    """What came of a case."""
+
+    number: int
+    faults: list[str] = field(default_factory=list)
+    met: Counter[str] = field(default_factory=Counter)
+    runs: int = 0
+    lines: int = 0
+    refused: int = 0
+    late: int = 0
+    inputs: list[tuple[tuple[str, ...], bytes]] = field(default_factory=list)
+
+
+class Watched:
+    """Makes the runs of a case, and keeps what they were refused."""
+
+    def __init__(self, library: str | None, expects_input: bool) -> None:
+        self.library = library
+        self.expects_input = expects_input
+        self.runs: list[tuple[tuple[str, ...], bytes]] = []
+        self.refused = 0
+        self.late = 0
+        self.gave_up: list[str] = []
+
+    def run(self, words: tuple[str, ...], text: bytes) -> Answer:
+        """Makes a run."""
+        self.runs.append((words, text))
+        answer = run(words, text, self.library)
+        self.refused += answer.refused
+        self.late += answer.status is None
+        how = answer.giving_up()
+        if how is not None and not answer.refused and not (self.expects_input and answer.output == "input\n"):
+            self.gave_up.append(f"{words[0]} gives up without a cause: {how}")
+        return answer
+
+
+def result_of(seed: int, library: str | None, number: int) -> Result:
+    """Makes a case."""
+    case = case_of(seed, number)
+    watched = Watched(library, isinstance(case, Case) and case.output == "input\n")
+    faults = [*case.check(watched.run)]
+    found = Result(number, watched.gave_up, case.met, len(watched.runs), case.lines(), watched.refused, watched.late)
+    if not watched.refused:
+        found.faults += faults
+    if found.faults:
+        found.inputs = watched.runs
+    return found
+
+
+def seed() -> int:
+    """The seed that the environment gives, or the day's."""
+    return int(os.environ.get("SEED") or datetime.date.today().strftime("%Y%m%d"))
+
+
+def results(seed: int, numbers: list[int]) -> Iterator[Result]:
+    """What came of cases, in the order in which they end."""
+    with tempfile.TemporaryDirectory() as folder:
+        made = functools.partial(result_of, seed, compiled(folder))
+        processes = min(len(os.sched_getaffinity(0)), len(numbers))
+        if processes == 1:
+            yield from map(made, numbers)
+            return
+        with multiprocessing.Pool(processes) as pool:
+            yield from pool.imap_unordered(made, numbers, chunksize=1)
+
+
+def check_random(tally: Tally, seed: int) -> None:
+    """Makes all cases of a seed. Each case is a check, and so is what they met."""
+    if not pathlib.Path(program()).exists():
+        return tally.check("the program that random cases try", f"{program()} is not there", "it is built")
+    if shutil.which("cc") is None:
+        print("skipped: counts of what the system refuses in random cases, since no C compiler is installed")
+    met: Counter[str] = Counter()
+    total: Counter[str] = Counter()
+    for result in results(seed, list(range(CASES))):
+        tell(tally, seed, result)
+        met += result.met
+        refused = min(result.refused, 1)
+        total += Counter(cases=1, runs=result.runs, lines=result.lines, refused=refused, late=result.late)
+        if total["late"] > MOST_LATE:
+            break
+    tally.check("runs of random cases that do not end", total["late"], 0)
+    tally.check(f"what the cases of seed {seed} lack", sorted(set(WANTED) - set(met)), [])
+    tally.check("whether the system refused too much to random cases", total["refused"] > MOST_REFUSED, False)
+    print(
+        f"random cases of seed {seed}: {total['cases']:,}, in {total['runs']:,} runs with {total['lines']:,} lines; "
+        f"{total['refused']} were not compared, since the system refused memory, a read or a write")
+
+
+def tell(tally: Tally, seed: int, result: Result) -> None:
+    """Counts a case. Of the first ones that fail, what is wrong is printed, and the inputs are kept."""
+    name = f"random case {result.number} ({kind_of(result.number)[0]}) of seed {seed}"
+    if not result.faults or tally.failed > MOST_SHOWN:
+        tally.passed += not result.faults
+        tally.failed += bool(result.faults)
+        return
+    tally.check(name, "otherwise", "as the model says")
+    for fault in result.faults:
+        show(f"  {fault}")
+    for words, text in result.inputs:
+        with tempfile.NamedTemporaryFile(prefix=f"pgshard-{seed}-{result.number}-", delete=False) as file:
+            file.write(text)
+        show(f"  the input of {' '.join(words)} is in {file.name}")
+    show(f"  again: tools/testing/random_runs.py --seed {seed} --case {result.number}")

@@ -1,0 +1,101 @@
+"""A client that speaks to `pgshard serve` itself, byte by byte where it is asked to."""
+
+import contextlib
+import itertools
+import socket
+import time
+from collections.abc import Iterator
+
+from . import messages
+from .program import SECONDS
+from .publisher import Subscriber
+
+
+# How little room a client may have for what it does not read, in bytes.
+LITTLE = 4096
+
+# What is read where nothing more comes, and no end.
+NO_END = b" and no end"
+
+
+class Connection:
+    """One end of a connection. What it reads is cut short where the other ends it."""
+
+    def __init__(self, opened: socket.socket) -> None:
+        opened.settimeout(SECONDS)
+        opened.setsockopt(socket.IPPROTO_TCP, socket.TCP_NODELAY, 1)
+        self.opened = opened
+
+    def send(self, given: bytes) -> None:
+        self.opened.sendall(given)
+
+    def send_slowly(self, given: bytes) -> None:
+        """Each byte by itself."""
+        for byte in given:
+            self.send(bytes([byte]))
+            time.sleep(0.001)
+
+    def start(self, subscriber: Subscriber, position: int = 0) -> None:
+        self.send(messages.start(subscriber.slot, position, list(subscriber.publications)))
+
+    def receive(self, count: int) -> bytes:
+        """So many bytes, with no clocks and no times."""
+        return messages.without_times(self.receive_as_is(count))
+
+    def receive_as_is(self, count: int) -> bytes:
+        received = bytearray()
+        try:
+            while len(received) < count:
+                piece = self.opened.recv(min(count - len(received), 1 << 16))
+                if not piece:
+                    break
+                received += piece
+        except TimeoutError:
+            received += NO_END
+        except OSError:
+            pass
+        return bytes(received)
+
+    def receive_until(self, end: bytes) -> bytes:
+        """All up to some bytes."""
+        received = b""
+        while not received.endswith(end):
+            byte = self.receive(1)
+            if len(byte) != 1:
+                break
+            received += byte
+        return received
+
+    def receive_all(self) -> bytes:
+        """All up to the connection's end."""
+        return self.receive(1 << 30)
+
+    def finish(self) -> bytes:
+        """Says that the stream is done, and reads what still comes."""
+        self.send(messages.COPY_DONE)
+        return self.receive_all()
+
+
+@contextlib.contextmanager
+def client(port: int, room: int | None = None) -> Iterator[Connection]:
+    """A client, which may have little room for what it does not read."""
+    with socket.socket() as opened:
+        if room is not None:
+            opened.setsockopt(socket.SOL_SOCKET, socket.SO_RCVBUF, room)
+        opened.settimeout(SECONDS)
+        opened.connect(("127.0.0.1", port))
+        yield Connection(opened)
+
+
+@contextlib.contextmanager
+def back_again(port: int, subscriber: Subscriber, position: int) -> Iterator[Connection]:
+    """A client that has started, as one does that was lost. Where it is refused it tries again, since its slot may be
+    in use for a moment, or its position ahead of a log that grows."""
+    until = time.monotonic() + SECONDS
+    for tries in itertools.count(1):
+        with client(port) as made:
+            made.start(subscriber, position)
+            if made.opened.recv(1, socket.MSG_PEEK) != b"E" or time.monotonic() > until:
+                yield made
+                return
+        time.sleep(0.02 * tries)

@@ -1,0 +1,291 @@
+"""What tools/front answers by itself, what it refuses, and how it ends."""
+
+import socket
+import struct
+import subprocess
+import tempfile
+
+from programs import TOOLS
+from server import environment
+from tally import Tally
+
+from . import messages
+from .clients import Connection, client
+from .program import SECONDS, Started, free_port, fronting, serving
+from .publisher import Insert
+from .shardings import halves
+
+REPLICATION = "replication=database host=127.0.0.1 user=postgres dbname=shop"
+
+NO_SQL = (
+    "ERROR:  this is tools/front before pgshard serve, which takes no SQL\n"
+    "HINT:  It takes START_REPLICATION SLOT .. LOGICAL, and what clients ask before that.\n")
+NO_COPY = (
+    "ERROR:  pgshard serve has no initial copy of tables\n"
+    "HINT:  Its tables begin empty. Create the subscription WITH (create_slot = false, copy_data = false).\n")
+
+# What psql sends, and what it prints.
+QUERIES = [
+    ("SELECT 1", NO_SQL),
+    ("BEGIN READ ONLY ISOLATION LEVEL REPEATABLE READ", NO_COPY),
+    ("COPY public.t (id) TO STDOUT", NO_COPY),
+    ('CREATE_REPLICATION_SLOT "s0" LOGICAL pgoutput (SNAPSHOT \'use\')', NO_COPY),
+    ("CREATE_REPLICATION_SLOT s0 LOGICAL pgoutput NOEXPORT_SNAPSHOT", "s0|0/0||pgoutput\n"),
+    ("CREATE_REPLICATION_SLOT s0 LOGICAL test_decoding", NO_SQL),
+    ("CREATE_REPLICATION_SLOT s0 PHYSICAL", NO_SQL),
+    ('DROP_REPLICATION_SLOT "s0" WAIT', ""),
+    ("IDENTIFY_SYSTEM", "0|1|0/0|shop\n"),
+    ("SHOW server_version", "15.18\n"),
+    ("SHOW SERVER_ENCODING;", "UTF8\n"),
+    ("SHOW work_mem", 'ERROR:  unrecognized configuration parameter "work_mem"\n'),
+    ("SELECT pg_catalog.set_config('search_path', '', false);", "\n"),
+    (";", ""),
+    (
+        "START_REPLICATION SLOT \"s2\" LOGICAL 0/0 (proto_version '1', publication_names 'pa')",
+        'ERROR:  replication slot "s2" does not exist\n',
+    ),
+    (
+        "START_REPLICATION SLOT s0 LOGICAL 0/0 (proto_version '4', publication_names 'pa')",
+        'ERROR:  option "proto_version" is not supported\n',
+    ),
+    ("START_REPLICATION SLOT s0 LOGICAL 0/0 0", "ERROR:  cannot read the replication command\n"),
+]
+
+# The catalog that a front is given, and what subscribers ask of it.
+CATALOG = """\
+CREATE SCHEMA "S"; /* CREATE TABLE no (id integer); */
+CREATE TABLE t (id integer PRIMARY KEY, "a,b" text); -- CREATE TABLE no (id integer);
+CREATE TABLE "S"."T" (id integer, "Q" text NOT NULL, PRIMARY KEY (id, "Q"));
+CREATE TABLE u (id integer PRIMARY KEY);
+CREATE PUBLICATION every FOR ALL TABLES;
+CREATE PUBLICATION none WITH (publish = 'insert');
+CREATE PUBLICATION first FOR TABLE ONLY t * WHERE (id < 5 AND ("a,b" = 'x, u' OR id IN (1, 2))), u;
+CREATE PUBLICATION schemas FOR TABLES IN SCHEMA "S", CURRENT_SCHEMA;
+CREATE PUBLICATION mixed FOR TABLE public.u WHERE (id = 1), TABLES IN SCHEMA "S" WITH (publish_via_partition_root);
+%%
+CREATE TABLE no (id integer PRIMARY KEY);
+"""
+TABLES_OF = """
+    SELECT DISTINCT t.schemaname, t.tablename{columns}
+    FROM pg_catalog.pg_publication_tables t
+    WHERE t.pubname IN ({names})
+"""
+PUBLICATIONS_OF = "SELECT t.pubname FROM pg_catalog.pg_publication t WHERE t.pubname IN ('first', 'unknown', 'mixed')"
+ASKED = [
+    (["every"], ["public|t", "S|T", "public|u"]),
+    (["none"], []),
+    (["first"], ["public|t", "public|u"]),
+    (["schemas"], ["public|t", "S|T", "public|u"]),
+    (["mixed"], ["S|T", "public|u"]),
+    (["first", "mixed"], ["public|t", "S|T", "public|u"]),
+    (["unknown"], []),
+]
+COLUMNS = ['public|t|{"id","a,b"}', 'S|T|{"id","Q"}', 'public|u|{"id"}']
+NO_CATALOG = (
+    "ERROR:  tools/front was given no catalog, so it does not know the tables of publications\n"
+    "HINT:  Start it with --catalog FILE, the input of pgshard serve or its first part.\n")
+
+# Starts, and what the publisher is sent where clients are told 15.18.
+STARTS = [
+    (
+        """START_REPLICATION SLOT "s" LOGICAL 0/0 (proto_version '3', publication_names '"a"')""",
+        """START_REPLICATION SLOT "s" LOGICAL 0/0 (proto_version '1', publication_names '"a"')""",
+    ),
+    (
+        """START_REPLICATION SLOT "s (1)" LOGICAL 0/AB """
+        """(proto_version '2', streaming 'on', publication_names '"a,b","it''s"', binary 'true', two_phase 'on')""",
+        """START_REPLICATION SLOT "s (1)" LOGICAL 0/AB (proto_version '1', publication_names '"a,b","it''s"')""",
+    ),
+    (
+        """start_replication slot s logical 1/0 ( "proto_version" '1' , "messages" 'true', publication_names 'a' ) ;""",
+        """start_replication slot s logical 1/0 ("proto_version" '1', publication_names 'a')""",
+    ),
+    (
+        "START_REPLICATION SLOT s LOGICAL 0/0 (proto_version '4', origin)",
+        "START_REPLICATION SLOT s LOGICAL 0/0 (proto_version '4', origin)",
+    ),
+    ("START_REPLICATION SLOT s LOGICAL 0/0", "START_REPLICATION SLOT s LOGICAL 0/0"),
+    ("START_REPLICATION SLOT s LOGICAL 0/0 (a 'b' c)", "START_REPLICATION SLOT s LOGICAL 0/0 (a 'b' c)"),
+]
+
+# First packets without their lengths, and how the answer begins.
+PACKETS = [
+    ("TLS is asked for", struct.pack("!I", 80877103), b"N"),
+    ("GSS encryption is asked for", struct.pack("!I", 80877104), b"N"),
+    ("version 3.2 is asked for", b"\0\3\0\2user\0postgres\0\0", bytes.fromhex("76 0000000c 00000000 00000000 52")),
+    ("version 2 is asked for", struct.pack("!I", 0x20000) + bytes(292), b"E"),
+    ("a query is canceled", struct.pack("!III", 80877102, 1, 1), b""),
+    ("the packet has no version", b"", b"E"),
+]
+START = "START_REPLICATION SLOT s0 LOGICAL 0/0 (proto_version '{version}', publication_names 'pa')"
+LOST = messages.frame(b"E", b"SFATAL\0VFATAL\0C08006\0Mthe connection to pgshard serve has ended\0\0")
+# Frames of the publisher in turn, as the client gets them, and how far it is told to be then.
+BEGIN, COMMIT = messages.begin(64, 3), messages.commit(64, 128)
+RELAYED = [
+    (messages.xlog_data(64, BEGIN), messages.xlog_data(64, BEGIN), 0),
+    (messages.xlog_data(64, COMMIT), messages.xlog_data(128, COMMIT), 128),
+    (messages.keepalive(192), messages.keepalive(192), 192),
+    (2 * messages.xlog_data(64, COMMIT), 2 * messages.xlog_data(128, COMMIT), 128),
+]
+DONE = messages.COPY_DONE + messages.frame(b"C", b"COPY 0\0") + messages.frame(b"Z", b"I")
+STARTUP = struct.pack("!I", 0x30000) + b"user\0postgres\0database\0shop\0replication\0database\0\0"
+
+# Words of the command line, and the status. PORT and TAKEN are ports.
+COMMAND_LINES = [
+    ((), 2),
+    (("--port", "0", "--backend", "1"), 2),
+    (("--port", "1", "--backend", "65536"), 2),
+    (("--port", "PORT", "--backend", "1", "--server-version", "14.9"), 2),
+    (("--port", "PORT", "--backend", "1", "--catalog", "/nowhere"), 2),
+    (("--port", "TAKEN", "--backend", "1"), 4),
+    (("--help",), 0),
+]
+
+
+def check_front(tally: Tally) -> None:
+    """What needs psql, and what needs bytes."""
+    with tempfile.NamedTemporaryFile("w", suffix=".txt") as file:
+        file.write(CATALOG)
+        file.flush()
+        check_command_lines(tally)
+        with fronting(free_port(), "--catalog", file.name) as (front, port):
+            check_catalog(tally, port)
+            check_packets(tally, port)
+            check_extended(tally, port)
+            with client(port) as connected:
+                connected.send(packet(STARTUP))
+                connected.receive(1)
+                front.process.terminate()
+                tally.check("the end of front with a client", front.end(), (0, []))
+    check_before_publisher(tally)
+    check_starts(tally)
+    check_relay(tally)
+
+
+def check_before_publisher(tally: Tally) -> None:
+    with serving(halves([[Insert("t", (7, "eu"))]]).input(), "--connections", "20") as (program, port):
+        with fronting(port) as (_, front_port):
+            for query, printed in QUERIES:
+                tally.check(f"what front answers to {query}", psql(front_port, query), printed)
+            tally.check("a question for publications without a catalog", psql(front_port, PUBLICATIONS_OF), NO_CATALOG)
+            found = psql(front_port, "SHOW server_version", PGCLIENTENCODING="LATIN1")
+            expected = "FATAL:  texts come in UTF8 here, not in LATIN1\n"
+            tally.check("a client with another encoding", found[-len(expected):], expected)
+        with fronting(port, "--server-version", "13.18") as (_, front_port):
+            tally.check("the version that is told", psql(front_port, "SHOW server_version"), "13.18\n")
+            found = psql(front_port, START.format(version=3))
+            tally.check("a later protocol before 13.18", found, 'ERROR:  option "proto_version" is not supported\n')
+        check_loss(tally, program, port)
+
+
+def psql(port: int, query: str, **variables: str) -> str:
+    """What psql prints of a query, faults too."""
+    command = ["psql", "-X", "-q", "-A", "-t", "-w", f"{REPLICATION} port={port}", "-c", query]
+    answer = subprocess.run(
+        command, stdin=subprocess.DEVNULL, stdout=subprocess.PIPE, stderr=subprocess.STDOUT, encoding="utf-8",
+        timeout=SECONDS, env=environment() | variables)
+    return answer.stdout
+
+
+def check_catalog(tally: Tally, port: int) -> None:
+    """What subscribers ask of publications, and what they are told where nobody listens."""
+    for names, tables in ASKED:
+        listed = ", ".join(f"'{name}'" for name in names)
+        found = psql(port, TABLES_OF.format(columns="", names=listed))
+        tally.check(f"the tables of {listed}", found.splitlines(), tables)
+    found = psql(port, TABLES_OF.format(columns="\n, t.attnames", names="'every'"))
+    tally.check("the columns of tables", found.splitlines(), COLUMNS)
+    tally.check("the publications that are there", psql(port, PUBLICATIONS_OF), "first\nmixed\n")
+    found = psql(port, START.format(version=1))
+    tally.check("a start where nobody listens", found.startswith("ERROR:  no pgshard serve is at port "), True)
+
+
+def check_packets(tally: Tally, port: int) -> None:
+    for what, given, expected in PACKETS:
+        with client(port) as made:
+            made.send(packet(given))
+            tally.check(f"what front answers where {what}", made.receive(len(expected) or 1), expected)
+
+
+def check_extended(tally: Tally, port: int) -> None:
+    """A query of the extended protocol is refused, and the connection goes on."""
+    with client(port) as made:
+        made.send(packet(STARTUP))
+        for kind in b"P", b"B", b"E", b"S":
+            made.send(messages.frame(kind, bytes(4)))
+        made.send(messages.query("SHOW TimeZone") + messages.TERMINATE)
+        frames, _ = messages.frames_of(made.receive_all())
+        kinds = b"".join(whole[:1] for whole in frames)
+        tally.check("the frames of a query of the extended protocol", kinds, b"RSSSSSSSSSSSKZ" + b"EZ" + b"TDCZ")
+
+
+def check_loss(tally: Tally, program: Started, port: int) -> None:
+    """A client is told that the publisher has gone."""
+    with fronting(port) as (_, front_port), client(front_port) as made:
+        made.send(packet(STARTUP) + messages.query(START.format(version=3)))
+        made.receive_until(messages.COPY_BOTH_RESPONSE)
+        program.stop()
+        frames, _ = messages.frames_of(made.receive_all())
+        tally.check("what a client is told last", frames[-1:], [LOST])
+
+
+def check_starts(tally: Tally) -> None:
+    """How starts are put into protocol version 1. The publisher here reads one and is gone."""
+    with socket.create_server(("127.0.0.1", 0)) as publisher:
+        publisher.settimeout(SECONDS)
+        with fronting(publisher.getsockname()[1]) as (_, port):
+            for start, expected in STARTS:
+                with client(port) as made:
+                    made.send(packet(STARTUP) + messages.query(start))
+                    accepted, _ = publisher.accept()
+                    with accepted:
+                        found = accepted.recv(1 << 16)
+                    tally.check(f"how {start} is passed on", found, messages.query(expected))
+                    frames, _ = messages.frames_of(made.receive_all())
+                    tally.check("what a client is told of a start that nobody answers", frames[-1], LOST)
+
+
+def check_relay(tally: Tally) -> None:
+    """A stream, frame by frame: what each side gets, and the replies that front gives itself."""
+    with socket.create_server(("127.0.0.1", 0)) as listener, fronting(listener.getsockname()[1]) as (_, port):
+        listener.settimeout(SECONDS)
+        with client(port) as made:
+            made.send(packet(STARTUP))
+            # A client may start again once a stream is done.
+            for _ in range(2):
+                made.send(messages.query(START.format(version=1)))
+                accepted, _ = listener.accept()
+                with accepted:
+                    check_frames(tally, made, Connection(accepted))
+
+
+def check_frames(tally: Tally, made: Connection, publisher: Connection) -> None:
+    publisher.receive(len(messages.query(START.format(version=1))))
+    publisher.send(messages.COPY_BOTH_RESPONSE)
+    made.receive_until(messages.COPY_BOTH_RESPONSE)
+    for told, expected, position in RELAYED:
+        publisher.send(told)
+        tally.check(f"what a client gets of {told.hex()}", made.receive(len(expected)), expected)
+        asked, reply = messages.status(position, wants_reply=True), messages.keepalive(position)
+        made.send(asked)
+        tally.check("the reply that front gives", made.receive(len(reply)), reply)
+        tally.check("what the publisher gets of a status", publisher.receive(len(asked)), asked)
+    last = messages.status(0) + messages.COPY_DONE
+    made.send(last)
+    tally.check("what the publisher gets at the end", publisher.receive(len(last)), last)
+    publisher.send(messages.COPY_DONE)
+    tally.check("what a client gets at the end", made.receive(len(DONE)), DONE)
+
+
+def check_command_lines(tally: Tally) -> None:
+    with socket.create_server(("127.0.0.1", 0)) as taken:
+        ports = {"PORT": str(free_port()), "TAKEN": str(taken.getsockname()[1])}
+        for words, status in COMMAND_LINES:
+            given = [ports.get(word, word) for word in words]
+            answer = subprocess.run([TOOLS / "front", *given], capture_output=True, timeout=SECONDS)
+            tally.check(f"front {' '.join(words)}", answer.returncode, status)
+
+
+def packet(body: bytes) -> bytes:
+    """A first packet, which has no kind."""
+    return struct.pack("!I", len(body) + 4) + body

@@ -1,0 +1,124 @@
+"""`pgshard serve` and tools/front, each started on a port of its own and gone afterwards."""
+
+import contextlib
+import queue
+import socket
+import subprocess
+import threading
+import time
+from collections.abc import Iterator
+
+from programs import PGSHARD, TOOLS, decoded
+
+# How long anything here may take.
+SECONDS = 20
+
+# How many ports are tried, and the status of a program that can't have one.
+PORTS = 3
+NO_PORT = 4
+
+
+class Started:
+    """A program whose lines are read as they come."""
+
+    def __init__(self, words: list[str], text: str = "") -> None:
+        self.process = subprocess.Popen(words, stdin=subprocess.PIPE, stdout=subprocess.PIPE)
+        self.lines: queue.Queue[str | None] = queue.Queue()
+        threading.Thread(target=self.read, daemon=True).start()
+        threading.Thread(target=self.write, args=(text.encode(),), daemon=True).start()
+
+    def read(self) -> None:
+        for line in self.process.stdout:
+            self.lines.put(decoded(line))
+        self.lines.put(None)
+
+    def write(self, given: bytes) -> None:
+        # A program that ends before it has read all is told of by its status.
+        with contextlib.suppress(OSError):
+            self.process.stdin.write(given)
+            self.process.stdin.close()
+
+    def line(self, seconds: float = SECONDS) -> str | None:
+        """The next line, or None where there is no further one, or it does not come."""
+        try:
+            line = self.lines.get(timeout=seconds)
+        except queue.Empty:
+            return None
+        if line is None:
+            self.lines.put(None)
+        return line
+
+    def is_running(self) -> bool:
+        return self.process.poll() is None
+
+    def end(self, seconds: float = SECONDS) -> tuple[int | None, list[str]]:
+        """The status, None where it does not end, and the lines that were not read."""
+        try:
+            status = self.process.wait(seconds)
+        except subprocess.TimeoutExpired:
+            return None, [f"no end within {seconds} seconds\n"]
+        return status, list(iter(self.line, None))
+
+    def stop(self) -> None:
+        """Ends it, if it still runs."""
+        self.process.kill()
+        self.process.wait()
+
+
+@contextlib.contextmanager
+def started(words: list[str], text: str = "") -> Iterator[Started]:
+    program = Started(words, text)
+    try:
+        yield program
+    finally:
+        program.stop()
+
+
+def free_port() -> int:
+    """A port that nobody has, as far as is known."""
+    with socket.socket() as taken:
+        taken.bind(("127.0.0.1", 0))
+        return taken.getsockname()[1]
+
+
+class NotStarted(Exception):
+    """A program does not listen."""
+
+
+@contextlib.contextmanager
+def listening(words: list[str], text: str = "") -> Iterator[tuple[Started, int]]:
+    """A program that listens, and its port, which it is told by `--port`. Another port is tried where somebody else has
+    taken the first one."""
+    for tries in range(1, PORTS + 1):
+        port = free_port()
+        with started([*words, "--port", str(port)], text) as program:
+            line = program.line()
+            if line == f"listening {port}\n":
+                yield program, port
+                return
+            status, _ = program.end()
+        if status != NO_PORT or tries == PORTS:
+            raise NotStarted(f"{' '.join(words)} wrote {line!r} and has the status {status}")
+
+
+@contextlib.contextmanager
+def serving(text: str, *words: str) -> Iterator[tuple[Started, int]]:
+    """pgshard serve that listens, and its port."""
+    with listening([PGSHARD, "serve", *words], text) as program:
+        yield program
+
+
+@contextlib.contextmanager
+def fronting(backend: int, *words: str) -> Iterator[tuple[Started, int]]:
+    """tools/front before a publisher, and its port."""
+    with listening([str(TOOLS / "front"), "--backend", str(backend), *words]) as program:
+        yield program
+
+
+def use_up(program: Started, port: int) -> None:
+    """Makes connections and ends them at once, until the program that accepts so many has ended."""
+    until = time.monotonic() + SECONDS
+    while program.is_running() and time.monotonic() < until:
+        with contextlib.suppress(OSError):
+            socket.create_connection(("127.0.0.1", port), timeout=1).close()
+        time.sleep(0.002)

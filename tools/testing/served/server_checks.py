@@ -1,0 +1,66 @@
+"""What a PostgreSQL server itself tells subscribers of the shop's commits, beside what is expected of `pgshard serve`.
+
+Positions, times, numbers of transactions and OIDs are each server's own, and a server says the Relation of a table more
+than once. All else is the same.
+"""
+
+from programs import without_subscriptions
+from server import Server
+from tally import Tally
+
+from .publisher import Subscriber
+from .shop import SHOP
+from .subscribers_checks import transaction_text
+
+DATABASE = "told"
+
+
+def check_messages(tally: Tally, server: Server) -> None:
+    """The messages of each subscriber."""
+    server.create(DATABASE, without_subscriptions(SHOP.catalog))
+    for subscriber in SHOP.subscribers:
+        server.psql(DATABASE, f"SELECT pg_create_logical_replication_slot('{slot_of(subscriber)}', 'pgoutput');")
+    server.psql(DATABASE, "\n".join(map(transaction_text, SHOP.commits)))
+    for subscriber in SHOP.subscribers:
+        here = [message for transaction in SHOP.publisher().transactions(subscriber) for _, message in transaction]
+        there = messages_of(server, subscriber)
+        tally.check(f"what {subscriber.slot} is told here, and by a server", lines_of(here), lines_of(there))
+        server.psql(DATABASE, f"SELECT pg_drop_replication_slot('{slot_of(subscriber)}');")
+
+
+def slot_of(subscriber: Subscriber) -> str:
+    """A slot of the server that no other test has."""
+    return f"{DATABASE}_{subscriber.slot}"
+
+
+def messages_of(server: Server, subscriber: Subscriber) -> list[bytes]:
+    """All that comes of a slot."""
+    listed = server.psql(DATABASE, f"""
+        SELECT encode(data, 'hex') FROM pg_logical_slot_get_binary_changes(
+            '{slot_of(subscriber)}', NULL, NULL, 'proto_version', '1',
+            'publication_names', '{','.join(subscriber.publications)}');
+    """)
+    return [bytes.fromhex(line) for line in listed.splitlines()]
+
+
+def lines_of(messages: list[bytes]) -> str:
+    """Messages without what is each server's own: a line for each, with names in place of OIDs."""
+    names: dict[bytes, str] = {}
+    return "".join(line_of(message, names) for message in messages)
+
+
+def line_of(message: bytes, names: dict[bytes, str]) -> str:
+    """A message's line, none where it is the Relation of a table that `names` has already."""
+    letter, oid = message[:1].decode(), message[1:5]
+    match letter:
+        case "B" | "C":
+            return f"{letter}\n"
+        case "T":
+            oids = [message[at:at + 4] for at in range(6, len(message), 4)]
+            return f"T {message[1:6].hex()} {' '.join(names[it] for it in oids)}\n"
+        case "R":
+            if oid in names:
+                return ""
+            _, name, _ = message[5:].split(b"\0", 2)
+            names[oid] = name.decode()
+    return f"{letter} {names[oid]} {message[5:].hex()}\n"

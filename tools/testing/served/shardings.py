@@ -1,0 +1,53 @@
+"""Halves of a table, a table that is split over many subscribers, and rows that take megabytes."""
+
+from .publisher import Command, Insert, Subscriber, Table, Update
+from .sharding import Sharding
+
+HALVES_CATALOG = """\
+CREATE TABLE t (id integer, region text, PRIMARY KEY (id));
+ALTER TABLE t REPLICA IDENTITY FULL;
+CREATE PUBLICATION pa FOR TABLE t WHERE (id < 100);
+CREATE PUBLICATION pb FOR TABLE t WHERE (id >= 100);
+CREATE SUBSCRIPTION s0 CONNECTION '' PUBLICATION pa;
+CREATE SUBSCRIPTION s1 CONNECTION '' PUBLICATION pb;
+"""
+TABLE = Table("t", (("id", "integer"), ("region", "text")), key=(0,), letter="f", identity=(0, 1))
+S0 = Subscriber("s0", ("pa",), {"t": lambda row: row[0] < 100})
+S1 = Subscriber("s1", ("pb",), {"t": lambda row: row[0] >= 100})
+
+CROWD = 32
+# How often each row of the crowd goes on to the next subscriber.
+ROUNDS = 10
+
+# Rows of one subscriber that take 7 MB, more than what a system keeps of a connection that nobody reads.
+LARGE = 60_000
+LARGE_ROWS = 120
+
+
+def halves(commits: list[list[Command]], refused: frozenset[int] = frozenset()) -> Sharding:
+    """Rows go to s0 where the number is below 100, and else to s1."""
+    return Sharding(HALVES_CATALOG, (TABLE,), (S0, S1), commits, refused)
+
+
+def large() -> Sharding:
+    """Each commit has a large row for s1, and a small one for s0."""
+    return halves([
+        [Insert("t", (100 + number, "x" * LARGE)), Insert("t", (-number, None))] for number in range(LARGE_ROWS)])
+
+
+def crowd() -> Sharding:
+    """Each of many subscribers has one row, which goes from one to the next."""
+    tests = ["turn < 1", *(f"turn = {number}" for number in range(1, CROWD - 1)), f"turn >= {CROWD - 1}"]
+    catalog = "CREATE TABLE t (id integer PRIMARY KEY, turn integer NOT NULL);\nALTER TABLE t REPLICA IDENTITY FULL;\n"
+    for number, test in enumerate(tests):
+        catalog += f"CREATE PUBLICATION p{number} FOR TABLE t WHERE ({test});\n"
+        catalog += f"CREATE SUBSCRIPTION s{number} CONNECTION '' PUBLICATION p{number};\n"
+    table = Table("t", (("id", "integer"), ("turn", "integer")), key=(0,), letter="f", identity=(0, 1))
+    commits: list[list[Command]] = [[Insert("t", (number, number)) for number in range(CROWD)]]
+    for turn in range(1, ROUNDS + 1):
+        commits.append([Update("t", (number,), (number, (number + turn) % CROWD)) for number in range(CROWD)])
+    return Sharding(catalog, (table,), tuple(map(one_of_crowd, range(CROWD))), commits)
+
+
+def one_of_crowd(number: int) -> Subscriber:
+    return Subscriber(f"s{number}", (f"p{number}",), {"t": lambda row: row[1] == number})
