@@ -1,48 +1,193 @@
-ghost use Rattle.std.specs.Prelude.{◌≡◌};
-ghost use Rattle.std.specs.Arc.{arc_value};
-ghost use Rattle.shard_checker.specs.CheckedView.{checked_view};
+//! Sources and sinks over memory.
 
-use senders::{End, FromRead, OpenGate, Publisher, Publishing, ToWrite, serve};
-use session_tests::accepted;
-use shard_checker::Checked;
-use std::alloc::Global;
-use std::marker::Brand;
-use std::sync::ledger::Blank;
-use std::sync::{Arc, Wait};
-use std::test::Fail;
-use std::thread::Threads;
+ghost use Rattle.std.specs.Prelude.{◌≡◌, true};
+
+use crate::board::{Board, LOST};
+use crate::work::Hold;
+use senders::{Failed, Sink, Source};
 use std::time::Clock;
 
-/// A table of numbered rows that one subscriber takes whole.
-const WHOLE: &str = "CREATE TABLE t (id integer PRIMARY KEY, word text);
-CREATE PUBLICATION p FOR ALL TABLES;
-CREATE SUBSCRIPTION s CONNECTION '' PUBLICATION p;";
-
-/// Serves a connection that gives these bytes.
-fn served<P: Publishing + Sync, R: Threads + Wait + Clock + Sync>(
-    rt: &R,
-    alloc: Global,
-    blank: Blank,
-    checked: Arc<Checked, Global>,
-    bytes: &[u8],
-) -> Result<End, Fail>
-    requires name { blank.name ≡ P.name }
-    requires parts { blank.parts ≡ P.parts }
-    requires seats { blank.parts ≡ 1000 }
-    requires checked { checked_view (arc_value checked) ≡ P.checked }
-    requires limit { 100 ≡ P.limit }
-{
-    let (publisher, _seats) = Publisher::<P>::new(alloc, blank, checked, 100)?;
-    let mut reader = FromRead::new(bytes);
-    let mut writer = ToWrite::new(Vec::new(alloc));
-    Ok(serve(rt, &publisher, &mut reader, &mut writer, &OpenGate).end)
+/// What a client writes: some bytes, and then it waits until it has got so much, and closes; but where its writer has
+/// failed it goes on with statuses. Or the first read of it fails.
+#[derive(Drop)]
+pub(crate) struct Asking<'a, C> {
+    clock: &'a C,
+    board: &'a Board,
+    slot: usize,
+    last: u64,
+    left: &'a [u8],
+    fails: bool,
+    failed: bool,
+    ended: bool,
 }
 
-#[test]
-fn a_connection_without_bytes_is_its_clients_end(rt: HostRuntime) -> Result<(), Fail> {
-    let alloc = rt.alloc();
-    let checked = accepted(alloc, WHOLE, &["o 0"])?;
-    let end = served::<Brand, _>(&rt, alloc, Blank::new(1_000), checked, &[])?;
-    assert_eq!(rt; end, End::Client);
-    Ok(())
+impl<'a, C: Clock> Asking<'a, C> {
+    pub(crate) fn new(
+        clock: &'a C,
+        board: &'a Board,
+        slot: usize,
+        last: u64,
+        left: &'a [u8],
+    ) -> Asking<'a, C> {
+        Asking {
+            clock,
+            board,
+            slot,
+            last,
+            left,
+            fails: false,
+            failed: false,
+            ended: false,
+        }
+    }
+
+    /// One whose first read fails.
+    pub(crate) fn failing(clock: &'a C, board: &'a Board) -> Asking<'a, C> {
+        Asking {
+            clock,
+            board,
+            slot: 0,
+            last: 0,
+            left: &[],
+            fails: true,
+            failed: false,
+            ended: false,
+        }
+    }
+}
+
+/// A status that nothing is flushed.
+const STATUS: &[u8] =
+    b"d\0\0\0\x26r\0\0\0\0\0\0\0\0\0\0\0\0\0\0\0\0\0\0\0\0\0\0\0\0\0\0\0\0\0\0\0\0\0";
+
+impl<C: Clock> Asking<'_, C> {
+    /// What the client writes when it has got so much: nothing, or a status where its writer has failed, so that the
+    /// connection ends by that and not by the client.
+    fn next(&self) -> &'static [u8] {
+        self.board.await_got(self.clock, self.slot, self.last);
+        if self.board.is_lost(self.slot) && self.board.takes_turn(self.clock) {
+            return STATUS;
+        }
+        &[]
+    }
+}
+
+impl<C: Clock> Source for Asking<'_, C> {
+    ghost has_failed = { λ source. source.failed };
+
+    ghost has_ended = { λ source. source.ended };
+
+    fn pull(&mut self, piece: &mut [u8]) -> Result<usize, Failed> {
+        if self.fails {
+            self.failed = true;
+            return Err(Failed);
+        }
+        if self.left.is_empty() {
+            self.left = self.next();
+        }
+        let count = self.left.len().min(piece.len());
+        let (now, later) = self.left.split_at(count);
+        piece[..count].copy_from_slice(now);
+        self.left = later;
+        if count == 0 && !piece.is_empty() {
+            self.ended = true;
+        }
+        Ok(count)
+    }
+
+    fn failed(&self) -> bool {
+        self.failed
+    }
+
+    fn ended(&self) -> bool {
+        self.ended
+    }
+}
+
+/// What a client reads, kept in memory. It has room for so many bytes and then fails, and takes at most so many at a
+/// time. It tells the board how much it has got: what is said at once is in a push of its own, or in several of which
+/// the last is taken whole.
+#[derive(Drop)]
+pub(crate) struct Kept<'a, C> {
+    clock: &'a C,
+    board: &'a Board,
+    slot: usize,
+    room: usize,
+    most: usize,
+    whole: u64,
+    pub(crate) bytes: Vec<u8>,
+    failed: bool,
+}
+
+impl<'a, C: Clock> Kept<'a, C> {
+    pub(crate) fn new(
+        clock: &'a C,
+        board: &'a Board,
+        slot: usize,
+        room: usize,
+        most: usize,
+    ) -> Kept<'a, C> {
+        Kept {
+            clock,
+            board,
+            slot,
+            room,
+            most,
+            whole: 0,
+            bytes: Vec::new(board.alloc),
+            failed: false,
+        }
+    }
+
+    /// Holds the sender of the first slot in its first write after the start, where the board says so.
+    fn hold(&self) {
+        if self.slot != 0 || self.whole != 1 {
+            return;
+        }
+        match self.board.hold {
+            Hold::Writer => self.board.await_later(self.clock),
+            Hold::Slow => self
+                .board
+                .await_got(self.clock, 1, self.board.work.in_all()),
+            Hold::Nobody | Hold::Gate => {}
+        }
+    }
+
+    /// Fails.
+    fn fail(&mut self) -> Failed
+        ensures { self.new.failed ≡ true }
+    {
+        self.failed = true;
+        self.board.gets(self.slot, LOST);
+        Failed
+    }
+
+    /// Tells how much was got.
+    fn tell(&mut self)
+        ensures { self.new.failed ≡ self.old.failed }
+    {
+        self.whole = self.whole.saturating_add(1);
+        self.board.gets(self.slot, self.whole);
+    }
+}
+
+impl<C: Clock> Sink for Kept<'_, C> {
+    ghost has_failed = { λ sink. sink.failed };
+
+    fn push(&mut self, bytes: &[u8]) -> Result<usize, Failed> {
+        self.hold();
+        let count = bytes.len().min(self.room).min(self.most);
+        if count == 0 || self.bytes.extend_from_slice(&bytes[..count]).is_err() {
+            return Err(self.fail());
+        }
+        self.room -= count;
+        if count == bytes.len() {
+            self.tell();
+        }
+        Ok(count)
+    }
+
+    fn failed(&self) -> bool {
+        self.failed
+    }
 }

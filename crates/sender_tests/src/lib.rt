@@ -1,5 +1,31 @@
-//! Tests of connections that threads serve, by the public calls of `senders`.
+//! Tests of connections that threads serve, and of the closing comparison, by the public calls of `senders`.
 #![tactic(auto)]
 
 #[cfg(test)]
+mod board;
+#[cfg(test)]
+mod checks;
+#[cfg(test)]
+mod clients;
+#[cfg(test)]
+mod closing;
+#[cfg(test)]
 mod devices;
+#[cfg(test)]
+mod faults;
+#[cfg(test)]
+mod gates;
+#[cfg(test)]
+mod memory;
+#[cfg(test)]
+mod running;
+#[cfg(test)]
+mod scenarios;
+#[cfg(test)]
+mod sessions;
+#[cfg(test)]
+mod sharding;
+#[cfg(test)]
+mod sockets;
+#[cfg(test)]
+mod work;

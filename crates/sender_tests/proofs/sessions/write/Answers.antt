@@ -1,0 +1,24 @@
+use denote.Param.{param}
+use Rattle.publisher_desk.proofs.Crossing.{publisher_sync}
+use Rattle.sender_tests.proofs.board.Board.TheSendSync as B
+use Rattle.sender_tests.proofs.sessions.write.Goals as goal
+
+-- captures: rt, publisher, board
+pub for_each_mut-requires-sync-F : goal.for_each_mut-requires-sync-F
+for_each_mut-requires-sync-F g c κs within =
+    let publisher = publisher_sync (param 0 g.row.P) g.P.Publishing g.P.Ledger in
+    record {
+      shared = λ x b o ν. (
+        (
+          ((λ q. tt), c.type_bounds.sync-R.shared x.0.now x.0.ref_ptr.0 x.0.ref_ptr.1 _),
+          (
+            ((λ q. tt), publisher.shared x.1.now x.1.ref_ptr.0 x.1.ref_ptr.1 _),
+            (
+              ((λ q. tt), B.the_sync.shared x.2.now x.2.ref_ptr.0 x.2.ref_ptr.1 _),
+              tt,
+            ),
+          ),
+        ),
+        λ q. tt,
+      );
+    }

@@ -1,0 +1,126 @@
+//! Publishers that are closed, and that can't be.
+
+use crate::checks::same;
+use crate::work::Work;
+use publisher_desk::Step;
+use senders::{CloseError, End, Publisher, Publishing, Seat, Seats, Served, close};
+use std::alloc::{AllocError, Global};
+use std::process::Abort;
+use std::sync::{Arc, Wait};
+use std::test::Fail;
+use tables_log::Commit;
+
+/// What a publisher is closed with.
+#[derive(Clone, Copy, Debug, PartialEq, Eq)]
+pub(crate) enum Lacks {
+    /// No commits, seats or connections.
+    All,
+    /// Two commits, and not their seat.
+    Seat,
+    /// Two commits, and a finished connection that took the first alone.
+    Taken,
+    /// Two commits, and a finished connection that took them.
+    Nothing,
+}
+
+/// The commit of this number, as it is given to a sender.
+fn given<P: Publishing, R: Wait>(
+    rt: &R,
+    publisher: &Publisher<P>,
+    number: u64,
+) -> Option<Arc<Commit, Global>> {
+    match publisher.next_step(rt, 0, number) {
+        Step::Entry(commit) => Some(commit),
+        Step::Reply | Step::Ended | Step::Finished | Step::OutOfMemory => None,
+    }
+}
+
+/// A finished connection that took so many commits.
+fn finished<P: Publishing, R: Wait>(
+    rt: &R,
+    alloc: Global,
+    publisher: &Publisher<P>,
+    count: u64,
+) -> Result<Served, AllocError> {
+    let mut taken = Vec::new(alloc);
+    for place in 0..count {
+        if let Some(commit) = given(rt, publisher, place.saturating_add(1)) {
+            taken.push(commit)?;
+        }
+    }
+    Ok(Served {
+        slot: Some(0),
+        start: Some(0),
+        taken,
+        end: End::Finished,
+    })
+}
+
+/// Makes two commits.
+fn commit_twice<P: Publishing, R: Wait>(
+    rt: &R,
+    alloc: Global,
+    publisher: &Publisher<P>,
+    seat: &mut Seat<P>,
+) -> Result<(), Fail> {
+    for turn in 0..2 {
+        let commands = Work::Pairs.commands(alloc, 0, turn)?;
+        publisher.commit(rt, seat, commands, 1)?;
+    }
+    Ok(())
+}
+
+/// What the closing is answered.
+fn answer<P: Publishing>(
+    publisher: Publisher<P>,
+    seats: Vec<Seat<P>>,
+    served: Vec<Served>,
+) -> Option<CloseError> {
+    close(publisher, seats, served).err()
+}
+
+/// That a publisher with two commits is closed so.
+fn expect_two<P: Publishing, R: Wait + Abort>(
+    rt: &R,
+    alloc: Global,
+    publisher: Publisher<P>,
+    mut seats: Seats<P>,
+    lacks: Lacks,
+) -> Result<(), Fail> {
+    let Some(mut seat) = seats.seat() else {
+        return Err(Fail::from("no seat"));
+    };
+    commit_twice(rt, alloc, &publisher, &mut seat)?;
+    let count = if lacks == Lacks::Taken { 1 } else { 2 };
+    let served = vec![in alloc; finished(rt, alloc, &publisher, count)?]?;
+    let mut list = Vec::new(alloc);
+    if lacks != Lacks::Seat {
+        list.push(seat)?;
+    }
+    let wanted = match lacks {
+        Lacks::Seat => Some(CloseError::CountDiffers),
+        Lacks::Taken => Some(CloseError::TakenDiffers),
+        Lacks::All | Lacks::Nothing => None,
+    };
+    same(rt, answer(publisher, list, served), wanted);
+    Ok(())
+}
+
+/// That a publisher is closed so.
+pub(crate) fn expect_answer<P: Publishing, R: Wait + Abort>(
+    rt: &R,
+    alloc: Global,
+    publisher: Publisher<P>,
+    seats: Seats<P>,
+    lacks: Lacks,
+) -> Result<(), Fail> {
+    if lacks == Lacks::All {
+        same(
+            rt,
+            answer(publisher, Vec::new(alloc), Vec::new(alloc)),
+            None,
+        );
+        return Ok(());
+    }
+    expect_two(rt, alloc, publisher, seats, lacks)
+}

@@ -1,0 +1,96 @@
+//! Connections that are served while sessions write.
+
+use crate::board::Board;
+use crate::checks::{holds, same};
+use crate::sessions::write;
+use crate::work::{Work, are_rows};
+use senders::{
+    Conn, End, Gate, Note, Publisher, Publishing, Seat, Served, Sink, Source, close, run_all,
+};
+use std::process::Abort;
+use std::sync::Wait;
+use std::test::Fail;
+use std::thread::{Threads, join};
+use std::time::Clock;
+
+/// Serves the connections while the sessions write.
+pub(crate) fn run<
+    P: Publishing + Sync,
+    S: Source + Send + Drop,
+    W: Sink + Send + Drop,
+    G: Gate + Sync,
+    R: Threads + Wait + Clock + Sync,
+>(
+    rt: &R,
+    publisher: &Publisher<P>,
+    seats: &mut Vec<Seat<P>>,
+    connections: &mut [Conn<S, W>],
+    gate: &G,
+    board: &Board,
+) {
+    join(
+        rt,
+        || write(rt, publisher, seats, board),
+        || run_all(rt, publisher, connections, gate),
+    );
+}
+
+/// Whether the commits that were taken up are all.
+fn has_all(served: &Served, work: Work) -> bool {
+    let mut number = 0u32;
+    for commit in &served.taken {
+        number = number.saturating_add(1);
+        if commit.number() != number {
+            return false;
+        }
+    }
+    served.taken.len() == work.commits()
+}
+
+/// That all commits were taken up from the log's start on, and the client or the publisher was the end of it.
+pub(crate) fn expect_all(rt: &impl Abort, served: &Served, work: Work) {
+    same(rt, served.start, Some(0));
+    holds(rt, has_all(served, work));
+    holds(rt, served.end == End::Client || served.end == End::Finished);
+}
+
+/// How many of the notes are receipts.
+fn count_receipts(notes: &[Note]) -> usize {
+    let mut count = 0usize;
+    for note in notes {
+        if let Note::Committed(_) = note {
+            count = count.saturating_add(1);
+        }
+    }
+    count
+}
+
+/// How many receipts the seats have.
+fn count_all<P: Publishing>(seats: &[Seat<P>]) -> usize {
+    let mut count = 0usize;
+    for seat in seats {
+        count = count.saturating_add(count_receipts(seat.notes()));
+    }
+    count
+}
+
+/// That the publisher is closed, with a receipt for each commit, and a table that the subscribers' rows are.
+pub(crate) fn expect_closed<P: Publishing>(
+    rt: &impl Abort,
+    board: &Board,
+    publisher: Publisher<P>,
+    seats: Vec<Seat<P>>,
+    served: Vec<Served>,
+) -> Result<(), Fail> {
+    let closed = close(publisher, seats, served)?;
+    same(rt, closed.book.log_len() as usize, board.work.commits());
+    same(rt, count_all(closed.seats.as_slice()), board.work.commits());
+    same(rt, closed.served.len(), board.work.slots());
+    let rows = closed.book.rows(0)?;
+    if board.work == Work::Pairs {
+        holds(rt, are_rows(board.alloc, rows.as_slice(), 0, 200)?);
+    } else {
+        same(rt, rows.len(), 10_496);
+    }
+    Ok(())
+}

@@ -1,0 +1,109 @@
+//! Publishers that are used in several ways.
+
+ghost use Rattle.std.specs.Prelude.{◌≡◌};
+ghost use Rattle.std.specs.Arc.{arc_value};
+ghost use Rattle.shard_checker.specs.CheckedView.{checked_view};
+
+use crate::closing::{Lacks, expect_answer};
+use crate::faults::expect_faults;
+use crate::sharding::{HALVES, HALVES_SPLIT, shards, shards_split};
+use crate::work::{Hold, Work};
+use crate::{memory, sockets};
+use senders::{Publisher, Publishing};
+use session_tests::accepted;
+use shard_checker::Checked;
+use std::alloc::Global;
+use std::marker::Brand;
+use std::net::{Net, TcpListener, TcpStream};
+use std::process::Abort;
+use std::sync::ledger::Blank;
+use std::sync::{Arc, Wait};
+use std::test::Fail;
+use std::thread::Threads;
+use std::time::Clock;
+
+/// How a publisher is used.
+#[derive(Clone, Copy, Debug, PartialEq, Eq)]
+enum Use {
+    Sockets(Hold),
+    Memory(Work, Hold),
+    Faults,
+    Closing(Lacks),
+}
+
+/// A publisher whose log takes 10,000 commits, used so.
+fn publish<
+    P: Publishing + Sync,
+    R: Threads + Wait + Clock + Abort + Net<Listener = TcpListener, Stream = TcpStream> + Sync,
+>(rt: &R, alloc: Global, blank: Blank, checked: Arc<Checked, Global>, used: Use) -> Result<(), Fail>
+    requires name { blank.name ≡ P.name }
+    requires parts { blank.parts ≡ P.parts }
+    requires seats { blank.parts ≡ 1000 }
+    requires checked { checked_view (arc_value checked) ≡ P.checked }
+    requires limit { 10000 ≡ P.limit }
+{
+    let (publisher, seats) = Publisher::<P>::new(alloc, blank, checked, 10_000)?;
+    match used {
+        Use::Sockets(hold) => sockets::expect_served(rt, alloc, publisher, seats, hold),
+        Use::Memory(work, hold) => {
+            memory::expect_served(rt, alloc, publisher, seats, work, hold)
+        }
+        Use::Faults => expect_faults(rt, alloc, &publisher, seats),
+        Use::Closing(lacks) => expect_answer(rt, alloc, publisher, seats, lacks),
+    }
+}
+
+/// A publisher of the catalog that the text says, used so.
+fn expect<
+    R: Threads + Wait + Clock + Abort + Net<Listener = TcpListener, Stream = TcpStream> + Sync,
+>(rt: &R, alloc: Global, catalog: &str, split: &str, used: Use) -> Result<(), Fail> {
+    let checked = accepted(alloc, catalog, &[split])?;
+    publish::<Brand, _>(rt, alloc, Blank::new(1_000), checked, used)
+}
+
+#[test]
+fn a_held_sender_holds_nobody_else(rt: HostRuntime) -> Result<(), Fail> {
+    expect(
+        &rt,
+        rt.alloc(),
+        HALVES,
+        HALVES_SPLIT,
+        Use::Sockets(Hold::Gate),
+    )
+}
+
+#[test]
+fn a_held_writer_holds_nobody_else(rt: HostRuntime) -> Result<(), Fail> {
+    let used = Use::Memory(Work::Pairs, Hold::Writer);
+    expect(&rt, rt.alloc(), HALVES, HALVES_SPLIT, used)
+}
+
+#[test]
+fn a_slow_client_holds_nobody_else(rt: HostRuntime) -> Result<(), Fail> {
+    let alloc = rt.alloc();
+    expect(&rt, alloc, HALVES, HALVES_SPLIT, Use::Sockets(Hold::Slow))?;
+    let used = Use::Memory(Work::Pairs, Hold::Slow);
+    expect(&rt, alloc, HALVES, HALVES_SPLIT, used)
+}
+
+#[test]
+fn each_of_32_connections_is_served_all(rt: HostRuntime) -> Result<(), Fail> {
+    let alloc = rt.alloc();
+    let catalog = shards(alloc)?;
+    let split = shards_split(alloc)?;
+    let used = Use::Memory(Work::Spread, Hold::Nobody);
+    expect(&rt, alloc, catalog.as_str(), split.as_str(), used)
+}
+
+#[test]
+fn readers_and_writers_fail_at_each_byte(rt: HostRuntime) -> Result<(), Fail> {
+    expect(&rt, rt.alloc(), HALVES, HALVES_SPLIT, Use::Faults)
+}
+
+#[test]
+fn a_publisher_is_closed_where_all_agree(rt: HostRuntime) -> Result<(), Fail> {
+    for lacks in [Lacks::All, Lacks::Seat, Lacks::Taken, Lacks::Nothing] {
+        expect(&rt, rt.alloc(), HALVES, HALVES_SPLIT, Use::Closing(lacks))?;
+    }
+    Ok(())
+}
