@@ -2,7 +2,8 @@
 
 use copy_both::LinkFault;
 
-/// Why a connection ended: the first cause that was met.
+/// Why a connection ended: the first cause that was noted. Of two that come at about the same time, as where a sink fails
+/// and the client leaves, it may be either.
 ///
 /// PostgreSQL 15, 55.4. Streaming Replication Protocol.
 #[derive(Clone, Copy, Debug, PartialEq, Eq)]
