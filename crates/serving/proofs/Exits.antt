@@ -6,7 +6,7 @@ use denote.Enum.Declared.{tag_of}
 use Rattle.std.proofs.KnownBytes.{Appends-kept, Appends-trans}
 use Rattle.subcommands.proofs.Exits.{number_is}
 use Rattle.subcommands.proofs.Writing.{first_after, first_kept, first_of_longer, first_whole, text_of-more, unwritten}
-use Rattle.subcommands.specs.Failures.{failure_lines, number_of, status_of_failure}
+use Rattle.subcommands.specs.Failures.{failure_lines}
 use Rattle.subcommands.specs.Outcomes.{IsReport}
 use Rattle.subcommands.specs.Requests.{IsOfReading}
 use Rattle.subcommands.specs.Output.{StopsText, WritesFirst, ended, text_of}

@@ -1,10 +1,10 @@
 -- Lines are said one after the other, and it may stop before each.
-use Rattle.std.proofs.Common.{◌≡◌, ℕ, inl, inr, ◌⊎◌, List, [], ◌∷◌, ◌++◌, Option, refl, sym, ap, subst, ◌∙◌}
+use Rattle.std.proofs.Common.{◌≡◌, ℕ, inl, inr, List, [], ◌∷◌, ◌++◌, Option, refl, sym, ap, subst}
 use Rattle.std.specs.Prelude.{IsErrAnd, Result, Ok, Err}
 use Rattle.std.specs.Io.KnownBytes.{Appends}
 use Rattle.std.proofs.KnownBytes.{Appends-trans}
-use Rattle.subcommands.proofs.Writing.{first_after, first_nothing, first_whole, text_of-one, unwritten}
-use Rattle.subcommands.specs.Output.{StopsText, Writes, WritesFirst, ended, text_of}
+use Rattle.subcommands.proofs.Writing.{first_after, first_whole, text_of-one, unwritten}
+use Rattle.subcommands.specs.Output.{StopsText, WritesFirst, ended, text_of}
 use Rattle.subcommands.specs.declared.failure.Failure.{Failure}
 use Rattle.subcommands.specs.declared.failure.Failure.TheVariants as f
 use Rattle.subcommands.specs.declared.failure.Status.{Status}

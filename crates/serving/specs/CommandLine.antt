@@ -2,11 +2,10 @@
 use Rattle.std.specs.Prelude.{◌≡◌, ◌≢◌, ◌≤◌, ◌⊎◌, ℕ, true, List, [], Option, Some, None, codes}
 use Rattle.std.specs.Str.Parse.{IsNumeral, digits_value, without_leading_plus}
 use Rattle.clap.specs.Words.{App, IsAmong, Row, Rule, Text, fault_of, first_of, new_app, new_rule, subcommand_of, with_rule, with_subcommand}
-use Rattle.clap.specs.Simple.{on_top}
 use Rattle.clap.specs.declared.builder.action.ArgAction.TheVariants.{Set}
 use Rattle.clap.specs.declared.error.kind.ErrorKind.{ErrorKind}
 use Rattle.clap.specs.declared.error.kind.ErrorKind.TheVariants as kind
-use Rattle.subcommands.specs.CommandLine.{HasLimit, IsHelpKind, IsOfError, bare, limit_rule}
+use Rattle.subcommands.specs.CommandLine.{HasLimit, bare, limit_rule}
 use Rattle.subcommands.specs.declared.failure.Failure.{Failure}
 use Rattle.subcommands.specs.declared.failure.Failure.TheVariants as f
 use Rattle.serving.specs.declared.arguments.Asked.{Asked}

@@ -1,5 +1,5 @@
 -- What `serve` answers: the first part of its input is a catalog, the second has the texts of the certificates of its tables, one a line, and the third is a script, each step of which is COMMIT. Where the sharding is sound, its subscribers are served. The format is this project's own.
-use Rattle.std.specs.Prelude.{◌≡◌, ◌⊎◌, ℕ, List, [], Option, Some, None, Ok, Result}
+use Rattle.std.specs.Prelude.{◌≡◌, ◌⊎◌, ℕ, List, Option, Some, None, Ok, Result}
 use Rattle.filter_tree.specs.Expr.{Expr}
 use Rattle.pub_catalog.specs.Catalogs.{CatalogOf}
 use Rattle.pub_reader.specs.Statements.{catalog_by}
