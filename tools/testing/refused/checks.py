@@ -1,44 +1,84 @@
-"""Makes the runs."""
+"""Makes the runs, and says what is wrong with them."""
 
+import pathlib
+import shutil
 import tempfile
-import time
+from collections import Counter
 
+from random_cases.running import program
 from tally import Tally
 
 from .cases import Case, cases
-from .running import Refusal, compiled, program, refused_runs, run
+from .running import NO_MEMORY, Answer, Refusal, compiled, refused_runs, run
+from .serves import SHOP, Serving, refused_serves
 
 # Of so many runs of a case that fail, what is wrong is shown.
 MOST_SHOWN = 3
 
+# How long a client of a run without refusals waits for more, in seconds.
+PLAIN_IDLE = 5
+
 
 def check_refused_runs(tally: Tally) -> None:
-    """Makes all runs."""
+    """Makes all runs, where there is a C compiler."""
+    if not pathlib.Path(program()).exists():
+        return tally.check("the program that is refused memory", f"{program()} is not there", "it is built")
+    if shutil.which("cc") is None:
+        return print("skipped: runs without memory, since no C compiler is installed")
+    met: Counter[str] = Counter()
     with tempfile.TemporaryDirectory() as folder:
         library = compiled(folder)
-        runs = refused = 0
         for case in cases():
-            made, met = check_case(tally, case, library)
-            runs += made
-            refused += met
-        print(f"{runs:,} runs without memory, {refused:,} requests refused")
+            met += check_case(tally, case, library)
+        met += check_serving(tally, Serving(SHOP, library))
+    print(
+        f"runs without memory: {met['runs']:,}, with {met['refused']:,} requests refused; {met['ended']:,} ended, "
+        f"{met['other']:,} went on with other lines, and {met['same']:,} as if nothing was refused")
 
 
-def check_case(tally: Tally, case: Case, library: str) -> tuple[int, int]:
-    """A run without refusals, and those with them. How many there are, and how many requests were refused."""
-    started = time.monotonic()
+def check_case(tally: Tally, case: Case, library: str) -> Counter[str]:
+    """A run without refusals, and those with them. What they met."""
     plain = run(case.words, case.text, Refusal(0, False).variables(library))
     tally.check(f"{case.name}: a plain run", (plain.refused, case.fault(plain, plain)), (0, None))
+    met: Counter[str] = Counter()
     faults = []
-    runs = refused = 0
     for refusal, found in refused_runs(case.words, case.text, library):
-        runs += 1
-        refused += found.refused or 0
-        fault = "no count" if found.refused is None else case.fault(plain, found)
-        if found.refused == 0 and found != plain:
-            fault = "another answer without a refusal"
+        fault = fault_of(case, plain, found)
         if fault is not None:
-            faults.append(f"{refusal} {program()} {' '.join(case.words)}: {fault}")
-    tally.check(f"{case.name}: with requests refused", faults[:MOST_SHOWN], [])
-    print(case.name, runs, refused, len(faults), round(time.monotonic() - started, 2))
-    return runs, refused
+            faults.append(f"{refusal} {' '.join(case.words)}: {fault}")
+        meet(met, plain, found)
+    tally.check(f"{case.name}: with requests for memory refused", faults[:MOST_SHOWN], [])
+    return met
+
+
+def fault_of(case: Case, plain: Answer, found: Answer) -> str | None:
+    """What is wrong with a run."""
+    if found.refused is None:
+        return f"status {found.status}, and no count of what was refused"
+    if found.refused == 0:
+        return None if found == plain else f"another answer without a refusal: {found}"
+    return case.fault(plain, found)
+
+
+def check_serving(tally: Tally, serving: Serving) -> Counter[str]:
+    """The same for `serve`. A client may leave before it has all, also where nothing was refused."""
+    plain = serving.run(Refusal(0, False), PLAIN_IDLE)
+    tally.check("serve: a plain run", (serving.fault(plain), serving.is_whole(plain)), (None, True))
+    met: Counter[str] = Counter()
+    faults = []
+    for refusal, found in refused_serves(serving):
+        fault = serving.fault(found)
+        if fault is not None:
+            faults.append(f"{refusal} serve: {fault}")
+        meet(met, plain.answer, found.answer)
+    tally.check("serve: with requests for memory refused", faults[:MOST_SHOWN], [])
+    return met
+
+
+def meet(met: Counter[str], plain: Answer, found: Answer) -> None:
+    """Counts a run, and how it ended if something was refused."""
+    met["runs"] += 1
+    met["refused"] += found.refused or 0
+    if found.refused:
+        same = (found.status, found.output) == (plain.status, plain.output)
+        met["ended" if found.status == NO_MEMORY else "same" if same else "other"] += 1

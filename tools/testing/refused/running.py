@@ -21,6 +21,9 @@ NO_MEMORY = 5
 # After so many requests no further one is refused, though there may be more.
 MOST_REQUESTS = 20_000
 
+# How far apart the requests are from which on all are refused.
+STRIDE_AFTER = 5
+
 COUNT = re.compile("([0-9]+) refused\n")
 
 
@@ -75,9 +78,10 @@ def count_of(errors: bytes) -> int | None:
 
 
 def refused_runs(words: tuple[str, ...], text: bytes, library: str) -> Iterator[tuple[Refusal, Answer]]:
-    """Runs with each request refused in turn, up to one that meets no refusal; and the same with all after it, too."""
-    for and_after in False, True:
-        for number in range(1, MOST_REQUESTS):
+    """Runs with each request refused in turn, up to one that meets no refusal; and the same with all after it, too, for
+    some of the requests."""
+    for and_after, stride in (False, 1), (True, STRIDE_AFTER):
+        for number in range(1, MOST_REQUESTS, stride):
             refusal = Refusal(number, and_after)
             found = run(words, text, refusal.variables(library))
             yield refusal, found

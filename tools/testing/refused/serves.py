@@ -18,7 +18,7 @@ from served.sharding import Sharding
 from served.shop import CATALOG, COMMITS, LONDON, TABLES, TOKYO
 from served.whole import whole_stream
 
-from .running import NO_MEMORY, OUT_OF_MEMORY, SECONDS, Answer, Refusal, count_of
+from .running import MOST_REQUESTS, NO_MEMORY, OUT_OF_MEMORY, SECONDS, Answer, Refusal, count_of
 
 # Commits of every kind.
 SHOP = Sharding(CATALOG, TABLES, (LONDON, TOKYO), COMMITS[:9])
@@ -26,9 +26,12 @@ SHOP = Sharding(CATALOG, TABLES, (LONDON, TOKYO), COMMITS[:9])
 # How long a client waits for more before it leaves: after a refusal it may not get all, and is not told.
 IDLE_SECONDS = 0.15
 
-# How many runs there are at a time, which mostly wait, and how many requests lie between those that are refused.
+# How many runs there are at a time, which mostly wait.
 AT_A_TIME = 4
+
+# How far apart the requests are that are refused, and those from which on all are.
 STRIDE = 4
+STRIDE_AFTER = 16
 
 
 @dataclass
@@ -128,15 +131,15 @@ def is_first_part(sent: bytes, publisher: Publisher, subscriber: Subscriber) -> 
 
 
 def refused_serves(serving: Serving) -> Iterator[tuple[Refusal, Served]]:
-    """Runs with some of the requests refused, spread evenly, up to runs that meet no refusal; and the same with all
-    after them, too."""
-    for and_after in False, True:
-        number = 1
+    """Runs with some of the requests refused, up to runs that meet no refusal; and the same with all after them, too."""
+    for and_after, stride in (False, STRIDE), (True, STRIDE_AFTER):
+        first = 1
         with ThreadPoolExecutor(AT_A_TIME) as pool:
-            while True:
-                refusals = [Refusal(number + STRIDE * at, and_after) for at in range(4 * AT_A_TIME)]
-                number += STRIDE * len(refusals)
+            while first < MOST_REQUESTS:
+                end = first + stride * AT_A_TIME
+                refusals = [Refusal(number, and_after) for number in range(first, end, stride)]
                 made = list(zip(refusals, pool.map(serving.run, refusals)))
                 yield from made
                 if any(found.answer.refused == 0 for _, found in made):
                     break
+                first = end
