@@ -1,15 +1,14 @@
 """Makes the runs, and says what is wrong with them."""
 
 import pathlib
-import shutil
 import tempfile
 from collections import Counter
 
-from random_cases.running import program
+from random_cases.running import compiled, program
 from tally import Tally
 
 from .cases import Case, cases
-from .running import NO_MEMORY, Answer, Refusal, compiled, refused_runs, run
+from .running import NO_MEMORY, Answer, Refusal, refused_runs, run
 from .serves import SHOP, Serving, refused_serves
 
 # Of so many runs of a case that fail, what is wrong is shown.
@@ -23,14 +22,20 @@ def check_refused_runs(tally: Tally) -> None:
     """Makes all runs, where there is a C compiler."""
     if not pathlib.Path(program()).exists():
         return tally.check("the program that is refused memory", f"{program()} is not there", "it is built")
-    if shutil.which("cc") is None:
-        return print("skipped: runs without memory, since no C compiler is installed")
-    met: Counter[str] = Counter()
     with tempfile.TemporaryDirectory() as folder:
-        library = compiled(folder)
-        for case in cases():
-            met += check_case(tally, case, library)
-        met += check_serving(tally, Serving(SHOP, library))
+        library = compiled(folder, "refusing")
+        if library is None:
+            print("skipped: runs without memory, since no C compiler is installed")
+        else:
+            check_all(tally, library)
+
+
+def check_all(tally: Tally, library: str) -> None:
+    """Makes all runs with the library that refuses."""
+    met: Counter[str] = Counter()
+    for case in cases():
+        met += check_case(tally, case, library)
+    met += check_serving(tally, Serving(SHOP, library))
     print(
         f"runs without memory: {met['runs']:,}, with {met['refused']:,} requests refused; {met['ended']:,} ended, "
         f"{met['other']:,} went on with other lines, and {met['same']:,} as if nothing was refused")

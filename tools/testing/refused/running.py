@@ -1,15 +1,12 @@
 """Runs of the built program in which memory is refused."""
 
 import os
-import pathlib
 import re
 import subprocess
 from collections.abc import Iterator
 from dataclasses import dataclass
 
 from random_cases.running import program
-
-TESTING = pathlib.Path(__file__).resolve().parent.parent
 
 # How long a run may take.
 SECONDS = 10
@@ -21,6 +18,9 @@ NO_MEMORY = 5
 # After so many requests no further one is refused, though there may be more.
 MOST_REQUESTS = 20_000
 
+# After so many runs that do not tell how many requests were refused, no more are made.
+MOST_UNTOLD = 5
+
 # How far apart the requests are from which on all are refused.
 STRIDE_AFTER = 5
 
@@ -29,8 +29,8 @@ COUNT = re.compile("([0-9]+) refused\n")
 
 @dataclass(frozen=True)
 class Answer:
-    """A run's status, or None where it took too long, its output, and how many requests were refused, or None where that
-    is not told."""
+    """A run's status, or None where it took too long, its output, and how many requests were refused, or None where
+    that is not told."""
 
     status: int | None
     output: str
@@ -51,13 +51,6 @@ class Refusal:
 
     def __str__(self) -> str:
         return f"REFUSED_REQUEST={self.number}{' REFUSED_AFTER=1' if self.and_after else ''}"
-
-
-def compiled(folder: str) -> str:
-    """The library that refuses."""
-    library = f"{folder}/refusing.so"
-    subprocess.run(["cc", "-shared", "-fPIC", "-O", "-o", library, TESTING / "refusing.c"], check=True)
-    return library
 
 
 def run(words: tuple[str, ...], text: bytes, variables: dict[str, str]) -> Answer:
@@ -81,9 +74,11 @@ def refused_runs(words: tuple[str, ...], text: bytes, library: str) -> Iterator[
     """Runs with each request refused in turn, up to one that meets no refusal; and the same with all after it, too, for
     some of the requests."""
     for and_after, stride in (False, 1), (True, STRIDE_AFTER):
+        untold = 0
         for number in range(1, MOST_REQUESTS, stride):
             refusal = Refusal(number, and_after)
             found = run(words, text, refusal.variables(library))
             yield refusal, found
-            if found.refused == 0:
+            untold += found.refused is None
+            if found.refused == 0 or untold == MOST_UNTOLD:
                 break

@@ -131,7 +131,7 @@ def is_first_part(sent: bytes, publisher: Publisher, subscriber: Subscriber) -> 
 
 
 def refused_serves(serving: Serving) -> Iterator[tuple[Refusal, Served]]:
-    """Runs with some of the requests refused, up to runs that meet no refusal; and the same with all after them, too."""
+    """Runs with some of the requests refused, up to runs that meet no refusal; and the same with all after them."""
     for and_after, stride in (False, STRIDE), (True, STRIDE_AFTER):
         first = 1
         with ThreadPoolExecutor(AT_A_TIME) as pool:
@@ -140,6 +140,6 @@ def refused_serves(serving: Serving) -> Iterator[tuple[Refusal, Served]]:
                 refusals = [Refusal(number, and_after) for number in range(first, end, stride)]
                 made = list(zip(refusals, pool.map(serving.run, refusals)))
                 yield from made
-                if any(found.answer.refused == 0 for _, found in made):
+                if any(not found.answer.refused for _, found in made):
                     break
                 first = end
