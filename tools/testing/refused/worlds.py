@@ -43,7 +43,8 @@ def after_step(place: Place, step: Step, lines: list[str]) -> Iterator[Place]:
         for world in after_refusal(place.world, step):
             yield Place(world, place.line + 1, place.refused + 1)
         return
-    answer = place.world.step(step)
+    # A text of a row may have a newline.
+    answer = "\n".join(place.world.step(step)).split("\n")
     end = place.line + len(answer)
     if lines[place.line:end] == answer and (step[0] != "view" or divides(place.world)):
         yield Place(place.world, end, place.refused)
