@@ -9,7 +9,7 @@ from dataclasses import dataclass
 from random_cases.running import program
 
 # How long a run may take.
-SECONDS = 10
+SECONDS = 30
 
 # The last line of a run that memory ran out for, and its status.
 OUT_OF_MEMORY = "out of memory\n"
