@@ -42,12 +42,12 @@ def program() -> str:
     return os.environ.get("PGSHARD") or str(BUILT)
 
 
-def compiled(folder: str) -> str | None:
-    """The library that counts, if there is a C compiler."""
+def compiled(folder: str, name: str = "watching") -> str | None:
+    """A library, that which counts if no other is named, if there is a C compiler."""
     if shutil.which("cc") is None:
         return None
-    library = f"{folder}/watching.so"
-    subprocess.run(["cc", "-shared", "-fPIC", "-O", "-o", library, TESTING / "watching.c"], check=True)
+    library = f"{folder}/{name}.so"
+    subprocess.run(["cc", "-shared", "-fPIC", "-O", "-o", library, TESTING / f"{name}.c"], check=True)
     return library
 
 

@@ -1,0 +1,89 @@
+"""Makes the runs, and says what is wrong with them."""
+
+import pathlib
+import tempfile
+from collections import Counter
+
+from random_cases.running import compiled, program
+from tally import Tally
+
+from .cases import Case, cases
+from .running import NO_MEMORY, Answer, Refusal, refused_runs, run
+from .serves import SHOP, Serving, refused_serves
+
+# Of so many runs of a case that fail, what is wrong is shown.
+MOST_SHOWN = 3
+
+# How long a client of a run without refusals waits for more, in seconds.
+PLAIN_IDLE = 5
+
+
+def check_refused_runs(tally: Tally) -> None:
+    """Makes all runs, where there is a C compiler."""
+    if not pathlib.Path(program()).exists():
+        return tally.check("the program that is refused memory", f"{program()} is not there", "it is built")
+    with tempfile.TemporaryDirectory() as folder:
+        library = compiled(folder, "refusing")
+        if library is None:
+            print("skipped: runs without memory, since no C compiler is installed")
+        else:
+            check_all(tally, library)
+
+
+def check_all(tally: Tally, library: str) -> None:
+    """Makes all runs with the library that refuses."""
+    met: Counter[str] = Counter()
+    for case in cases():
+        met += check_case(tally, case, library)
+    met += check_serving(tally, Serving(SHOP, library))
+    print(
+        f"runs without memory: {met['runs']:,}, with {met['refused']:,} requests refused; {met['ended']:,} ended, "
+        f"{met['other']:,} went on with other lines, and {met['same']:,} as if nothing was refused")
+
+
+def check_case(tally: Tally, case: Case, library: str) -> Counter[str]:
+    """A run without refusals, and those with them. What they met."""
+    plain = run(case.words, case.text, Refusal(0, False).variables(library))
+    tally.check(f"{case.name}: a plain run", (plain.refused, case.fault(plain, plain)), (0, None))
+    met: Counter[str] = Counter()
+    faults = []
+    for refusal, found in refused_runs(case.words, case.text, library):
+        fault = fault_of(case, plain, found)
+        if fault is not None:
+            faults.append(f"{refusal} {' '.join(case.words)}: {fault}")
+        meet(met, plain, found)
+    tally.check(f"{case.name}: with requests for memory refused", faults[:MOST_SHOWN], [])
+    return met
+
+
+def fault_of(case: Case, plain: Answer, found: Answer) -> str | None:
+    """What is wrong with a run."""
+    if found.refused is None:
+        return f"status {found.status}, and no count of what was refused"
+    if found.refused == 0:
+        return None if found == plain else f"another answer without a refusal: {found}"
+    return case.fault(plain, found)
+
+
+def check_serving(tally: Tally, serving: Serving) -> Counter[str]:
+    """The same for `serve`. A client may leave before it has all, also where nothing was refused."""
+    plain = serving.run(Refusal(0, False), PLAIN_IDLE)
+    tally.check("serve: a plain run", (serving.fault(plain), serving.is_whole(plain)), (None, True))
+    met: Counter[str] = Counter()
+    faults = []
+    for refusal, found in refused_serves(serving):
+        fault = serving.fault(found)
+        if fault is not None:
+            faults.append(f"{refusal} serve: {fault}")
+        meet(met, plain.answer, found.answer)
+    tally.check("serve: with requests for memory refused", faults[:MOST_SHOWN], [])
+    return met
+
+
+def meet(met: Counter[str], plain: Answer, found: Answer) -> None:
+    """Counts a run, and how it ended if something was refused."""
+    met["runs"] += 1
+    met["refused"] += found.refused or 0
+    if found.refused:
+        same = (found.status, found.output) == (plain.status, plain.output)
+        met["ended" if found.status == NO_MEMORY else "same" if same else "other"] += 1

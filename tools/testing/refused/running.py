@@ -1,0 +1,84 @@
+"""Runs of the built program in which memory is refused."""
+
+import os
+import re
+import subprocess
+from collections.abc import Iterator
+from dataclasses import dataclass
+
+from random_cases.running import program
+
+# How long a run may take.
+SECONDS = 30
+
+# The last line of a run that memory ran out for, and its status.
+OUT_OF_MEMORY = "out of memory\n"
+NO_MEMORY = 5
+
+# After so many requests no further one is refused, though there may be more.
+MOST_REQUESTS = 20_000
+
+# After so many runs that do not tell how many requests were refused, no more are made.
+MOST_UNTOLD = 5
+
+# How far apart the requests are from which on all are refused.
+STRIDE_AFTER = 5
+
+COUNT = re.compile("([0-9]+) refused\n")
+
+
+@dataclass(frozen=True)
+class Answer:
+    """A run's status, or None where it took too long, its output, and how many requests were refused, or None where
+    that is not told."""
+
+    status: int | None
+    output: str
+    refused: int | None = 0
+
+
+@dataclass(frozen=True)
+class Refusal:
+    """Which requests for memory are refused: that of a number from 1, or that one and all after it."""
+
+    number: int
+    and_after: bool
+
+    def variables(self, library: str) -> dict[str, str]:
+        """What the library reads of the environment."""
+        more = {"REFUSED_AFTER": "1"} if self.and_after else {}
+        return {"LD_PRELOAD": library, "REFUSED_REQUEST": str(self.number)} | more
+
+    def __str__(self) -> str:
+        return f"REFUSED_REQUEST={self.number}{' REFUSED_AFTER=1' if self.and_after else ''}"
+
+
+def run(words: tuple[str, ...], text: bytes, variables: dict[str, str]) -> Answer:
+    """Makes a run."""
+    try:
+        ended = subprocess.run(
+            [program(), *words], input=text, stdout=subprocess.PIPE, stderr=subprocess.PIPE, timeout=SECONDS,
+            env=os.environ | variables)
+    except subprocess.TimeoutExpired:
+        return Answer(None, "", None)
+    return Answer(ended.returncode, ended.stdout.decode(errors="backslashreplace"), count_of(ended.stderr))
+
+
+def count_of(errors: bytes) -> int | None:
+    """How many requests the library says were refused."""
+    told = COUNT.fullmatch(errors.decode(errors="replace"))
+    return int(told[1]) if told else None
+
+
+def refused_runs(words: tuple[str, ...], text: bytes, library: str) -> Iterator[tuple[Refusal, Answer]]:
+    """Runs with each request refused in turn, up to one that meets no refusal; and the same with all after it, too, for
+    some of the requests."""
+    for and_after, stride in (False, 1), (True, STRIDE_AFTER):
+        untold = 0
+        for number in range(1, MOST_REQUESTS, stride):
+            refusal = Refusal(number, and_after)
+            found = run(words, text, refusal.variables(library))
+            yield refusal, found
+            untold += found.refused is None
+            if found.refused == 0 or untold == MOST_UNTOLD:
+                break
