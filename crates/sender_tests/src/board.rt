@@ -27,6 +27,8 @@ pub(crate) struct Board {
     connected: AtomicU64,
     /// How often a client whose writer failed has said something since.
     turns: AtomicU64,
+    /// 1 where the program listens, or has ended.
+    listening: AtomicU64,
     /// How often something failed.
     failures: AtomicU64,
 }
@@ -71,6 +73,7 @@ impl Board {
             got,
             connected: AtomicU64::new(0),
             turns: AtomicU64::new(0),
+            listening: AtomicU64::new(0),
             failures: AtomicU64::new(0),
         })
     }
@@ -128,6 +131,18 @@ impl Board {
     /// Waits until the clients of all slots before this one are connected.
     pub(crate) fn await_turn<C: Clock>(&self, clock: &C, slot: u64) {
         if !comes(clock, &self.connected, slot) {
+            self.fail();
+        }
+    }
+
+    /// The program listens, or has ended.
+    pub(crate) fn listens(&self) {
+        self.listening.store(1, Ordering::SeqCst);
+    }
+
+    /// Waits until the program listens, or has ended. It is a failure if that does not come.
+    pub(crate) fn await_listener<C: Clock>(&self, clock: &C) {
+        if !comes(clock, &self.listening, 1) {
             self.fail();
         }
     }

@@ -2,6 +2,7 @@
 
 use crate::board::Board;
 use crate::work::{Hold, Work, are_rows};
+use filter_tree::Row;
 use std::alloc::{AllocError, Global};
 use std::io::{Read, Write};
 use std::net::{Ipv4Addr, Net, TcpListener, TcpStream};
@@ -124,4 +125,32 @@ pub(crate) fn client<R: Clock + Net<Listener = TcpListener, Stream = TcpStream>>
     if follow(rt, board, slot) != Some(true) {
         board.fail();
     }
+}
+
+/// Whether the subscriber has this row and no other.
+fn has_only(subscriber: &Subscriber, wanted: &Row) -> Option<bool> {
+    let rows = subscriber.rows(16_384).ok()?;
+    Some(rows.len() == 1 && rows[0] == *wanted)
+}
+
+/// Follows the stream of the slot, once the program listens, until the subscriber has this row and no other. It closes
+/// then.
+pub(crate) fn follow_to<R: Clock + Net<Listener = TcpListener, Stream = TcpStream>>(
+    rt: &R,
+    board: &Board,
+    slot: usize,
+    wanted: &Row,
+) -> Option<()> {
+    board.await_listener(rt);
+    let mut stream = connect(rt, board, slot)?;
+    let mut subscriber = subscriber(board.alloc, board.work, slot)?;
+    ask(&mut stream, &subscriber)?;
+    let mut piece = [0; 512];
+    for _ in 0..u64::MAX {
+        hear(&mut stream, &mut subscriber, &mut piece)?;
+        if has_only(&subscriber, wanted)? {
+            return Some(());
+        }
+    }
+    None
 }

@@ -4,8 +4,7 @@ use crate::board::Board;
 use crate::checks::{holds, same};
 use crate::devices::{Asking, Kept};
 use crate::memory::query;
-use crate::work::{Hold, Work};
-use filter_tree::{Row, Text, Value};
+use crate::work::{Hold, Work, regional_row};
 use senders::{End, OpenGate, Publisher, Publishing, Seats, Served, serve};
 use std::alloc::{AllocError, Global};
 use std::process::Abort;
@@ -45,10 +44,9 @@ fn begin_stream(bytes: &[u8], count: usize) -> bool {
 
 /// An insert of the row (7, 'eu').
 pub(crate) fn insert_first(alloc: Global) -> Result<Command, AllocError> {
-    let text = Value::Text(Text::from_str(alloc, "eu")?);
     Ok(Command::Insert {
         table: 0,
-        row: Row::from_values(vec![in alloc; Value::Int(7), text]?),
+        row: regional_row(alloc, 7, "eu")?,
     })
 }
 

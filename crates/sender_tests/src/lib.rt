@@ -1,4 +1,5 @@
-//! Tests of connections that threads serve, and of the closing comparison, by the public calls of `senders`.
+//! Tests of connections that threads serve, and of the closing comparison, by the public calls of `senders`; and of the
+//! whole program, by `run_serving` of `serving`.
 #![tactic(auto)]
 
 #[cfg(test)]
@@ -17,6 +18,8 @@ mod faults;
 mod gates;
 #[cfg(test)]
 mod memory;
+#[cfg(test)]
+mod program;
 #[cfg(test)]
 mod running;
 #[cfg(test)]

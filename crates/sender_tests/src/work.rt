@@ -161,6 +161,12 @@ pub(crate) fn row_of(alloc: Global, key: usize) -> Result<Row, AllocError> {
     Ok(Row::from_values(vec![in alloc; Value::Int(number), text]?))
 }
 
+/// The row of this key and this region.
+pub(crate) fn regional_row(alloc: Global, key: i64, region: &str) -> Result<Row, AllocError> {
+    let text = Value::Text(Text::from_str(alloc, region)?);
+    Ok(Row::from_values(vec![in alloc; Value::Int(key), text]?))
+}
+
 fn insert(alloc: Global, key: usize) -> Result<Command, AllocError> {
     Ok(Command::Insert {
         table: 0,
