@@ -100,6 +100,7 @@ def runs() -> Iterator[Run]:
     yield Run("serve of a shop", SHOP, whole.together((LONDON, TOKYO)))
     crowded = crowd()
     yield Run("serve of 32 subscribers", crowded, whole.together(crowded.subscribers))
+    yield Run("serve of 1,000 connections", halves(whole.TWO_COMMITS), whole.together((S0, S1)), 1_000)
     yield Run("serve with clocks and times", SHOP, whole.times)
     yield Run("serve byte by byte", SHOP, whole.byte_by_byte)
     yield Run("serve of a client that is late", SHOP, whole.late)
