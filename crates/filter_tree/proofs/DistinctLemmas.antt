@@ -1,13 +1,14 @@
 -- Lists that have each item once, where the items are seen through a view.
-use Rattle.std.proofs.Common.{◌≡◌, ℕ, ◌≤◌, length, take, Bool, true, false, List, [], ◌∷◌, refl, sym, ◌∙◌, ap, subst}
-use Rattle.std.specs.Prelude.{nat_eq, map, fold, ◌||◌}
+use Rattle.std.proofs.Common.{◌≡◌, ℕ, ◌≤◌, length, take, Bool, true, false, List, [], ◌∷◌, ◌++◌, refl, sym, ◌∙◌, ap, subst}
+use Rattle.std.specs.Prelude.{nat_eq, map, fold, ◌||◌, ◌<◌, if◌then◌else◌, All, Contains}
 use Rattle.std.specs.List.{list_any}
 use Rattle.std.specs.Cmp.{unsigned_Decides}
 use Rattle.std.proofs.lemmas.List.{map-append, take_all}
+use Rattle.std.proofs.lemmas.List.Elements.{All-nil, All-head, All-tail, All-push}
 use Rattle.std.proofs.lemmas.List.Sums.{fold-append}
 use Rattle.std.proofs.lemmas.List.Folds.{list_any-append}
 use Rattle.filter_tree.specs.Expr.{Expr, term_of}
-use Rattle.filter_tree.specs.Lists.{with_item, distinct, atoms_in, column_of, columns_in, distinct_atoms, distinct_terms, distinct_columns}
+use Rattle.filter_tree.specs.Lists.{with_item, distinct, atoms_in, column_of, columns_in, distinct_atoms, distinct_terms, distinct_columns, NamesWithin}
 use Rattle.filter_tree.specs.Same.{same_atom, same_term}
 use Rattle.filter_tree.specs.Shape.{atom_view, atoms_view}
 use Rattle.filter_tree.specs.declared.filter.Atom.{Atom}
@@ -78,6 +79,22 @@ module _ {X Y : Type 0} (same : X → X → Bool) (alike : Y → Y → Bool) (pa
 
   parts_of_distinct : (xs : List X) → distinct alike (map part (distinct same xs)) ≡ distinct alike (map part xs)
   parts_of_distinct xs = parts_added [] [] xs
+
+-- what holds of each item holds of each of the list that has them once
+all_with : {Y : Type 0} (P : Y → Type 0) (has : Bool) (ys : List Y) (y : Y) → All P ys → P y → All P (if has then ys else ys ++ y ∷ [])
+all_with P true ys y h p = h
+all_with P false ys y h p = All-push P ys y h p
+
+all_fold : {Y : Type 0} (P : Y → Type 0) (same : Y → Y → Bool) (ys more : List Y) → All P ys → All P more → All P (fold (with_item same) ys more)
+all_fold P same ys [] h m = h
+all_fold P same ys (y ∷ more) h m =
+    all_fold P same (with_item same ys y) more (all_with P (list_any (same y) ys) ys y h (All-head P y more m)) (All-tail P y more m)
+
+-- a column that a filter names is among the first so many, if all are
+pub distinct_within : (count : ℕ) (filter : Expr) (column : ℕ) → NamesWithin count filter → Contains (distinct_columns filter) column → column < count
+distinct_within count filter column h there =
+    let all = all_fold (λ named. named < count) nat_eq [] (columns_in (atoms_in filter)) (All-nil (λ named. named < count)) h in
+    subst (λ named. named < count) there.2 (all there.0 column there.1)
 
 pub terms_of_atoms : (filter : Expr) → distinct same_term (map term_of (distinct_atoms filter)) ≡ distinct_terms filter
 terms_of_atoms filter = parts_of_distinct same_atom same_term term_of (λ term. same_term_of_equal term term refl) (λ one other h. ap term_of (same_atom_is one other h)) (atoms_in filter)

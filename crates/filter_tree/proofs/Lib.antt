@@ -1,5 +1,6 @@
 pub mod DistinctLemmas
 pub mod ListsLemmas
+pub mod OnceLemmas
 pub mod OrderLemmas
 pub mod PossibleLemmas
 pub mod SameLemmas

@@ -5,6 +5,7 @@ pub mod Lists
 pub mod Logic
 pub mod Mask
 pub mod Memory
+pub mod Once
 pub mod Order
 pub mod Paths
 pub mod Range

@@ -1,5 +1,5 @@
 -- What a row filter ("31.3 Row Filters") is made of: its atoms, the terms that they look at, and their columns, each once, in the order of first appearance.
-use Rattle.std.specs.Prelude.{ℕ, Bool, nat_eq, List, [], ◌∷◌, ◌++◌, ◌≡◌, if◌then◌else◌, map, fold}
+use Rattle.std.specs.Prelude.{ℕ, ◌<◌, Bool, nat_eq, List, [], ◌∷◌, ◌++◌, ◌≡◌, if◌then◌else◌, map, fold, All}
 use Rattle.std.specs.List.{list_any}
 use Rattle.filter_tree.specs.Datum.{Datum, value_at}
 use Rattle.filter_tree.specs.Expr.{AtomOf, term_of, Expr, Const, Atom, Not, And, Or, Is, meaning}
@@ -44,6 +44,10 @@ distinct_terms filter = distinct same_term (terms_in filter)
 
 abbrev pub distinct_columns : Expr → List ℕ
 distinct_columns filter = distinct nat_eq (columns_in (atoms_in filter))
+
+-- the columns that a filter names are among the first so many
+abbrev pub NamesWithin : ℕ → Expr → Type 0
+NamesWithin count filter = All (λ column. column < count) (columns_in (atoms_in filter))
 
 -- the rows have the same values in these columns
 abbrev pub AgreesOn : List ℕ → List Datum → List Datum → Type 0

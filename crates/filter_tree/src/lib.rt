@@ -25,7 +25,7 @@ pub use distinct::{Distinct, add_distinct};
 pub use evaluation::eval;
 pub use filter::{Atom, Filter, Op, Term, Test};
 pub use items::Items;
-pub use lists::{add_atom, add_atoms, atoms_of, columns_of, terms_of};
+pub use lists::{add_atom, add_atoms, atoms_of, columns_of, parts_come_once, terms_of};
 pub use mask::Mask;
 pub use order::rows_are_ordered;
 pub use possibility::possible;

@@ -5,6 +5,7 @@ ghost use Rattle.filter_tree.specs.Shape.{atom_view, atoms_view, expr_view};
 ghost use Rattle.filter_tree.specs.Same.{same_atom};
 ghost use Rattle.filter_tree.specs.Lists.{with_item, atoms_in};
 ghost use Rattle.filter_tree.specs.Lists.{distinct_atoms, distinct_terms, distinct_columns, IsDeterminedBy};
+ghost use Rattle.filter_tree.specs.Once.{DistinctIsOnce};
 
 use crate::distinct::add_distinct;
 use crate::filter::{Atom, Filter, Term};
@@ -86,3 +87,13 @@ pub fn columns_of<A: Allocator, B: Allocator + Clone>(
     }
     Ok(columns)
 }
+
+/// A law, and no code, of lists of the parts of filters, by whose places certificates name atoms and terms. A list that
+/// takes each part unless it has it has each part once: no two are the same, none is lost and none is new, and what
+/// first appears before another comes before it. `atoms_of`, `terms_of` and `columns_of` give such lists.
+///
+/// PostgreSQL 15, "Logical Replication", 31.3 Row Filters.
+#[tactic(auto, using(crate::proofs::OnceLemmas::distinct_once))]
+pub fn parts_come_once()
+    ensures { DistinctIsOnce }
+{}

@@ -1,5 +1,6 @@
--- A catalog is within its limits, and is named: what its fields keep, of which there is one proof at most.
+-- A catalog is within its limits, carries tables that are there, and is named: what its fields keep, of which there is one proof at most.
 use Rattle.std.proofs.Common.{◌≡◌, ℕ, List, [], ◌∷◌, All, length, map, refl, sym, ap, subst, arith}
+use Rattle.std.specs.Prelude.{Option, Some, None}
 use Rattle.std.proofs.Math.Logic.{∥∥₁_elim}
 use Rattle.std.proofs.Props.{props}
 use Rattle.std.proofs.lemmas.List.{length-map}
@@ -12,9 +13,10 @@ use Rattle.filter_tree.specs.declared.table.UniqueIndex.{UniqueIndex}
 use Rattle.pub_catalog.specs.declared.catalog.Catalog.{Catalog}
 use Rattle.pub_catalog.specs.declared.catalog.Publication.{Publication}
 use Rattle.pub_catalog.specs.declared.catalog.Subscription.{Subscription}
+use Rattle.pub_catalog.specs.CatalogEntries.{FilterNamesWithin, IsKnownEntry, CarriesKnown, AllCarryKnown}
 use Rattle.pub_catalog.specs.CatalogLimits.{IsIdentity, IsLimitedTable, IsLimited}
 use Rattle.pub_catalog.specs.CatalogNames.{AreOwnNames, AreTaken, TakesKnown, IsNamedCatalog}
-use Rattle.pub_catalog.specs.Catalogs.{PublicationOf}
+use Rattle.pub_catalog.specs.Catalogs.{EntryOf, PublicationOf}
 use Rattle.filter_tree.specs.Expr.{Expr}
 use Rattle.pub_catalog.specs.CatalogView.{publication_view, catalog_view}
 
@@ -37,6 +39,22 @@ catalog_limited catalog = record {
   publications = omega (arith, length-map catalog.publications.items publication_view, catalog.few_publications);
   subscriptions = catalog.few_subscriptions;
 }
+
+-- ---- entries
+
+FilterNamesWithin-prop : (count : ℕ) (filter : Option Expr) → IsProp (FilterNamesWithin count filter)
+FilterNamesWithin-prop count None = Unit-prop {0}
+FilterNamesWithin-prop count (Some filter) = Prim.hlevel props
+
+IsKnownEntry-prop : (tables : List Table) (entry : EntryOf Expr) → IsProp (IsKnownEntry tables entry)
+IsKnownEntry-prop tables entry = Prim.hlevel (props, FilterNamesWithin-prop)
+
+all_carry-prop : (tables : List Table) (publications : List (PublicationOf Expr)) → IsProp (All (CarriesKnown tables) publications)
+all_carry-prop tables publications = Prim.hlevel (props, IsKnownEntry-prop)
+
+pub catalog_entries_known : (catalog : Catalog) → AllCarryKnown (catalog_view catalog)
+catalog_entries_known catalog =
+    ∥∥₁_elim catalog.known_entries (all_carry-prop catalog.tables.items (map publication_view catalog.publications.items)) (λ known. known)
 
 -- ---- names
 

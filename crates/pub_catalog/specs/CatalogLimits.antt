@@ -1,4 +1,4 @@
--- How much a catalog has at most, that the columns of its unique indexes are there, and what names are: PostgreSQL 15, "SQL Syntax", 4.1.1 Identifiers and Key Words.
+-- How much a catalog has at most, that the columns of its keys and unique indexes are there, and what names are: PostgreSQL 15, "SQL Syntax", 4.1.1 Identifiers and Key Words.
 use Rattle.std.specs.Prelude.{◌≡◌, ◌<◌, ◌≤◌, true, List, All, length, slice_get}
 use Rattle.filter_tree.specs.declared.table.Column.{Column}
 use Rattle.filter_tree.specs.declared.table.Identity.{Identity}
@@ -27,9 +27,10 @@ pub record IsNamed (table : Table) : Type 0 where
   pub name : IsPlainName table.name
   pub columns : All HasPlainName table.columns
 
--- at most 100 columns and 8 unique indexes, and such names
+-- at most 100 columns, those of the key among them, and 8 unique indexes, and such names
 pub record IsLimitedTable (table : Table) : Type 0 where
   pub columns : length table.columns ≤ 100
+  pub keyed : All (λ number. number < length table.columns) table.key
   pub indexes : length table.indexes ≤ 8
   pub indexed : All (IsIndexOf table.columns) table.indexes
   pub identified : IsIdentity table.columns table.indexes table.identity

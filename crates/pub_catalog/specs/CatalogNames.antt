@@ -3,7 +3,7 @@ use Rattle.std.specs.Prelude.{ℕ, ◌<◌, List, All, length, map, nat_eq}
 use Rattle.std.specs.List.{IsDistinct}
 use Rattle.std.specs.Str.{bytes_eq}
 use Rattle.pub_catalog.specs.declared.catalog.Subscription.{Subscription}
-use Rattle.pub_catalog.specs.CatalogLimits.{IsPlainName, IsNamed}
+use Rattle.pub_catalog.specs.CatalogLimits.{IsPlainName}
 use Rattle.pub_catalog.specs.Catalogs.{CatalogOf}
 
 -- names of 1 to 63 bytes of UTF-8, none of which is zero, and no two of them are the same

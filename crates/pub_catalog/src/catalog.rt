@@ -1,8 +1,10 @@
 //! What a catalog has.
 
 ghost use Rattle.std.specs.Prelude.{◌≤◌, length, map, All};
+ghost use Rattle.pub_catalog.specs.CatalogEntries.{CarriesKnown};
 ghost use Rattle.pub_catalog.specs.CatalogLimits.{IsLimitedTable};
 ghost use Rattle.pub_catalog.specs.CatalogNames.{AreOwnNames, TakesKnown};
+ghost use Rattle.pub_catalog.specs.PublicationView.{publication_view};
 
 use filter_tree::{Filter, Items, Table, Text};
 
@@ -10,12 +12,13 @@ use filter_tree::{Filter, Items, Table, Text};
 /// each has a number from 0.
 ///
 /// It is always within its limits: at most 64 tables of at most 100 columns and 8 unique indexes, 64 publications and
-/// 32 subscriptions. The columns of a unique index are columns of its table. An identity by an index names an index of
-/// the table whose columns take no null. The names of schemas, tables and columns have 1 to 63 bytes of UTF-8, and no
-/// zero byte.
+/// 32 subscriptions. The columns of a primary key and of a unique index are columns of their table. An identity by an
+/// index names an index of the table whose columns take no null. The names of schemas, tables and columns have 1 to 63
+/// bytes of UTF-8, and no zero byte.
 ///
-/// Publications have names of that kind too, and no two have the same name. The same is so of subscriptions. Each
-/// subscription takes at least one of the publications, and none twice.
+/// Publications have names of that kind too, and no two have the same name. The same is so of subscriptions. Each entry
+/// of a publication is for one of the tables, and its filter names columns of that table. Each subscription takes at
+/// least one of the publications, and none twice.
 ///
 /// PostgreSQL 15, "Logical Replication", 31.1 Publication, 31.2 Subscription and 31.3 Row Filters.
 #[derive(Drop)]
@@ -29,6 +32,7 @@ pub struct Catalog {
     ghost few_subscriptions: { length subscriptions.items ≤ 32 },
     ghost named_publications: { ∥ AreOwnNames (map (λ p. p.name) publications.items) ∥₁ },
     ghost named_subscriptions: { ∥ AreOwnNames (map (λ s. s.name) subscriptions.items) ∥₁ },
+    ghost known_entries: { ∥ All (CarriesKnown tables.items) (map publication_view publications.items) ∥₁ },
     ghost taken_publications: { ∥ All (TakesKnown (length publications.items)) subscriptions.items ∥₁ },
 }
 

@@ -24,12 +24,9 @@ use Rattle.pub_reader.specs.Drafts.{CoverageOf, DraftPublicationOf, DraftOf, no_
 use Rattle.pub_reader.specs.Statements.{created_by, created, create, statement_by, statement, ended_statement, statements, finished, catalog_by}
 use Rattle.pub_reader.proofs.CarryingDrafts.{verdict_map, create_schema-carried, create_table-carried, alter_table-carried, create_index-carried, create_subscription-carried}
 use Rattle.pub_reader.proofs.CarryingObjects.{create_publication-carried}
+use Rattle.sql_reader.proofs.Cases.{by_test}
 
 -- ---- the end of the catalog
-
-by_test : {P : Type 0} (b : Bool) → (b ≡ true → P) → (b ≡ false → P) → P
-by_test true holds fails = holds refl
-by_test false holds fails = fails refl
 
 whole_from-carried : {S T : Type 0} (h : S → T) (covers : Table → Bool) (number : ℕ) (tables : List Table) → map (entry_map h) (whole_from {S = S} covers number tables) ≡ whole_from {S = T} covers number tables
 whole_from-carried h covers number [] = refl

@@ -26,10 +26,7 @@ use Rattle.pub_reader.specs.Subscriptions.{new_subscription, subscription_name, 
 use Rattle.pub_reader.specs.TableNames.{table_in_schema, table_named, table_number, new_name}
 use Rattle.pub_reader.specs.Tables.{table_body, create_table}
 use Rattle.pub_catalog.proofs.Positions.{position-map}
-
-by_test : {P : Type 0} (b : Bool) → (b ≡ true → P) → (b ≡ false → P) → P
-by_test true holds fails = holds refl
-by_test false holds fails = fails refl
+use Rattle.sql_reader.proofs.Cases.{by_test}
 
 -- an outcome, of which the value is the same
 abbrev same : {A : Type 0} → A → A

@@ -1,8 +1,7 @@
 -- Indexes and identities have columns that are there, and there are at most 8 indexes of a table.
-use Rattle.std.proofs.Common.{◌≡◌, ℕ, zero, suc, ◌+◌, ◌<◌, ◌≤◌, Bool, true, false, List, [], ◌∷◌, ◌++◌, All, length, refl, ap, subst, arith}
+use Rattle.std.proofs.Common.{◌≡◌, ℕ, zero, suc, ◌<◌, ◌≤◌, Bool, true, false, List, [], ◌∷◌, ◌++◌, All, length, refl, ap, subst, arith}
 use Rattle.std.specs.Prelude.{nat_le, if◌then◌else◌, Option, Some, None, Ok, Err, slice_get}
 use Rattle.std.specs.Option.{is_some}
-use Rattle.std.specs.Str.{bytes_eq}
 use Rattle.std.proofs.lemmas.List.{length_push}
 use Rattle.std.proofs.lemmas.List.Elements.{All-nil, All-cons, All-head, All-tail, All-push}
 use Rattle.filter_tree.specs.declared.table.Column.{Column}
@@ -15,13 +14,14 @@ use Rattle.sql_reader.specs.declared.word.Keyword.TheVariants as k
 use Rattle.sql_reader.specs.declared.item.Item.{Item}
 use Rattle.sql_reader.specs.declared.item.Item.TheVariants as i
 use Rattle.sql_reader.specs.declared.name.PlacedName.{PlacedName}
-use Rattle.sql_reader.specs.Expressions.{found_from, known, known_column, find_column}
+use Rattle.sql_reader.specs.Expressions.{known_column}
 use Rattle.sql_reader.specs.Items.{Items}
 use Rattle.sql_reader.specs.Names.{name}
 use Rattle.sql_reader.specs.Reading.{Fault, ◌>>◌, with_rest, eat, expect, item_ahead}
 use Rattle.sql_reader.specs.Turns.{link}
 use Rattle.sql_reader.proofs.Keeping.{Gives, then-gives, any-gives, repeat-gives, link-gives}
-use Rattle.sql_reader.proofs.Widths.{room-gives, below}
+use Rattle.sql_reader.proofs.NamedColumns.{known_column-gives}
+use Rattle.sql_reader.proofs.Widths.{AreColumns, room-gives, below}
 use Rattle.pub_catalog.specs.CatalogLimits.{IsIndexOf, IsIdentity}
 use Rattle.pub_catalog.specs.Catalogs.{schema_at, columns_at, indexes_at, identified, indexed}
 use Rattle.pub_reader.specs.Drafts.{DraftOf, find_index, find_relation}
@@ -33,36 +33,12 @@ use Rattle.pub_reader.specs.TableNames.{table_number}
 -- the limits of a table, without those of its names
 pub record IsSizedTable (table : Table) : Type 0 where
   pub columns : length table.columns ≤ 100
+  pub keyed : AreColumns table.columns table.key
   pub indexes : length table.indexes ≤ 8
   pub indexed : All (IsIndexOf table.columns) table.indexes
   pub identified : IsIdentity table.columns table.indexes table.identity
 
 -- ---- the columns of an index
-
-module _ (P : FoundColumn → Type 0) (called : PlacedName) (ts : Items) where
-  either_found : (is : Bool) (column : FoundColumn) (rest : Option FoundColumn) → P column → Gives P (with_rest (known called rest) ts)
-      → Gives P (with_rest (known called (if is then Some column else rest)) ts)
-  either_found true column rest here later = here
-  either_found false column rest here later = later
-
-found_within : (number : ℕ) (called : PlacedName) (columns : List Column) (ts : Items)
-    → Gives (λ (column : FoundColumn). column.number < number + length columns) (with_rest (known called (found_from number called.text columns)) ts)
-found_within number called [] ts = tt
-found_within number called (column ∷ columns) ts =
-    let same : (number + 1) + length columns ≡ number + length (column ∷ columns) = omega arith in
-    either_found (λ (found : FoundColumn). found.number < number + length (column ∷ columns)) called ts (bytes_eq called.text column.name)
-    (record { number = number; kind = column.kind }) (found_from (number + 1) called.text columns) (omega arith)
-    (subst (λ (most : ℕ). Gives (λ (found : FoundColumn). found.number < most) (with_rest (known called (found_from (number + 1) called.text columns)) ts)) same
-    (found_within (number + 1) called columns ts))
-
-known_column-gives : (columns : List Column) (called : PlacedName) (ts : Items) → Gives (λ (column : FoundColumn). column.number < length columns) (with_rest (known_column columns called) ts)
-unfolding known_column find_column
-known_column-gives columns called ts =
-    let same : 0 + length columns ≡ length columns = omega arith in
-    subst (λ (most : ℕ). Gives (λ (found : FoundColumn). found.number < most) (with_rest (known called (found_from 0 called.text columns)) ts)) same (found_within 0 called columns ts)
-
-abbrev AreColumns : List Column → List ℕ → Type 0
-AreColumns columns numbers = All (λ number. number < length columns) numbers
 
 index_column-gives : (columns : List Column) (numbers : List ℕ) (ts : Items) → AreColumns columns numbers → Gives (AreColumns columns) (index_column columns numbers ts)
 unfolding index_column
@@ -151,7 +127,7 @@ length-indexed (table ∷ tables) zero index = refl
 length-indexed (table ∷ tables) (suc number) index = ap suc (length-indexed tables number index)
 
 with_identity : (table : Table) (identity : Identity) → IsSizedTable table → IsIdentity table.columns table.indexes identity → IsSizedTable (record table { identity = identity })
-with_identity table identity h is = record { columns = h.columns; indexes = h.indexes; indexed = h.indexed; identified = is }
+with_identity table identity h is = record { columns = h.columns; keyed = h.keyed; indexes = h.indexes; indexed = h.indexed; identified = is }
 
 pub identified-limited : (tables : List Table) (number : ℕ) (identity : Identity) → All IsSizedTable tables
     → IsIdentity (columns_at tables number) (indexes_at tables number) identity → All IsSizedTable (identified tables number identity)
@@ -179,6 +155,7 @@ with_index : (table : Table) (index : UniqueIndex) → IsSizedTable table → le
     → IsSizedTable (record table { indexes = table.indexes ++ index ∷ [] })
 with_index table index h room is = record {
   columns = h.columns;
+  keyed = h.keyed;
   indexes = omega (arith, length_push table.indexes index);
   indexed = All-push (IsIndexOf table.columns) table.indexes index h.indexed is;
   identified = still_identity table.columns table.indexes index table.identity h.identified;

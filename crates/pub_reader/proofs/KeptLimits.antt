@@ -56,7 +56,7 @@ indexed-within tables number index h room is = (omega (arith, length-indexed tab
 
 -- a table of at most 100 columns, which has no index yet
 made : (called : NewName) (parts : Parts) → IsNarrow parts → IsSizedTable (table_of called parts)
-made called parts narrow = record { columns = narrow; indexes = omega arith; indexed = All-nil (IsIndexOf parts.columns); identified = tt }
+made called parts narrow = record { columns = narrow.0; keyed = narrow.1; indexes = omega arith; indexed = All-nil (IsIndexOf parts.columns); identified = tt }
 
 pushed-within : (tables : List Table) (table : Table) → length tables < 64 → AreLimited tables → IsSizedTable table → AreLimited (tables ++ table ∷ [])
 pushed-within tables table room h is = (pushed 64 tables table room, All-push IsSizedTable tables table h.1 is)
@@ -193,7 +193,7 @@ module _ {S : Type 0} (forms : Forms S) where
 -- ---- the end of the catalog
 
 both_limits : (table : Table) → IsSizedTable table → IsNamed table → IsLimitedTable table
-both_limits table h named = record { columns = h.columns; indexes = h.indexes; indexed = h.indexed; identified = h.identified; named = named }
+both_limits table h named = record { columns = h.columns; keyed = h.keyed; indexes = h.indexes; indexed = h.indexed; identified = h.identified; named = named }
 
 resolved-within : {S : Type 0} (draft : DraftOf S) → Limited draft → All IsNamed draft.tables → IsLimited (resolved draft)
 resolved-within draft h named = record {

@@ -2,6 +2,7 @@ pub mod CarryingCatalogs
 pub mod CarryingDrafts
 pub mod CarryingObjects
 pub mod FoundIndexes
+pub mod KeptEntries
 pub mod KeptIndexes
 pub mod KeptLimits
 pub mod KeptNames

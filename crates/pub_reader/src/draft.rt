@@ -66,6 +66,7 @@ impl Draft {
     ghost use Rattle.std.specs.Prelude.{◌≡◌, ◌<◌, ◌∷◌, ◌++◌, [], length, map, IfOk, IfSome, None, OnOk};
     ghost use Rattle.filter_tree.specs.Shape.{expr_view};
     ghost use Rattle.sql_reader.specs.Reading.{Answers};
+    ghost use Rattle.pub_catalog.specs.CatalogEntries.{AllCarryKnown};
     ghost use Rattle.pub_catalog.specs.CatalogLimits.{IsLimited};
     ghost use Rattle.pub_catalog.specs.CatalogNames.{IsNamedCatalog};
     ghost use Rattle.pub_catalog.specs.Catalogs.{schema_at, columns_at, indexes_at, identified, indexed};
@@ -344,6 +345,7 @@ impl Draft {
     /// The catalog, once it is read: what the publications cover is resolved.
     pub fn finish(self, alloc: Global) -> Result<Catalog, AllocError>
         requires limits { IsLimited (spec.resolved (draft_view self)) }
+        requires entries { AllCarryKnown (spec.resolved (draft_view self)) }
         requires names { IsNamedCatalog (spec.resolved (draft_view self)) }
         ensures { IfOk result (λ catalog. catalog_view catalog ≡ spec.resolved (draft_view self)) }
     {

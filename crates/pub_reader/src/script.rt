@@ -14,7 +14,7 @@ use sql_reader::{Item, ReadError, Reader};
 use std::alloc::Global;
 
 /// A step of a script, and the place of its first word, in bytes from the start of the text.
-#[derive(Debug, Drop, PartialEq, Eq)]
+#[derive(Drop)]
 pub struct Line {
     pub place: usize,
     pub step: Step,

@@ -3,6 +3,7 @@
 ghost use Rattle.std.specs.Prelude.{IfOk, OnOk};
 ghost use Rattle.sql_reader.specs.Taking.{Takes, TakesSome, to_read, Reads, Answers};
 ghost use Rattle.sql_reader.specs.Written.{as_filter, as_written};
+ghost use Rattle.pub_catalog.specs.CatalogEntries.{AllCarryKnown};
 ghost use Rattle.pub_catalog.specs.CatalogLimits.{IsLimited};
 ghost use Rattle.pub_reader.specs.CatalogMeaning.{MeansAsWritten};
 ghost use Rattle.pub_catalog.specs.CatalogNames.{IsNamedCatalog};
@@ -103,17 +104,19 @@ fn statements(r: &mut Reader<'_>, alloc: Global, draft: &mut Draft) -> Result<()
 /// There are at most 64 tables of at most 100 columns and 8 unique indexes, 64 publications and 32 subscriptions. An
 /// identity by an index names one of the table's, none of whose columns takes a null. The names of schemas, tables and
 /// columns have 1 to 63 bytes of UTF-8, none of which is zero. Each publication has such a name of its own, and each
-/// subscription, which takes at least one of the publications, and none twice.
+/// subscription, which takes at least one of the publications, and none twice. The columns of keys and the tables and
+/// columns that publications name are there.
 ///
 /// # Errors
 ///
 /// The first fault of the text, or `OutOfMemory` where an allocation was refused.
-#[tactic(auto, using(crate::proofs::CarryingCatalogs::means_as_written, pub_catalog::proofs::CatalogFacts::catalog_limited, pub_catalog::proofs::CatalogFacts::catalog_named))]
+#[tactic(auto, using(crate::proofs::CarryingCatalogs::means_as_written, pub_catalog::proofs::CatalogFacts::catalog_limited, pub_catalog::proofs::CatalogFacts::catalog_entries_known, pub_catalog::proofs::CatalogFacts::catalog_named))]
 pub fn read_catalog(alloc: Global, text: &str) -> Result<Catalog, ReadError>
     ensures catalog { Answers catalog_view (spec.catalog_by as_filter text.now) result }
     ensures written { IfOk result
         (λ catalog. MeansAsWritten (spec.catalog_by as_written text.now) (catalog_view catalog)) }
     ensures limits { IfOk result (λ catalog. IsLimited (catalog_view catalog)) }
+    ensures entries { IfOk result (λ catalog. AllCarryKnown (catalog_view catalog)) }
     ensures names { IfOk result (λ catalog. IsNamedCatalog (catalog_view catalog)) }
 {
     whole_catalog(alloc, text)

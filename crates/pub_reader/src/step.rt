@@ -13,7 +13,7 @@ use table_changes::Command;
 
 /// A step of a script: what is committed, or what happens on the connection of a subscriber, which is told by its
 /// number from 0 and need not be there.
-#[derive(Debug, Drop, PartialEq, Eq)]
+#[derive(Drop)]
 pub enum Step {
     /// A transaction of these commands is committed.
     Commit(Vec<Command>),

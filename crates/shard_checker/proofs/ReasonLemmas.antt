@@ -1,13 +1,16 @@
 -- The first refusal of a sharding says something that is so of what it names.
-use Rattle.std.proofs.Common.{◌≡◌, ℕ, suc, ◌+◌, Bool, true, false, List, [], ◌∷◌, length, refl, sym, ◌∙◌, ap, subst, inl, inr, arith}
+use Rattle.std.proofs.Common.{◌≡◌, ℕ, zero, suc, ◌+◌, ◌<◌, Bool, true, false, List, [], ◌∷◌, All, length, refl, sym, ◌∙◌, ap, subst, inl, inr, arith}
 use Rattle.std.specs.Prelude.{Option, Some, None, if◌then◌else◌, ◌==◌, ◌⊎◌, Contains, slice_get}
 use Rattle.std.specs.Cmp.{unsigned_Decides}
+use Rattle.std.proofs.lemmas.List.Elements.{All-head, All-tail}
 use Rattle.filter_tree.specs.Expr.{Expr, AtomOf}
-use Rattle.filter_tree.specs.Lists.{distinct_columns}
+use Rattle.filter_tree.specs.Lists.{distinct_columns, NamesWithin}
+use Rattle.filter_tree.proofs.DistinctLemmas.{distinct_within}
 use Rattle.filter_tree.specs.Paths.{Path}
 use Rattle.filter_tree.specs.declared.filter.Term.{Term}
 use Rattle.filter_tree.specs.declared.table.Table.{Table}
-use Rattle.pub_catalog.specs.Catalogs.{CatalogOf, PublicationOf, EntryOf}
+use Rattle.pub_catalog.specs.CatalogEntries.{FilterNamesWithin, IsKnownEntry, CarriesKnown, AllCarryKnown}
+use Rattle.pub_catalog.specs.Catalogs.{CatalogOf, PublicationOf, EntryOf, columns_at}
 use Rattle.pub_catalog.specs.declared.catalog.Operations.{Operations}
 use Rattle.pub_catalog.specs.declared.catalog.Subscription.{Subscription}
 use Rattle.replica_identity.specs.Identities.{is_covered, tells_rows_apart}
@@ -21,7 +24,7 @@ use Rattle.shard_checker.specs.Sound.{is_taken}
 use Rattle.shard_checker.specs.Trying.{is_empty}
 use Rattle.shard_checker.specs.Truth.{EmptyIsWrong, NeverNullIsWrong, OwnerIsWrong, SplitIsWrong, IsWrong}
 use Rattle.shard_checker.specs.declared.error.CheckError.{CheckError}
-use Rattle.shard_checker.specs.declared.error.CheckError.TheVariants.{PublishMissing, NoIdentity, UnknownTable, NotCovered, CertCount, BadIndex, NotEmpty, MayBeNull, NotOwner, SecondOwner, OutOfMemory}
+use Rattle.shard_checker.specs.declared.error.CheckError.TheVariants.{PublishMissing, NoIdentity, NotCovered, CertCount, BadIndex, NotEmpty, MayBeNull, NotOwner, SecondOwner, OutOfMemory}
 use Rattle.shard_checker.specs.declared.error.Operation.{Operation}
 use Rattle.shard_checker.specs.declared.error.Operation.TheVariants.{Insert, Update, Delete, Truncate}
 use Rattle.shard_checker.proofs.Testing.{clash, at_zero, zero_more, at_next}
@@ -152,31 +155,45 @@ uncovered publication number table (column ∷ columns) error h =
     uncovered_from publication number table column columns error (λ rest. uncovered publication number table columns error rest)
     (column_failed (is_covered table column) (column_refusal publication number table columns) (NotCovered publication number column) error h)
 
--- an entry carries a table that isn't there
-record IsOfUnknown (tables : List Table) (publication : ℕ) (entry : EntryOf Expr) (error : CheckError) : Type 0 where
-  is : error ≡ UnknownTable publication entry.table
-  unknown : slice_get tables entry.table ≡ None
-
 -- an entry has a filter that names a column that isn't covered
-record HasUncoveredColumn (tables : List Table) (publication : ℕ) (entry : EntryOf Expr) (error : CheckError) : Type 0 where
+record EntryIsWrong (tables : List Table) (publication : ℕ) (entry : EntryOf Expr) (error : CheckError) : Type 0 where
   column : ℕ
   is : error ≡ NotCovered publication entry.table column
   uncovered_by : NamesUncovered tables entry entry.table column
 
-abbrev EntryIsWrong : List Table → ℕ → EntryOf Expr → CheckError → Type 0
-EntryIsWrong tables publication entry error = IsOfUnknown tables publication entry error ⊎ HasUncoveredColumn tables publication entry error
+columns_found : (tables : List Table) (number : ℕ) (table : Table) → slice_get tables number ≡ Some table → columns_at tables number ≡ table.columns
+columns_found [] number table there = absurd cc
+columns_found (first ∷ tables) zero table there = let same : first ≡ table = cc in ap (λ (table : Table). table.columns) same
+columns_found (first ∷ tables) (suc number) table there = columns_found tables number table there
+
+-- a column that a known entry's filter names is one of its table
+named_within : (tables : List Table) (entry : EntryOf Expr) (table : Table) (filter : Expr) (column : ℕ) → IsKnownEntry tables entry → slice_get tables entry.table ≡ Some table
+    → entry.filter ≡ Some filter → Contains (distinct_columns filter) column → column < length table.columns
+named_within tables entry table filter column known there is names =
+    let named : NamesWithin (length (columns_at tables entry.table)) filter = subst (FilterNamesWithin (length (columns_at tables entry.table))) is known.columns in
+    distinct_within (length table.columns) filter column (subst (λ columns. NamesWithin (length columns) filter) (columns_found tables entry.table table there) named) names
 
 entry_wrong : (tables : List Table) (publication : ℕ) (entry : EntryOf Expr) (error : CheckError) (found : Option Table) (filter : Option Expr)
-    → slice_get tables entry.table ≡ found → entry.filter ≡ filter → carried_refusal publication entry.table found filter ≡ Some error → EntryIsWrong tables publication entry error
-entry_wrong tables publication entry error None filter there e h = inl (record { is = same_some (UnknownTable publication entry.table) error h; unknown = there })
-entry_wrong tables publication entry error (Some table) None there e h = absurd cc
-entry_wrong tables publication entry error (Some table) (Some filter) there e h =
+    → IsKnownEntry tables entry → slice_get tables entry.table ≡ found → entry.filter ≡ filter → carried_refusal publication entry.table found filter ≡ Some error
+    → EntryIsWrong tables publication entry error
+entry_wrong tables publication entry error None filter known there e h = absurd cc
+entry_wrong tables publication entry error (Some table) None known there e h = absurd cc
+entry_wrong tables publication entry error (Some table) (Some filter) known there e h =
     let found = uncovered publication entry.table table (distinct_columns filter) error h in
-    inr (record {
+    record {
       column = found.column;
       is = found.is;
-      uncovered_by = record { of_table = refl; filter = filter; filters = e; names = found.names; table = table; there = there; lacks = found.lacks };
-    })
+      uncovered_by = record {
+        of_table = refl;
+        filter = filter;
+        filters = e;
+        names = found.names;
+        table = table;
+        there = there;
+        lacks = found.lacks;
+        within = named_within tables entry table filter found.column known there e found.names;
+      };
+    }
 
 -- an entry of a list is wrong
 record HasWrongEntry (tables : List Table) (publication : ℕ) (entries : List (EntryOf Expr)) (error : CheckError) : Type 0 where
@@ -184,17 +201,17 @@ record HasWrongEntry (tables : List Table) (publication : ℕ) (entries : List (
   has_entry : Contains entries entry
   wrong : EntryIsWrong tables publication entry error
 
-entries_wrong : (tables : List Table) (publication : ℕ) (entries : List (EntryOf Expr)) (error : CheckError) → entries_refusal tables publication entries ≡ Some error
-    → HasWrongEntry tables publication entries error
-entries_wrong tables publication [] error h = absurd cc
-entries_wrong tables publication (entry ∷ entries) error h =
+entries_wrong : (tables : List Table) (publication : ℕ) (entries : List (EntryOf Expr)) (error : CheckError) → All (IsKnownEntry tables) entries
+    → entries_refusal tables publication entries ≡ Some error → HasWrongEntry tables publication entries error
+entries_wrong tables publication [] error known h = absurd cc
+entries_wrong tables publication (entry ∷ entries) error known h =
     by_first (entry_refusal tables publication entry) (entries_refusal tables publication entries) error h
     (λ here. record {
       entry = entry;
       has_entry = contains_first entries entry;
-      wrong = entry_wrong tables publication entry error (slice_get tables entry.table) entry.filter refl refl here;
+      wrong = entry_wrong tables publication entry error (slice_get tables entry.table) entry.filter (All-head (IsKnownEntry tables) entry entries known) refl refl here;
     })
-    (λ there. let rest = entries_wrong tables publication entries error there in
+    (λ there. let rest = entries_wrong tables publication entries error (All-tail (IsKnownEntry tables) entry entries known) there in
     record { entry = rest.entry; has_entry = contains_later entries entry rest.entry rest.has_entry; wrong = rest.wrong })
 
 record HasWrongPublication (tables : List Table) (subscriptions : List Subscription) (number : ℕ) (publications : List (PublicationOf Expr)) (error : CheckError) : Type 0 where
@@ -205,18 +222,19 @@ record HasWrongPublication (tables : List Table) (subscriptions : List Subscript
   wrong_entry : HasWrongEntry tables (number + place) publication.entries error
 
 publications_wrong : (tables : List Table) (subscriptions : List Subscription) (number : ℕ) (publications : List (PublicationOf Expr)) (error : CheckError)
-    → covering_refusal tables subscriptions number publications ≡ Some error → HasWrongPublication tables subscriptions number publications error
-publications_wrong tables subscriptions number [] error h = absurd cc
-publications_wrong tables subscriptions number (publication ∷ publications) error h =
+    → All (CarriesKnown tables) publications → covering_refusal tables subscriptions number publications ≡ Some error
+    → HasWrongPublication tables subscriptions number publications error
+publications_wrong tables subscriptions number [] error known h = absurd cc
+publications_wrong tables subscriptions number (publication ∷ publications) error known h =
     by_first (taken_refusal tables subscriptions number publication.entries) (covering_refusal tables subscriptions (number + 1) publications) error h
     (λ here. let both = under_test (is_taken subscriptions number) (entries_refusal tables number publication.entries) error here in record {
       place = 0;
       publication = publication;
       there = refl;
       taken = subst (λ n. is_taken subscriptions n ≡ true) (sym (at_zero number)) both.0;
-      wrong_entry = subst (λ n. HasWrongEntry tables n publication.entries error) (sym (at_zero number)) (entries_wrong tables number publication.entries error both.1);
+      wrong_entry = subst (λ n. HasWrongEntry tables n publication.entries error) (sym (at_zero number)) (entries_wrong tables number publication.entries error (All-head (CarriesKnown tables) publication publications known) both.1);
     })
-    (λ there. let rest = publications_wrong tables subscriptions (number + 1) publications error there in record {
+    (λ there. let rest = publications_wrong tables subscriptions (number + 1) publications error (All-tail (CarriesKnown tables) publication publications known) there in record {
       place = suc rest.place;
       publication = rest.publication;
       there = rest.there;
@@ -311,7 +329,6 @@ wrong_by_table catalog plan trees number (NotOwner table node) names h = subst (
 wrong_by_table catalog plan trees number (SecondOwner table node subscriber) names h = subst (λ n. HasWrongCertificate catalog plan trees n (SecondOwner table node subscriber)) names h
 wrong_by_table catalog plan trees number (PublishMissing publication operation) names h = absurd names
 wrong_by_table catalog plan trees number (NoIdentity table) names h = absurd names
-wrong_by_table catalog plan trees number (UnknownTable publication table) names h = absurd names
 wrong_by_table catalog plan trees number (NotCovered publication table column) names h = absurd names
 wrong_by_table catalog plan trees number CertCount names h = absurd names
 wrong_by_table catalog plan trees number OutOfMemory names h = absurd names
@@ -340,17 +357,14 @@ identity_wrong catalog plan trees error h =
 entry_is_wrong : (catalog : CatalogOf Expr) (plan : PlanOf) (trees : List Tree) (error : CheckError) (number : ℕ) (publication : PublicationOf Expr)
     → slice_get catalog.publications number ≡ Some publication → is_taken catalog.subscriptions number ≡ true → (entry : EntryOf Expr) → Contains publication.entries entry
     → EntryIsWrong catalog.tables number entry error → ShardingIsWrong catalog plan trees error
-entry_is_wrong catalog plan trees error number publication there taken entry has_entry (inl wrong) =
-    subst (ShardingIsWrong catalog plan trees) (sym wrong.is)
-    (record { publication = publication; there = there; taken = taken; entry = entry; has_entry = has_entry; of_table = refl; unknown = wrong.unknown })
-entry_is_wrong catalog plan trees error number publication there taken entry has_entry (inr wrong) =
+entry_is_wrong catalog plan trees error number publication there taken entry has_entry wrong =
     subst (ShardingIsWrong catalog plan trees) (sym wrong.is)
     (record { publication = publication; there = there; taken = taken; entry = entry; has_entry = has_entry; uncovered = wrong.uncovered_by })
 
-covering_wrong : (catalog : CatalogOf Expr) (plan : PlanOf) (trees : List Tree) (error : CheckError) → covering_refusal catalog.tables catalog.subscriptions 0 catalog.publications ≡ Some error
+covering_wrong : (catalog : CatalogOf Expr) (plan : PlanOf) (trees : List Tree) (error : CheckError) → AllCarryKnown catalog → covering_refusal catalog.tables catalog.subscriptions 0 catalog.publications ≡ Some error
     → ShardingIsWrong catalog plan trees error
-covering_wrong catalog plan trees error h =
-    let found = publications_wrong catalog.tables catalog.subscriptions 0 catalog.publications error h in
+covering_wrong catalog plan trees error known h =
+    let found = publications_wrong catalog.tables catalog.subscriptions 0 catalog.publications error known h in
     let entry = found.wrong_entry in
     entry_is_wrong catalog plan trees error found.place found.publication found.there (subst (λ n. is_taken catalog.subscriptions n ≡ true) (zero_more found.place) found.taken)
     entry.entry entry.has_entry (subst (λ n. EntryIsWrong catalog.tables n entry.entry error) (zero_more found.place) entry.wrong)
@@ -373,15 +387,16 @@ certificates_wrong catalog plan trees error h =
     wrong_by_table catalog plan trees found.place error (names_node _ found.tree [] 0 error wrong)
     (record { table = found.table; there = found.there; tree = found.tree; given = found.given; wrong = wrong })
 
-pub sharding_wrong : (catalog : CatalogOf Expr) (plan : PlanOf) (trees : List Tree) (error : CheckError) → sharding_refusal is_empty catalog plan trees ≡ Some error → ShardingIsWrong catalog plan trees error
-sharding_wrong catalog plan trees error h =
+pub sharding_wrong : (catalog : CatalogOf Expr) (plan : PlanOf) (trees : List Tree) (error : CheckError) → AllCarryKnown catalog
+    → sharding_refusal is_empty catalog plan trees ≡ Some error → ShardingIsWrong catalog plan trees error
+sharding_wrong catalog plan trees error known h =
     by_first (catalog_refusal catalog) (first_of (count_refusal (length catalog.tables) (length trees)) (certificates_refusal is_empty plan catalog.subscriptions 0 catalog.tables trees)) error h
     (λ of_catalog. by_first (publishing_refusal catalog.subscriptions 0 catalog.publications)
     (first_of (identity_refusal 0 catalog.tables) (covering_refusal catalog.tables catalog.subscriptions 0 catalog.publications)) error of_catalog
     (λ publishing. publishing_wrong catalog plan trees error publishing)
     (λ rest. by_first (identity_refusal 0 catalog.tables) (covering_refusal catalog.tables catalog.subscriptions 0 catalog.publications) error rest
     (λ identity. identity_wrong catalog plan trees error identity)
-    (λ covering. covering_wrong catalog plan trees error covering)))
+    (λ covering. covering_wrong catalog plan trees error known covering)))
     (λ of_certificates. by_first (count_refusal (length catalog.tables) (length trees)) (certificates_refusal is_empty plan catalog.subscriptions 0 catalog.tables trees) error of_certificates
     (λ count. count_wrong catalog plan trees error count)
     (λ certificates. certificates_wrong catalog plan trees error certificates))

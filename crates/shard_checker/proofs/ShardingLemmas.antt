@@ -1,12 +1,14 @@
 -- A sharding without a refusal is sound.
-use Rattle.std.proofs.Common.{◌≡◌, ℕ, zero, suc, ◌+◌, ◌<◌, Bool, true, false, List, [], ◌∷◌, length, refl, sym, ◌∙◌, ap, subst, arith}
+use Rattle.std.proofs.Common.{◌≡◌, ℕ, zero, suc, ◌+◌, ◌<◌, Bool, true, false, List, [], ◌∷◌, All, length, refl, sym, ◌∙◌, ap, subst, arith}
 use Rattle.std.specs.Prelude.{Option, Some, None, IfSome, if◌then◌else◌, ◌==◌, slice_get}
 use Rattle.std.specs.List.{list_any, list_all}
+use Rattle.std.proofs.lemmas.List.Elements.{All-head, All-tail}
 use Rattle.std.proofs.lemmas.Option.{slice_get_within}
 use Rattle.filter_tree.specs.Datum.{Datum}
 use Rattle.filter_tree.specs.Expr.{Expr}
 use Rattle.filter_tree.specs.Lists.{distinct_columns}
 use Rattle.filter_tree.specs.declared.table.Table.{Table}
+use Rattle.pub_catalog.specs.CatalogEntries.{IsKnownEntry, CarriesKnown, AllCarryKnown}
 use Rattle.pub_catalog.specs.Catalogs.{CatalogOf, PublicationOf, EntryOf}
 use Rattle.pub_catalog.specs.declared.catalog.Operations.{Operations}
 use Rattle.pub_catalog.specs.declared.catalog.Subscription.{Subscription}
@@ -90,31 +92,40 @@ columns_covered publication number table (column ∷ columns) h =
     let both = covered_first (is_covered table column) (column_refusal publication number table columns) (NotCovered publication number column) h in
     two_true (is_covered table column) (list_all (is_covered table) columns) both.0 (columns_covered publication number table columns both.1)
 
-carried_covered : (publication number : ℕ) (found : Option Table) (filter : Option Expr) → carried_refusal publication number found filter ≡ None → is_covered_by found filter ≡ true
-carried_covered publication number None filter h = absurd cc
-carried_covered publication number (Some table) None h = refl
-carried_covered publication number (Some table) (Some filter) h = columns_covered publication number table (distinct_columns filter) h
+not_missing : (tables : List Table) (number : ℕ) → number < length tables → slice_get tables number ≡ None → ⊥
+not_missing [] number within h = absurd (omega arith)
+not_missing (table ∷ tables) zero within h = absurd cc
+not_missing (table ∷ tables) (suc number) within h = not_missing tables number (omega arith) h
 
-entries_covered : (tables : List Table) (publication : ℕ) (entries : List (EntryOf Expr)) → entries_refusal tables publication entries ≡ None → list_all (entry_is_covered tables) entries ≡ true
-entries_covered tables publication [] h = refl
-entries_covered tables publication (entry ∷ entries) h =
+carried_covered : (publication number : ℕ) (found : Option Table) (filter : Option Expr) → (found ≡ None → ⊥) → carried_refusal publication number found filter ≡ None → is_covered_by found filter ≡ true
+carried_covered publication number None filter there h = absurd (there refl)
+carried_covered publication number (Some table) None there h = refl
+carried_covered publication number (Some table) (Some filter) there h = columns_covered publication number table (distinct_columns filter) h
+
+entries_covered : (tables : List Table) (publication : ℕ) (entries : List (EntryOf Expr)) → All (IsKnownEntry tables) entries → entries_refusal tables publication entries ≡ None
+    → list_all (entry_is_covered tables) entries ≡ true
+entries_covered tables publication [] known h = refl
+entries_covered tables publication (entry ∷ entries) known h =
     let both = none_first (entry_refusal tables publication entry) (entries_refusal tables publication entries) h in
     two_true (entry_is_covered tables entry) (list_all (entry_is_covered tables) entries)
-    (carried_covered publication entry.table (slice_get tables entry.table) entry.filter both.0) (entries_covered tables publication entries both.1)
+    (carried_covered publication entry.table (slice_get tables entry.table) entry.filter (not_missing tables entry.table (All-head (IsKnownEntry tables) entry entries known).table) both.0)
+    (entries_covered tables publication entries (All-tail (IsKnownEntry tables) entry entries known) both.1)
 
-taken_covered : (tables : List Table) (subscriptions : List Subscription) (number : ℕ) (entries : List (EntryOf Expr)) → taken_refusal tables subscriptions number entries ≡ None
+taken_covered : (tables : List Table) (subscriptions : List Subscription) (number : ℕ) (entries : List (EntryOf Expr)) → All (IsKnownEntry tables) entries → taken_refusal tables subscriptions number entries ≡ None
     → is_taken subscriptions number ≡ true → list_all (entry_is_covered tables) entries ≡ true
-taken_covered tables subscriptions number entries h taken = let all : entries_refusal tables number entries ≡ None = rw taken at h in entries_covered tables number entries all
+taken_covered tables subscriptions number entries known h taken =
+    let all : entries_refusal tables number entries ≡ None = rw taken at h in entries_covered tables number entries known all
 
-all_covered : (tables : List Table) (subscriptions : List Subscription) (number : ℕ) (publications : List (PublicationOf Expr)) → covering_refusal tables subscriptions number publications ≡ None
+all_covered : (tables : List Table) (subscriptions : List Subscription) (number : ℕ) (publications : List (PublicationOf Expr)) → All (CarriesKnown tables) publications
+    → covering_refusal tables subscriptions number publications ≡ None
     → (k : ℕ) → is_taken subscriptions (number + k) ≡ true → IfSome (slice_get publications k) (λ publication. list_all (entry_is_covered tables) publication.entries ≡ true)
-all_covered tables subscriptions number [] h k taken = tt
-all_covered tables subscriptions number (publication ∷ publications) h zero taken =
+all_covered tables subscriptions number [] known h k taken = tt
+all_covered tables subscriptions number (publication ∷ publications) known h zero taken =
     let both = none_first (taken_refusal tables subscriptions number publication.entries) (covering_refusal tables subscriptions (number + 1) publications) h in
-    taken_covered tables subscriptions number publication.entries both.0 (subst (λ n. is_taken subscriptions n ≡ true) (at_zero number) taken)
-all_covered tables subscriptions number (publication ∷ publications) h (suc k) taken =
+    taken_covered tables subscriptions number publication.entries (All-head (CarriesKnown tables) publication publications known) both.0 (subst (λ n. is_taken subscriptions n ≡ true) (at_zero number) taken)
+all_covered tables subscriptions number (publication ∷ publications) known h (suc k) taken =
     let both = none_first (taken_refusal tables subscriptions number publication.entries) (covering_refusal tables subscriptions (number + 1) publications) h in
-    all_covered tables subscriptions (number + 1) publications both.1 k (subst (λ n. is_taken subscriptions n ≡ true) (at_next number k) taken)
+    all_covered tables subscriptions (number + 1) publications (All-tail (CarriesKnown tables) publication publications known) both.1 k (subst (λ n. is_taken subscriptions n ≡ true) (at_next number k) taken)
 
 -- ---- certificates
 
@@ -178,8 +189,8 @@ counted : (b : Bool) (error : CheckError) → (if b then None else Some error) �
 counted true error h = refl
 counted false error h = absurd cc
 
-pub sharding_sound : (catalog : CatalogOf Expr) (plan : PlanOf) (trees : List Tree) → sharding_refusal is_empty catalog plan trees ≡ None → plan ≡ plan_of catalog → IsSound catalog
-sharding_sound catalog plan trees h own =
+pub sharding_sound : (catalog : CatalogOf Expr) (plan : PlanOf) (trees : List Tree) → AllCarryKnown catalog → sharding_refusal is_empty catalog plan trees ≡ None → plan ≡ plan_of catalog → IsSound catalog
+sharding_sound catalog plan trees known h own =
     let all = none_first (catalog_refusal catalog) (first_of (count_refusal (length catalog.tables) (length trees)) (certificates_refusal is_empty plan catalog.subscriptions 0 catalog.tables trees)) h in
     let certificates = none_first (count_refusal (length catalog.tables) (length trees)) (certificates_refusal is_empty plan catalog.subscriptions 0 catalog.tables trees) all.1 in
     let publishing = none_first (publishing_refusal catalog.subscriptions 0 catalog.publications)
@@ -190,7 +201,7 @@ sharding_sound catalog plan trees h own =
       one_owner = λ number. table_there catalog plan (takes_what_passes catalog plan own) number (slice_get catalog.tables number) refl
           (all_owned plan catalog.subscriptions 0 catalog.tables trees many certificates.1 number);
       publishes = λ number taken. all_publish catalog.subscriptions 0 catalog.publications publishing.0 number (subst (λ n. is_taken catalog.subscriptions n ≡ true) (sym (zero_more number)) taken);
-      covered = λ number taken. all_covered catalog.tables catalog.subscriptions 0 catalog.publications rest.1 number (subst (λ n. is_taken catalog.subscriptions n ≡ true) (sym (zero_more number)) taken);
+      covered = λ number taken. all_covered catalog.tables catalog.subscriptions 0 catalog.publications known rest.1 number (subst (λ n. is_taken catalog.subscriptions n ≡ true) (sym (zero_more number)) taken);
       identified = λ number. all_identified 0 catalog.tables rest.0 number;
     }
 

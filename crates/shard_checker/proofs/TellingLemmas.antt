@@ -5,6 +5,7 @@ use Rattle.filter_tree.specs.Datum.{Datum}
 use Rattle.filter_tree.specs.Expr.{Expr}
 use Rattle.filter_tree.specs.Memory.{NeedsMemoryOnlyIf}
 use Rattle.filter_tree.specs.declared.table.Table.{Table}
+use Rattle.pub_catalog.specs.CatalogEntries.{AllCarryKnown}
 use Rattle.pub_catalog.specs.Catalogs.{CatalogOf}
 use Rattle.replica_identity.specs.Plans.{PlanOf}
 use Rattle.replica_identity.specs.Shares.{ShareOf}
@@ -49,8 +50,8 @@ module _ {A B : Type 0} (catalog : CatalogOf Expr) (plan : PlanOf) (trees : List
   pub refused_memory : (Fact : Type 0) → NeedsMemoryOnlyIf OutOfMemory Fact given → NeedsMemoryOnlyIf OutOfMemory Fact result
   refused_memory Fact h = subst (NeedsMemoryOnlyIf OutOfMemory Fact) (sym told) (subst (NeedsMemoryOnlyIf OutOfMemory Fact) fails h)
 
-  pub refused_wrong : Checks (sharding_refusal is_empty catalog plan trees) given → IfRefused result (ShardingIsWrong catalog plan trees)
-  refused_wrong h =
+  pub refused_wrong : AllCarryKnown catalog → Checks (sharding_refusal is_empty catalog plan trees) given → IfRefused result (ShardingIsWrong catalog plan trees)
+  refused_wrong known h =
       let refused : found ≢ OutOfMemory → sharding_refusal is_empty catalog plan trees ≡ Some found = subst (Checks (sharding_refusal is_empty catalog plan trees)) fails h in
       subst (λ (result : Result B CheckError). IfRefused result (ShardingIsWrong catalog plan trees)) (sym told)
-      (λ other. sharding_wrong catalog plan trees found (refused other))
+      (λ other. sharding_wrong catalog plan trees found known (refused other))

@@ -5,6 +5,7 @@ use Rattle.std.specs.Borrow.{Bor}
 use Rattle.std.specs.Option.{option_map}
 use Rattle.filter_tree.specs.Expr.{Expr}
 use Rattle.filter_tree.specs.Memory.{NeedsMemoryOnlyIf}
+use Rattle.pub_catalog.specs.CatalogEntries.{AllCarryKnown}
 use Rattle.pub_catalog.specs.Catalogs.{CatalogOf}
 use Rattle.replica_identity.specs.Plans.{PlanOf}
 use Rattle.split_cert.specs.declared.error.CertError.{CertError}
@@ -132,10 +133,10 @@ module _ {A B : Type 0} (catalog : CatalogOf Expr) (plan : PlanOf) (texts : List
   pub refused_read : text_fault 1 texts ≡ None → AreRead texts result
   refused_read read = subst (AreRead texts) (sym told) read
 
-  pub refused_wrong : Checks (sharding_refusal is_empty catalog plan (trees_in texts)) given → IfTextRefused result (ShardingIsWrong catalog plan (trees_in texts))
-  refused_wrong h =
+  pub refused_wrong : AllCarryKnown catalog → Checks (sharding_refusal is_empty catalog plan (trees_in texts)) given → IfTextRefused result (ShardingIsWrong catalog plan (trees_in texts))
+  refused_wrong known h =
       subst (λ (result : Result B TextError). IfTextRefused result (ShardingIsWrong catalog plan (trees_in texts))) (sym told)
-      (λ other. sharding_wrong catalog plan (trees_in texts) found (found_by h other))
+      (λ other. sharding_wrong catalog plan (trees_in texts) found known (found_by h other))
 
   pub refused_memory : NeedsMemoryOnlyIf OutOfMemory (declared_refusal catalog ≡ None) given → TextNeedsMemoryOnlyIf (declared_refusal catalog ≡ None) result
   refused_memory h =

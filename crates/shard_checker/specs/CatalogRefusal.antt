@@ -1,4 +1,4 @@
--- Why a sharding is refused, of several reasons the first: a publication that is taken and doesn't publish an operation, a table whose replica identity doesn't tell its rows apart, a publication that is taken and carries a table that isn't there or has a filter that names a column outside the replica identity, too few or too many certificates, and then the certificates, table by table. PostgreSQL 15, "Logical Replication", 31.1 Publication.
+-- Why a sharding is refused, of several reasons the first: a publication that is taken and doesn't publish an operation, a table whose replica identity doesn't tell its rows apart, a publication that is taken and has a filter that names a column outside the replica identity, too few or too many certificates, and then the certificates, table by table. PostgreSQL 15, "Logical Replication", 31.1 Publication.
 use Rattle.std.specs.Prelude.{ℕ, ◌+◌, ◌==◌, if◌then◌else◌, List, [], ◌∷◌, length, Option, Some, None, slice_get}
 use Rattle.filter_tree.specs.Expr.{Expr}
 use Rattle.filter_tree.specs.Lists.{distinct_columns}
@@ -14,7 +14,7 @@ use Rattle.shard_checker.specs.Emptiness.{Test}
 use Rattle.shard_checker.specs.Refusal.{first_of, first_refusal}
 use Rattle.shard_checker.specs.Sound.{is_taken}
 use Rattle.shard_checker.specs.declared.error.CheckError.{CheckError}
-use Rattle.shard_checker.specs.declared.error.CheckError.TheVariants.{PublishMissing, NoIdentity, UnknownTable, NotCovered, CertCount}
+use Rattle.shard_checker.specs.declared.error.CheckError.TheVariants.{PublishMissing, NoIdentity, NotCovered, CertCount}
 use Rattle.shard_checker.specs.declared.error.Operation.{Operation}
 use Rattle.shard_checker.specs.declared.error.Operation.TheVariants.{Insert, Update, Delete, Truncate}
 
@@ -50,7 +50,7 @@ abbrev pub identity_refusal : ℕ → List Table → Option CheckError
 identity_refusal number [] = None
 identity_refusal number (table ∷ tables) = first_of (table_refusal number table) (identity_refusal (number + 1) tables)
 
--- ---- which tables are carried, and which columns filters name
+-- ---- which columns filters name
 
 -- the first of these columns that the replica identity of the table, which has this number, lacks
 abbrev pub column_refusal : ℕ → ℕ → Table → List ℕ → Option CheckError
@@ -62,9 +62,9 @@ abbrev pub filter_refusal : ℕ → ℕ → Table → Option Expr → Option Che
 filter_refusal publication number table None = None
 filter_refusal publication number table (Some filter) = column_refusal publication number table (distinct_columns filter)
 
--- of the table of this number, if it is there
+-- of the table of this number; the entries of a catalog are for tables that are there
 abbrev pub carried_refusal : ℕ → ℕ → Option Table → Option Expr → Option CheckError
-carried_refusal publication number None filter = Some (UnknownTable publication number)
+carried_refusal publication number None filter = None
 carried_refusal publication number (Some table) filter = filter_refusal publication number table filter
 
 abbrev pub entry_refusal : List Table → ℕ → EntryOf Expr → Option CheckError

@@ -1,5 +1,5 @@
 -- What the first refusal of a sharding says of the publication, the table, the column or the certificate that it names: PostgreSQL 15, "Logical Replication", 31.1 Publication.
-use Rattle.std.specs.Prelude.{◌≡◌, ◌≢◌, ℕ, Bool, true, false, List, length, Contains, Some, None, slice_get}
+use Rattle.std.specs.Prelude.{◌≡◌, ◌≢◌, ℕ, ◌<◌, Bool, true, false, List, length, Contains, Some, slice_get}
 use Rattle.filter_tree.specs.Expr.{Expr}
 use Rattle.filter_tree.specs.Lists.{distinct_columns}
 use Rattle.filter_tree.specs.declared.table.Table.{Table}
@@ -12,7 +12,7 @@ use Rattle.shard_checker.specs.CatalogRefusal.{table_shares}
 use Rattle.shard_checker.specs.Sound.{is_taken}
 use Rattle.shard_checker.specs.Truth.{CertificateIsWrong}
 use Rattle.shard_checker.specs.declared.error.CheckError.{CheckError}
-use Rattle.shard_checker.specs.declared.error.CheckError.TheVariants.{PublishMissing, NoIdentity, UnknownTable, NotCovered, CertCount, BadIndex, NotEmpty, MayBeNull, NotOwner, SecondOwner, OutOfMemory}
+use Rattle.shard_checker.specs.declared.error.CheckError.TheVariants.{PublishMissing, NoIdentity, NotCovered, CertCount, BadIndex, NotEmpty, MayBeNull, NotOwner, SecondOwner, OutOfMemory}
 use Rattle.shard_checker.specs.declared.error.Operation.{Operation}
 use Rattle.shard_checker.specs.declared.error.Operation.TheVariants.{Insert, Update, Delete, Truncate}
 
@@ -35,17 +35,7 @@ pub record TellsNoRows (catalog : CatalogOf Expr) (number : ℕ) : Type 0 where
   pub there : slice_get catalog.tables number ≡ Some table
   pub untold : tells_rows_apart table ≡ false
 
--- the publication of this number is taken, and carries a table of a number that no table has
-pub record CarriesUnknown (catalog : CatalogOf Expr) (number table : ℕ) : Type 0 where
-  pub publication : PublicationOf Expr
-  pub there : slice_get catalog.publications number ≡ Some publication
-  pub taken : is_taken catalog.subscriptions number ≡ true
-  pub entry : EntryOf Expr
-  pub has_entry : Contains publication.entries entry
-  pub of_table : entry.table ≡ table
-  pub unknown : slice_get catalog.tables table ≡ None
-
--- the filter of an entry for the table of this number, which is there, names the column, and the table's replica identity lacks it
+-- the filter of an entry for the table of this number, which is there, names a column of it, and the table's replica identity lacks that
 pub record NamesUncovered (tables : List Table) (entry : EntryOf Expr) (number column : ℕ) : Type 0 where
   pub of_table : entry.table ≡ number
   pub table : Table
@@ -53,6 +43,7 @@ pub record NamesUncovered (tables : List Table) (entry : EntryOf Expr) (number c
   pub filter : Expr
   pub filters : entry.filter ≡ Some filter
   pub names : Contains (distinct_columns filter) column
+  pub within : column < length table.columns
   pub lacks : is_covered table column ≡ false
 
 -- the publication of this number is taken, and has such an entry
@@ -76,7 +67,6 @@ pub record HasWrongCertificate (catalog : CatalogOf Expr) (plan : PlanOf) (trees
 abbrev pub ShardingIsWrong : CatalogOf Expr → PlanOf → List Tree → CheckError → Type 0
 ShardingIsWrong catalog plan trees (PublishMissing publication operation) = DoesNotPublish catalog publication operation
 ShardingIsWrong catalog plan trees (NoIdentity table) = TellsNoRows catalog table
-ShardingIsWrong catalog plan trees (UnknownTable publication table) = CarriesUnknown catalog publication table
 ShardingIsWrong catalog plan trees (NotCovered publication table column) = HasUncovered catalog publication table column
 ShardingIsWrong catalog plan trees CertCount = length trees ≢ length catalog.tables
 ShardingIsWrong catalog plan trees (BadIndex table node) = HasWrongCertificate catalog plan trees table (BadIndex table node)

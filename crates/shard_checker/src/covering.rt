@@ -1,4 +1,4 @@
-//! What replica identities record, and which tables and columns the publications that are taken name.
+//! What replica identities record, and which columns the publications that are taken name.
 
 ghost use Rattle.std.specs.Prelude.{◌≢◌, IfErr, Some, map};
 ghost use Rattle.std.specs.Option.{option_map};
@@ -70,7 +70,7 @@ fn check_filter(
     check_columns(publication, number, table, &columns)
 }
 
-/// Checks that the table of an entry is there, and that its replica identity has the columns that the filter names.
+/// Checks that the replica identity of an entry's table has the columns that the filter names.
 fn check_carried(
     alloc: Global,
     publication: usize,
@@ -83,12 +83,8 @@ fn check_carried(
         (option_map (λ f. expr_view f.now) filter.entry)) result }
 {
     match (table, filter) {
-        (None, _) => Err(CheckError::UnknownTable {
-            publication,
-            table: number,
-        }),
-        (Some(_), None) => Ok(()),
         (Some(table), Some(filter)) => check_filter(alloc, publication, number, table, filter),
+        (None, _) | (_, None) => Ok(()),
     }
 }
 

@@ -35,14 +35,8 @@ pub enum CheckError {
     NoIdentity {
         table: usize,
     },
-    /// A subscription takes the publication, which carries a table that isn't there. No catalog that `read_catalog`
-    /// gives has one.
-    #[error("publication {publication} carries table {table}, which is not in the catalog")]
-    UnknownTable {
-        publication: usize,
-        table: usize,
-    },
-    /// A subscription takes the publication, whose filter of the table names a column outside the replica identity.
+    /// A subscription takes the publication, whose filter of the table names a column of it that is outside the replica
+    /// identity.
     #[error("a filter of publication {publication} names column {column} of table {table}, which is not in the replica identity")]
     NotCovered {
         publication: usize,

@@ -156,8 +156,8 @@ fn check_sharding<A: Allocator>(
 /// # Errors
 ///
 /// The first of these: an operation that a publication which is taken doesn't publish, by publications; a table whose
-/// replica identity doesn't tell its rows apart; a table that isn't there, or a column that a filter names and the
-/// replica identity lacks, by publications that are taken, their entries, and columns in the order of first appearance;
+/// replica identity doesn't tell its rows apart; a column that a filter names and the replica identity lacks, by
+/// publications that are taken, their entries, and columns in the order of first appearance;
 /// another number of certificates than of tables; and then the error of the first certificate that has one, as
 /// `check_one` has it, with the table's number. `OutOfMemory` may come in place of these, but not of the first two
 /// (`memory`). What an error says of what it names is so (`wrong`). With an error the catalog and the plan are dropped.

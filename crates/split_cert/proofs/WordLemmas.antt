@@ -15,7 +15,7 @@ use Rattle.split_cert.specs.declared.head.Kind.{Kind}
 use Rattle.split_cert.specs.declared.head.Kind.TheVariants.{Split, Owner, Empty, NeverNull}
 use Rattle.split_cert.specs.Numbers.{number_from, number_of}
 use Rattle.split_cert.specs.Reading.{Here, Outcome, Rule, and_then, is_of_word, word_len, past, word, space_first, space, meant, letter_of, kind_of_letter, kind_of, letter, number}
-use Rattle.split_cert.proofs.NumberLemmas.{own}
+use Rattle.split_cert.proofs.NumberLemmas.{by_test, own}
 
 abbrev pub at : ℕ → ℕ → List ℕ → Here
 at place nodes rest = record { place = place; nodes = nodes; rest = rest }
@@ -43,10 +43,6 @@ Takes-are : (here mid after : Here) (text other : List ℕ) → text ≡ other �
 Takes-are here mid after text other p q takes = subst (λ t. Takes here t after) p (subst (λ m. Takes here text m) q takes)
 
 -- ---- a word
-
-by_test : {P : Type 0} (b : Bool) → (b ≡ true → P) → (b ≡ false → P) → P
-by_test true holds fails = holds refl
-by_test false holds fails = fails refl
 
 unless_ended : {A : Type 0} (b : Bool) (fault : CertError) (x y : A) → (if b then Err fault else done x) ≡ Ok y → x ≡ y
 unless_ended true fault x y e = absurd cc

@@ -12,6 +12,7 @@ use Rattle.filter_tree.specs.Order.{row_cmp}
 use Rattle.filter_tree.specs.Same.{same_constant}
 use Rattle.filter_tree.proofs.OrderLemmas.{datum_total, row_tie}
 use Rattle.sql_reader.specs.Ascending.{constant_cmp, placed, ascending, ListsAscend}
+use Rattle.sql_reader.proofs.Cases.{or_false}
 
 -- ---- the order
 
@@ -69,10 +70,6 @@ unfolding ascending IsStrictlySortedBy
 ascending_strictly constants = all_strictly [] constants tt
 
 -- ---- it has the same constants
-
-pub or_false : (p : Bool) → (p || false) ≡ p
-or_false true = refl
-or_false false = refl
 
 or_twice : (p q : Bool) → (p || q) ≡ (p || (p || q))
 or_twice true q = refl

@@ -10,6 +10,7 @@ use Rattle.sql_reader.specs.Items.{Items, size}
 use Rattle.sql_reader.specs.Operands.{Forms}
 use Rattle.sql_reader.specs.Reading.{Fault, Outcome, Rule, and_then, next_is, rest_of}
 use Rattle.sql_reader.specs.Turns.{Step, after_step, goes, at_most, repeat, link, linked, one_more, each, guarded}
+use Rattle.sql_reader.proofs.Cases.{by_test}
 
 -- an outcome with its value carried over
 abbrev pub mapped : {S T : Type 0} → (S → T) → Outcome S → Outcome T
@@ -49,10 +50,6 @@ abbrev pub step_mapped : {S T : Type 0} → (S → T) → Result (Option (S × I
 step_mapped h (Ok (Some read)) = Ok (Some (h read.0, read.1))
 step_mapped h (Ok None) = Ok None
 step_mapped h (Err fault) = Err fault
-
-pub by_test : {P : Type 0} (b : Bool) → (b ≡ true → P) → (b ≡ false → P) → P
-by_test true holds fails = holds refl
-by_test false holds fails = fails refl
 
 after-carried : {S T : Type 0} (h : S → T) (n : ℕ) (step : Step S) (other : Step T) (s : S) (ts : Items) →
     ((x : S × Items) → at_most n other (h x.0) x.1 ≡ mapped h (at_most n step x.0 x.1)) →

@@ -20,7 +20,8 @@ use Rattle.sql_reader.specs.Memberships.{among_part, between_part, distinct_part
 use Rattle.sql_reader.specs.Operands.{Forms, OperandOf, PartOf, verdict_map, wanted, negated, joined, dividend, remainder, comparison_by, compared_part, tested as tested_part}
 use Rattle.sql_reader.specs.Reading.{Rule, Verdict, and_then, with_rest, is_ahead, item_ahead, place_ahead, next_is, expect, rest_of}
 use Rattle.sql_reader.specs.Turns.{link}
-use Rattle.sql_reader.proofs.Carrying.{mapped, Carries, by_test, then-same, then-carried, repeat-carried, link-carried}
+use Rattle.sql_reader.proofs.Carrying.{mapped, Carries, then-same, then-carried, repeat-carried, link-carried}
+use Rattle.sql_reader.proofs.Cases.{by_test}
 use Rattle.sql_reader.proofs.CarryingParts.{operand_map, part_map, check-carried, simple-carried, dividend-same, remainder-carried, wanted-carried, negated-carried, joined-carried, compared_part-carried, tested_part-carried, among_part-carried, between_part-carried, distinct_part-carried}
 
 module _ {S T : Type 0} (from : Forms S) (to : Forms T) (h : S → T) (carries : Carries from to h) (columns : List Column) where

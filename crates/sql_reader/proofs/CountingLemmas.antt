@@ -9,10 +9,7 @@ use Rattle.filter_tree.specs.Same.{same_atom}
 use Rattle.sql_reader.specs.Counting.{atoms_backwards, gathered}
 use Rattle.sql_reader.specs.Limits.{nodes, distinct_count}
 use Rattle.sql_reader.proofs.OrderLemmas.{all_backwards_alike}
-
-by_test : {P : Type 0} (b : Bool) → (b ≡ true → P) → (b ≡ false → P) → P
-by_test true at_true at_false = at_true refl
-by_test false at_true at_false = at_false refl
+use Rattle.sql_reader.proofs.Cases.{by_test}
 
 with_item_grows : (held : List AtomOf) (c : AtomOf) → length held ≤ length (with_item same_atom held c)
 with_item_grows held c = by_test (list_any (same_atom c) held)

@@ -3,12 +3,14 @@ pub mod AscendingLemmas
 pub mod Carrying
 pub mod CarryingExpressions
 pub mod CarryingParts
+pub mod Cases
 pub mod CountingLemmas
 pub mod Cuts
 pub mod Doubling
 pub mod Keeping
 pub mod Leaving
 pub mod Meanings
+pub mod NamedColumns
 pub mod Nesting
 pub mod OrderLemmas
 pub mod Placing

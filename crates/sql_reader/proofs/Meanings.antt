@@ -19,7 +19,8 @@ use Rattle.filter_tree.specs.Logic.{or_of, tri_of}
 use Rattle.filter_tree.specs.Expr.{term_value, remainder_of, is_missing, meaning}
 use Rattle.sql_reader.specs.Ascending.{ascending}
 use Rattle.sql_reader.specs.Written.{Written, Told, Column, Compared, ComparedFrom, Among, Between, Distinct, IsNull, Is, Negated, And, Or, compare_values, among_values, between_values, distinct_values, truth_value, turned, as_written, as_filter, filter_of, written_meaning}
-use Rattle.sql_reader.proofs.AscendingLemmas.{or_false, any_ascending}
+use Rattle.sql_reader.proofs.AscendingLemmas.{any_ascending}
+use Rattle.sql_reader.proofs.Cases.{or_false}
 use Rattle.sql_reader.proofs.Carrying.{Carries}
 
 pub filters_carry : Carries as_written as_filter filter_of

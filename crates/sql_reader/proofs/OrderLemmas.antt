@@ -8,10 +8,7 @@ use Rattle.filter_tree.specs.Lists.{with_item, atoms_in}
 use Rattle.filter_tree.specs.Same.{same_atom}
 use Rattle.filter_tree.proofs.SameLemmas.{same_atom_is, same_atom_of_equal}
 use Rattle.sql_reader.specs.Counting.{atoms_backwards}
-
-by_test : {P : Type 0} (b : Bool) → (b ≡ true → P) → (b ≡ false → P) → P
-by_test true at_true at_false = at_true refl
-by_test false at_true at_false = at_false refl
+use Rattle.sql_reader.proofs.Cases.{by_test, or_false, or_true}
 
 abbrev added : List AtomOf → AtomOf → List AtomOf
 added held x = with_item same_atom held x
@@ -32,14 +29,6 @@ alike_sym one other h = record { members = λ c. sym (h.members c); lengths = sy
 
 alike_trans : (one middle other : List AtomOf) → Alike one middle → Alike middle other → Alike one other
 alike_trans one middle other h k = record { members = λ c. h.members c ∙ k.members c; lengths = h.lengths ∙ k.lengths }
-
-or_false : (b : Bool) → (b || false) ≡ b
-or_false true = refl
-or_false false = refl
-
-or_true : (b : Bool) → (b || true) ≡ true
-or_true true = refl
-or_true false = refl
 
 or_swap : (a b c : Bool) → ((a || b) || c) ≡ ((a || c) || b)
 or_swap true b c = refl

@@ -8,10 +8,7 @@ use Rattle.sql_reader.specs.declared.error.ReadError.{ReadError}
 use Rattle.sql_reader.specs.Items.{Items, size}
 use Rattle.sql_reader.specs.Reading.{Fault, Outcome, Rule, next_is, rest_of, Tells, told}
 use Rattle.sql_reader.specs.Turns.{Step, after_step, goes, at_most, repeat, link, linked, one_more, each, guarded}
-
-by_test : {P : Type 0} (b : Bool) → (b ≡ true → P) → (b ≡ false → P) → P
-by_test true holds fails = holds refl
-by_test false holds fails = fails refl
+use Rattle.sql_reader.proofs.Cases.{by_test}
 
 is_less : (m n : ℕ) → nat_lt m n ≡ true → m < n
 is_less m n e = grind (arith, nat_tests)

@@ -1,7 +1,7 @@
 -- A quoted text read a character at a time.
 use Rattle.std.proofs.Common.{◌≡◌, ℕ, suc, ◌+◌, ◌<◌, ◌≤◌, Bool, true, false, ◌&&◌, ◌||◌, ◌==◌, if◌then◌else◌, List, [], ◌∷◌, ◌++◌, length, get_or, encode_utf8, inl, inr, refl, sym, ap, ◌∙◌, arith, append-nil, append_assoc}
 use Rattle.std.specs.List.{list_any}
-use Rattle.std.proofs.lemmas.Bool.{cases_lt}
+use Rattle.std.proofs.lemmas.Bool.{cases_lt, or_parts}
 use Rattle.std.proofs.lemmas.Bool.Decides.{nat_tests}
 use Rattle.std.proofs.lemmas.Str.{encode_ascii, inside_one, length-encode, len_utf8_bounds}
 use Rattle.sql_tokens.specs.Quotes.{undoubled}
@@ -69,15 +69,11 @@ undoubled_from-char quote is_quote c rest small = elim (cases_lt c 128) [
       grind (arith, nat_tests)
 ]
 
-neither : (x y : Bool) → (x || y) ≡ false → (x ≡ false) × (y ≡ false)
-neither false y h = (refl, h)
-neither true y h = cc
-
 undoubled_from-without : (quote : ℕ) (bytes : List ℕ) → list_any (λ b. b == quote) bytes ≡ false → undoubled_from quote false bytes ≡ bytes
 unfolding undoubled_from
 undoubled_from-without quote [] none = refl
 undoubled_from-without quote (b ∷ bytes) none =
-    let parts = neither (b == quote) (list_any (λ b. b == quote) bytes) none in
+    let parts = or_parts (b == quote) (list_any (λ b. b == quote) bytes) none in
     rw parts.0 (ap (λ rest. b ∷ rest) (undoubled_from-without quote bytes parts.1))
 
 -- a text without quotes stays

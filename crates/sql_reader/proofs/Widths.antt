@@ -1,24 +1,33 @@
--- A table has at most 100 columns.
-use Rattle.std.proofs.Common.{◌≡◌, ℕ, zero, suc, ◌<◌, ◌≤◌, Bool, true, false, List, [], ◌∷◌, ◌++◌, length, refl, ap, arith}
-use Rattle.std.specs.Prelude.{nat_le, if◌then◌else◌, Option, Some, Ok, Err}
+-- A table has at most 100 columns, and the columns of its key are among them.
+use Rattle.std.proofs.Common.{◌≡◌, ℕ, zero, suc, ◌<◌, ◌≤◌, Bool, true, false, List, [], ◌∷◌, ◌++◌, All, length, refl, sym, ap, subst, arith}
+use Rattle.std.specs.Prelude.{nat_le, ◌||◌, if◌then◌else◌, Option, Some, Ok, Err}
 use Rattle.std.specs.Option.{is_some}
 use Rattle.std.proofs.lemmas.Bool.Decides.{nat_tests}
 use Rattle.std.proofs.lemmas.List.{length_push}
+use Rattle.std.proofs.lemmas.List.Elements.{All-nil, All-cons, All-push}
+use Rattle.filter_tree.specs.declared.table.ColType.{ColType}
 use Rattle.filter_tree.specs.declared.table.Column.{Column}
 use Rattle.sql_reader.specs.declared.word.Keyword.TheVariants as k
 use Rattle.sql_reader.specs.declared.item.Item.{Item}
 use Rattle.sql_reader.specs.declared.item.Item.TheVariants as i
 use Rattle.sql_reader.specs.declared.name.PlacedName.{PlacedName}
-use Rattle.sql_reader.specs.Columns.{Parts, no_parts, new_column, required, column_type, constraints, has_key, column_element, once_in_key, key_column, key_columns, first_key, key_element, element_by, element, elements}
+use Rattle.sql_reader.specs.declared.column.FoundColumn.{FoundColumn}
+use Rattle.sql_reader.specs.declared.column_rule.Constraints.{Constraints}
+use Rattle.sql_reader.specs.Columns.{Parts, no_parts, new_column, required, column_type, constraints, has_key, with_column, column_element, once_in_key, with_key_column, key_column, key_columns, first_key, key_element, element_by, element, elements}
 use Rattle.sql_reader.specs.Expressions.{find_column, known_column}
 use Rattle.sql_reader.specs.Items.{Items}
 use Rattle.sql_reader.specs.Names.{name}
 use Rattle.sql_reader.specs.Reading.{Fault, with_rest, expect, item_ahead, refuse}
 use Rattle.sql_reader.specs.Turns.{link}
+use Rattle.sql_reader.proofs.NamedColumns.{known_column-gives}
 use Rattle.sql_reader.proofs.Keeping.{Gives, then-gives, any-gives, chosen_rule-gives, repeat-gives, link-gives}
 
+-- the numbers are those of columns that are there
+abbrev pub AreColumns : List Column → List ℕ → Type 0
+AreColumns columns numbers = All (λ number. number < length columns) numbers
+
 abbrev pub IsNarrow : Parts → Type 0
-IsNarrow parts = length parts.columns ≤ 100
+IsNarrow parts = (length parts.columns ≤ 100) × AreColumns parts.columns parts.key
 
 -- where what is new is let in only below a limit, there is room for it
 pub room-gives : (is_taken is_full : Bool) (n most : ℕ) (one other : Fault) (ts : Items) → (is_full ≡ false → n < most) →
@@ -35,8 +44,16 @@ unfolding new_column
 new_column-gives parts called ts =
     room-gives (is_some (find_column called.text parts.columns)) (nat_le 100 (length parts.columns)) (length parts.columns) 100 _ _ ts (below 100 (length parts.columns))
 
-pushed-narrow : (columns : List Column) (column : Column) → length columns < 100 → length (columns ++ column ∷ []) ≤ 100
-pushed-narrow columns column room = omega (arith, length_push columns column)
+chosen_key : (is : Bool) (columns : List Column) (column : Column) (key : List ℕ) → AreColumns columns key
+    → AreColumns (columns ++ column ∷ []) (if is then length columns ∷ [] else key)
+chosen_key true columns column key h = All-cons (λ number. number < length (columns ++ column ∷ [])) (length columns) [] (omega (arith, length_push columns column)) (All-nil (λ number. number < length (columns ++ column ∷ [])))
+chosen_key false columns column key h = λ n d low. let before = h n d low in omega (arith, length_push columns column, before)
+
+pushed-narrow : (parts : Parts) (called : PlacedName) (kind : ColType) (given : Constraints) → length parts.columns < 100 → IsNarrow parts
+    → IsNarrow (with_column parts called kind given)
+pushed-narrow parts called kind given room narrow =
+    let column : Column = record { name = called.text; kind = kind; not_null = given.not_null || given.key } in
+    (omega (arith, length_push parts.columns column), chosen_key given.key parts.columns column parts.key narrow.1)
 
 column_element-gives : (parts : Parts) (ts : Items) → IsNarrow parts → Gives IsNarrow (column_element parts ts)
 unfolding column_element
@@ -44,22 +61,28 @@ column_element-gives parts ts narrow =
     any-gives IsNarrow (name ts) _ (λ called ts2.
     then-gives (λ (u : Unit {0}). length parts.columns < 100) IsNarrow (with_rest (new_column parts called) ts2) _ (new_column-gives parts called ts2) (λ n ts3 room.
     any-gives IsNarrow (column_type ts3) _ (λ kind ts4.
-    any-gives IsNarrow (constraints (has_key parts) ts4) _ (λ given ts5. pushed-narrow parts.columns _ room))))
+    any-gives IsNarrow (constraints (has_key parts) ts4) _ (λ given ts5. pushed-narrow parts called kind given room narrow))))
 
 length-required : (columns : List Column) (number : ℕ) → length (required columns number) ≡ length columns
 length-required [] number = refl
 length-required (column ∷ columns) zero = refl
 length-required (column ∷ columns) (suc number) = ap suc (length-required columns number)
 
-required-narrow : (columns : List Column) (number : ℕ) → length columns ≤ 100 → length (required columns number) ≤ 100
-required-narrow columns number narrow = omega (arith, length-required columns number)
+required-narrow : (parts : Parts) (column : FoundColumn) → IsNarrow parts → column.number < length parts.columns → IsNarrow (with_key_column parts column)
+required-narrow parts column narrow within =
+    let same = length-required parts.columns column.number in (
+      omega (arith, same, narrow.0),
+      subst (λ count. All (λ number. number < count) (parts.key ++ column.number ∷ [])) (sym same)
+          (All-push (λ number. number < length parts.columns) parts.key column.number narrow.1 within),
+    )
 
 key_column-gives : (parts : Parts) (ts : Items) → IsNarrow parts → Gives IsNarrow (key_column parts ts)
 unfolding key_column
 key_column-gives parts ts narrow =
     any-gives IsNarrow (name ts) _ (λ called ts2.
-    any-gives IsNarrow (with_rest (known_column parts.columns called) ts2) _ (λ column ts3.
-    any-gives IsNarrow (with_rest (once_in_key parts called column) ts3) _ (λ n ts4. required-narrow parts.columns column.number narrow)))
+    then-gives (λ (column : FoundColumn). column.number < length parts.columns) IsNarrow (with_rest (known_column parts.columns called) ts2) _
+    (known_column-gives parts.columns called ts2) (λ column ts3 within.
+    any-gives IsNarrow (with_rest (once_in_key parts called column) ts3) _ (λ n ts4. required-narrow parts column narrow within)))
 
 key_columns-gives : (parts : Parts) (ts : Items) → IsNarrow parts → Gives IsNarrow (key_columns parts ts)
 unfolding key_columns
@@ -95,5 +118,5 @@ element-gives parts ts narrow = element_by-gives (item_ahead ts) parts ts narrow
 pub elements-gives : (ts : Items) → Gives IsNarrow (elements ts)
 unfolding elements
 elements-gives ts =
-    then-gives IsNarrow IsNarrow (element no_parts ts) _ (element-gives no_parts ts (omega arith)) (λ parts ts2 h.
+    then-gives IsNarrow IsNarrow (element no_parts ts) _ (element-gives no_parts ts (omega arith, All-nil (λ (number : ℕ). number < 0))) (λ parts ts2 h.
     repeat-gives IsNarrow (link i.Comma element) (link-gives IsNarrow i.Comma element element-gives) parts ts2 h)

@@ -1,5 +1,6 @@
 use Rattle.std.proofs.Common.{◌≡◌, rules, map}
 use Rattle.std.specs.Prelude.{None}
+use Rattle.pub_catalog.proofs.CatalogFacts.{catalog_entries_known}
 use Rattle.pub_catalog.specs.CatalogView.{catalog_view}
 use Rattle.replica_identity.specs.Plans.{plan_view}
 use Rattle.split_cert.specs.Where.{tree_view}
@@ -12,10 +13,10 @@ use Rattle.shard_checker.proofs.sharding.check.Goals as goal
 
 -- nothing was refused
 pub new-requires-clause-sound : goal.new-requires-clause-sound
-new-requires-clause-sound g c = sharding_sound (catalog_view c.args.catalog) (plan_view c.args.plan) (map tree_view c.args.certs.now) c.in_ok-check_sharding.ensures.exact c.requires
+new-requires-clause-sound g c = sharding_sound (catalog_view c.args.catalog) (plan_view c.args.plan) (map tree_view c.args.certs.now) (catalog_entries_known c.args.catalog) c.in_ok-check_sharding.ensures.exact c.requires
 
 pub returns-clause-sound : goal.returns-clause-sound
-returns-clause-sound g c = sharding_sound (catalog_view c.args.catalog) (plan_view c.args.plan) (map tree_view c.args.certs.now) c.in_ok-check_sharding.ensures.exact c.requires
+returns-clause-sound g c = sharding_sound (catalog_view c.args.catalog) (plan_view c.args.plan) (map tree_view c.args.certs.now) (catalog_entries_known c.args.catalog) c.in_ok-check_sharding.ensures.exact c.requires
 
 pub returns-clause-covered : goal.returns-clause-covered
 returns-clause-covered g c = own_covered (catalog_view c.args.catalog) (plan_view c.args.plan) c.requires (returns-clause-sound g c)
@@ -40,7 +41,7 @@ returns-in_err-check_sharding-clause-memory g c =
 pub returns-in_err-check_sharding-clause-wrong : goal.returns-in_err-check_sharding-clause-wrong
 returns-in_err-check_sharding-clause-wrong g c =
     refused_wrong (catalog_view c.args.catalog) (plan_view c.args.plan) (map tree_view c.args.certs.now) c.check_sharding.result c.in_err-check_sharding.field-0.0 c.from_residual.result
-    (search rules) (search rules) c.check_sharding.ensures.exact
+    (search rules) (search rules) (catalog_entries_known c.args.catalog) c.check_sharding.ensures.exact
 
 pub returns-clause-exact : goal.returns-clause-exact
 returns-clause-exact g c = λ test tells.

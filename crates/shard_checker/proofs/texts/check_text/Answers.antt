@@ -1,5 +1,6 @@
 use Rattle.std.proofs.Common.{◌≡◌, ◌≢◌, rules}
 use Rattle.std.specs.Prelude.{None}
+use Rattle.pub_catalog.proofs.CatalogFacts.{catalog_entries_known}
 use Rattle.pub_catalog.specs.CatalogView.{catalog_view}
 use Rattle.replica_identity.specs.Plans.{plan_view}
 use Rattle.shard_checker.specs.CatalogRefusal.{declared_refusal}
@@ -14,11 +15,11 @@ use Rattle.shard_checker.proofs.texts.check_text.Goals as goal
 -- nothing was refused
 pub new-requires-clause-sound : goal.new-requires-clause-sound
 new-requires-clause-sound c =
-    sharding_sound (catalog_view c.args.catalog) (plan_view c.args.plan) (trees_in (texts_view c.args.texts.now)) (c.in_ok-check_texts.ensures.exact c.in_ok-read_texts.ensures) c.requires
+    sharding_sound (catalog_view c.args.catalog) (plan_view c.args.plan) (trees_in (texts_view c.args.texts.now)) (catalog_entries_known c.args.catalog) (c.in_ok-check_texts.ensures.exact c.in_ok-read_texts.ensures) c.requires
 
 pub returns-clause-sound : goal.returns-clause-sound
 returns-clause-sound c =
-    sharding_sound (catalog_view c.args.catalog) (plan_view c.args.plan) (trees_in (texts_view c.args.texts.now)) (c.in_ok-check_texts.ensures.exact c.in_ok-read_texts.ensures) c.requires
+    sharding_sound (catalog_view c.args.catalog) (plan_view c.args.plan) (trees_in (texts_view c.args.texts.now)) (catalog_entries_known c.args.catalog) (c.in_ok-check_texts.ensures.exact c.in_ok-read_texts.ensures) c.requires
 
 pub returns-clause-covered : goal.returns-clause-covered
 returns-clause-covered c = own_covered (catalog_view c.args.catalog) (plan_view c.args.plan) c.requires (returns-clause-sound c)
@@ -52,7 +53,7 @@ returns-in_err-check_texts-clause-memory c =
 pub returns-in_err-check_texts-clause-wrong : goal.returns-in_err-check_texts-clause-wrong
 returns-in_err-check_texts-clause-wrong c =
     refused_wrong (catalog_view c.args.catalog) (plan_view c.args.plan) (texts_view c.args.texts.now) c.check_texts.result c.in_err-check_texts.field-0.0 c.from_residual-in_err-check_texts.result
-    (search rules) (search rules) (c.check_texts.ensures.exact c.in_ok-read_texts.ensures)
+    (search rules) (search rules) (catalog_entries_known c.args.catalog) (c.check_texts.ensures.exact c.in_ok-read_texts.ensures)
 
 -- a text isn't read
 pub returns-in_err-read_texts-clause-exact : goal.returns-in_err-read_texts-clause-exact

@@ -1,6 +1,6 @@
 use Rattle.std.proofs.Common.{Ok, arith, ap, sym, map, ◌∙◌}
 use Rattle.filter_tree.specs.Values.{datum_view}
-use Rattle.sql_reader.specs.declared.item.Item.TheVariants.{Open, Close}
+use Rattle.sql_reader.specs.declared.item.Item.TheVariants.{Close}
 use Rattle.sql_reader.specs.Items.{to_read}
 use Rattle.sql_reader.specs.Reading.{and_then, expect, pure, ◌>>=◌, ◌>>◌}
 use Rattle.sql_reader.specs.Rows as spec

@@ -1,7 +1,8 @@
-use Rattle.std.proofs.Common.{◌≡◌, ◌∙◌, All, map, length, ap, sym, subst, arith}
+use Rattle.std.proofs.Common.{◌≡◌, ◌∙◌, All, map, length, ap, sym, subst, rules, arith}
 use Rattle.std.proofs.lemmas.List.{length-map}
 use Rattle.filter_tree.specs.Expr.{Expr}
 use Rattle.pub_catalog.specs.declared.catalog.Publication.{Publication}
+use Rattle.pub_catalog.specs.CatalogEntries.{CarriesKnown}
 use Rattle.pub_catalog.specs.CatalogNames.{AreOwnNames, TakesKnown}
 use Rattle.pub_catalog.specs.CatalogView.{publication_view}
 use Rattle.pub_catalog.specs.Catalogs.{PublicationOf}
@@ -25,6 +26,8 @@ invariant_of-result c =
     let names : map (λ (p : PublicationOf Expr). p.name) (map (resolved_publication c.args.self.tables.items) drafts) ≡ map (λ (p : Publication). p.name) publications =
     resolved_names c.args.self.tables.items drafts ∙ sym (resolved_names c.as_slice.result.now drafts)
     ∙ sym (ap (map (λ (p : PublicationOf Expr). p.name)) c.in_ok-publications.ensures) ∙ names_viewed publications in
+    let entries : map (resolved_publication c.args.self.tables.items) drafts ≡ map publication_view publications =
+    ap (λ tables. map (resolved_publication tables) drafts) (search rules) ∙ sym c.in_ok-publications.ensures in
     record {
       few_tables = c.requires.limits.tables;
       limited_tables = ∣ c.requires.limits.each_table ∣₁;
@@ -32,5 +35,6 @@ invariant_of-result c =
       few_subscriptions = c.requires.limits.subscriptions;
       named_publications = ∣ subst AreOwnNames names c.requires.names.publications ∣₁;
       named_subscriptions = ∣ c.requires.names.subscriptions ∣₁;
+      known_entries = ∣ subst (All (CarriesKnown c.args.self.tables.items)) entries c.requires.entries ∣₁;
       taken_publications = ∣ subst (λ n. All (TakesKnown n) c.args.self.subscriptions.items) count c.requires.names.taken ∣₁;
     }
