@@ -14,7 +14,8 @@ use Rattle.shard_checker.specs.CatalogRefusal.{table_shares}
 use Rattle.split_cert.specs.Where.{tree_view}
 use Rattle.cert_maker.proofs.NumberingLemmas.{accepted_anyhow}
 use Rattle.cert_maker.specs.Answers.{IsAnswer, numbers_from, owners_of}
-use Rattle.cert_maker.specs.Owners.{owners_from, IsRight}
+use Rattle.cert_maker.specs.Owners.{IsRight}
+use Rattle.cert_search.specs.Owners.{owners_from}
 use Rattle.cert_maker.specs.declared.made.Made.{Made}
 use Rattle.cert_maker.specs.declared.made.Made.TheVariants.{Cert, Counter, Unknown, TooLarge, OutOfMemory}
 

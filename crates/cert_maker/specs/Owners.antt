@@ -1,19 +1,15 @@
--- Which shares of a table take a row: its owners; and what an answer of the maker says of a table's shares: PostgreSQL 15, "Logical Replication", 31.3 Row Filters.
-use Rattle.std.specs.Prelude.{◌≡◌, ◌≢◌, ℕ, ◌+◌, if◌then◌else◌, List, [], ◌∷◌, length, None}
+-- What an answer of the maker says of a table's shares: PostgreSQL 15, "Logical Replication", 31.3 Row Filters.
+use Rattle.std.specs.Prelude.{◌≡◌, ◌≢◌, ℕ, List, length, None}
 use Rattle.filter_tree.specs.Datum.{Datum}
 use Rattle.filter_tree.specs.Valid.{IsValid}
 use Rattle.filter_tree.specs.declared.table.Table.{Table}
-use Rattle.replica_identity.specs.Shares.{ShareOf, takes}
+use Rattle.replica_identity.specs.Shares.{ShareOf}
 use Rattle.shard_checker.specs.Emptiness.{Test, IsEmptiness}
 use Rattle.shard_checker.specs.Refusal.{first_refusal}
 use Rattle.split_cert.specs.Tree.{Tree, IsWithinLimits}
+use Rattle.cert_search.specs.Owners.{owners_from}
 use Rattle.cert_maker.specs.Answers.{IfCert, IfCounter}
 use Rattle.cert_maker.specs.declared.made.Made.{Made}
-
--- the numbers of the shares that take the row, where the first share has this number
-abbrev pub owners_from : ℕ → List ShareOf → List Datum → List ℕ
-owners_from number [] row = []
-owners_from number (share ∷ shares) row = if takes share row then number ∷ owners_from (number + 1) shares row else owners_from (number + 1) shares row
 
 -- the row fits the table, and has no owner or several
 pub record IsCounterOf (table : Table) (shares : List ShareOf) (row : List Datum) (owners : List ℕ) : Type 0 where

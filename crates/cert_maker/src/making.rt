@@ -10,9 +10,8 @@ ghost use Rattle.cert_maker.specs.Owners.{IsRight};
 ghost use Rattle.cert_maker.specs.declared.made.Made.TheVariants.{Unknown};
 
 use crate::made::Made;
-use crate::owners::owners_of;
-use crate::search::{Found, look};
 use bumpalo::Bump;
+use cert_search::{Found, look, owners_of};
 use filter_tree::{Row, Table, valid};
 use pub_catalog::Catalog;
 use replica_identity::{Plan, Share};

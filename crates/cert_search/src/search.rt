@@ -35,7 +35,7 @@ enum Stop {
 
 impl From<AllocError> for Stop {
     ghost use Rattle.std.specs.Prelude.{◌≡◌};
-    ghost use Rattle.cert_maker.specs.declared.search.Stop.TheVariants.{OutOfMemory};
+    ghost use Rattle.cert_search.specs.declared.search.Stop.TheVariants.{OutOfMemory};
 
     ghost from_gives = { λ _ stop. stop ≡ OutOfMemory };
 
@@ -46,7 +46,7 @@ impl From<AllocError> for Stop {
 
 impl<T: Drop> From<AllocFailed<T>> for Stop {
     ghost use Rattle.std.specs.Prelude.{◌≡◌};
-    ghost use Rattle.cert_maker.specs.declared.search.Stop.TheVariants.{OutOfMemory};
+    ghost use Rattle.cert_search.specs.declared.search.Stop.TheVariants.{OutOfMemory};
 
     ghost from_gives = { λ _ stop. stop ≡ OutOfMemory };
 

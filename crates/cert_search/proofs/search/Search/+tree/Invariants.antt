@@ -1,5 +1,5 @@
 use Rattle.std.proofs.Common.{◌+◌, ◌*◌}
-use Rattle.cert_maker.proofs.search.Search.+tree.Given as goal
+use Rattle.cert_search.proofs.search.Search.+tree.Given as goal
 
 -- the splits that the path may still have, where a split goes before its branches, and a branch before its tree
 abbrev pub decreases-branch : goal.decreases-branch

@@ -2,7 +2,7 @@
 
 ghost use Rattle.std.specs.Prelude.{◌≡◌, IfOk};
 ghost use Rattle.shard_checker.specs.Owners.{shares_view};
-ghost use Rattle.cert_maker.specs.Owners.{owners_from};
+ghost use Rattle.cert_search.specs.Owners.{owners_from};
 
 use filter_tree::{Row, Table, valid};
 use replica_identity::Share;

@@ -1,7 +1,7 @@
 use Rattle.std.proofs.Common.{◌≡◌, ◌++◌, drop}
 use Rattle.shard_checker.specs.Owners.{shares_view}
-use Rattle.cert_maker.specs.Owners.{owners_from}
-use Rattle.cert_maker.proofs.owners.owners_of.Given as goal
+use Rattle.cert_search.specs.Owners.{owners_from}
+use Rattle.cert_search.proofs.owners.owners_of.Given as goal
 
 -- the owners so far, and those of the shares that are left
 abbrev pub invariant-loop-number : goal.invariant-loop-number

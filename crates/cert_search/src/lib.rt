@@ -1,0 +1,21 @@
+//! Looks for a certificate of a table with its shares, or for a row that shows that it isn't sharded well. Nothing is
+//! promised of what is found but that looking ends: `cert_maker` tests it.
+#![tactic(auto)]
+
+mod atoms;
+mod board;
+mod cells;
+mod choices;
+mod facts;
+mod formula;
+mod masks;
+mod numbers;
+mod owners;
+mod problem;
+mod rows;
+mod scores;
+mod search;
+mod texts;
+
+pub use owners::owners_of;
+pub use search::{Found, MAX_STEPS, look};
