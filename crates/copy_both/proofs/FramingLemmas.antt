@@ -1,30 +1,177 @@
 -- Messages are framed one after another.
-use Rattle.std.proofs.Common.{◌≡◌, ℕ, ◌+◌, ◌<◌, ◌≤◌, List, ◌∷◌, ◌++◌, length, drop, get_or, sym, ap, ◌∙◌, append_assoc, append-nil}
-use Rattle.std.specs.Prelude.{map}
+use Rattle.std.proofs.Common.{◌≡◌, ℕ, ◌+◌, ◌<◌, ◌≤◌, Option, Some, None, List, [], ◌∷◌, ◌++◌, length, length-append, take, drop, refl, sym, ap, ◌∙◌, append_assoc, append-nil, arith}
+use Rattle.std.specs.Prelude.{All, map}
+use Rattle.std.specs.Int.{to_be_bytes, w32}
 use Rattle.std.specs.List.{flat_map}
-use Rattle.std.proofs.lemmas.List.{drop_more, drop_all}
+use Rattle.std.proofs.lemmas.List.{map-append, take_at, take_all, drop_at, drop_all}
+use Rattle.std.proofs.lemmas.List.Concat.{flat_map-append, flat_map-cons}
+use Rattle.std.proofs.lemmas.List.Elements.{All-nil, All-cons}
+use Rattle.copy_frames.specs.Contents.{int64, xlog_data_body}
 use Rattle.copy_frames.specs.declared.xlog_data.XLogData.{XLogData}
-use Rattle.pgoutput_msgs.specs.Spelling.{spelling_of}
+use Rattle.pgoutput_msgs.specs.Ranges.{HasTexts, IsMaybeOldText}
+use Rattle.pgoutput_msgs.specs.Sinks.{Takes}
+use Rattle.pgoutput_msgs.specs.Spelling.{spelling_of, maybe_delete_spelling}
+use Rattle.pgoutput_msgs.specs.Telling.{begin_of, commit_of, enclosed, oid_of, old_of, maybe_old_of, message_of, named_in}
 use Rattle.pgoutput_msgs.specs.declared.message.Msg.{Msg}
-use Rattle.copy_both.specs.Framing.{with_head}
+use Rattle.pgoutput_msgs.specs.declared.message.Msg.TheVariants as m
+use Rattle.pgoutput_msgs.proofs.SentLemmas.{plain_delete}
+use Rattle.table_changes.specs.Records as r
+use Rattle.tables_log.specs.Sendable.{IsSendablePart, IsTableNumber}
+use Rattle.pgoutput_msgs.proofs.SinkLemmas.{takes_both, takes_message}
+use Rattle.tables_log.specs.Commits.{CommitOf}
+use borrow.Rule.Slice.PartMut.{put_mid}
+use Rattle.copy_both.specs.Voices.{taken_of}
+use Rattle.copy_both.specs.declared.taken.Taken.TheVariants.{Skipped, Sent}
+use Rattle.copy_both.specs.Framing.{with_head, frames_with, opening, AddsFrame}
+use Rattle.copy_both.specs.declared.frames.Frames.{Frames}
 
-abbrev pub frames_of : XLogData → List Msg → List ℕ
-frames_of head messages = flat_map (with_head head) (map spelling_of messages)
+-- ---- one frame
 
--- the frames so far, and those of the messages that are left, are those of all
-abbrev pub Frames : XLogData → List ℕ → List ℕ → List Msg → List Msg → Type 0
-Frames head before now all left = now ++ frames_of head left ≡ before ++ frames_of head all
+pub body_with : (head : XLogData) (message : List ℕ) → xlog_data_body head [] ++ message ≡ xlog_data_body head message
+body_with head message =
+    let start = int64 head.start in
+    let end = int64 head.end in
+    let clock = int64 head.clock in
+    ap (λ (x : List ℕ). 119 ∷ x)
+    (append_assoc start (end ++ (clock ++ [])) message ∙ ap (λ (x : List ℕ). start ++ x)
+    (append_assoc end (clock ++ []) message ∙ ap (λ (x : List ℕ). end ++ x)
+    (ap (λ (x : List ℕ). x ++ message) (append-nil clock))))
 
-pub frames_on : (head : XLogData) (before now after : List ℕ) (all : List Msg) (i : ℕ) (m : Msg) → m ≡ get_or all i m → i < length all
-    → after ≡ now ++ with_head head (spelling_of m) → Frames head before now all (drop i all) → Frames head before after all (drop (i + 1) all)
-frames_on head before now after all i m is within wrote so_far =
-    let rest = drop (i + 1) all in
-    let left : drop i all ≡ m ∷ rest = drop_more all i m within ∙ ap (λ (y : Msg). y ∷ rest) (sym is) in
-    ap (λ (x : List ℕ). x ++ frames_of head rest) wrote
-    ∙ append_assoc now (with_head head (spelling_of m)) (frames_of head rest)
-    ∙ ap (λ (x : List Msg). now ++ frames_of head x) (sym left) ∙ so_far
+-- what was opened and has its message
+pub opened_with : (old opened written : List ℕ) (head : XLogData) (message : List ℕ) → opened ≡ old ++ opening head → written ≡ opened ++ message
+    → written ≡ old ++ 100 ∷ 0 ∷ 0 ∷ 0 ∷ 0 ∷ xlog_data_body head message
+opened_with old opened written head message begins wrote =
+    wrote ∙ ap (λ (x : List ℕ). x ++ message) begins ∙ append_assoc old (opening head) message
+    ∙ ap (λ (x : List ℕ). old ++ 100 ∷ 0 ∷ 0 ∷ 0 ∷ 0 ∷ x) (body_with head message)
 
-pub all_framed : (head : XLogData) (before now : List ℕ) (all : List Msg) (i : ℕ) → length all ≤ i → Frames head before now all (drop i all)
-    → now ≡ before ++ frames_of head all
-all_framed head before now all i end so_far =
-    sym (append-nil now) ∙ ap (λ (x : List Msg). now ++ frames_of head x) (sym (drop_all i all end)) ∙ so_far
+-- where the length is put in after the frame was opened
+pub closed_with : (front body length_bytes : List ℕ) (start : ℕ) → length front ≡ start → put_mid (start + 1) 4 (front ++ 100 ∷ 0 ∷ 0 ∷ 0 ∷ 0 ∷ body) length_bytes ≡ front ++ 100 ∷ (length_bytes ++ body)
+closed_with front body length_bytes start at =
+    let first : List ℕ = front ++ 100 ∷ [] in
+    let rest : List ℕ = 0 ∷ 0 ∷ 0 ∷ 0 ∷ body in
+    let long : length first ≡ start + 1 = omega (arith, length-append front (100 ∷ []), at) in
+    ap (λ (x : List ℕ). put_mid (start + 1) 4 x length_bytes) (sym (append_assoc front (100 ∷ []) rest))
+    ∙ ap (λ (x : List ℕ). x ++ (length_bytes ++ drop 4 (drop (start + 1) (first ++ rest)))) (take_at first rest (start + 1) long)
+    ∙ ap (λ (x : List ℕ). first ++ (length_bytes ++ drop 4 x)) (drop_at first rest (start + 1) long)
+    ∙ append_assoc front (100 ∷ []) (length_bytes ++ body)
+
+-- so it is written back into the output
+pub written_back : (items shown copied front body : List ℕ) (len start count : ℕ) → len ≡ length items → shown ≡ items → count ≡ 4 → length front ≡ start
+    → items ≡ front ++ 100 ∷ 0 ∷ 0 ∷ 0 ∷ 0 ∷ body → copied ≡ to_be_bytes w32 (length body + 4)
+    → take len (put_mid (start + 1) count shown copied ++ drop (length (put_mid (start + 1) count shown copied)) items) ≡ front ++ 100 ∷ (to_be_bytes w32 (length body + 4) ++ body)
+written_back items shown copied front body len start count long show four at is wrote =
+    let bytes : List ℕ = to_be_bytes w32 (length body + 4) in
+    let closed : List ℕ = front ++ 100 ∷ (bytes ++ body) in
+    let mid : put_mid (start + 1) count shown copied ≡ closed =
+    ap (λ (n : ℕ). put_mid (start + 1) n shown copied) four ∙ ap (λ (x : List ℕ). put_mid (start + 1) 4 shown x) wrote
+    ∙ ap (λ (x : List ℕ). put_mid (start + 1) 4 x bytes) (show ∙ is) ∙ closed_with front body bytes start at in
+    let same : length items ≡ length closed =
+    omega (arith, ap length is, length-append front (100 ∷ 0 ∷ 0 ∷ 0 ∷ 0 ∷ body), length-append front (100 ∷ (bytes ++ body))) in
+    ap (λ (x : List ℕ). take len (x ++ drop (length x) items)) mid
+    ∙ ap (λ (x : List ℕ). take len (closed ++ x)) (drop_all (length closed) items (omega (arith, same)))
+    ∙ ap (take len) (append-nil closed) ∙ take_all len closed (omega (arith, same, long))
+
+pub frame_room : (old written : List ℕ) (head : XLogData) (message : List ℕ) → written ≡ old ++ 100 ∷ 0 ∷ 0 ∷ 0 ∷ 0 ∷ xlog_data_body head message → length written ≡ length old + (length message + 30)
+frame_room old written head message is =
+    let start = int64 head.start in
+    let end = int64 head.end in
+    let clock = int64 head.clock in
+    omega (arith, ap length is, length-append old (100 ∷ 0 ∷ 0 ∷ 0 ∷ 0 ∷ xlog_data_body head message), length-append start (end ++ (clock ++ message)), length-append end (clock ++ message), length-append clock message)
+
+-- there is room in a frame for the length of its message
+pub frame_short : (old opened written : List ℕ) (start : ℕ) (head : XLogData) (message : List ℕ) → start ≡ length old → opened ≡ old ++ opening head → written ≡ opened ++ message
+    → length message ≤ 13108011 → length written < start + 2147483648
+frame_short old opened written start head message at begins wrote short =
+    omega (arith, at, short, frame_room old written head message (opened_with old opened written head message begins wrote))
+
+-- a frame that was opened, has its message and is closed was added
+pub frame_added : (old new : Frames) (opened written : List ℕ) (start : ℕ) (message : Msg) → new.head ≡ old.head → start ≡ length old.bytes.items
+    → opened ≡ old.bytes.items ++ opening old.head → written ≡ opened ++ spelling_of message
+    → ((front body : List ℕ) → length front ≡ start → written ≡ front ++ 100 ∷ 0 ∷ 0 ∷ 0 ∷ 0 ∷ body → new.bytes.items ≡ front ++ 100 ∷ (to_be_bytes w32 (length body + 4) ++ body))
+    → HasTexts message → AddsFrame old new message
+frame_added old new opened written start message head at begins wrote closes texts = record {
+  head = head;
+  appended = closes old.bytes.items (xlog_data_body old.head (spelling_of message)) (sym at) (opened_with old.bytes.items opened written old.head (spelling_of message) begins wrote);
+  texts = texts;
+}
+
+-- the Delete of what is recorded of a row, where something is
+pub gone_added : (old new : Frames) (opened written : List ℕ) (start table : ℕ) (part : Option r.PartOf) → named_in (r.Delete table part) ≡ table ∷ [] → new.head ≡ old.head
+    → start ≡ length old.bytes.items → opened ≡ old.bytes.items ++ opening old.head → written ≡ opened ++ maybe_delete_spelling (oid_of table) (maybe_old_of part)
+    → ((front body : List ℕ) → length front ≡ start → written ≡ front ++ 100 ∷ 0 ∷ 0 ∷ 0 ∷ 0 ∷ body → new.bytes.items ≡ front ++ 100 ∷ (to_be_bytes w32 (length body + 4) ++ body))
+    → IsMaybeOldText (maybe_old_of part) → Takes AddsFrame old new (message_of (r.Delete table part))
+gone_added old new opened written start table None named head at begins wrote closes texts = absurd cc
+gone_added old new opened written start table (Some part) named head at begins wrote closes texts =
+    takes_message AddsFrame old new (m.Delete (oid_of table) (old_of part))
+    (frame_added old new opened written start (m.Delete (oid_of table) (old_of part)) head at begins wrote closes texts)
+
+pub gone_short : (table : ℕ) (part : Option r.PartOf) → IsTableNumber table → IsSendablePart part → length (maybe_delete_spelling (oid_of table) (maybe_old_of part)) ≤ 13108011
+gone_short table None number old = omega arith
+gone_short table (Some part) number old = (plain_delete table part number old).short
+
+-- ---- frames one after another
+
+frames_cons : (head : XLogData) (message : Msg) (messages : List Msg) → frames_with head (message ∷ messages) ≡ with_head head (spelling_of message) ++ frames_with head messages
+frames_cons head message messages = flat_map-cons (with_head head) (spelling_of message) (map spelling_of messages)
+
+frames_both : (head : XLogData) (first second : List Msg) → frames_with head (first ++ second) ≡ frames_with head first ++ frames_with head second
+frames_both head first second =
+    ap (flat_map (with_head head)) (map-append spelling_of first second) ∙ flat_map-append (with_head head) (map spelling_of first) (map spelling_of second)
+
+pub record AddsFrames (old new : Frames) (messages : List Msg) : Type 0 where
+  pub head : new.head ≡ old.head
+  pub appended : new.bytes.items ≡ old.bytes.items ++ frames_with old.head messages
+  pub texts : All HasTexts messages
+
+pub all_framed : (old new : Frames) (messages : List Msg) → Takes AddsFrame old new messages → AddsFrames old new messages
+all_framed old new [] is = record {
+  head = ap (λ (frames : Frames). frames.head) is;
+  appended = ap (λ (frames : Frames). frames.bytes.items) is ∙ sym (append-nil old.bytes.items);
+  texts = All-nil HasTexts;
+}
+all_framed old new (message ∷ messages) took =
+    let next = took.0 in
+    let one = took.1 in
+    let others = all_framed next new messages took.2 in
+    record {
+      head = others.head ∙ one.head;
+      appended = others.appended ∙ ap (λ (x : List ℕ). x ++ frames_with next.head messages) one.appended
+          ∙ append_assoc old.bytes.items (with_head old.head (spelling_of message)) (frames_with next.head messages)
+          ∙ ap (λ (head : XLogData). old.bytes.items ++ (with_head old.head (spelling_of message) ++ frames_with head messages)) one.head
+          ∙ ap (λ (x : List ℕ). old.bytes.items ++ x) (sym (frames_cons old.head message messages));
+      texts = All-cons HasTexts message messages one.texts others.texts;
+    }
+
+-- frames are not empty
+pub some_bytes : (head : XLogData) (message : Msg) (messages : List Msg) → 0 < length (frames_with head (message ∷ messages))
+some_bytes head message messages =
+    omega (arith, ap length (frames_cons head message messages), length-append (with_head head (spelling_of message)) (frames_with head messages))
+
+-- ---- the frames of a commit
+
+-- where nothing was added after Begin, the commit has no message
+pub none_framed : (commit : CommitOf) (begin told : Frames) (said : List Msg) → Takes AddsFrame begin told said → length told.bytes.items ≡ length begin.bytes.items
+    → enclosed commit said ≡ []
+none_framed commit begin told [] took same = refl
+none_framed commit begin told (message ∷ messages) took same =
+    let all = all_framed begin told (message ∷ messages) took in
+    absurd (omega (arith, same, ap length all.appended, length-append begin.bytes.items (frames_with begin.head (message ∷ messages)), some_bytes begin.head message messages))
+
+-- else all its messages are in frames
+pub commit_framed : (commit : CommitOf) (new begin told ended : Frames) (said : List Msg) → AddsFrame new begin (begin_of commit)
+    → Takes AddsFrame begin told said → (length told.bytes.items ≡ length begin.bytes.items → ⊥) → AddsFrame told ended (commit_of commit)
+    → AddsFrames new ended (enclosed commit said)
+commit_framed commit new begin told ended [] one took more last = absurd (more (ap (λ (frames : Frames). length frames.bytes.items) took))
+commit_framed commit new begin told ended (message ∷ messages) one took more last =
+    all_framed new ended (begin_of commit ∷ (message ∷ messages) ++ commit_of commit ∷ [])
+    (begin, one, takes_both AddsFrame begin told ended (message ∷ messages) (commit_of commit ∷ []) took (ended, last, refl))
+
+-- ---- what becomes of a commit
+
+pub skipped_if : (head : XLogData) (number : ℕ) (messages : List Msg) → length (frames_with head messages) ≡ 0 → taken_of number (map spelling_of messages) ≡ Skipped number
+skipped_if head number [] none = refl
+skipped_if head number (message ∷ messages) none = absurd (omega (arith, none, some_bytes head message messages))
+
+pub sent_if : (head : XLogData) (number : ℕ) (messages : List Msg) → (length (frames_with head messages) ≡ 0 → ⊥) → taken_of number (map spelling_of messages) ≡ Sent number
+sent_if head number [] some = absurd (some refl)
+sent_if head number (message ∷ messages) some = refl

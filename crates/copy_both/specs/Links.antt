@@ -11,7 +11,7 @@ use Rattle.copy_both.specs.Streams as streams
 use Rattle.copy_both.specs.Streams.{Take, move_bytes, moved}
 use Rattle.copy_both.specs.Tellings.{spelled_for, telling_of}
 use Rattle.copy_both.specs.Voices as voices
-use Rattle.copy_both.specs.Voices.{StageOf, AreReadBack, Says, Closes, Passes, voice_checked, voice_stage, voice_output, first_stage, taken_of, kept_bytes, done_bytes, sent_of}
+use Rattle.copy_both.specs.Voices.{StageOf, AreReadBack, Says, Closes, Passes, voice_checked, voice_stage, voice_output, voice_room, first_stage, taken_of, kept_bytes, done_bytes, sent_of}
 use Rattle.copy_both.specs.declared.ear.Ear.{Ear}
 use Rattle.copy_both.specs.declared.heard.Heard.{Heard}
 use Rattle.copy_both.specs.declared.link.Link.{Link}
@@ -41,6 +41,10 @@ link_stage link = voice_stage link.voice
 abbrev pub link_output : Link → List ℕ
 link_output link = voice_output link.voice
 
+-- how many bytes more the output takes without asking for memory
+abbrev pub link_room : Link → ℕ
+link_room link = voice_room link.voice
+
 -- before the first byte
 pub record IsNewLink (link : Link) (checked : CheckedOf) : Type 0 where
   pub checked_is : link_checked link ≡ checked
@@ -67,6 +71,7 @@ pub record LinkCloses (old new : Link) : Type 0 where
 pub record LinkPasses (old new : Link) (count : ℕ) : Type 0 where
   pub ear : IsSameEar (link_ear old) (link_ear new)
   pub voice : Passes (link_voice old) (link_voice new) count
+  pub room : link_output new ≡ [] → link_room new ≡ 0
 
 -- nothing more is said, and the first loss gives the slot back
 pub record LinkLoses (old new : Link) (before after : Book) : Type 0 where

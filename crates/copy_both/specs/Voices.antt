@@ -43,6 +43,10 @@ voice_stage voice = stage_view voice.stage
 abbrev pub voice_output : Voice → List ℕ
 voice_output voice = voice.out.items
 
+-- how many bytes more the output takes without asking for memory
+abbrev pub voice_room : Voice → ℕ
+voice_room voice = voice.out.spare
+
 -- the stream runs
 abbrev pub IsStarted : StageOf → Type 0
 IsStarted NotStarted = ⊥

@@ -1,34 +1,56 @@
 //! The messages of a commit as frames.
 
-ghost use Rattle.std.specs.Prelude.{◌≡◌, ◌++◌, All, OnOk, map};
-ghost use Rattle.std.specs.List.{flat_map};
-ghost use Rattle.pgoutput_msgs.specs.Ranges.{IsWithinRange};
-ghost use Rattle.pgoutput_msgs.specs.Sent.{IsSent};
-ghost use Rattle.pgoutput_msgs.specs.Spelling.{spelling_of};
-ghost use Rattle.copy_both.specs.Framing.{with_head};
+ghost use Rattle.std.specs.Prelude.{◌≡◌, ◌++◌, All, IfOk, OnOk, OnErr};
+ghost use Rattle.shard_checker.specs.CheckedView.{checked_view};
+ghost use Rattle.pgoutput_msgs.specs.Ranges.{HasTexts};
+ghost use Rattle.pgoutput_msgs.specs.Telling.{messages_for, told_after};
+ghost use Rattle.copy_both.specs.Framing.{frames_with};
 
+use crate::frames::Frames;
 use bytes::BytesMut;
-use copy_frames::{XLogData, append_xlog_data};
-use pgoutput_msgs::{Msg, encode};
+use copy_frames::XLogData;
+use pgoutput_msgs::tell_changes;
+use shard_checker::Checked;
 use std::alloc::{AllocError, Global};
+use tables_log::Commit;
 
-/// Appends each message as an XLogData with this head. The only error is want of memory.
-pub(crate) fn append_messages(
+/// The frames of the messages that tell the subscriber of a commit, each an XLogData with this head: those of
+/// `messages_of`. None where no change is for it. `told` has by a table's number whether its Relation was sent. The only
+/// error is want of memory.
+pub(crate) fn commit_frames(
     alloc: Global,
-    messages: &[Msg],
-    head: &XLogData,
-    out: &mut BytesMut,
-) -> Result<(), AllocError>
-    requires room { All IsWithinRange messages.now }
-    requires sent { All IsSent messages.now }
-    ensures { OnOk result (out.new.items ≡ out.old.items
-        ++ flat_map (with_head head.now) (map spelling_of messages.now)) }
+    checked: &Checked,
+    slot: usize,
+    commit: &Commit,
+    told: &mut [bool],
+    head: XLogData,
+) -> Result<Vec<u8>, AllocError>
+    ensures frames { IfOk result (λ frames. frames.items
+        ≡ frames_with head (messages_for (checked_view checked.now) slot told.old commit.now)) }
+    ensures told { OnOk result (told.new ≡ told_after (checked_view checked.now) slot told.old commit.now) }
+    ensures texts { OnOk result (All HasTexts (messages_for (checked_view checked.now) slot told.old commit.now)) }
 {
-    let mut spelling = Vec::new(alloc);
-    for message in messages {
-        spelling.clear();
-        encode(message, &mut spelling)?;
-        append_xlog_data(out, head, spelling.as_slice())?;
+    let mut frames = Frames::new(alloc, head);
+    frames.begin(commit)?;
+    let begun = frames.bytes.len();
+    tell_changes(alloc, checked, slot, commit, told, &mut frames)?;
+    if frames.bytes.len() == begun {
+        return Ok(Vec::new(alloc));
     }
+    frames.end(commit)?;
+    let Frames { bytes, .. } = frames;
+    Ok(bytes)
+}
+
+/// Adds frames to an output, without a copy where it is empty. The only error is want of memory.
+pub(crate) fn append_frames(frames: Vec<u8>, out: &mut BytesMut) -> Result<(), AllocError>
+    ensures ok { OnOk result (out.new.items ≡ out.old.items ++ frames.items) }
+    ensures err { OnErr result (out.new.items ≡ out.old.items) }
+{
+    if out.is_empty() {
+        *out = BytesMut::from_vec(frames);
+        return Ok(());
+    }
+    out.extend_from_slice(frames.as_slice())?;
     Ok(())
 }

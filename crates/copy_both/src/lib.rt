@@ -6,6 +6,7 @@ mod command_text;
 mod ear;
 mod error_response;
 mod event;
+mod frames;
 mod framing;
 mod front;
 mod heard;

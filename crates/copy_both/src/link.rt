@@ -198,7 +198,8 @@ impl Link {
         self.voice.output()
     }
 
-    /// Drops so many of the first bytes that wait, or all where fewer wait, without a copy of the others.
+    /// Drops so many of the first bytes that wait, or all where fewer wait, without a copy of the others. Where nothing
+    /// waits any more, the memory of the output is given back.
     pub fn passed(&mut self, count: usize)
         ensures { LinkPasses self.old self.new count }
     {

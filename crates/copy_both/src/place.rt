@@ -2,11 +2,10 @@
 
 ghost use Rattle.std.specs.Prelude.{◌<◌, ◌^◌};
 
-use crate::framing::append_messages;
+use crate::framing::{append_frames, commit_frames};
 use crate::taken::Taken;
 use bytes::BytesMut;
 use copy_frames::XLogData;
-use pgoutput_msgs::messages_of;
 use shard_checker::Checked;
 use std::alloc::{AllocError, Global};
 use tables_log::Commit;
@@ -67,23 +66,23 @@ impl Place {
         ensures read_back { OnOk result (AreReadBack (checked_view checked.now) (place_view self.old) commit.now) }
         ensures err { OnErr result (out.new.items ≡ out.old.items) }
     {
-        let messages = messages_of(alloc, checked, self.slot, commit, self.told.as_mut_slice())?;
         let number = commit.number();
         let lsn = 64 * u64::from(number);
-        let mut frames = BytesMut::new(alloc);
         let head = XLogData {
             start: lsn,
             end: lsn,
             clock: now,
         };
-        append_messages(alloc, &messages, &head, &mut frames)?;
-        out.extend_from_slice(frames.as_slice())?;
-        self.done += 1;
-        self.sent = lsn + 64;
-        Ok(if messages.is_empty() {
+        let told = self.told.as_mut_slice();
+        let frames = commit_frames(alloc, checked, self.slot, commit, told, head)?;
+        let taken = if frames.is_empty() {
             Taken::Skipped(number)
         } else {
             Taken::Sent(number)
-        })
+        };
+        append_frames(frames, out)?;
+        self.done += 1;
+        self.sent = lsn + 64;
+        Ok(taken)
     }
 }

@@ -10,9 +10,6 @@ use std::alloc::{AllocError, Global};
 use std::sync::Arc;
 use tables_log::Commit;
 
-/// How much room an output may keep while nothing waits, in bytes.
-const LARGE: usize = 65_536;
-
 /// How far a voice is.
 #[derive(Drop)]
 pub(crate) enum Stage {
@@ -43,7 +40,7 @@ impl Voice {
     ghost use Rattle.shard_checker.specs.CheckedView.{checked_view};
     ghost use Rattle.copy_frames.specs.Contents.{copy_both_response};
     ghost use Rattle.copy_both.specs.Voices as spec;
-    ghost use Rattle.copy_both.specs.Voices.{EntryIsReadBack, IsStarted, Says, Closes, told_fault, voice_checked, voice_stage, voice_output};
+    ghost use Rattle.copy_both.specs.Voices.{EntryIsReadBack, IsStarted, Says, Closes, told_fault, voice_checked, voice_stage, voice_output, voice_room};
     ghost use Rattle.copy_both.specs.declared.link_fault.LinkFault.TheVariants.{OutOfMemory};
 
     /// A voice that has not started and has nothing to say.
@@ -269,16 +266,15 @@ impl Voice {
     }
 
     /// Drops so many of the first bytes that wait, or all where fewer wait, without a copy of the others. Where nothing
-    /// waits any more, the room of a large output is given back.
+    /// waits any more, the memory of the output is given back.
     pub fn passed(&mut self, count: usize)
-        ensures { spec.Passes self.old self.new count }
+        ensures passes { spec.Passes self.old self.new count }
+        ensures room { voice_output self.new ≡ [] → voice_room self.new ≡ 0 }
     {
         if count < self.out.len() {
             self.out.advance(count);
-        } else if LARGE < self.out.capacity() {
-            self.out = BytesMut::new(self.alloc);
         } else {
-            self.out.clear();
+            self.out = BytesMut::new(self.alloc);
         }
     }
 }

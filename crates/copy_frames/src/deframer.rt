@@ -97,7 +97,17 @@ impl Deframer {
         self.fault = fault;
     }
 
-    /// The next frame that is whole, also after a fault. Its body is not copied.
+    /// Gives the memory of the bytes back where none is held.
+    fn rest(&mut self)
+        ensures { self.new ≡ self.old }
+    {
+        if self.bytes.is_empty() {
+            self.bytes = BytesMut::new(*self.bytes.allocator());
+        }
+    }
+
+    /// The next frame that is whole, also after a fault. Its body is not copied. Where no byte is held any more, the
+    /// deframer keeps no memory.
     ///
     /// # Errors
     ///
@@ -107,6 +117,7 @@ impl Deframer {
         ensures err { OnErr result (self.new ≡ self.old) }
     {
         let Front::Whole(size) = look(self.limit, self.bytes.as_slice()) else {
+            self.rest();
             return Ok(None);
         };
         let mut body = self.bytes.freeze_to(size)?;

@@ -1,5 +1,5 @@
 -- What holds of the Relation of each table, and of the messages of each change that can be sent, holds of all messages that tell of a commit.
-use Rattle.std.proofs.Common.{ℕ, zero, suc, ◌≤◌, Bool, true, false, Option, Some, None, List, [], ◌∷◌, ◌++◌, length, arith}
+use Rattle.std.proofs.Common.{◌≡◌, ℕ, zero, suc, ◌≤◌, Bool, true, false, Option, Some, None, List, [], ◌∷◌, ◌++◌, length, subst, arith}
 use Rattle.std.specs.Prelude.{All, IfSome, filter, option_map, if◌then◌else◌, slice_get, slice_index_or}
 use Rattle.std.specs.List.{list_any}
 use Rattle.std.proofs.lemmas.List.Elements.{All-nil, All-append, All-filter}
@@ -76,6 +76,11 @@ got_sendable checked subscriber (r.Delete table part) h =
     gone_got (takes_row checked.plan subscriber table) table (takes_any checked.plan subscriber) part h.0 h.1
 got_sendable checked subscriber (r.Truncate numbers) h =
     truncate_got (list_any (takes_any checked.plan subscriber) numbers) 0 (takes_any checked.plan subscriber) numbers h.0 h.1
+
+-- what the subscriber gets can be sent
+pub is_sendable : (checked : CheckedOf) (subscriber : ℕ) (change out : r.ChangeOf) → IsSendableChange change → got (setting_in checked) subscriber change ≡ Some out → IsSendableChange out
+unfolding IfSendable
+is_sendable checked subscriber change out sendable is = subst IfSendable is (got_sendable checked subscriber change sendable)
 
 -- ---- what is said
 

@@ -28,7 +28,7 @@ short_value (Known (Truth true)) h = omega arith
 short_value (Known (Truth false)) h = omega arith
 short_value (Known (Bytes bytes)) h = omega (arith, h)
 
-row_room : (cells : List Datum) → IsSendableRow cells → IsTupleWithinRange (cells_of cells)
+pub row_room : (cells : List Datum) → IsSendableRow cells → IsTupleWithinRange (cells_of cells)
 row_room cells h = record {
   few = omega (arith, length-map cells cell_of, h.few);
   short = λ k d long.
@@ -36,11 +36,11 @@ row_room cells h = record {
       subst IsCellWithinRange (sym (get_or-map cell_of cells k Missing d within)) (short_value (get_or cells k Missing) (h.values k Missing within));
 }
 
-old_room : (part : r.PartOf) → IsSendablePart (Some part) → IsOldWithinRange (old_of part)
+pub old_room : (part : r.PartOf) → IsSendablePart (Some part) → IsOldWithinRange (old_of part)
 old_room (r.Key row) h = row_room row h
 old_room (r.Full row) h = row_room row h
 
-maybe_old_room : (part : Option r.PartOf) → IsSendablePart part → IsMaybeOldWithinRange (maybe_old_of part)
+pub maybe_old_room : (part : Option r.PartOf) → IsSendablePart part → IsMaybeOldWithinRange (maybe_old_of part)
 maybe_old_room None h = tt
 maybe_old_room (Some part) h = old_room part h
 
@@ -57,7 +57,7 @@ pub length_columns : (table : Table) (number : ℕ) (columns : List Column) → 
 length_columns table number [] = refl
 length_columns table number (column ∷ columns) = ap suc (length_columns table (number + 1) columns)
 
-relation_room : (tables : List Table) (number : ℕ) (found : Option Table) → slice_get tables number ≡ found → All IsLimitedTable tables
+pub relation_room : (tables : List Table) (number : ℕ) (found : Option Table) → slice_get tables number ≡ found → All IsLimitedTable tables
     → IfSome found (λ table. IsWithinRange (m.Relation (relation_of number table)))
 relation_room tables number None e limited = tt
 relation_room tables number (Some table) e limited =

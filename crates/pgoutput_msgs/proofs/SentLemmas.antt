@@ -100,13 +100,13 @@ maybe_old_short (Some part) h = old_short part h
 is_oid : (table : ℕ) → IsTableNumber table → IsOid (oid_of table)
 is_oid table h = omega (arith, h)
 
-plain_insert : (table : ℕ) (new : List Datum) → IsTableNumber table → IsSendableRow new → IsPlain (m.Insert (oid_of table) (cells_of new))
+pub plain_insert : (table : ℕ) (new : List Datum) → IsTableNumber table → IsSendableRow new → IsPlain (m.Insert (oid_of table) (cells_of new))
 plain_insert table new number row = record {
   read_back = λ texts. (is_oid table number, cells_read new row texts);
   short = omega (arith, cells_short new row);
 }
 
-plain_update : (table : ℕ) (part : Option r.PartOf) (new : List Datum) → IsTableNumber table → IsSendablePart part → IsSendableRow new
+pub plain_update : (table : ℕ) (part : Option r.PartOf) (new : List Datum) → IsTableNumber table → IsSendablePart part → IsSendableRow new
     → IsPlain (m.Update (oid_of table) (maybe_old_of part) (cells_of new))
 plain_update table part new number old row = record {
   read_back = λ texts. (is_oid table number, (maybe_old_read part old texts.0, cells_read new row texts.1));
@@ -115,13 +115,13 @@ plain_update table part new number old row = record {
       omega (arith, split, maybe_old_short part old, cells_short new row);
 }
 
-plain_delete : (table : ℕ) (part : r.PartOf) → IsTableNumber table → IsSendablePart (Some part) → IsPlain (m.Delete (oid_of table) (old_of part))
+pub plain_delete : (table : ℕ) (part : r.PartOf) → IsTableNumber table → IsSendablePart (Some part) → IsPlain (m.Delete (oid_of table) (old_of part))
 plain_delete table part number old = record {
   read_back = λ texts. (is_oid table number, old_read part old texts);
   short = omega (arith, old_short part old);
 }
 
-plain_truncate : (numbers : List ℕ) → length numbers ≤ 64 → All IsTableNumber numbers → IsPlain (m.Truncate 0 (map oid_of numbers))
+pub plain_truncate : (numbers : List ℕ) → length numbers ≤ 64 → All IsTableNumber numbers → IsPlain (m.Truncate 0 (map oid_of numbers))
 plain_truncate numbers few all = record {
   read_back = λ texts. (
     omega (arith, length-map numbers oid_of, few),
@@ -178,7 +178,7 @@ columns_short table number (column ∷ columns) names =
     All-cons (λ one. length (column_spelling one) ≤ 73) (column_of table number column) (columns_from table (number + 1) columns)
     (column_short table number column (All-head HasPlainName column columns names)) (columns_short table (number + 1) columns (All-tail HasPlainName column columns names))
 
-plain_relation : (number : ℕ) (table : Table) → number < 64 → length table.columns ≤ 100 → IsNamed table → IsPlain (m.Relation (relation_of number table))
+pub plain_relation : (number : ℕ) (table : Table) → number < 64 → length table.columns ≤ 100 → IsNamed table → IsPlain (m.Relation (relation_of number table))
 plain_relation number table low few names =
     let columns = columns_from table 0 table.columns in
     let long = length_columns table 0 table.columns in

@@ -224,21 +224,9 @@ all_kept test all kept i over so_far =
 
 -- ---- where nothing is said
 
-pub nothing_said : (tables : List Table) (told : List Bool) (messages : List Msg) → messages ≡ messages ++ said tables told None
-unfolding said
-nothing_said tables told messages = sym (append-nil messages)
-
 pub nothing_told : (told : List Bool) → told ≡ told_by told None
 unfolding told_by
 nothing_told told = refl
-
-pub nothing_said_gone : (tables : List Table) (told : List Bool) (table : ℕ) (messages : List Msg) → messages ≡ messages ++ said tables told (Some (r.Delete table None))
-unfolding said relations_of
-nothing_said_gone tables told table messages = sym (append-nil messages)
-
-pub nothing_told_gone : (told : List Bool) (table : ℕ) → told ≡ told_by told (Some (r.Delete table None))
-unfolding told_by told_all
-nothing_told_gone told table = refl
 
 pub enclosed_some : (commit : CommitOf) (messages : List Msg) → (length messages ≡ 0 → ⊥) → (begin_of commit ∷ messages) ++ commit_of commit ∷ [] ≡ enclosed commit messages
 enclosed_some commit [] some = absurd (some refl)

@@ -24,7 +24,6 @@ use Rattle.pgoutput_msgs.proofs.SeenMessageLemmas.{one_seen, as_message}
 use Rattle.pgoutput_msgs.specs.Telling.{relation_at, introduced, relation_once, relations_of, told_one, told_all, named_in, message_of, said, told_by, said_each, told_each, begin_of, commit_of, enclosed}
 use Rattle.pgoutput_msgs.specs.Transactions.{tables_of, is_among, first_relation, first_relations, change_told, changes_told, transaction_told, AreNamed, CommitsTellTransactions}
 use Rattle.pgoutput_msgs.specs.declared.message.Msg.{Msg}
-use Rattle.pgoutput_msgs.specs.declared.message.Msg.TheVariants as m
 
 abbrev is_told : List Bool → ℕ → Bool
 is_told told number = slice_index_or told number false

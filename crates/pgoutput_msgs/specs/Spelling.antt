@@ -113,3 +113,8 @@ fields_spelling (m.Truncate options relations) = int32 (length relations) ++ (in
 -- a message: its letter (`B`, `C`, `R`, `I`, `U`, `D`, `T`), and its fields in their order
 abbrev pub spelling_of : Msg → List ℕ
 spelling_of message = letter message ∷ fields_spelling message
+
+-- a Delete, where something is sent of the old row
+abbrev pub maybe_delete_spelling : ℕ → Option OldTuple → List ℕ
+maybe_delete_spelling relation None = []
+maybe_delete_spelling relation (Some old) = spelling_of (m.Delete relation old)

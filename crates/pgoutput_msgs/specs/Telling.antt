@@ -11,6 +11,7 @@ use Rattle.shard_checker.specs.CheckedView.{CheckedOf, setting_in}
 use Rattle.table_changes.specs.Outs.{got}
 use Rattle.table_changes.specs.Records as r
 use Rattle.tables_log.specs.Commits.{CommitOf}
+use Rattle.pgoutput_msgs.specs.Spelling.{int32}
 use Rattle.pgoutput_msgs.specs.ValueText.{cells_of}
 use Rattle.pgoutput_msgs.specs.declared.message.Msg.{Msg}
 use Rattle.pgoutput_msgs.specs.declared.message.Msg.TheVariants as m
@@ -38,6 +39,10 @@ xid_of number = number + 2
 -- the OID of the table of this number, which is counted from 0
 abbrev pub oid_of : ℕ → ℕ
 oid_of table = 16384 + table
+
+-- the bytes of it
+abbrev pub oid_spelling : ℕ → List ℕ
+oid_spelling table = int32 (oid_of table)
 
 -- ---- Relation
 

@@ -14,7 +14,8 @@ pub(crate) fn put(bytes: &[u8], out: &mut Vec<u8>)
     let _ = out.extend_from_slice(bytes);
 }
 
-pub(crate) fn put_byte(number: u8, out: &mut Vec<u8>)
+/// Writes a byte for which there is room.
+pub fn put_byte(number: u8, out: &mut Vec<u8>)
     requires { HasRoom out.old (int8 number) }
     ensures { Puts out.old out.new (int8 number) }
 {
@@ -30,7 +31,8 @@ pub(crate) fn put_int16(number: u16, out: &mut Vec<u8>)
     put(&bytes, out);
 }
 
-pub(crate) fn put_int32(number: u32, out: &mut Vec<u8>)
+/// Writes a number of 32 bits for which there is room, the high byte first.
+pub fn put_int32(number: u32, out: &mut Vec<u8>)
     requires { HasRoom out.old (int32 number) }
     ensures { Puts out.old out.new (int32 number) }
 {
@@ -48,7 +50,8 @@ pub(crate) fn put_signed_int32(number: i32, out: &mut Vec<u8>)
     put(&bytes, out);
 }
 
-pub(crate) fn put_int64(number: u64, out: &mut Vec<u8>)
+/// Writes a number of 64 bits for which there is room, the high byte first.
+pub fn put_int64(number: u64, out: &mut Vec<u8>)
     requires { HasRoom out.old (int64 number) }
     ensures { Puts out.old out.new (int64 number) }
 {

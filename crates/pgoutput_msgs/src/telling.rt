@@ -1,6 +1,7 @@
 //! The messages that tell a subscriber of a commit.
 
 ghost use Rattle.std.specs.Prelude.{◌≡◌, ◌++◌, All, IfOk, OnOk, OnErr, filter, map};
+ghost use Rattle.pub_catalog.specs.CatalogLimits.{IsLimitedTable};
 ghost use Rattle.replica_identity.specs.ChangeView.{change_view};
 ghost use Rattle.replica_identity.specs.Plans.{plan_view};
 ghost use Rattle.replica_identity.specs.Transforms.{takes_any};
@@ -10,11 +11,14 @@ ghost use Rattle.table_changes.specs.Outs.{got};
 ghost use Rattle.tables_log.specs.Sendable.{IsSendableChange, IsTableNumber};
 ghost use Rattle.pgoutput_msgs.specs.Ranges.{IsWithinRange, HasTexts};
 ghost use Rattle.pgoutput_msgs.specs.Sent.{IsSent};
+ghost use Rattle.pgoutput_msgs.specs.Sinks.{Takes};
 ghost use Rattle.pgoutput_msgs.specs.Telling as spec;
 
 use crate::message::Msg;
-use crate::saying::{push_delete, push_insert, push_truncate, push_update};
+use crate::saying::{say_delete, say_insert, say_truncate, say_update};
+use crate::sink::MessageSink;
 use crate::spoken::Spoken;
+use filter_tree::Table;
 use replica_identity::{Change, Out, Plan, carries, transform};
 use shard_checker::Checked;
 use std::alloc::{AllocError, Global};
@@ -45,7 +49,7 @@ pub fn messages_of(
 {
     let mut after = Vec::from_slice(alloc, told)?;
     let mut spoken = Spoken::new(alloc);
-    push_changes(
+    tell_each(
         alloc,
         checked,
         subscriber,
@@ -85,57 +89,84 @@ fn enclosed(commit: &Commit, said: Vec<Msg>) -> Result<Vec<Msg>, AllocError>
     Ok(messages)
 }
 
-/// Adds what the subscriber is told of changes, one after the other.
-#[tactic(auto, using(crate::proofs::TellingLemmas::says_on, crate::proofs::TellingLemmas::all_said, crate::proofs::TellingLemmas::all_told, crate::proofs::TellingLemmas::sendable_change))]
-fn push_changes(
+/// The tables of the catalog.
+fn tables_of(checked: &Checked) -> &[Table]
+    ensures tables { result.now ≡ (checked_view checked.now).catalog.tables }
+    ensures limited { All IsLimitedTable result.now }
+{
+    checked.catalog().tables.as_slice()
+}
+
+/// Tells the subscriber of this number of the changes of a commit that are for it, and of tables whose Relation was not
+/// sent: the messages between Begin and Commit of `messages_of`, which a sink takes one after the other. `told` has by a
+/// table's number whether its Relation was sent. The only error is want of memory; then `sink` has taken some first
+/// messages.
+///
+/// PostgreSQL 15, 55.5.3. Logical Replication Protocol Message Flow.
+pub fn tell_changes<S: MessageSink>(
+    alloc: Global,
+    checked: &Checked,
+    subscriber: usize,
+    commit: &Commit,
+    told: &mut [bool],
+    sink: &mut S,
+) -> Result<(), AllocError>
+    ensures said { OnOk result (Takes S.takes_one sink.old sink.new
+        (spec.said_each (checked_view checked.now) subscriber told.old commit.now.changes)) }
+    ensures told { OnOk result (told.new ≡ spec.told_after (checked_view checked.now) subscriber told.old commit.now) }
+{
+    tell_each(alloc, checked, subscriber, commit.changes(), told, sink)?;
+    Ok(())
+}
+
+/// Tells the subscriber of changes, one after the other.
+fn tell_each<S: MessageSink>(
     alloc: Global,
     checked: &Checked,
     subscriber: usize,
     changes: &[Change],
     told: &mut [bool],
-    spoken: &mut Spoken,
+    sink: &mut S,
 ) -> Result<(), AllocError>
     requires { All IsSendableChange (map change_view changes.now) }
-    ensures said { OnOk result (spoken.new ≡ spoken.old
-        ++ spec.said_each (checked_view checked.now) subscriber told.old (map change_view changes.now)) }
+    ensures said { OnOk result (Takes S.takes_one sink.old sink.new
+        (spec.said_each (checked_view checked.now) subscriber told.old (map change_view changes.now))) }
     ensures told { OnOk result (told.new
         ≡ spec.told_each (checked_view checked.now) subscriber told.old (map change_view changes.now)) }
 {
     for change in changes {
-        push_change(alloc, checked, subscriber, change, told, spoken)?;
+        tell_change(alloc, checked, subscriber, change, told, sink)?;
     }
     Ok(())
 }
 
-/// Adds what the subscriber is told of a change.
-#[tactic(auto, using(crate::proofs::TellingLemmas::got_none, crate::proofs::TellingLemmas::nothing_said, crate::proofs::TellingLemmas::nothing_told, crate::proofs::TellingLemmas::got_insert, crate::proofs::TellingLemmas::got_update, crate::proofs::TellingLemmas::got_delete, crate::proofs::TellingLemmas::got_truncate, crate::proofs::TellingLemmas::truncated_numbers))]
-fn push_change(
+/// Tells the subscriber of a change.
+#[tactic(auto, using(crate::proofs::TellingLemmas::got_none, crate::proofs::TellingLemmas::got_insert, crate::proofs::TellingLemmas::got_update, crate::proofs::TellingLemmas::got_delete, crate::proofs::TellingLemmas::got_truncate, crate::proofs::TellingLemmas::truncated_numbers))]
+fn tell_change<S: MessageSink>(
     alloc: Global,
     checked: &Checked,
     subscriber: usize,
     change: &Change,
     told: &mut [bool],
-    spoken: &mut Spoken,
+    sink: &mut S,
 ) -> Result<(), AllocError>
     requires { IsSendableChange (change_view change.now) }
-    ensures said { OnOk result (spoken.new ≡ spoken.old ++ spec.said (checked_view checked.now).catalog.tables
-        told.old (got (setting_in (checked_view checked.now)) subscriber (change_view change.now))) }
+    ensures said { OnOk result (Takes S.takes_one sink.old sink.new (spec.said (checked_view checked.now).catalog.tables
+        told.old (got (setting_in (checked_view checked.now)) subscriber (change_view change.now)))) }
     ensures told { OnOk result (told.new
         ≡ spec.told_by told.old (got (setting_in (checked_view checked.now)) subscriber (change_view change.now))) }
 {
     let plan = checked.plan();
-    let tables = checked.catalog().tables.as_slice();
+    let tables = tables_of(checked);
     let table = table_of(change);
     match transform(plan, subscriber, change) {
         None => Ok(()),
-        Some(Out::Insert(new)) => Ok(push_insert(alloc, tables, table, new, told, spoken)?),
-        Some(Out::Update(old, new)) => {
-            Ok(push_update(alloc, tables, table, old, new, told, spoken)?)
-        }
-        Some(Out::Delete(old)) => Ok(push_delete(alloc, tables, table, old, told, spoken)?),
+        Some(Out::Insert(new)) => Ok(say_insert(tables, table, new, told, sink)?),
+        Some(Out::Update(old, new)) => Ok(say_update(tables, table, old, new, told, sink)?),
+        Some(Out::Delete(old)) => Ok(say_delete(tables, table, old, told, sink)?),
         Some(Out::Truncate(numbers)) => {
             let carried = carried_of(alloc, plan, subscriber, numbers)?;
-            Ok(push_truncate(alloc, tables, carried.as_slice(), told, spoken)?)
+            Ok(say_truncate(tables, carried.as_slice(), told, sink)?)
         }
     }
 }

@@ -1,6 +1,6 @@
 //! The values of a row in a message ("TupleData").
 
-ghost use Rattle.std.specs.Prelude.{◌≡◌, ◌==◌, ◌<◌, ◌^◌, ◌-◌, length, min, All};
+ghost use Rattle.std.specs.Prelude.{◌≡◌, ◌==◌, ◌<◌, ◌^◌, ◌-◌, length, min, All, IsUtf8};
 ghost use Rattle.std.specs.List.{flat_map};
 ghost use Rattle.pgoutput_msgs.specs.Spelling.{cell_spelling, tuple_spelling, old_spelling, new_spelling};
 ghost use Rattle.pgoutput_msgs.specs.Ranges.{IsCellWithinRange, IsTupleWithinRange, IsOldWithinRange};
@@ -141,7 +141,8 @@ fn put_cell(cell: &Cell, out: &mut Vec<u8>)
 pub(crate) fn put_text(text: &str, out: &mut Vec<u8>)
     requires fits { length text.now < 2 ^ 31 }
     requires room { HasRoom out.old (cell_spelling (Cell.Text text.now)) }
-    ensures { Puts out.old out.new (cell_spelling (Cell.Text text.now)) }
+    ensures puts { Puts out.old out.new (cell_spelling (Cell.Text text.now)) }
+    ensures text { IsUtf8 text.now }
 {
     put_byte(b't', out);
     put_int32(text.len() as u32, out);

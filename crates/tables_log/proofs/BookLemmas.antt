@@ -1,6 +1,6 @@
 -- What a book keeps of its tables, its log and its slots.
 use Rattle.std.proofs.Common.{◌≡◌, ◌≢◌, ℕ, ◌+◌, ◌-◌, ◌<◌, ◌≤◌, List, [], ◌∷◌, ◌++◌, length, map, refl, sym, ◌∙◌, ap, subst, arith, append_assoc}
-use Rattle.std.specs.Prelude.{Some, None, if◌then◌else◌, ◌==◌, All, slice_get, slice_index_or}
+use Rattle.std.specs.Prelude.{Option, Some, None, if◌then◌else◌, ◌==◌, All, slice_get, slice_index_or}
 use Rattle.std.proofs.lemmas.Option.{get_or_from_slice_get}
 use Rattle.filter_tree.specs.Datum.{Datum}
 use Rattle.filter_tree.specs.declared.table.Table.{Table}
@@ -21,7 +21,8 @@ use Rattle.tables_log.specs.BookView.{book_setting, book_limit, book_rows, book_
 use Rattle.tables_log.specs.Commits.{CommitOf, commit_of}
 use Rattle.tables_log.specs.Committing.{IsTransaction, RefusedBy}
 use Rattle.tables_log.specs.Logs.{entry_at, IsNumbered}
-use Rattle.tables_log.specs.Places.{kept_at, maps_of, kept_in, seen_in, widths, KeepsTables, SettlesTables, DiscardsTables}
+use Rattle.tables_log.specs.Places.{kept_at, seen_at, maps_of, kept_in, seen_in, widths, KeepsTables, SettlesTables, DiscardsTables}
+use Rattle.tables_log.specs.Settling.{are_named, IsSettled, IsSettledBut}
 use Rattle.tables_log.specs.Slots.{end_after, confirmed_at, IsBounded}
 use Rattle.tables_log.specs.declared.book.Book.{Book}
 use Rattle.tables_log.specs.declared.error.CommitError.{CommitError}
@@ -30,25 +31,37 @@ use Rattle.tables_log.specs.declared.slots.Slot.{Slot}
 use Rattle.tables_log.specs.declared.table_rows.TableRows.{TableRows}
 use Rattle.tables_log.proofs.ListLemmas.{map_more}
 use Rattle.tables_log.proofs.PlaceLemmas.{number_is, number_apart, within, get_front, get_last}
+use Rattle.tables_log.proofs.SettleLemmas.{settled_others}
 
 -- ---- tables without rows
 
 pub record MakingTables (rows : List TableRows) (left all : List Table) : Type 0 where
   pub wide : widths rows ++ widths_of left ≡ widths_of all
-  pub none : SameTables (kept_in rows) no_rows
+  pub kept_none : SameTables (kept_in rows) no_rows
+  pub seen_none : SameTables (seen_in rows) no_rows
+
+bare_more : (show : Option TableRows → ℕ → List Datum → Option (List Datum)) (rows : List TableRows) (made : TableRows)
+    → SameTables (λ table. show (slice_get rows table)) no_rows → ((key : ℕ) (value : List Datum) → show (Some made) key value ≡ None)
+    → SameTables (λ table. show (slice_get (rows ++ made ∷ []) table)) no_rows
+bare_more show rows made none bare number key value = by_test (number == length rows)
+    (λ here. let same : number ≡ length rows = number_is number (length rows) here in
+    ap (λ n. show (slice_get (rows ++ made ∷ []) n) key value) same ∙ ap (λ found. show found key value) (get_last rows made) ∙ bare key value)
+    (λ beside. ap (λ found. show found key value) (get_front rows made number (number_apart number (length rows) beside)) ∙ none number key value)
 
 pub makes_one : (rows : List TableRows) (table : Table) (left all : List Table) (made : TableRows) → length made.maps.items ≡ length (keys_in (Some table))
-    → ((number : ℕ) (value : List Datum) → kept_at made.maps.items number value ≡ None) → MakingTables rows (table ∷ left) all → MakingTables (rows ++ made ∷ []) left all
-makes_one rows table left all made width bare making = record {
+    → ((number : ℕ) (value : List Datum) → kept_at made.maps.items number value ≡ None) → ((number : ℕ) (value : List Datum) → seen_at made.maps.items number value ≡ None)
+    → MakingTables rows (table ∷ left) all → MakingTables (rows ++ made ∷ []) left all
+makes_one rows table left all made width unkept unseen making = record {
   wide = ap (λ list. list ++ widths_of left) (map_more (λ (one : TableRows). length one.maps.items) rows made)
       ∙ append_assoc (widths rows) (length made.maps.items ∷ []) (widths_of left)
       ∙ ap (λ n. widths rows ++ n ∷ widths_of left) width
       ∙ making.wide;
-  none = λ number key value. by_test (number == length rows)
-      (λ here. let same : number ≡ length rows = number_is number (length rows) here in
-      ap (λ n. kept_at (maps_of (slice_get (rows ++ made ∷ []) n)) key value) same ∙ ap (λ found. kept_at (maps_of found) key value) (get_last rows made) ∙ bare key value)
-      (λ beside. ap (λ found. kept_at (maps_of found) key value) (get_front rows made number (number_apart number (length rows) beside)) ∙ making.none number key value);
+  kept_none = bare_more (λ found. kept_at (maps_of found)) rows made making.kept_none unkept;
+  seen_none = bare_more (λ found. seen_at (maps_of found)) rows made making.seen_none unseen;
 }
+
+pub bare_settled : (rows : List TableRows) → SameTables (kept_in rows) no_rows → SameTables (seen_in rows) no_rows → IsSettled rows
+bare_settled rows unkept unseen table key value = unkept table key value ∙ sym (unseen table key value)
 
 pub narrow_limited : (tables : List Table) → length tables ≤ 64 → All IsLimitedTable tables → IsNarrow tables
 narrow_limited tables few each = record {
@@ -74,31 +87,35 @@ bounded_more slots commits more longer bounded number = let low : confirmed_at s
 
 -- ---- commits
 
-module _ (setting : Setting) (first bare staged : List TableRows) (commands : List Command) (discards : DiscardsTables first bare) where
-  alike_bare : AreAlike setting (seen_in bare) (kept_in first)
-  alike_bare = are_alike setting (seen_in bare) (kept_in first) discards.sees
+module _ (setting : Setting) (first staged : List TableRows) (commands : List Command) (settled : IsSettled first) where
+  alike_kept : AreAlike setting (seen_in first) (kept_in first)
+  alike_kept = are_alike setting (seen_in first) (kept_in first) (λ table key value. sym (settled table key value))
 
-  pub commits_tables : (last : List TableRows) (time number : ℕ) (entry : CommitOf) → KeepsTables bare staged → StagesCommit setting bare staged commands time number entry
+  pub commits_tables : (last : List TableRows) (time number : ℕ) (entry : CommitOf) → KeepsTables first staged → StagesCommit setting first staged commands time number entry
       → SettlesTables staged last → CommitsTables setting first last commands time number entry
   commits_tables last time number entry keeps stages settles = record {
-    no_fault = sym (alike_bare.first 1 commands) ∙ stages.no_fault;
-    leaves = λ table key value. settles.keeps table key value ∙ stages.leaves table key value ∙ alike_bare.all_left commands table key value;
-    records = stages.records ∙ ap (commit_of number time) (alike_bare.recorded commands);
-    width = settles.width ∙ keeps.width ∙ discards.width;
+    no_fault = sym (alike_kept.first 1 commands) ∙ stages.no_fault;
+    leaves = λ table key value. settles.keeps table key value ∙ stages.leaves table key value ∙ alike_kept.all_left commands table key value;
+    records = stages.records ∙ ap (commit_of number time) (alike_kept.recorded commands);
+    width = settles.width ∙ keeps.width;
   }
 
-  pub stops_kept : (error : CommitError) → StopsAt setting (seen_in bare) commands error → StopsAt setting (kept_in first) commands error
+  pub stops_kept : (error : CommitError) → StopsAt setting (seen_in first) commands error → StopsAt setting (kept_in first) commands error
   stops_kept e.EmptyTransaction stops = stops
   stops_kept e.TooManyCommands stops = stops
   stops_kept e.LogFull stops = stops
-  stops_kept (e.At number fault) stops = sym (alike_bare.first 1 commands) ∙ stops
+  stops_kept (e.At number fault) stops = sym (alike_kept.first 1 commands) ∙ stops
   stops_kept e.OutOfMemory stops = stops
 
-  pub keeps_first : (last : List TableRows) → KeepsTables bare staged → DiscardsTables staged last → KeepsTables first last
-  keeps_first last keeps after = record {
-    keeps = λ table key value. after.keeps table key value ∙ keeps.keeps table key value ∙ discards.keeps table key value;
-    width = after.width ∙ keeps.width ∙ discards.width;
-  }
+pub keeps_first : (first staged last : List TableRows) → KeepsTables first staged → DiscardsTables staged last → KeepsTables first last
+keeps_first first staged last keeps after = record {
+  keeps = λ table key value. after.keeps table key value ∙ keeps.keeps table key value;
+  width = after.width ∙ keeps.width;
+}
+
+pub stages_settled : (setting : Setting) (first staged : List TableRows) (commands : List m.Command) (time number : ℕ) (entry : CommitOf) → IsSettled first → KeepsTables first staged
+    → StagesCommit setting first staged (map command_view commands) time number entry → IsSettledBut (are_named commands) staged
+stages_settled setting first staged commands time number entry settled keeps stages = settled_others setting first staged commands settled keeps stages.leaves
 
 pub refused_by : (book : Book) (commands : List Command) (error : CommitError) → IsTransaction commands → length (book_log book) < book_limit book
     → StopsAt (book_setting book) (book_rows book) commands error → RefusedBy book commands error

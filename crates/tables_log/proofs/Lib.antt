@@ -9,5 +9,6 @@ pub mod PassLemmas
 pub mod PlaceLemmas
 pub mod SameLemmas
 pub mod SendableLemmas
+pub mod SettleLemmas
 pub mod StandLemmas
 pub mod TruncateLemmas

@@ -7,7 +7,7 @@ use Rattle.std.proofs.lemmas.List.{length-set}
 use Rattle.filter_tree.specs.Datum.{Datum}
 use Rattle.table_changes.proofs.TableLemmas.{by_test}
 use Rattle.table_changes.specs.Tables.{Tables}
-use Rattle.tables_log.specs.Places.{Places, shown, kept_at, seen_at, maps_of, kept_in, seen_in, widths, SettlesRows, DiscardsRows, SettlesTables, DiscardsTables}
+use Rattle.tables_log.specs.Places.{Places, shown, kept_at, seen_at, maps_of, kept_in, seen_in, widths, SettlesRows, DiscardsRows, DiscardsTables}
 use Rattle.tables_log.specs.Staging.{kept, seen, Settles}
 use Rattle.tables_log.specs.declared.staged.Staged.{Staged}
 use Rattle.tables_log.specs.declared.table_rows.TableRows.{TableRows}
@@ -108,16 +108,6 @@ goes_on_tables tables first index kept_as seen_as old new at keeps sees width go
 past_table : (tables : List TableRows) (table : ℕ) → length tables ≤ table → (number : ℕ) (value : List Datum) → kept_in tables table number value ≡ None
 past_table tables table past number value = ap (λ found. kept_at (maps_of found) number value) (slice_get_past tables table past)
 
-past_table_seen : (tables : List TableRows) (table : ℕ) → length tables ≤ table → (number : ℕ) (value : List Datum) → seen_in tables table number value ≡ None
-past_table_seen tables table past number value = ap (λ found. seen_at (maps_of found) number value) (slice_get_past tables table past)
-
-pub settles_tables : (tables first : List TableRows) (index : ℕ) → length first ≤ index → GoingTables tables first index (seen_in first) (seen_in first) → SettlesTables first tables
-settles_tables tables first index ended going = record {
-  keeps = λ table. pass_all (λ found. kept_at (maps_of found)) SamePlaces (seen_in first) tables first index going.count ended going.keeps
-      (λ t past number value. sym (past_table_seen first t past number value)) table;
-  width = going.width;
-}
-
 pub discards_tables : (tables first : List TableRows) (index : ℕ) → length first ≤ index → GoingTables tables first index (kept_in first) (kept_in first) → DiscardsTables first tables
 discards_tables tables first index ended going = record {
   keeps = λ table. pass_all (λ found. kept_at (maps_of found)) SamePlaces (kept_in first) tables first index going.count ended going.keeps
@@ -143,14 +133,6 @@ settles_rows old new index ended going = record {
   sees = pass_all (shown seen) SameShown (seen_at old.maps.items) new.maps.items old.maps.items index going.width ended going.sees (past_seen old.maps.items);
   width = going.width;
 }
-
-pub settles_tables_next : (tables first : List TableRows) (index : ℕ) (old new : TableRows) → slice_get tables index ≡ Some old → SettlesRows old new
-    → GoingTables tables first index (seen_in first) (seen_in first) → GoingTables (slice_set tables index new) first (index + 1) (seen_in first) (seen_in first)
-settles_tables_next tables first index old new at settles going =
-    let before : slice_get first index ≡ Some old = sym (going.rest index (omega arith)) ∙ at in
-    let was : SamePlaces (seen_at old.maps.items) (seen_in first index) = λ number value. sym (ap (λ found. seen_at (maps_of found) number value) before) in
-    goes_on_tables tables first index (seen_in first) (seen_in first) old new at (λ number value. settles.keeps number value ∙ was number value)
-    (λ number value. settles.sees number value ∙ was number value) settles.width going
 
 pub discards_tables_next : (tables first : List TableRows) (index : ℕ) (old new : TableRows) → slice_get tables index ≡ Some old → DiscardsRows old new
     → GoingTables tables first index (kept_in first) (kept_in first) → GoingTables (slice_set tables index new) first (index + 1) (kept_in first) (kept_in first)

@@ -165,31 +165,26 @@ puts_next old new values value row one number found = by_test (number == length 
     (one.sees number found ∙ ap (λ b. if b && is_row value found then row else seen_at old.maps.items number found) beside)
     ∙ sym (put_front (seen_at old.maps.items) values value row number apart found))
 
--- one map more
-pub kept_more : (maps : List (Staged (List Datum))) (map : Staged (List Datum)) → ((number : ℕ) (value : List Datum) → kept_at maps number value ≡ None)
-    → ((value : List Datum) → kept map value ≡ None) → (number : ℕ) (value : List Datum) → kept_at (maps ++ map ∷ []) number value ≡ None
-kept_more maps map none bare number value = by_test (number == length maps)
-    (λ here. let same : number ≡ length maps = number_is number (length maps) here in
-    ap (λ n. shown kept (slice_get (maps ++ map ∷ []) n) value) same ∙ ap (λ found. shown kept found value) (get_last maps map) ∙ bare value)
-    (λ beside. ap (λ found. shown kept found value) (get_front maps map number (number_apart number (length maps) beside)) ∙ none number value)
-
--- maps that keep nothing, one more than were counted
+-- maps of which nothing is found, one more than were counted
 pub record Making (maps : List (Staged (List Datum))) (count : ℕ) : Type 0 where
   pub width : length maps ≡ count + 1
-  pub none : (number : ℕ) (value : List Datum) → kept_at maps number value ≡ None
+  pub kept_none : (number : ℕ) (value : List Datum) → kept_at maps number value ≡ None
+  pub seen_none : (number : ℕ) (value : List Datum) → seen_at maps number value ≡ None
 
-none_more : (maps : List (Staged (List Datum))) (map : Staged (List Datum)) → ((number : ℕ) (value : List Datum) → kept_at maps number value ≡ None)
-    → ((value : List Datum) → kept map value ≡ None) → (number : ℕ) (value : List Datum) → kept_at (maps ++ map ∷ []) number value ≡ None
-none_more [] map none bare zero value = bare value
-none_more [] map none bare (suc number) value = refl
-none_more (first ∷ maps) map none bare zero value = none zero value
-none_more (first ∷ maps) map none bare (suc number) value = none_more maps map (λ n. none (suc n)) bare number value
+none_more : (show : Staged (List Datum) → List Datum → Option (List Datum)) (maps : List (Staged (List Datum))) (map : Staged (List Datum))
+    → ((number : ℕ) (value : List Datum) → shown show (slice_get maps number) value ≡ None) → ((value : List Datum) → show map value ≡ None)
+    → (number : ℕ) (value : List Datum) → shown show (slice_get (maps ++ map ∷ []) number) value ≡ None
+none_more show [] map none bare zero value = bare value
+none_more show [] map none bare (suc number) value = refl
+none_more show (first ∷ maps) map none bare zero value = none zero value
+none_more show (first ∷ maps) map none bare (suc number) value = none_more show maps map (λ n. none (suc n)) bare number value
 
 pub making_more : (maps new : List (Staged (List Datum))) (map : Staged (List Datum)) (count : ℕ) → new ≡ maps ++ map ∷ [] → ((value : List Datum) → kept map value ≡ None)
-    → Making maps count → Making new (count + 1)
-making_more maps new map count is bare making = record {
+    → ((value : List Datum) → seen map value ≡ None) → Making maps count → Making new (count + 1)
+making_more maps new map count is unkept unseen making = record {
   width = ap length is ∙ length-append maps (map ∷ []) ∙ ap (λ n. n + 1) making.width;
-  none = λ number value. ap (λ all. kept_at all number value) is ∙ none_more maps map making.none bare number value;
+  kept_none = λ number value. ap (λ all. kept_at all number value) is ∙ none_more kept maps map making.kept_none unkept number value;
+  seen_none = λ number value. ap (λ all. seen_at all number value) is ∙ none_more seen maps map making.seen_none unseen number value;
 }
 
 -- so far: what the values that are left put is what all put, and what is kept stays

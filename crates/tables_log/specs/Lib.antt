@@ -10,6 +10,7 @@ pub mod Logs
 pub mod NumberKeys
 pub mod Places
 pub mod Sendable
+pub mod Settling
 pub mod Slots
 pub mod Staging
 pub mod StandsFor

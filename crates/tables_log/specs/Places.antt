@@ -115,8 +115,10 @@ pub record KeepsTables (old new : List TableRows) : Type 0 where
 pub record EmptiesTable (old new : List TableRows) (number : ℕ) : Type 0 where
   pub sees : (other key : ℕ) (value : List Datum) → seen_in new other key value ≡ (if number == other then None else seen_in old other key value)
 
+-- what was seen is kept
 pub record SettlesTables (old new : List TableRows) : Type 0 where
   pub keeps : SameTables (kept_in new) (seen_in old)
+  pub sees : SameTables (seen_in new) (seen_in old)
   pub width : widths new ≡ widths old
 
 pub record DiscardsTables (old new : List TableRows) : Type 0 where

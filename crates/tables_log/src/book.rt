@@ -5,6 +5,7 @@ ghost use Rattle.std.specs.Arc.{arc_value};
 ghost use Rattle.shard_checker.specs.CheckedView.{checked_view};
 ghost use Rattle.tables_log.specs.Applying.{HasMaps};
 ghost use Rattle.tables_log.specs.Logs.{IsNumbered};
+ghost use Rattle.tables_log.specs.Settling.{IsSettled};
 ghost use Rattle.tables_log.specs.Slots.{IsBounded};
 
 use crate::commit::Commit;
@@ -38,6 +39,7 @@ pub struct Book {
     ghost room: { length log.items ≤ limit },
     ghost numbered: { IsNumbered (map (λ commit. arc_value commit) log.items) },
     ghost maps: { HasMaps (checked_view (arc_value checked)).catalog.tables tables.items },
+    ghost settled: { IsSettled tables.items },
     ghost bounded: { IsBounded slots.items (length log.items) },
 }
 
@@ -83,7 +85,8 @@ impl Book {
     /// Makes the commands one transaction, each on what the earlier ones leave, and logs it with this time, in
     /// microseconds since 2000-01-01. The answer is its number, from 1. With an error nothing changes.
     ///
-    /// It takes time for its commands, each times the logarithm of a table's rows, and looks at no other row.
+    /// It takes time for its commands, each times the logarithm of a table's rows, and looks at no other row, and at no
+    /// table that no command names unless one is refused.
     ///
     /// # Errors
     ///

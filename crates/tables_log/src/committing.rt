@@ -9,10 +9,12 @@ ghost use Rattle.table_changes.specs.Tables.{SameTables, no_rows};
 ghost use Rattle.tables_log.specs.Applying.{HasMaps, widths_of};
 ghost use Rattle.tables_log.specs.ApplyingAll.{RefusesCount, StopsAt, StagesCommit, CommitsTables};
 ghost use Rattle.tables_log.specs.Places.{kept_in, seen_in, widths, KeepsTables};
+ghost use Rattle.tables_log.specs.Settling.{IsSettled};
 
 use crate::commit::Commit;
 use crate::error::CommitError;
-use crate::staging::{apply_all, discard, settle};
+use crate::settling::settle;
+use crate::staging::{apply_all, discard};
 use crate::table_rows::TableRows;
 use filter_tree::Table;
 use shard_checker::Checked;
@@ -41,6 +43,7 @@ pub(crate) fn check_count(commands: usize) -> Result<(), CommitError>
 pub(crate) fn empty_tables(alloc: Global, tables: &[Table]) -> Result<Vec<TableRows>, AllocError>
     ensures widths { IfOk result (λ rows. widths rows.items ≡ widths_of tables.now) }
     ensures kept { IfOk result (λ rows. SameTables (kept_in rows.items) no_rows) }
+    ensures settled { IfOk result (λ rows. IsSettled rows.items) }
 {
     let mut rows = Vec::with_capacity(alloc, tables.len())?;
     for table in tables {
@@ -74,8 +77,9 @@ fn stage(
     Ok(Arc::new(alloc, commit)?)
 }
 
-/// Makes the commands one transaction, and gives its entry of the log; or leaves what was kept.
-#[tactic(auto, using(crate::proofs::BookLemmas::commits_tables, crate::proofs::BookLemmas::stops_kept, crate::proofs::BookLemmas::keeps_first))]
+/// Makes the commands one transaction, and gives its entry of the log; or leaves what was kept. Only the tables that
+/// they name have to settle, since all that was seen of each was kept.
+#[tactic(auto, using(crate::proofs::BookLemmas::commits_tables, crate::proofs::BookLemmas::stops_kept, crate::proofs::BookLemmas::keeps_first, crate::proofs::BookLemmas::stages_settled, crate::proofs::SettleLemmas::settles_all, crate::proofs::SettleLemmas::discards_all))]
 pub(crate) fn commit_tables(
     alloc: Global,
     checked: &Checked,
@@ -85,6 +89,7 @@ pub(crate) fn commit_tables(
     time: u64,
 ) -> Result<Arc<Commit, Global>, CommitError>
     requires maps { HasMaps (checked_view checked.now).catalog.tables tables.old }
+    requires settled { IsSettled tables.old }
     requires few { length commands.now ≤ 1000 }
     requires first { 1 ≤ number }
     requires last { number ≤ 1000000000 }
@@ -93,12 +98,11 @@ pub(crate) fn commit_tables(
     ensures err { IfErr result (StopsAt (setting_in (checked_view checked.now)) (kept_in tables.old)
         (map command_view commands.now)) }
     ensures kept { OnErr result (KeepsTables tables.old tables.new) }
+    ensures settled { IsSettled tables.new }
 {
-    // What is staged counts from what is kept.
-    discard(tables);
     match stage(alloc, checked, tables, commands, number, time) {
         Ok(commit) => {
-            settle(tables);
+            settle(tables, commands);
             Ok(commit)
         }
         Err(error) => {

@@ -9,6 +9,7 @@ mod error;
 mod keys;
 mod laws;
 mod layers;
+mod settling;
 mod shared_row;
 mod slots;
 mod staged;

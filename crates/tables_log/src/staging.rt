@@ -6,7 +6,7 @@ ghost use Rattle.shard_checker.specs.CheckedView.{checked_view, setting_in};
 ghost use Rattle.table_changes.specs.Commands.{command_view, fault_of};
 ghost use Rattle.tables_log.specs.Applying.{HasMaps, Applies};
 ghost use Rattle.tables_log.specs.Faults.{Finds};
-ghost use Rattle.tables_log.specs.Places.{seen_in, KeepsTables, SettlesTables, DiscardsTables};
+ghost use Rattle.tables_log.specs.Places.{seen_in, KeepsTables, DiscardsTables};
 ghost use Rattle.tables_log.specs.ApplyingAll.{AppliesAll, StopsAt, error_at};
 
 use crate::applying::{delete, insert, update};
@@ -75,15 +75,6 @@ pub(crate) fn apply_all(
         }
     }
     Ok(changes)
-}
-
-/// Keeps what is seen.
-pub(crate) fn settle(tables: &mut [TableRows])
-    ensures { SettlesTables tables.old tables.new }
-{
-    for rows in tables.iter_mut() {
-        rows.settle();
-    }
 }
 
 /// Forgets what is staged.

@@ -50,6 +50,8 @@ impl TableRows {
         ensures width { IfOk result (λ rows. length rows.maps.items ≡ indexes + 1) }
         ensures kept { IfOk result (λ rows. (number : ℕ)
             (value : List Datum) → kept_at rows.maps.items number value ≡ None) }
+        ensures seen { IfOk result (λ rows. (number : ℕ)
+            (value : List Datum) → seen_at rows.maps.items number value ≡ None) }
     {
         let mut maps = Vec::new(alloc);
         maps.push(Staged::new(alloc))?;

@@ -1,30 +1,53 @@
-use Rattle.std.proofs.Common.{ℕ, ◌*◌, ◌++◌, Bool, List, All, ap, subst, ◌∙◌, map}
+use Rattle.std.proofs.Common.{◌≡◌, ℕ, ◌*◌, ◌++◌, Bool, List, All, length, sym, ap, subst, refl, ◌∙◌, arith, rules}
 use Rattle.std.specs.List.{flat_map}
-use Rattle.shard_checker.specs.CheckedView.{checked_view}
-use Rattle.pgoutput_msgs.specs.Sent.{IsSent}
-use Rattle.pgoutput_msgs.specs.Spelling.{spelling_of}
+use Rattle.std.proofs.lemmas.Grind.{common_steps}
+use Rattle.shard_checker.specs.CheckedView.{CheckedOf, checked_view}
+use Rattle.shard_checker.proofs.LimitFacts.{checked_limited}
+use Rattle.pgoutput_msgs.specs.Ranges.{HasTexts}
 use Rattle.pgoutput_msgs.specs.Telling.{messages_for}
 use Rattle.pgoutput_msgs.specs.declared.message.Msg.{Msg}
+use Rattle.pgoutput_msgs.proofs.SentLemmas.{messages_sent}
+use Rattle.copy_frames.specs.declared.xlog_data.XLogData.{XLogData}
+use Rattle.copy_both.specs.Framing.{frames_with}
 use Rattle.copy_both.specs.Streams.{sent_at}
 use Rattle.copy_both.specs.Tellings.{spelled_for}
+use Rattle.copy_both.specs.declared.taken.Taken.TheVariants.{Skipped, Sent}
+use Rattle.copy_both.proofs.FramingLemmas.{skipped_if, sent_if}
+use Rattle.copy_both.proofs.place.Place.take.Goals.{then-is_empty, else-is_empty}
 use Rattle.copy_both.proofs.place.Place.take.Goals as goal
+
+pub returns-clause-taken : goal.returns-clause-taken
+returns-clause-taken c =
+    let checked : CheckedOf = checked_view c.args.checked.now in
+    let head : XLogData = record { start = 64 * c.from-lsn.result; end = 64 * c.from-lsn.result; clock = c.args.now } in
+    let messages : List Msg = messages_for checked c.args.self.now.slot c.args.self.now.told.items c.args.commit.now in
+    let exact : c.in_ok-frames.frames.items ≡ frames_with head messages =
+    c.in_ok-frames.ensures.frames
+    ∙ ap (λ (told : List Bool). frames_with head (messages_for checked c.args.self.now.slot told c.args.commit.now)) c.as_mut_slice-told.ensures.value in
+    elim c.if-is_empty.branch [
+      | then-is_empty w ↦
+          let none : length c.in_ok-frames.frames.items ≡ 0 = first_of (search rules, grind (arith, common_steps)) in
+          w.taken-is ∙ ap Skipped c.number-number.ensures.shows ∙ sym (skipped_if head c.args.commit.now.number messages (ap length (sym exact) ∙ none))
+      | else-is_empty w ↦
+          let some : length c.in_ok-frames.frames.items ≡ 0 → ⊥ = first_of (search rules, grind (arith, common_steps)) in
+          w.taken-is ∙ ap Sent c.number-number.ensures.shows ∙ sym (sent_if head c.args.commit.now.number messages (λ none. some (ap length exact ∙ none)))
+    ]
 
 pub returns-clause-said : goal.returns-clause-said
 returns-clause-said c =
-    let out : List ℕ = c.args.out.now.items in
-    let told : List (List ℕ) = spelled_for (checked_view c.args.checked.now) c.args.self.now.slot c.args.self.now.told.items c.args.commit.now in
+    let checked : CheckedOf = checked_view c.args.checked.now in
+    let told : List (List ℕ) = spelled_for checked c.args.self.now.slot c.args.self.now.told.items c.args.commit.now in
     let framed : ℕ → List (List ℕ) → List ℕ = λ n messages. flat_map (sent_at (64 * n) c.args.now) messages in
-    let number : ℕ = c.from-lsn.result in
-    c.in_ok-extend_from_slice.ensures.ok
-    ∙ ap (λ (x : List ℕ). out ++ x) (c.as_slice.ensures ∙ c.in_ok-append_messages.ensures
-    ∙ ap (λ (x : List ℕ). x ++ framed number (map spelling_of c.deref.result.now)) c.new-frames.ensures.items
-    ∙ ap (λ (x : List Msg). framed number (map spelling_of x)) (c.deref.ensures.value ∙ c.in_ok-messages.ensures.exact
-    ∙ ap (λ (told : List Bool). messages_for (checked_view c.args.checked.now) c.args.self.now.slot told c.args.commit.now) c.as_mut_slice.ensures.value)
-    ∙ ap (λ n. framed n told) (c.from-lsn.ensures ∙ c.number-number.ensures.shows))
+    c.in_ok-append_frames.ensures.ok
+    ∙ ap (λ (x : List ℕ). c.args.out.now.items ++ x) (c.in_ok-frames.ensures.frames
+    ∙ ap (λ (told : List Bool). framed c.from-lsn.result (spelled_for checked c.args.self.now.slot told c.args.commit.now)) c.as_mut_slice-told.ensures.value
+    ∙ ap (λ (n : ℕ). framed n told) (c.from-lsn.ensures ∙ c.number-number.ensures.shows))
 
 -- the messages are those of the definition
 pub returns-clause-read_back : goal.returns-clause-read_back
 returns-clause-read_back c =
-    subst (All IsSent) (c.in_ok-messages.ensures.exact
-    ∙ ap (λ (told : List Bool). messages_for (checked_view c.args.checked.now) c.args.self.now.slot told c.args.commit.now) c.as_mut_slice.ensures.value)
-    c.in_ok-messages.ensures.sent
+    let checked : CheckedOf = checked_view c.args.checked.now in
+    let messages : List Bool → List Msg = λ told. messages_for checked c.args.self.now.slot told c.args.commit.now in
+    messages_sent checked c.args.self.now.slot c.args.self.now.told.items c.args.commit.now (messages c.args.self.now.told.items) c.number-number.ensures.sendable
+    (checked_limited c.args.checked.now) refl
+    (subst (λ (told : List Bool). All HasTexts (messages told)) c.as_mut_slice-told.ensures.value c.in_ok-frames.ensures.texts)

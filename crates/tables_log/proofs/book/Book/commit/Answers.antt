@@ -1,7 +1,8 @@
-use Rattle.std.proofs.Common.{arith, rules, ap, sym, length, ◌∙◌}
+use Rattle.std.proofs.Common.{arith, rules, ap, subst, sym, length, ◌∙◌}
 use Rattle.std.proofs.lemmas.Grind.{common_steps}
 use Rattle.tables_log.proofs.BookLemmas.{numbered_pushed, bounded_more}
 use Rattle.tables_log.specs.Places.{widths}
+use Rattle.tables_log.specs.Settling.{IsSettled}
 use Rattle.tables_log.proofs.PlaceLemmas.{same_count, written}
 use Rattle.tables_log.proofs.book.Book.commit.Goals as goal
 
@@ -12,6 +13,7 @@ invariant_of-self c = record {
   room = grind (arith, common_steps);
   numbered = grind (arith, common_steps);
   maps = c.args.self.now.maps;
+  settled = c.args.self.now.settled;
   bounded = grind (arith, common_steps);
 }
 
@@ -28,6 +30,10 @@ invariant_of-self-in-Break-branch-3 c = record {
         (same_count c.commit_tables.new.tables c.deref_mut.result.now c.in_err-commit.ensures.kept.width ∙ ap length c.deref_mut.ensures.value ∙ sym c.args.self.now.tables.ok.0))
         ∙ c.in_err-commit.ensures.kept.width ∙ ap widths c.deref_mut.ensures.value ∙ c.args.self.now.maps.wide;
   };
+  settled =
+      subst IsSettled (sym (written c.args.self.now.tables.len c.commit_tables.new.tables c.args.self.now.tables.items
+      (same_count c.commit_tables.new.tables c.deref_mut.result.now c.in_err-commit.ensures.kept.width ∙ ap length c.deref_mut.ensures.value ∙ sym c.args.self.now.tables.ok.0)))
+      c.commit_tables.ensures.settled;
   bounded = grind (arith, common_steps);
 }
 
@@ -44,6 +50,10 @@ invariant_of-self-2 c = record {
         (same_count c.commit_tables.new.tables c.deref_mut.result.now c.in_ok-commit.ensures.ok.width ∙ ap length c.deref_mut.ensures.value ∙ sym c.args.self.now.tables.ok.0))
         ∙ c.in_ok-commit.ensures.ok.width ∙ ap widths c.deref_mut.ensures.value ∙ c.args.self.now.maps.wide;
   };
+  settled =
+      subst IsSettled (sym (written c.args.self.now.tables.len c.commit_tables.new.tables c.args.self.now.tables.items
+      (same_count c.commit_tables.new.tables c.deref_mut.result.now c.in_ok-commit.ensures.ok.width ∙ ap length c.deref_mut.ensures.value ∙ sym c.args.self.now.tables.ok.0)))
+      c.commit_tables.ensures.settled;
   bounded = grind (arith, common_steps, bounded_more);
 }
 
