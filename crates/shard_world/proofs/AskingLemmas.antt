@@ -6,12 +6,11 @@ use Rattle.std.proofs.lemmas.Bool.{leb-true, leb-false}
 use Rattle.table_changes.proofs.TableLemmas.{by_test}
 use Rattle.shard_checker.specs.CheckedView.{CheckedOf}
 use Rattle.tables_log.specs.Commits.{CommitOf}
-use Rattle.tables_log.specs.StandsFor.{Transaction}
 use Rattle.copy_both.specs.Streams.{Place, count_before, end_of}
 use Rattle.shard_world.specs.CatchingUp.{next_peer, sent_by, caught_up, SubscribersCatchUp}
 use Rattle.stream_laws.specs.Following.{IsPublished}
 use Rattle.stream_laws.specs.Sayable.{IsSayable}
-use Rattle.shard_world.specs.World.{position_now, Asks, Connection, Peer, World, PeerEvent, Open, Hear, Take, Keep, Deliver, Report, Lose, Event, Commit, On, Answer, first_world, spelled_up, heard_of, hears, place_of, takes, take_step, keep_step, open_step, shut_step, peer_step, broken, with_peer, with_transaction, StepsOn, Steps, Leads}
+use Rattle.shard_world.specs.World.{position_now, Asks, Connection, Peer, World, PeerEvent, Open, Hear, Take, Keep, Deliver, Report, Lose, Event, Commit, On, Answer, first_world, spelled_up, heard_of, hears, place_of, takes, take_step, keep_step, open_step, shut_step, peer_step, broken, with_peer, with_transaction, StepsOn, Steps, Leads, Source, source_in, step_in, broken_in, asking_length}
 use Rattle.shard_world.proofs.EndLemmas.{IsEnd}
 use Rattle.shard_world.proofs.EndSteps.{now_end, peer_end, take_many_end, take_many_good, ends_at}
 use Rattle.shard_world.proofs.CatchingUpLemmas.{hears_start, catches_up}
@@ -27,41 +26,41 @@ IsAskedAt checked subscriber position (Some c) = c.start ≡ None → c.heard < 
 abbrev pub IsAsked : CheckedOf → ℕ → Peer → Type 0
 IsAsked checked subscriber peer = IsAskedAt checked subscriber peer.position peer.connection
 
-module _ (checked : CheckedOf) (transactions : List Transaction) (subscriber now : ℕ) where
-  hears_asked : (peer : Peer) (c : Connection) (more : ℕ) → IsAskedAt checked subscriber peer.position (Some c) → IsAsked checked subscriber (hears checked subscriber now peer c more)
-  hears_asked peer c more still none = by_test (nat_le (length (spelled_up checked subscriber (Asks peer.position))) (c.heard + more))
+module _ (source : Source) (now : ℕ) where
+  hears_asked : (peer : Peer) (c : Connection) (more : ℕ) → IsAskedAt source.checked source.number peer.position (Some c) → IsAsked source.checked source.number (hears source now peer c more)
+  hears_asked peer c more still none = by_test (nat_le (asking_length source peer.position) (c.heard + more))
       (λ whole. absurd (
-      let start = hears_start checked subscriber now peer c more still (leb-true (length (spelled_up checked subscriber (Asks peer.position))) (c.heard + more) whole) in
-      let is : (heard_of checked subscriber now peer c more).start ≡ Some start.at = start.is in
+      let start = hears_start source now peer c more still (leb-true (asking_length source peer.position) (c.heard + more) whole) in
+      let is : (heard_of source now peer c more).start ≡ Some start.at = start.is in
       cc))
-      (λ part. leb-false (length (spelled_up checked subscriber (Asks peer.position))) (c.heard + more) part)
+      (λ part. leb-false (asking_length source peer.position) (c.heard + more) part)
 
-  takes_asked : (peer : Peer) (c : Connection) (place : Place) (found : Option CommitOf) → IsAsked checked subscriber peer → IsAskedAt checked subscriber peer.position (Some c)
-      → IsAsked checked subscriber (takes checked now peer c place found).1
+  takes_asked : (peer : Peer) (c : Connection) (place : Place) (found : Option CommitOf) → IsAsked source.checked source.number peer → IsAskedAt source.checked source.number peer.position (Some c)
+      → IsAsked source.checked source.number (takes source.checked now peer c place found).1
   takes_asked peer c place None whole still = whole
   takes_asked peer c place (Some commit) whole still = still
 
-  take_asked : (peer : Peer) (c : Connection) (start : Option ℕ) → IsAsked checked subscriber peer → IsAskedAt checked subscriber peer.position (Some c)
-      → IsAsked checked subscriber (take_step checked transactions subscriber now peer c start).1
+  take_asked : (peer : Peer) (c : Connection) (start : Option ℕ) → IsAsked source.checked source.number peer → IsAskedAt source.checked source.number peer.position (Some c)
+      → IsAsked source.checked source.number (take_step source now peer c start).1
   take_asked peer c None whole still = whole
-  take_asked peer c (Some start) whole still = takes_asked peer c (place_of checked transactions subscriber start c.moves) _ whole still
+  take_asked peer c (Some start) whole still = takes_asked peer c (place_of source start c.moves) _ whole still
 
-  keep_asked : (want : Bool) (peer : Peer) (c : Connection) (start : Option ℕ) → IsAsked checked subscriber peer → IsAskedAt checked subscriber peer.position (Some c)
-      → IsAsked checked subscriber (keep_step now want peer c start).1
+  keep_asked : (want : Bool) (peer : Peer) (c : Connection) (start : Option ℕ) → IsAsked source.checked source.number peer → IsAskedAt source.checked source.number peer.position (Some c)
+      → IsAsked source.checked source.number (keep_step now want peer c start).1
   keep_asked want peer c None whole still = whole
   keep_asked want peer c (Some start) whole still = still
 
-  open_asked : (event : PeerEvent) (peer : Peer) (c : Connection) → peer.connection ≡ Some c → IsAsked checked subscriber peer
-      → IsAsked checked subscriber (open_step checked transactions subscriber now event peer c).1
+  open_asked : (event : PeerEvent) (peer : Peer) (c : Connection) → peer.connection ≡ Some c → IsAsked source.checked source.number peer
+      → IsAsked source.checked source.number (open_step source now event peer c).1
   open_asked Open peer c is whole = whole
-  open_asked (Hear count) peer c is whole = hears_asked peer c _ (subst (IsAskedAt checked subscriber peer.position) is whole)
-  open_asked Take peer c is whole = take_asked peer c c.start whole (subst (IsAskedAt checked subscriber peer.position) is whole)
-  open_asked (Keep want) peer c is whole = keep_asked want peer c c.start whole (subst (IsAskedAt checked subscriber peer.position) is whole)
-  open_asked (Deliver count) peer c is whole = let still : IsAskedAt checked subscriber peer.position (Some c) = subst (IsAskedAt checked subscriber peer.position) is whole in still
-  open_asked (Report want) peer c is whole = let still : IsAskedAt checked subscriber peer.position (Some c) = subst (IsAskedAt checked subscriber peer.position) is whole in still
+  open_asked (Hear count) peer c is whole = hears_asked peer c _ (subst (IsAskedAt source.checked source.number peer.position) is whole)
+  open_asked Take peer c is whole = take_asked peer c c.start whole (subst (IsAskedAt source.checked source.number peer.position) is whole)
+  open_asked (Keep want) peer c is whole = keep_asked want peer c c.start whole (subst (IsAskedAt source.checked source.number peer.position) is whole)
+  open_asked (Deliver count) peer c is whole = let still : IsAskedAt source.checked source.number peer.position (Some c) = subst (IsAskedAt source.checked source.number peer.position) is whole in still
+  open_asked (Report want) peer c is whole = let still : IsAskedAt source.checked source.number peer.position (Some c) = subst (IsAskedAt source.checked source.number peer.position) is whole in still
   open_asked Lose peer c is whole = tt
 
-  shut_asked : (event : PeerEvent) (peer : Peer) → IsAsked checked subscriber peer → IsAsked checked subscriber (shut_step event peer).1
+  shut_asked : (event : PeerEvent) (peer : Peer) → IsAsked source.checked source.number peer → IsAsked source.checked source.number (shut_step event peer).1
   shut_asked Open peer whole = λ none. omega arith
   shut_asked (Hear count) peer whole = whole
   shut_asked Take peer whole = whole
@@ -70,21 +69,15 @@ module _ (checked : CheckedOf) (transactions : List Transaction) (subscriber now
   shut_asked (Report want) peer whole = whole
   shut_asked Lose peer whole = whole
 
-  peer_asked : (event : PeerEvent) (peer : Peer) (connection : Option Connection) → peer.connection ≡ connection → IsAsked checked subscriber peer
-      → IsAsked checked subscriber (peer_step checked transactions subscriber now event peer connection).1
+  peer_asked : (event : PeerEvent) (peer : Peer) (connection : Option Connection) → peer.connection ≡ connection → IsAsked source.checked source.number peer
+      → IsAsked source.checked source.number (peer_step source now event peer connection).1
   peer_asked event peer None is whole = shut_asked event peer whole
   peer_asked event peer (Some c) is whole = open_asked event peer c is whole
 
-  broken_asked : (event : PeerEvent) (peer : Peer) (some : ℕ) (connection : Option Connection) → IsAsked checked subscriber peer
-      → IsAsked checked subscriber (broken checked transactions subscriber now event peer some connection)
+  broken_asked : (event : PeerEvent) (peer : Peer) (some : ℕ) (connection : Option Connection) → IsAsked source.checked source.number peer
+      → IsAsked source.checked source.number (broken source now event peer some connection)
   broken_asked event peer some None whole = whole
-  broken_asked Open peer some (Some c) whole = tt
-  broken_asked (Hear count) peer some (Some c) whole = tt
-  broken_asked Take peer some (Some c) whole = tt
-  broken_asked (Keep want) peer some (Some c) whole = tt
-  broken_asked (Deliver count) peer some (Some c) whole = tt
-  broken_asked (Report want) peer some (Some c) whole = tt
-  broken_asked Lose peer some (Some c) whole = tt
+  broken_asked event peer some (Some c) whole = tt
 
 -- ---- the world
 
@@ -111,12 +104,12 @@ step_asked checked most world now (On subscriber event) answer next steps all = 
     by_number : (known : Bool) → StepsOn known checked world subscriber now event answer next → AllAsked checked next
     by_number false step = same_asked checked next world step.1 all
     by_number true step = elim step [
-      | inl moves ↦ same_asked checked next (with_peer world subscriber (peer_step checked world.transactions subscriber now event (world.peers subscriber) (world.peers subscriber).connection).1) moves.next_is
-          (peer_changes checked world subscriber (peer_step checked world.transactions subscriber now event (world.peers subscriber) (world.peers subscriber).connection).1 all
-          (peer_asked checked world.transactions subscriber now event (world.peers subscriber) (world.peers subscriber).connection refl (all subscriber)))
-      | inr breaks ↦ same_asked checked next (with_peer world subscriber (broken checked world.transactions subscriber now event (world.peers subscriber) breaks.some (world.peers subscriber).connection)) breaks.next_is
-          (peer_changes checked world subscriber (broken checked world.transactions subscriber now event (world.peers subscriber) breaks.some (world.peers subscriber).connection) all
-          (broken_asked checked world.transactions subscriber now event (world.peers subscriber) breaks.some (world.peers subscriber).connection (all subscriber)))
+      | inl moves ↦ same_asked checked next (with_peer world subscriber (step_in checked world subscriber now event).1) moves.next_is
+          (peer_changes checked world subscriber (step_in checked world subscriber now event).1 all
+          (peer_asked (source_in checked world subscriber) now event (world.peers subscriber) (world.peers subscriber).connection refl (all subscriber)))
+      | inr breaks ↦ same_asked checked next (with_peer world subscriber (broken_in checked world subscriber now event breaks.some)) breaks.next_is
+          (peer_changes checked world subscriber (broken_in checked world subscriber now event breaks.some) all
+          (broken_asked (source_in checked world subscriber) now event (world.peers subscriber) breaks.some (world.peers subscriber).connection (all subscriber)))
     ]
 
 pub leads_asked : (checked : CheckedOf) (most : ℕ) (events : List (ℕ × Event)) (world last : World) → Leads checked most events world last → AllAsked checked world → AllAsked checked last
@@ -133,27 +126,28 @@ end_of_count position count ends counts some = elim ends [
 
 pub subscribers_catch_up : SubscribersCatchUp
 subscribers_catch_up checked most publisher events times world leads subscriber now timed c is =
+    let source : Source = source_in checked world subscriber in
     let sayable = can_be_said checked most publisher events times world leads in
     let good = good_at checked publisher.covered publisher.apart most events (all_timed events times) world leads sayable in
     let public = published checked publisher.covered publisher.apart world good in
-    let caught = catches_up checked world.transactions public sayable subscriber now timed (world.peers subscriber) c is
+    let caught = catches_up source public sayable now timed (world.peers subscriber) c is
     (subst (IsAskedAt checked subscriber (world.peers subscriber).position) is (leads_asked checked most events first_world world leads (λ other. tt) subscriber))
     (good.peers subscriber) in
-    end_of_count (position_now checked world.transactions subscriber (caught_up checked world.transactions subscriber now (world.peers subscriber))) (length world.transactions)
-    (now_end checked world.transactions subscriber (caught_up checked world.transactions subscriber now (world.peers subscriber)) caught.good
-    (all_ends world.transactions public sayable (world.peers subscriber) (good.peers subscriber)
+    end_of_count (position_now source (caught_up source now (world.peers subscriber))) (length world.transactions)
+    (now_end source (caught_up source now (world.peers subscriber)) caught.good
+    (all_ends source public sayable (world.peers subscriber) (good.peers subscriber)
     (ends_at checked publisher.covered publisher.apart most events (all_timed events times) world leads sayable subscriber)))
     caught.counts caught.some
   where
-    all_ends : (transactions : List Transaction) → IsPublished checked transactions → IsSayable checked transactions → (peer : Peer) → IsGood checked transactions subscriber peer → IsEnd peer.position
-        → IsEnd (caught_up checked transactions subscriber now peer).position
-    all_ends transactions public sayable peer good h =
-        let heard_good = peer_good checked transactions public sayable subscriber now timed (Hear (sent_by checked subscriber peer peer.connection)) peer peer.connection refl good in
-        let heard_end = peer_end checked transactions subscriber now (Hear (sent_by checked subscriber peer peer.connection)) peer peer.connection good h in
-        let taken_good = take_many_good checked transactions public sayable subscriber now timed (length transactions)
-        (next_peer checked transactions subscriber now (Hear (sent_by checked subscriber peer peer.connection)) peer) heard_good in
-        let taken_end = take_many_end checked transactions public sayable subscriber now timed (length transactions)
-        (next_peer checked transactions subscriber now (Hear (sent_by checked subscriber peer peer.connection)) peer) heard_good heard_end in
-        let kept_good = peer_good checked transactions public sayable subscriber now timed (Keep false) _ _ refl taken_good in
-        let kept_end = peer_end checked transactions subscriber now (Keep false) _ _ taken_good taken_end in
-        peer_end checked transactions subscriber now (Deliver _) _ _ kept_good kept_end
+    all_ends : (source : Source) → IsPublished source.checked source.transactions → IsSayable source.checked source.transactions → (peer : Peer) → IsGood source peer → IsEnd peer.position
+        → IsEnd (caught_up source now peer).position
+    all_ends source public sayable peer good h =
+        let heard_good = peer_good source public sayable now timed (Hear (sent_by source peer peer.connection)) peer peer.connection refl good in
+        let heard_end = peer_end source now (Hear (sent_by source peer peer.connection)) peer peer.connection good h in
+        let taken_good = take_many_good source public sayable now timed (length source.transactions)
+        (next_peer source now (Hear (sent_by source peer peer.connection)) peer) heard_good in
+        let taken_end = take_many_end source public sayable now timed (length source.transactions)
+        (next_peer source now (Hear (sent_by source peer peer.connection)) peer) heard_good heard_end in
+        let kept_good = peer_good source public sayable now timed (Keep false) _ _ refl taken_good in
+        let kept_end = peer_end source now (Keep false) _ _ taken_good taken_end in
+        peer_end source now (Deliver _) _ _ kept_good kept_end

@@ -17,7 +17,7 @@ use Rattle.test_subscriber.specs.declared.subscriber.Subscriber.{Subscriber}
 use Rattle.shard_world.specs.Connections.{HearsOn, LosesOn, answer_of, front_of, kept_or_not}
 use Rattle.shard_world.specs.Joined.{PeerOf, PeerIs}
 use Rattle.shard_world.specs.PeerCalls.{Made, Makes, LosesLink, LosesIfThere, Drops}
-use Rattle.shard_world.specs.PeerSteps.{Case, ChangesOwn, StepsTo, peer_of}
+use Rattle.shard_world.specs.PeerSteps.{Case, ChangesOwn, StepsTo, peer_of, source_of}
 use Rattle.shard_world.specs.World as w
 use Rattle.shard_world.specs.World.{Answer, PeerEvent, Connection, Open, Hear, Take, Keep, Deliver, Report, Lose}
 use Rattle.shard_world.proofs.CaseLemmas.{is_shut, is_open}
@@ -54,7 +54,7 @@ is_not_open checked now event book old other none case stands =
     answer_is (Report want) apart = refl
     answer_is Lose apart = refl
 
-    peer_is : (its : PeerEvent) → its ≢ Open → PeerIs case.checked case.world.transactions case.number (book_slots book) old (w.shut_step its (peer_of case)).1
+    peer_is : (its : PeerEvent) → its ≢ Open → PeerIs (source_of case) (book_slots book) old (w.shut_step its (peer_of case)).1
     peer_is Open apart = absurd (apart refl)
     peer_is (Hear count) apart = stands.peer
     peer_is Take apart = stands.peer
@@ -176,10 +176,6 @@ none_is (Some value) h = absurd cc
 pub on_err_so : {A E : Type 0} (result : Result A E) (P Q : Type 0) → OnErr result P → (P → Q) → OnErr result Q
 on_err_so (Ok value) P Q so then = tt
 on_err_so (Err error) P Q so then = then so
-
-pub on_err : {A E : Type 0} (result : Result A E) (P : Type 0) → P → OnErr result P
-on_err (Ok value) P so = tt
-on_err (Err error) P so = so
 
 pub if_ok_so : {A E : Type 0} (result : Result A E) (P Q : A → Type 0) → IfOk result P → ((value : A) → P value → Q value) → IfOk result Q
 if_ok_so (Ok value) P Q so then = then value so

@@ -8,14 +8,14 @@ use Rattle.copy_both.specs.declared.link.Link.{Link}
 use Rattle.test_subscriber.specs.Machine.{Machine}
 use Rattle.test_subscriber.specs.declared.subscriber.Subscriber.{Subscriber}
 use Rattle.stream_laws.specs.Asking.{IsAsking}
-use Rattle.stream_laws.specs.Following.{Follows, IsPublished}
+use Rattle.stream_laws.specs.Following.{IsPublished}
 use Rattle.shard_world.specs.Joined.{PeerOf, IsApart, IsLinked, IsAt}
-use Rattle.shard_world.specs.PeerSteps.{Case, IsCase, peer_of, StandsIn}
+use Rattle.shard_world.specs.PeerSteps.{Case, IsCase, peer_of, StandsIn, source_of}
 use Rattle.stream_laws.specs.Sayable.{IsSayable}
 use Rattle.shard_world.specs.World.{Connection, position_now, machine_now}
 use Rattle.stream_laws.proofs.StartLengths.{subscribers_can_ask}
 use Rattle.shard_world.proofs.WorldLemmas.{all_timed, can_be_said, good_at, published}
-use Rattle.shard_world.proofs.WorldPeers.{IsGood, good_follows}
+use Rattle.shard_world.proofs.WorldPeers.{IsGood, good_follows, FollowsIn}
 
 module _ (case : Case) (is : IsCase case) where
   pub case_sayable : IsSayable case.checked case.world.transactions
@@ -25,14 +25,14 @@ module _ (case : Case) (is : IsCase case) where
   case_published = published case.checked is.publisher.covered is.publisher.apart case.world
       (good_at case.checked is.publisher.covered is.publisher.apart case.most case.events (all_timed case.events is.times) case.world is.leads case_sayable)
 
-  pub case_good : IsGood case.checked case.world.transactions case.number (peer_of case)
+  pub case_good : IsGood (source_of case) (peer_of case)
   case_good = (good_at case.checked is.publisher.covered is.publisher.apart case.most case.events (all_timed case.events is.times) case.world is.leads case_sayable).peers case.number
 
-  pub case_follows : Follows case.checked case.world.transactions case.number
-      (position_now case.checked case.world.transactions case.number (peer_of case)) (machine_now case.checked case.world.transactions case.number (peer_of case))
-  case_follows = good_follows case.checked case.world.transactions case_published case_sayable case.number (peer_of case) case_good
+  pub case_follows : FollowsIn (source_of case)
+      (position_now (source_of case) (peer_of case)) (machine_now (source_of case) (peer_of case))
+  case_follows = good_follows (source_of case) case_published case_sayable (peer_of case) case_good
 
-  small_position : (position : ℕ) (machine : Machine) → Follows case.checked case.world.transactions case.number position machine → position < 2 ^ 64
+  small_position : (position : ℕ) (machine : Machine) → FollowsIn (source_of case) position machine → position < 2 ^ 64
   small_position position machine follows = omega (arith, follows.within, case_sayable.few)
 
   pub opened_small : (peer_of case).position < 2 ^ 64
@@ -43,8 +43,8 @@ module _ (case : Case) (is : IsCase case) where
       subscribers_can_ask case.checked.catalog case.number is.publisher.limited is.publisher.named
       (omega (arith, is.there, ap length is.publisher.own, length-map case.checked.catalog.subscriptions (shares_for case.checked.catalog)))
 
-  pub now_small : position_now case.checked case.world.transactions case.number (peer_of case) < 2 ^ 64
-  now_small = small_position (position_now case.checked case.world.transactions case.number (peer_of case)) (machine_now case.checked case.world.transactions case.number (peer_of case)) case_follows
+  pub now_small : position_now (source_of case) (peer_of case) < 2 ^ 64
+  now_small = small_position (position_now (source_of case) (peer_of case)) (machine_now (source_of case) (peer_of case)) case_follows
 
 -- ---- with and without a connection
 
@@ -55,23 +55,23 @@ pub record Shut (case : Case) (slots : List Slot) (subscriber : Subscriber) : Ty
 pub record Open (case : Case) (slots : List Slot) (link : Link) (subscriber : Subscriber) : Type 0 where
   pub c : Connection
   pub some : (peer_of case).connection ≡ Some c
-  pub linked : IsLinked case.checked case.world.transactions case.number slots link subscriber (peer_of case) c
+  pub linked : IsLinked (source_of case) slots link subscriber (peer_of case) c
 
 module _ (case : Case) (slots : List Slot) (subscriber : Subscriber) where
   shut_at : (connection : Option Connection) → (peer_of case).connection ≡ connection
-      → IsAt case.checked case.world.transactions case.number slots None subscriber (peer_of case) connection → Shut case slots subscriber
+      → IsAt (source_of case) slots None subscriber (peer_of case) connection → Shut case slots subscriber
   shut_at None e at = record { none = e; is_apart = at }
   shut_at (Some c) e at = absurd at
 
   open_at : (link : Link) (connection : Option Connection) → (peer_of case).connection ≡ connection
-      → IsAt case.checked case.world.transactions case.number slots (Some link) subscriber (peer_of case) connection → Open case slots link subscriber
+      → IsAt (source_of case) slots (Some link) subscriber (peer_of case) connection → Open case slots link subscriber
   open_at link None e at = absurd at
   open_at link (Some c) e at = record { c = c; some = e; linked = at }
 
 pub is_shut : (case : Case) (slots : List Slot) (code : PeerOf) → StandsIn case slots code → code.link ≡ None → Shut case slots code.subscriber
 is_shut case slots code stands none = shut_at case slots code.subscriber (peer_of case).connection refl
-    (subst (λ link. IsAt case.checked case.world.transactions case.number slots link code.subscriber (peer_of case) (peer_of case).connection) none stands.at)
+    (subst (λ link. IsAt (source_of case) slots link code.subscriber (peer_of case) (peer_of case).connection) none stands.at)
 
 pub is_open : (case : Case) (slots : List Slot) (code : PeerOf) (link : Link) → StandsIn case slots code → code.link ≡ Some link → Open case slots link code.subscriber
 is_open case slots code link stands some = open_at case slots code.subscriber link (peer_of case).connection refl
-    (subst (λ its. IsAt case.checked case.world.transactions case.number slots its code.subscriber (peer_of case) (peer_of case).connection) some stands.at)
+    (subst (λ its. IsAt (source_of case) slots its code.subscriber (peer_of case) (peer_of case).connection) some stands.at)

@@ -1,23 +1,23 @@
 -- A subscriber is brought up to the end of the log.
 use Rattle.std.proofs.Common.{◌≡◌, ℕ, zero, suc, ◌+◌, ◌-◌, ◌<◌, ◌≤◌, ◌^◌, true, false, List, [], ◌∷◌, ◌++◌, length, map, drop, refl, sym, ◌∙◌, ap, subst, arith, length-append}
-use Rattle.std.specs.Prelude.{Option, Some, None, max, fold, nat_le, slice_get, if◌then◌else◌, ◌==◌}
+use Rattle.std.specs.Prelude.{Option, Some, None, max, fold, slice_get, if◌then◌else◌, ◌==◌}
 use Rattle.std.specs.List.{flat_map}
-use Rattle.std.proofs.lemmas.Bool.{leb-true, le-leb}
+use Rattle.std.proofs.lemmas.Bool.{le-leb, lt-leb}
 use Rattle.table_changes.specs.Tables.{no_rows}
 use Rattle.table_changes.proofs.TableLemmas.{by_test}
 use Rattle.shard_checker.specs.CheckedView.{CheckedOf, setting_in}
 use Rattle.tables_log.specs.Commits.{CommitOf}
-use Rattle.tables_log.specs.StandsFor.{Transaction, AreAccepted}
+use Rattle.tables_log.specs.StandsFor.{AreAccepted}
 use Rattle.copy_both.specs.Streams as s
 use Rattle.copy_both.specs.Streams.{Place, Move, count_before, place_at, moved, taken_place, all_moved}
 use Rattle.copy_both.specs.Tellings.{telling_of}
 use Rattle.shard_world.specs.CatchingUp.{next_peer, sent_by, sent_to, take_many, delivered_all, caught_up}
 use Rattle.stream_laws.specs.Cutting.{if_whole, whole_in}
-use Rattle.stream_laws.specs.Following.{raised_by, position_after, IsPublished, log_of}
+use Rattle.stream_laws.specs.Following.{raised_by, position_after, IsPublished}
 use Rattle.stream_laws.specs.Items.{Item, Response, Alive, spelled, stream_items}
 use Rattle.stream_laws.specs.Sayable.{IsSayable}
-use Rattle.shard_world.specs.World.{Up, Asks, Says, Connection, Peer, PeerEvent, Hear, Take, Keep, Deliver, Session, down_items, down_bytes, position_now, spelled_up, whole_up, ups_of, start_at, hear_up, newly, heard_of, hears, delivers, as_many, place_of, takes, take_step, keep_step, moves_on, open_step, peer_step}
-use Rattle.stream_laws.proofs.EntryLemmas.{entry_at, entries_length}
+use Rattle.shard_world.specs.World.{Up, Asks, Says, Connection, Peer, PeerEvent, Hear, Take, Keep, Deliver, Session, down_items, down_bytes, position_now, spelled_up, whole_up, ups_of, start_at, hear_up, newly, heard_of, hears, delivers, as_many, place_of, takes, take_step, keep_step, moves_on, open_step, peer_step, Source, up_bytes, down_of, log_in, asking_length}
+use Rattle.stream_laws.proofs.EntryLemmas.{entry_at, entries_length, past_end}
 use Rattle.stream_laws.proofs.FollowingLemmas.{first_sent}
 use Rattle.shard_world.proofs.WorldItems.{items_append}
 use Rattle.shard_world.proofs.WorldPeers.{IsGood, bytes_of_items, good_follows}
@@ -50,27 +50,24 @@ starts_by now position ups session = by_start session.start refl
     }
 
 -- the command is whole among the bytes that are heard, or the stream has started
-pub hears_start : (checked : CheckedOf) (subscriber now : ℕ) (peer : Peer) (c : Connection) (more : ℕ) → (c.start ≡ None → c.heard < length (spelled_up checked subscriber (Asks peer.position)))
-    → length (spelled_up checked subscriber (Asks peer.position)) ≤ c.heard + more → HasStart (heard_of checked subscriber now peer c more).start
-hears_start checked subscriber now peer c more still whole = by_start c.start refl
+pub hears_start : (source : Source) (now : ℕ) (peer : Peer) (c : Connection) (more : ℕ) → (c.start ≡ None → c.heard < asking_length source peer.position)
+    → asking_length source peer.position ≤ c.heard + more → HasStart (heard_of source now peer c more).start
+hears_start source now peer c more still whole = by_start c.start refl
   where
-    not_yet : (a b : ℕ) → b < a → nat_le a b ≡ false
-    not_yet a b h = by_test (nat_le a b) (λ fits. let k : a ≤ b = leb-true a b fits in absurd (omega (arith, h, k))) (λ over. over)
-
-    by_start : (start : Option ℕ) → c.start ≡ start → HasStart (heard_of checked subscriber now peer c more).start
+    by_start : (start : Option ℕ) → c.start ≡ start → HasStart (heard_of source now peer c more).start
     by_start (Some start) e = record {
       at = start;
-      is = start_stays now start (newly checked subscriber peer c more) (record { confirmed = peer.confirmed; start = c.start; moves = c.moves }) e;
+      is = start_stays now start (newly source peer c more) (record { confirmed = peer.confirmed; start = c.start; moves = c.moves }) e;
     }
     by_start None e =
         subst (λ b. HasStart (fold (hear_up now) (record { confirmed = peer.confirmed; start = c.start; moves = c.moves })
-        (drop (length (if_whole b (Asks peer.position) (whole_up checked subscriber (c.heard - length (spelled_up checked subscriber (Asks peer.position))) (map Says c.reports))))
-        (whole_up checked subscriber (c.heard + more) (ups_of peer c)))).start)
-        (sym (not_yet (length (spelled_up checked subscriber (Asks peer.position))) c.heard (still e)))
+        (drop (length (if_whole b (Asks peer.position) (whole_up source.checked source.number (c.heard - asking_length source peer.position) (map Says c.reports))))
+        (whole_up source.checked source.number (c.heard + more) (ups_of peer c)))).start)
+        (sym (lt-leb (asking_length source peer.position) c.heard (still e)))
         (subst (λ b. HasStart (fold (hear_up now) (record { confirmed = peer.confirmed; start = c.start; moves = c.moves })
-        (if_whole b (Asks peer.position) (whole_up checked subscriber (c.heard + more - length (spelled_up checked subscriber (Asks peer.position))) (map Says c.reports)))).start)
-        (sym (le-leb (length (spelled_up checked subscriber (Asks peer.position))) (c.heard + more) whole))
-        (starts_by now peer.position (whole_up checked subscriber (c.heard + more - length (spelled_up checked subscriber (Asks peer.position))) (map Says c.reports))
+        (if_whole b (Asks peer.position) (whole_up source.checked source.number (c.heard + more - asking_length source peer.position) (map Says c.reports)))).start)
+        (sym (le-leb (asking_length source peer.position) (c.heard + more) whole))
+        (starts_by now peer.position (whole_up source.checked source.number (c.heard + more - asking_length source peer.position) (map Says c.reports))
         (record { confirmed = peer.confirmed; start = c.start; moves = c.moves })))
 
 -- ---- commits are taken up
@@ -80,33 +77,28 @@ pub moved_append : (checked : CheckedOf) (log : List CommitOf) (place : Place) (
 moved_append checked log place [] move = refl
 moved_append checked log place (first ∷ moves) move = moved_append checked log (moved (telling_of checked) log place first) moves move
 
-pub past_end : {C : Type 0} (log : List C) (n : ℕ) → slice_get log n ≡ None → length log ≤ n
-past_end [] n e = omega arith
-past_end (first ∷ log) zero e = absurd cc
-past_end (first ∷ log) (suc n) e = let later : length log ≤ n = past_end log n e in omega (arith, later)
-
 -- how many commits are counted by what was sent
-module _ (checked : CheckedOf) (transactions : List Transaction) (accepted : AreAccepted (setting_in checked) no_rows transactions) where
-  take_counts : (place : Place) (found : Option CommitOf) → slice_get (log_of checked transactions) place.done ≡ found → count_before place.sent ≡ place.done
-      → count_before (taken_place (telling_of checked) place found).sent ≡ (taken_place (telling_of checked) place found).done
+module _ (source : Source) (accepted : AreAccepted (setting_in source.checked) no_rows source.transactions) where
+  take_counts : (place : Place) (found : Option CommitOf) → slice_get (log_in source) place.done ≡ found → count_before place.sent ≡ place.done
+      → count_before (taken_place (telling_of source.checked) place found).sent ≡ (taken_place (telling_of source.checked) place found).done
   take_counts place None e counts = counts
   take_counts place (Some commit) e counts =
-      let entry = entry_at (setting_in checked) no_rows 1 transactions place.done commit accepted e in
+      let entry = entry_at (setting_in source.checked) no_rows 1 source.transactions place.done commit accepted e in
       let number : commit.number ≡ 1 + place.done = ap (λ (one : CommitOf). one.number) entry.is in
       omega (arith, number)
 
   move_counts : (place : Place) (move : Move) → count_before place.sent ≡ place.done
-      → count_before (moved (telling_of checked) (log_of checked transactions) place move).sent ≡ (moved (telling_of checked) (log_of checked transactions) place move).done
-  move_counts place (s.Take clock) counts = take_counts place (slice_get (log_of checked transactions) place.done) refl counts
+      → count_before (moved (telling_of source.checked) (log_in source) place move).sent ≡ (moved (telling_of source.checked) (log_in source) place move).done
+  move_counts place (s.Take clock) counts = take_counts place (slice_get (log_in source) place.done) refl counts
   move_counts place (s.Keep clock want) counts = counts
 
   moves_count : (moves : List Move) (place : Place) → count_before place.sent ≡ place.done
-      → count_before (all_moved (telling_of checked) (log_of checked transactions) place moves).sent ≡ (all_moved (telling_of checked) (log_of checked transactions) place moves).done
+      → count_before (all_moved (telling_of source.checked) (log_in source) place moves).sent ≡ (all_moved (telling_of source.checked) (log_in source) place moves).done
   moves_count [] place counts = counts
-  moves_count (move ∷ moves) place counts = moves_count moves (moved (telling_of checked) (log_of checked transactions) place move) (move_counts place move counts)
+  moves_count (move ∷ moves) place counts = moves_count moves (moved (telling_of source.checked) (log_in source) place move) (move_counts place move counts)
 
-  pub place_counts : (subscriber start : ℕ) (moves : List Move) → count_before (place_of checked transactions subscriber start moves).sent ≡ (place_of checked transactions subscriber start moves).done
-  place_counts subscriber start moves = moves_count moves (place_at subscriber (length checked.catalog.tables) start) (first_sent start)
+  pub place_counts : (start : ℕ) (moves : List Move) → count_before (place_of source start moves).sent ≡ (place_of source start moves).done
+  place_counts start moves = moves_count moves (place_at source.number (length source.checked.catalog.tables) start) (first_sent start)
 
 -- what was sent is never 0
 move_sent : (checked : CheckedOf) (log : List CommitOf) (place : Place) (move : Move) → 1 ≤ place.sent → 1 ≤ (moved (telling_of checked) log place move).sent
@@ -121,9 +113,9 @@ moves_sent : (checked : CheckedOf) (log : List CommitOf) (moves : List Move) (pl
 moves_sent checked log [] place sent = sent
 moves_sent checked log (move ∷ moves) place sent = moves_sent checked log moves (moved (telling_of checked) log place move) (move_sent checked log place move sent)
 
-place_sent : (checked : CheckedOf) (transactions : List Transaction) (subscriber start : ℕ) (moves : List Move) → 1 ≤ (place_of checked transactions subscriber start moves).sent
-place_sent checked transactions subscriber start moves =
-    moves_sent checked (log_of checked transactions) moves (place_at subscriber (length checked.catalog.tables) start) (first_some start)
+place_sent : (source : Source) (start : ℕ) (moves : List Move) → 1 ≤ (place_of source start moves).sent
+place_sent source start moves =
+    moves_sent source.checked (log_in source) moves (place_at source.number (length source.checked.catalog.tables) start) (first_some start)
   where
     not_zero : (p : ℕ) → (p == 0) ≡ false → 1 ≤ p
     not_zero zero h = absurd (let same : (0 == 0) ≡ true = refl in cc)
@@ -154,105 +146,105 @@ after_one position (first ∷ items) item = after_one (raised_by position first)
 
 -- ---- a connection whose stream has started
 
-pub record IsRunning (checked : CheckedOf) (transactions : List Transaction) (subscriber start : ℕ) (peer : Peer) : Type 0 where
+pub record IsRunning (source : Source) (start : ℕ) (peer : Peer) : Type 0 where
   pub c : Connection
   pub is : peer.connection ≡ Some c
   pub start_is : c.start ≡ Some start
-  pub good : IsGood checked transactions subscriber peer
+  pub good : IsGood source peer
 
 -- so many commits or fewer are left
-pub record IsLeft (checked : CheckedOf) (transactions : List Transaction) (subscriber start count : ℕ) (peer : Peer) : Type 0 where
-  pub running : IsRunning checked transactions subscriber start peer
-  pub left : length (log_of checked transactions) ≤ (place_of checked transactions subscriber start running.c.moves).done + count
+pub record IsLeft (source : Source) (start count : ℕ) (peer : Peer) : Type 0 where
+  pub running : IsRunning source start peer
+  pub left : length (log_in source) ≤ (place_of source start running.c.moves).done + count
 
-module _ (checked : CheckedOf) (transactions : List Transaction) (published : IsPublished checked transactions) (sayable : IsSayable checked transactions) (subscriber now : ℕ) (timed : now < 2 ^ 64) where
+module _ (source : Source) (published : IsPublished source.checked source.transactions) (sayable : IsSayable source.checked source.transactions) (now : ℕ) (timed : now < 2 ^ 64) where
   pub as_step : (event : PeerEvent) (peer : Peer) (c : Connection) → peer.connection ≡ Some c
-      → next_peer checked transactions subscriber now event peer ≡ (open_step checked transactions subscriber now event peer c).1
-  as_step event peer c is = ap (λ connection. (peer_step checked transactions subscriber now event peer connection).1) is
+      → next_peer source now event peer ≡ (open_step source now event peer c).1
+  as_step event peer c is = ap (λ connection. (peer_step source now event peer connection).1) is
 
-  pub next_good : (event : PeerEvent) (peer : Peer) → IsGood checked transactions subscriber peer → IsGood checked transactions subscriber (next_peer checked transactions subscriber now event peer)
-  next_good event peer good = peer_good checked transactions published sayable subscriber now timed event peer peer.connection refl good
+  pub next_good : (event : PeerEvent) (peer : Peer) → IsGood source peer → IsGood source (next_peer source now event peer)
+  next_good event peer good = peer_good source published sayable now timed event peer peer.connection refl good
 
-  pub take_next : (start count : ℕ) (peer : Peer) → IsLeft checked transactions subscriber start (suc count) peer → IsLeft checked transactions subscriber start count (next_peer checked transactions subscriber now Take peer)
+  pub take_next : (start count : ℕ) (peer : Peer) → IsLeft source start (suc count) peer → IsLeft source start count (next_peer source now Take peer)
   take_next start count peer h =
-      subst (IsLeft checked transactions subscriber start count)
-      (sym (as_step Take peer h.running.c h.running.is ∙ ap (λ from. (take_step checked transactions subscriber now peer h.running.c from).1) h.running.start_is))
-      (by_found (slice_get (log_of checked transactions) (place_of checked transactions subscriber start h.running.c.moves).done) refl
-      (subst (IsGood checked transactions subscriber)
-      (as_step Take peer h.running.c h.running.is ∙ ap (λ from. (take_step checked transactions subscriber now peer h.running.c from).1) h.running.start_is)
+      subst (IsLeft source start count)
+      (sym (as_step Take peer h.running.c h.running.is ∙ ap (λ from. (take_step source now peer h.running.c from).1) h.running.start_is))
+      (by_found (slice_get (log_in source) (place_of source start h.running.c.moves).done) refl
+      (subst (IsGood source)
+      (as_step Take peer h.running.c h.running.is ∙ ap (λ from. (take_step source now peer h.running.c from).1) h.running.start_is)
       (next_good Take peer h.running.good)))
     where
-      by_found : (found : Option CommitOf) → slice_get (log_of checked transactions) (place_of checked transactions subscriber start h.running.c.moves).done ≡ found
-          → IsGood checked transactions subscriber (takes checked now peer h.running.c (place_of checked transactions subscriber start h.running.c.moves)
-          (slice_get (log_of checked transactions) (place_of checked transactions subscriber start h.running.c.moves).done)).1
-          → IsLeft checked transactions subscriber start count (takes checked now peer h.running.c (place_of checked transactions subscriber start h.running.c.moves)
-          (slice_get (log_of checked transactions) (place_of checked transactions subscriber start h.running.c.moves).done)).1
+      by_found : (found : Option CommitOf) → slice_get (log_in source) (place_of source start h.running.c.moves).done ≡ found
+          → IsGood source (takes source.checked now peer h.running.c (place_of source start h.running.c.moves)
+          (slice_get (log_in source) (place_of source start h.running.c.moves).done)).1
+          → IsLeft source start count (takes source.checked now peer h.running.c (place_of source start h.running.c.moves)
+          (slice_get (log_in source) (place_of source start h.running.c.moves).done)).1
       by_found None e good =
-          subst (λ found. IsLeft checked transactions subscriber start count (takes checked now peer h.running.c (place_of checked transactions subscriber start h.running.c.moves) found).1) (sym e)
+          subst (λ found. IsLeft source start count (takes source.checked now peer h.running.c (place_of source start h.running.c.moves) found).1) (sym e)
           (record {
             running = h.running;
-            left = let end = past_end (log_of checked transactions) (place_of checked transactions subscriber start h.running.c.moves).done e in omega (arith, end);
+            left = let end = past_end (log_in source) (place_of source start h.running.c.moves).done e in omega (arith, end);
           })
       by_found (Some commit) e good =
-          subst (λ found. IsLeft checked transactions subscriber start count (takes checked now peer h.running.c (place_of checked transactions subscriber start h.running.c.moves) found).1) (sym e)
+          subst (λ found. IsLeft source start count (takes source.checked now peer h.running.c (place_of source start h.running.c.moves) found).1) (sym e)
           (record {
             running = record {
               c = record h.running.c { moves = h.running.c.moves ++ s.Take now ∷ [] };
               is = refl;
               start_is = h.running.start_is;
-              good = subst (λ found. IsGood checked transactions subscriber (takes checked now peer h.running.c (place_of checked transactions subscriber start h.running.c.moves) found).1) e good;
+              good = subst (λ found. IsGood source (takes source.checked now peer h.running.c (place_of source start h.running.c.moves) found).1) e good;
             };
             left =
-                let further : (place_of checked transactions subscriber start (h.running.c.moves ++ s.Take now ∷ [])).done ≡ (place_of checked transactions subscriber start h.running.c.moves).done + 1 =
-                ap (λ (at : Place). at.done) (moved_append checked (log_of checked transactions) (place_at subscriber (length checked.catalog.tables) start) h.running.c.moves (s.Take now)
-                ∙ ap (taken_place (telling_of checked) (place_of checked transactions subscriber start h.running.c.moves)) e) in
+                let further : (place_of source start (h.running.c.moves ++ s.Take now ∷ [])).done ≡ (place_of source start h.running.c.moves).done + 1 =
+                ap (λ (at : Place). at.done) (moved_append source.checked (log_in source) (place_at source.number (length source.checked.catalog.tables) start) h.running.c.moves (s.Take now)
+                ∙ ap (taken_place (telling_of source.checked) (place_of source start h.running.c.moves)) e) in
                 omega (arith, further, h.left);
           })
 
-  take_all : (start count : ℕ) (peer : Peer) → IsLeft checked transactions subscriber start count peer
-      → IsLeft checked transactions subscriber start 0 (take_many checked transactions subscriber now count peer)
+  take_all : (start count : ℕ) (peer : Peer) → IsLeft source start count peer
+      → IsLeft source start 0 (take_many source now count peer)
   take_all start zero peer h = h
-  take_all start (suc count) peer h = take_all start count (next_peer checked transactions subscriber now Take peer) (take_next start count peer h)
+  take_all start (suc count) peer h = take_all start count (next_peer source now Take peer) (take_next start count peer h)
 
   -- ---- all is delivered
 
   pub keeps_on : (start : ℕ) (peer : Peer) (c : Connection) → peer.connection ≡ Some c → c.start ≡ Some start
-      → next_peer checked transactions subscriber now (Keep false) peer ≡ moves_on peer c (s.Keep now false)
+      → next_peer source now (Keep false) peer ≡ moves_on peer c (s.Keep now false)
   keeps_on start peer c is start_is = as_step (Keep false) peer c is ∙ ap (λ from. (keep_step now false peer c from).1) start_is
 
   delivers_on : (peer : Peer) (c : Connection) → peer.connection ≡ Some c
-      → delivered_all checked transactions subscriber now peer
-      ≡ delivers peer c (as_many (length (down_bytes checked transactions subscriber c.start c.moves)) (length (down_bytes checked transactions subscriber c.start c.moves)) c.delivered)
+      → delivered_all source now peer
+      ≡ delivers peer c (as_many (length (down_of source c)) (length (down_of source c)) c.delivered)
   delivers_on peer c is =
-      as_step (Deliver (sent_to checked transactions subscriber peer.connection)) peer c is
-      ∙ ap (λ connection. (open_step checked transactions subscriber now (Deliver (sent_to checked transactions subscriber connection)) peer c).1) is
+      as_step (Deliver (sent_to source peer.connection)) peer c is
+      ∙ ap (λ connection. (open_step source now (Deliver (sent_to source connection)) peer c).1) is
 
   -- after the keepalive all of the stream tells of the end of the log
   -- it counts all commits, and isn't 0
   pub record CountsAll (position : ℕ) : Type 0 where
-    pub all : length (log_of checked transactions) ≤ count_before position
+    pub all : length (log_in source) ≤ count_before position
     pub some : 1 ≤ position
 
-  pub reaches_end : (start : ℕ) (position : ℕ) (c : Connection) → c.start ≡ Some start → length (log_of checked transactions) ≤ (place_of checked transactions subscriber start c.moves).done + 0
-      → (delivered : ℕ) → delivered ≤ length (flat_map spelled (down_items checked transactions subscriber c.start (c.moves ++ s.Keep now false ∷ [])))
+  pub reaches_end : (start : ℕ) (position : ℕ) (c : Connection) → c.start ≡ Some start → length (log_in source) ≤ (place_of source start c.moves).done + 0
+      → (delivered : ℕ) → delivered ≤ length (flat_map spelled (down_items source c.start (c.moves ++ s.Keep now false ∷ [])))
       → CountsAll (position_after position (whole_in
-      (delivered + as_many (length (down_bytes checked transactions subscriber c.start (c.moves ++ s.Keep now false ∷ [])))
-      (length (down_bytes checked transactions subscriber c.start (c.moves ++ s.Keep now false ∷ []))) delivered)
-      (down_items checked transactions subscriber c.start (c.moves ++ s.Keep now false ∷ []))))
+      (delivered + as_many (length (down_bytes source c.start (c.moves ++ s.Keep now false ∷ [])))
+      (length (down_bytes source c.start (c.moves ++ s.Keep now false ∷ []))) delivered)
+      (down_items source c.start (c.moves ++ s.Keep now false ∷ []))))
   reaches_end start position c start_is left delivered within =
       subst CountsAll (sym (ap (position_after position) (all_whole ∙ items_are)
-      ∙ after_one position (stream_items checked (log_of checked transactions) subscriber start c.moves)
-      (Alive (record { position = (place_of checked transactions subscriber start c.moves).sent; clock = now; wants_reply = false }))))
+      ∙ after_one position (stream_items source.checked (log_in source) source.number start c.moves)
+      (Alive (record { position = (place_of source start c.moves).sent; clock = now; wants_reply = false }))))
       (record {
-        all = at_least (position_after position (stream_items checked (log_of checked transactions) subscriber start c.moves));
-        some = at_some (position_after position (stream_items checked (log_of checked transactions) subscriber start c.moves));
+        all = at_least (position_after position (stream_items source.checked (log_in source) source.number start c.moves));
+        some = at_some (position_after position (stream_items source.checked (log_in source) source.number start c.moves));
       })
     where
-      items_are : down_items checked transactions subscriber c.start (c.moves ++ s.Keep now false ∷ [])
-          ≡ stream_items checked (log_of checked transactions) subscriber start c.moves
-          ++ Alive (record { position = (place_of checked transactions subscriber start c.moves).sent; clock = now; wants_reply = false }) ∷ []
-      items_are = ap (λ from. down_items checked transactions subscriber from (c.moves ++ s.Keep now false ∷ [])) start_is
-          ∙ ap (λ items. Response ∷ items) (items_append checked (log_of checked transactions) (place_at subscriber (length checked.catalog.tables) start) c.moves (s.Keep now false))
+      items_are : down_items source c.start (c.moves ++ s.Keep now false ∷ [])
+          ≡ stream_items source.checked (log_in source) source.number start c.moves
+          ++ Alive (record { position = (place_of source start c.moves).sent; clock = now; wants_reply = false }) ∷ []
+      items_are = ap (λ from. down_items source from (c.moves ++ s.Keep now false ∷ [])) start_is
+          ∙ ap (λ items. Response ∷ items) (items_append source.checked (log_in source) (place_at source.number (length source.checked.catalog.tables) start) c.moves (s.Keep now false))
 
       whole : (items : List Item) (count done : ℕ) → count ≡ length (flat_map spelled items) → done ≤ count → whole_in (done + as_many count count done) items ≡ items
       whole items count done e h = subst (λ n. whole_in n items ≡ items) (sym (all_of count done h ∙ e)) (whole_all items)
@@ -260,80 +252,80 @@ module _ (checked : CheckedOf) (transactions : List Transaction) (published : Is
           all_of : (count done : ℕ) → done ≤ count → done + as_many count count done ≡ count
           all_of count done h = omega (arith, h)
 
-      bytes_are : length (down_bytes checked transactions subscriber c.start (c.moves ++ s.Keep now false ∷ []))
-          ≡ length (flat_map spelled (down_items checked transactions subscriber c.start (c.moves ++ s.Keep now false ∷ [])))
-      bytes_are = ap length (bytes_of_items checked transactions subscriber c.start (c.moves ++ s.Keep now false ∷ []))
+      bytes_are : length (down_bytes source c.start (c.moves ++ s.Keep now false ∷ []))
+          ≡ length (flat_map spelled (down_items source c.start (c.moves ++ s.Keep now false ∷ [])))
+      bytes_are = ap length (bytes_of_items source c.start (c.moves ++ s.Keep now false ∷ []))
 
-      all_whole : whole_in (delivered + as_many (length (down_bytes checked transactions subscriber c.start (c.moves ++ s.Keep now false ∷ [])))
-          (length (down_bytes checked transactions subscriber c.start (c.moves ++ s.Keep now false ∷ []))) delivered)
-          (down_items checked transactions subscriber c.start (c.moves ++ s.Keep now false ∷ []))
-          ≡ down_items checked transactions subscriber c.start (c.moves ++ s.Keep now false ∷ [])
-      all_whole = whole (down_items checked transactions subscriber c.start (c.moves ++ s.Keep now false ∷ []))
-          (length (down_bytes checked transactions subscriber c.start (c.moves ++ s.Keep now false ∷ []))) delivered bytes_are
+      all_whole : whole_in (delivered + as_many (length (down_bytes source c.start (c.moves ++ s.Keep now false ∷ [])))
+          (length (down_bytes source c.start (c.moves ++ s.Keep now false ∷ []))) delivered)
+          (down_items source c.start (c.moves ++ s.Keep now false ∷ []))
+          ≡ down_items source c.start (c.moves ++ s.Keep now false ∷ [])
+      all_whole = whole (down_items source c.start (c.moves ++ s.Keep now false ∷ []))
+          (length (down_bytes source c.start (c.moves ++ s.Keep now false ∷ []))) delivered bytes_are
           (subst (λ n. delivered ≤ n) (sym bytes_are) within)
 
-      counts : count_before (place_of checked transactions subscriber start c.moves).sent ≡ (place_of checked transactions subscriber start c.moves).done
-      counts = place_counts checked transactions published.accepted subscriber start c.moves
+      counts : count_before (place_of source start c.moves).sent ≡ (place_of source start c.moves).done
+      counts = place_counts source published.accepted start c.moves
 
-      at_least : (p : ℕ) → length (log_of checked transactions) ≤ count_before (max p (place_of checked transactions subscriber start c.moves).sent)
+      at_least : (p : ℕ) → length (log_in source) ≤ count_before (max p (place_of source start c.moves).sent)
       at_least p = omega (arith, counts, left)
 
-      at_some : (p : ℕ) → 1 ≤ max p (place_of checked transactions subscriber start c.moves).sent
-      at_some p = omega (arith, place_sent checked transactions subscriber start c.moves)
+      at_some : (p : ℕ) → 1 ≤ max p (place_of source start c.moves).sent
+      at_some p = omega (arith, place_sent source start c.moves)
 
   -- ---- all of it
 
   hears_all : (peer : Peer) (c : Connection) → peer.connection ≡ Some c
-      → next_peer checked transactions subscriber now (Hear (sent_by checked subscriber peer peer.connection)) peer
-      ≡ hears checked subscriber now peer c (as_many (length (flat_map (spelled_up checked subscriber) (ups_of peer c))) (length (flat_map (spelled_up checked subscriber) (ups_of peer c))) c.heard)
+      → next_peer source now (Hear (sent_by source peer peer.connection)) peer
+      ≡ hears source now peer c (as_many (length (up_bytes source peer c)) (length (up_bytes source peer c)) c.heard)
   hears_all peer c is =
-      as_step (Hear (sent_by checked subscriber peer peer.connection)) peer c is
-      ∙ ap (λ connection. (open_step checked transactions subscriber now (Hear (sent_by checked subscriber peer connection)) peer c).1) is
+      as_step (Hear (sent_by source peer peer.connection)) peer c is
+      ∙ ap (λ connection. (open_step source now (Hear (sent_by source peer connection)) peer c).1) is
 
   -- a subscriber that has applied all commits
   pub record CatchesUp (final : Peer) : Type 0 where
-    pub counts : count_before (position_now checked transactions subscriber final) ≡ length transactions
-    pub some : 1 ≤ position_now checked transactions subscriber final
-    pub good : IsGood checked transactions subscriber final
+    pub counts : count_before (position_now source final) ≡ length source.transactions
+    pub some : 1 ≤ position_now source final
+    pub good : IsGood source final
 
-  pub catches_up : (peer : Peer) (c : Connection) → peer.connection ≡ Some c → (c.start ≡ None → c.heard < length (spelled_up checked subscriber (Asks peer.position)))
-      → IsGood checked transactions subscriber peer → CatchesUp (caught_up checked transactions subscriber now peer)
+  pub catches_up : (peer : Peer) (c : Connection) → peer.connection ≡ Some c → (c.start ≡ None → c.heard < asking_length source peer.position)
+      → IsGood source peer → CatchesUp (caught_up source now peer)
   catches_up peer c is still good =
-      let heard_good = next_good (Hear (sent_by checked subscriber peer peer.connection)) peer good in
-      let start = hears_start checked subscriber now peer c
-      (as_many (length (flat_map (spelled_up checked subscriber) (ups_of peer c))) (length (flat_map (spelled_up checked subscriber) (ups_of peer c))) c.heard) still
-      (all_of (length (flat_map (spelled_up checked subscriber) (ups_of peer c))) (length (spelled_up checked subscriber (Asks peer.position))) c.heard
-      (omega (arith, length-append (spelled_up checked subscriber (Asks peer.position)) (flat_map (spelled_up checked subscriber) (map Says c.reports))))) in
-      let count : length (log_of checked transactions) ≡ length transactions = entries_length (setting_in checked) no_rows 1 transactions in
-      let first : IsLeft checked transactions subscriber start.at (length transactions) (next_peer checked transactions subscriber now (Hear (sent_by checked subscriber peer peer.connection)) peer) =
-      subst (IsLeft checked transactions subscriber start.at (length transactions)) (sym (hears_all peer c is)) (record {
+      let heard_good = next_good (Hear (sent_by source peer peer.connection)) peer good in
+      let start = hears_start source now peer c
+      (as_many (length (up_bytes source peer c)) (length (up_bytes source peer c)) c.heard) still
+      (all_of (length (up_bytes source peer c)) (asking_length source peer.position) c.heard
+      (omega (arith, length-append (spelled_up source.checked source.number (Asks peer.position)) (flat_map (spelled_up source.checked source.number) (map Says c.reports))))) in
+      let count : length (log_in source) ≡ length source.transactions = entries_length (setting_in source.checked) no_rows 1 source.transactions in
+      let first : IsLeft source start.at (length source.transactions) (next_peer source now (Hear (sent_by source peer peer.connection)) peer) =
+      subst (IsLeft source start.at (length source.transactions)) (sym (hears_all peer c is)) (record {
         running = record {
           c = _;
           is = refl;
           start_is = start.is;
-          good = subst (IsGood checked transactions subscriber) (hears_all peer c is) heard_good;
+          good = subst (IsGood source) (hears_all peer c is) heard_good;
         };
         left = omega (arith, count);
       }) in
-      let taken = take_all start.at (length transactions) (next_peer checked transactions subscriber now (Hear (sent_by checked subscriber peer peer.connection)) peer) first in
-      let final_good : IsGood checked transactions subscriber (caught_up checked transactions subscriber now peer) = next_good (Deliver _) _ (next_good (Keep false) _ taken.running.good) in
-      both (caught_up checked transactions subscriber now peer) count
-      (lower (take_many checked transactions subscriber now (length transactions) (next_peer checked transactions subscriber now (Hear (sent_by checked subscriber peer peer.connection)) peer)) start.at taken)
-      final_good (good_follows checked transactions published sayable subscriber (caught_up checked transactions subscriber now peer) final_good).within
+      let taken = take_all start.at (length source.transactions) (next_peer source now (Hear (sent_by source peer peer.connection)) peer) first in
+      let final_good : IsGood source (caught_up source now peer) = next_good (Deliver _) _ (next_good (Keep false) _ taken.running.good) in
+      both (caught_up source now peer) count
+      (lower (take_many source now (length source.transactions) (next_peer source now (Hear (sent_by source peer peer.connection)) peer)) start.at taken)
+      final_good (good_follows source published sayable (caught_up source now peer) final_good).within
     where
       all_of : (total first heard : ℕ) → first ≤ total → first ≤ heard + as_many total total heard
       all_of total first heard h = omega (arith, h)
 
-      lower : (at : Peer) (start : ℕ) → (taken : IsLeft checked transactions subscriber start 0 at)
-          → CountsAll (position_now checked transactions subscriber (delivered_all checked transactions subscriber now (next_peer checked transactions subscriber now (Keep false) at)))
+      lower : (at : Peer) (start : ℕ) → (taken : IsLeft source start 0 at)
+          → CountsAll (position_now source (delivered_all source now (next_peer source now (Keep false) at)))
       lower at start taken =
           let kept = keeps_on start at taken.running.c taken.running.is taken.running.start_is in
-          let kept_good = subst (IsGood checked transactions subscriber) kept (next_good (Keep false) at taken.running.good) in
-          subst (λ q. CountsAll (position_now checked transactions subscriber q))
-          (sym (ap (delivered_all checked transactions subscriber now) kept
+          let kept_good = subst (IsGood source) kept (next_good (Keep false) at taken.running.good) in
+          subst (λ q. CountsAll (position_now source q))
+          (sym (ap (delivered_all source now) kept
           ∙ delivers_on (moves_on at taken.running.c (s.Keep now false)) (record taken.running.c { moves = taken.running.c.moves ++ s.Keep now false ∷ [] }) refl))
           (reaches_end start at.position taken.running.c taken.running.start_is taken.left taken.running.c.delivered kept_good.connected.1.delivered)
 
-      both : (final : Peer) → length (log_of checked transactions) ≡ length transactions → CountsAll (position_now checked transactions subscriber final)
-          → IsGood checked transactions subscriber final → count_before (position_now checked transactions subscriber final) ≤ length transactions → CatchesUp final
+      both : (final : Peer) → length (log_in source) ≡ length source.transactions → CountsAll (position_now source final)
+          → IsGood source final → count_before (position_now source final) ≤ length source.transactions → CatchesUp final
       both final e low good high = let all = low.all in record { counts = omega (arith, e, all, high); some = low.some; good = good }

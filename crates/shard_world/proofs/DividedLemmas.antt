@@ -1,6 +1,6 @@
 -- Where all subscribers have applied the same commits, what is shown of them divides the publisher's tables.
-use Rattle.std.proofs.Common.{◌≡◌, ℕ, zero, suc, ◌<◌, Bool, true, false, List, [], ◌∷◌, length, refl, sym, ap, subst, ◌∙◌, arith}
-use Rattle.std.specs.Prelude.{◌&&◌, All, IfSome, Some, slice_get}
+use Rattle.std.proofs.Common.{◌≡◌, ℕ, zero, suc, ◌<◌, true, List, [], ◌∷◌, length, refl, sym, ap, subst, ◌∙◌, arith}
+use Rattle.std.specs.Prelude.{All, IfSome, Some, slice_get}
 use Rattle.std.specs.Option.{option_map}
 use Rattle.std.proofs.lemmas.List.{length-map}
 use Rattle.std.proofs.lemmas.Option.{same_Some, slice_get-map, slice_get_within}
@@ -13,11 +13,12 @@ use Rattle.stream_laws.specs.Finding.{in_shard}
 use Rattle.shard_world.specs.Seeing.{AllAt}
 use Rattle.shard_world.specs.Viewing.{AreRows, DividesShown, ShowsRow, ShowsSubscriber, shown_rows, tables_after}
 use Rattle.shard_world.specs.World as w
-use Rattle.shard_world.specs.World.{Event, Leads, first_world}
+use Rattle.shard_world.specs.World.{Event, Leads, first_world, source_in}
 use Rattle.shard_world.specs.WorldLaws.{Divides, HaveApplied, IsPublisher, IsTimedEvent, has_row}
 use Rattle.shard_world.specs.declared.view.SubscriberView.{SubscriberView}
 use Rattle.shard_world.specs.declared.view.View.{View}
 use Rattle.shard_world.proofs.WorldLemmas.{worlds_divide_rows, worlds_hold_exactly}
+use Rattle.std.proofs.lemmas.Bool.{and_parts}
 
 -- ---- lists
 
@@ -30,20 +31,16 @@ get_there (x ∷ xs) (suc number) h = get_there xs number (omega (arith, h))
 pub at_one : {X : Type 0} (P : ℕ → X → Type 0) (xs : List X) (number : ℕ) (x : X) → AllAt P xs → slice_get xs number ≡ Some x → P number x
 at_one P xs number x all is = subst (λ found. IfSome found (P number)) is (all number)
 
-first_of : (p q : Bool) → (p && q) ≡ true → p ≡ true
-first_of true q h = refl
-first_of false q h = absurd cc
-
 -- ---- what is shown of one subscriber
 
 module _ (checked : CheckedOf) (world : w.World) (shown : View)
-    (each : AllAt (λ number subscriber. ShowsSubscriber checked world.transactions number (world.peers number) subscriber) shown.subscribers.items)
+    (each : AllAt (λ number subscriber. ShowsSubscriber (source_in checked world number) (world.peers number) subscriber) shown.subscribers.items)
     (count_is : length shown.subscribers.items ≡ length checked.plan) (count : ℕ)
     (all_applied : AllAt (λ number subscriber. subscriber.applied ≡ count) shown.subscribers.items) where
   shown_at : (number : ℕ) (subscriber : SubscriberView) → slice_get shown.subscribers.items number ≡ Some subscriber
-      → ShowsSubscriber checked world.transactions number (world.peers number) subscriber
+      → ShowsSubscriber (source_in checked world number) (world.peers number) subscriber
   shown_at number subscriber is =
-      at_one (λ n one. ShowsSubscriber checked world.transactions n (world.peers n) one) shown.subscribers.items number subscriber each is
+      at_one (λ n one. ShowsSubscriber (source_in checked world n) (world.peers n) one) shown.subscribers.items number subscriber each is
 
   applied_at : (number : ℕ) (subscriber : SubscriberView) → slice_get shown.subscribers.items number ≡ Some subscriber → subscriber.applied ≡ count
   applied_at number subscriber is = at_one (λ n one. one.applied ≡ count) shown.subscribers.items number subscriber all_applied is
@@ -70,7 +67,7 @@ module _ (checked : CheckedOf) (world : w.World) (shown : View)
       let its = shown_at number subscriber is in
       subst (λ n. AreRows (in_shard (setting_in checked) number (tables_after checked world.transactions n) table) rows) (applied_at number subscriber is) (listed its)
     where
-      listed : ShowsSubscriber checked world.transactions number (world.peers number) subscriber
+      listed : ShowsSubscriber (source_in checked world number) (world.peers number) subscriber
           → AreRows (in_shard (setting_in checked) number (tables_after checked world.transactions subscriber.applied) table) rows
       listed its =
           let there = get_there subscriber.rows.items table
@@ -93,7 +90,7 @@ module _ (checked : CheckedOf) (world : w.World) (shown : View)
         has = (rows_at number table there.0 listed.0 there.1 listed.1).all row h;
       }
     where
-      wide : (subscriber : SubscriberView) → ShowsSubscriber checked world.transactions number (world.peers number) subscriber → table < length (shown_rows subscriber)
+      wide : (subscriber : SubscriberView) → ShowsSubscriber (source_in checked world number) (world.peers number) subscriber → table < length (shown_rows subscriber)
       wide subscriber its = omega (arith, fits, its.tables, length-map subscriber.rows.items (λ one. one.items))
 
   has_it : (number table : ℕ) (row : List Datum) → ShowsRow shown number table row → in_shard (setting_in checked) number (tables_after checked world.transactions count) table row ≡ true
@@ -114,8 +111,8 @@ module _ (checked : CheckedOf) (world : w.World) (shown : View)
               one.no_other other is_one (has_as other is_one table row ∙ has_it other table row shows);
         };
     nothing_else = λ number table row shows.
-        first_of (holds (setting_in checked).keys (tables_after checked world.transactions count) table row) ((setting_in checked).passes number table row)
-        (has_it number table row shows);
+        (and_parts (holds (setting_in checked).keys (tables_after checked world.transactions count) table row) ((setting_in checked).passes number table row)
+        (has_it number table row shows)).0;
   }
     where
       divides : Divides checked world count

@@ -1,55 +1,52 @@
 -- In the world each position is 0, or where a commit ends.
 use Rattle.std.proofs.Common.{◌≡◌, ℕ, zero, suc, ◌<◌, ◌^◌, Bool, true, false, List, [], ◌∷◌, length, refl, sym, ap, subst, inl, inr}
-use Rattle.std.specs.Prelude.{Option, Some, None, All, ◌==◌, min, nat_lt, if◌then◌else◌}
-use Rattle.std.specs.List.{flat_map}
+use Rattle.std.specs.Prelude.{Option, Some, None, All, ◌==◌, nat_lt, if◌then◌else◌}
 use Rattle.std.proofs.lemmas.List.Elements.{All-head, All-tail}
 use Rattle.table_changes.specs.Standing.{Covered, KeepsApart}
 use Rattle.table_changes.proofs.TableLemmas.{by_test}
 use Rattle.shard_checker.specs.CheckedView.{CheckedOf, setting_in}
 use Rattle.tables_log.specs.Commits.{CommitOf}
-use Rattle.tables_log.specs.StandsFor.{Transaction}
 use Rattle.copy_both.specs.Streams.{Place}
 use Rattle.shard_world.specs.CatchingUp.{next_peer, take_many}
 use Rattle.stream_laws.specs.Cutting.{whole_in}
-use Rattle.stream_laws.specs.Following.{position_after, IsPublished, log_of}
+use Rattle.stream_laws.specs.Following.{position_after, IsPublished}
 use Rattle.stream_laws.specs.Sayable.{IsSayable}
-use Rattle.shard_world.specs.World.{Connection, Peer, World, PeerEvent, Open, Hear, Take, Keep, Deliver, Report, Lose, Event, Commit, On, Answer, first_world, down_items, down_bytes, position_in, position_now, ups_of, spelled_up, hears, delivers, as_many, place_of, takes, take_step, keep_step, open_step, shut_step, peer_step, broken, with_peer, with_transaction, StepsOn, Steps, Leads}
+use Rattle.shard_world.specs.World.{Connection, Peer, World, PeerEvent, Open, Hear, Take, Keep, Deliver, Report, Lose, Event, Commit, On, Answer, first_world, down_items, position_in, position_now, place_of, takes, take_step, keep_step, open_step, shut_step, peer_step, broken, with_peer, with_transaction, StepsOn, Steps, Leads, Source, source_in, step_in, broken_in, in_part, log_in}
 use Rattle.shard_world.proofs.EndLemmas.{IsEnd, stream_end}
-use Rattle.shard_world.proofs.WorldHearing.{hears_good}
 use Rattle.shard_world.proofs.WorldItems.{sayable_first}
 use Rattle.shard_world.proofs.WorldLemmas.{IsTimed, leads_grow, IsGoodWorld, published, step_good, first_good}
 use Rattle.shard_world.proofs.WorldPeers.{StartsAt, IsConnectedAt, IsGood}
-use Rattle.shard_world.proofs.WorldSteps.{as_open, delivers_good, peer_good}
+use Rattle.shard_world.proofs.WorldSteps.{in_part_good, peer_good}
 
-module _ (checked : CheckedOf) (transactions : List Transaction) (subscriber : ℕ) where
+module _ (source : Source) where
   delivered_end : (position : ℕ) → IsEnd position → (start : Option ℕ) → StartsAt position start → (c : Connection) → c.start ≡ start
-      → IsEnd (position_after position (whole_in c.delivered (down_items checked transactions subscriber start c.moves)))
+      → IsEnd (position_after position (whole_in c.delivered (down_items source start c.moves)))
   delivered_end position h None at c e = h
-  delivered_end position h (Some start) at c e = stream_end checked (log_of checked transactions) subscriber start c.moves c.delivered position (subst IsEnd (sym at) h) h
+  delivered_end position h (Some start) at c e = stream_end source.checked (log_in source) source.number start c.moves c.delivered position (subst IsEnd (sym at) h) h
 
-  at_end : (peer : Peer) (connection : Option Connection) → IsConnectedAt checked transactions subscriber peer connection → IsEnd peer.position → IsEnd (position_in checked transactions subscriber peer connection)
+  at_end : (peer : Peer) (connection : Option Connection) → IsConnectedAt source peer connection → IsEnd peer.position → IsEnd (position_in source peer connection)
   at_end peer None connected h = h
   at_end peer (Some c) connected h = delivered_end peer.position h c.start connected.1.started c refl
 
-  pub now_end : (peer : Peer) → IsGood checked transactions subscriber peer → IsEnd peer.position → IsEnd (position_now checked transactions subscriber peer)
+  pub now_end : (peer : Peer) → IsGood source peer → IsEnd peer.position → IsEnd (position_now source peer)
   now_end peer good h = at_end peer peer.connection good.connected h
 
   -- ---- steps
 
-  takes_end : (now : ℕ) (peer : Peer) (c : Connection) (place : Place) (found : Option CommitOf) → IsEnd peer.position → IsEnd (takes checked now peer c place found).1.position
+  takes_end : (now : ℕ) (peer : Peer) (c : Connection) (place : Place) (found : Option CommitOf) → IsEnd peer.position → IsEnd (takes source.checked now peer c place found).1.position
   takes_end now peer c place None h = h
   takes_end now peer c place (Some commit) h = h
 
-  take_end : (now : ℕ) (peer : Peer) (c : Connection) (start : Option ℕ) → IsEnd peer.position → IsEnd (take_step checked transactions subscriber now peer c start).1.position
+  take_end : (now : ℕ) (peer : Peer) (c : Connection) (start : Option ℕ) → IsEnd peer.position → IsEnd (take_step source now peer c start).1.position
   take_end now peer c None h = h
-  take_end now peer c (Some start) h = takes_end now peer c (place_of checked transactions subscriber start c.moves) _ h
+  take_end now peer c (Some start) h = takes_end now peer c (place_of source start c.moves) _ h
 
   keep_end : (now : ℕ) (want : Bool) (peer : Peer) (c : Connection) (start : Option ℕ) → IsEnd peer.position → IsEnd (keep_step now want peer c start).1.position
   keep_end now want peer c None h = h
   keep_end now want peer c (Some start) h = h
 
-  open_end : (now : ℕ) (event : PeerEvent) (peer : Peer) (c : Connection) → IsGood checked transactions subscriber peer → IsEnd peer.position
-      → IsEnd (open_step checked transactions subscriber now event peer c).1.position
+  open_end : (now : ℕ) (event : PeerEvent) (peer : Peer) (c : Connection) → IsGood source peer → IsEnd peer.position
+      → IsEnd (open_step source now event peer c).1.position
   open_end now Open peer c good h = h
   open_end now (Hear count) peer c good h = h
   open_end now Take peer c good h = take_end now peer c c.start h
@@ -67,37 +64,37 @@ module _ (checked : CheckedOf) (transactions : List Transaction) (subscriber : �
   shut_end (Report want) peer h = h
   shut_end Lose peer h = h
 
-  pub peer_end : (now : ℕ) (event : PeerEvent) (peer : Peer) (connection : Option Connection) → IsGood checked transactions subscriber peer → IsEnd peer.position
-      → IsEnd (peer_step checked transactions subscriber now event peer connection).1.position
+  pub peer_end : (now : ℕ) (event : PeerEvent) (peer : Peer) (connection : Option Connection) → IsGood source peer → IsEnd peer.position
+      → IsEnd (peer_step source now event peer connection).1.position
   peer_end now event peer None good h = shut_end event peer h
   peer_end now event peer (Some c) good h = open_end now event peer c good h
 
-module _ (checked : CheckedOf) (transactions : List Transaction) (public : IsPublished checked transactions) (sayable : IsSayable checked transactions) (subscriber now : ℕ) (timed : now < 2 ^ 64) where
-  broken_end : (event : PeerEvent) (peer : Peer) (some : ℕ) (connection : Option Connection) → peer.connection ≡ connection → IsGood checked transactions subscriber peer → IsEnd peer.position
-      → IsEnd (broken checked transactions subscriber now event peer some connection).position
-  broken_end event peer some None is good h = h
-  broken_end (Hear count) peer some (Some c) is good h =
-      now_end checked transactions subscriber (hears checked subscriber now peer c (as_many (min some count) (length (flat_map (spelled_up checked subscriber) (ups_of peer c))) c.heard))
-      (hears_good checked transactions subscriber now timed peer c (as_many (min some count) (length (flat_map (spelled_up checked subscriber) (ups_of peer c))) c.heard) (as_open peer c is good)) h
-  broken_end (Deliver count) peer some (Some c) is good h =
-      now_end checked transactions subscriber (delivers peer c (as_many (min some count) (length (down_bytes checked transactions subscriber c.start c.moves)) c.delivered))
-      (delivers_good checked transactions public sayable subscriber now timed peer c (min some count) (as_open peer c is good)) h
-  broken_end Open peer some (Some c) is good h = now_end checked transactions subscriber peer good h
-  broken_end Take peer some (Some c) is good h = now_end checked transactions subscriber peer good h
-  broken_end (Keep want) peer some (Some c) is good h = now_end checked transactions subscriber peer good h
-  broken_end (Report want) peer some (Some c) is good h = now_end checked transactions subscriber peer good h
-  broken_end Lose peer some (Some c) is good h = now_end checked transactions subscriber peer good h
+module _ (source : Source) (public : IsPublished source.checked source.transactions) (sayable : IsSayable source.checked source.transactions) (now : ℕ) (timed : now < 2 ^ 64) where
+  in_part_end : (event : PeerEvent) (peer : Peer) (some : ℕ) (c : Connection) → IsEnd peer.position → IsEnd (in_part source now event peer some c).position
+  in_part_end Open peer some c h = h
+  in_part_end (Hear count) peer some c h = h
+  in_part_end Take peer some c h = h
+  in_part_end (Keep want) peer some c h = h
+  in_part_end (Deliver count) peer some c h = h
+  in_part_end (Report want) peer some c h = h
+  in_part_end Lose peer some c h = h
 
-  pub take_many_end : (count : ℕ) (peer : Peer) → IsGood checked transactions subscriber peer → IsEnd peer.position → IsEnd (take_many checked transactions subscriber now count peer).position
+  broken_end : (event : PeerEvent) (peer : Peer) (some : ℕ) (connection : Option Connection) → peer.connection ≡ connection → IsGood source peer → IsEnd peer.position
+      → IsEnd (broken source now event peer some connection).position
+  broken_end event peer some None is good h = h
+  broken_end event peer some (Some c) is good h =
+      now_end source (in_part source now event peer some c) (in_part_good source public sayable now timed event peer some c is good) (in_part_end event peer some c h)
+
+  pub take_many_end : (count : ℕ) (peer : Peer) → IsGood source peer → IsEnd peer.position → IsEnd (take_many source now count peer).position
   take_many_end zero peer good h = h
   take_many_end (suc count) peer good h =
-      take_many_end count (next_peer checked transactions subscriber now Take peer) (peer_good checked transactions public sayable subscriber now timed Take peer peer.connection refl good)
-      (peer_end checked transactions subscriber now Take peer peer.connection good h)
+      take_many_end count (next_peer source now Take peer) (peer_good source public sayable now timed Take peer peer.connection refl good)
+      (peer_end source now Take peer peer.connection good h)
 
-  pub take_many_good : (count : ℕ) (peer : Peer) → IsGood checked transactions subscriber peer → IsGood checked transactions subscriber (take_many checked transactions subscriber now count peer)
+  pub take_many_good : (count : ℕ) (peer : Peer) → IsGood source peer → IsGood source (take_many source now count peer)
   take_many_good zero peer good = good
   take_many_good (suc count) peer good =
-      take_many_good count (next_peer checked transactions subscriber now Take peer) (peer_good checked transactions public sayable subscriber now timed Take peer peer.connection refl good)
+      take_many_good count (next_peer source now Take peer) (peer_good source public sayable now timed Take peer peer.connection refl good)
 
 -- ---- the world
 
@@ -124,12 +121,12 @@ module _ (checked : CheckedOf) (covered : Covered (setting_in checked)) (keeps :
       by_number : (known : Bool) → StepsOn known checked world subscriber now event answer next → AllEnd next
       by_number false step = same_end next world step.1 all
       by_number true step = elim step [
-        | inl moves ↦ same_end next (with_peer world subscriber (peer_step checked world.transactions subscriber now event (world.peers subscriber) (world.peers subscriber).connection).1) moves.next_is
-            (peer_ends world subscriber (peer_step checked world.transactions subscriber now event (world.peers subscriber) (world.peers subscriber).connection).1 all
-            (peer_end checked world.transactions subscriber now event (world.peers subscriber) (world.peers subscriber).connection (good.peers subscriber) (all subscriber)))
-        | inr breaks ↦ same_end next (with_peer world subscriber (broken checked world.transactions subscriber now event (world.peers subscriber) breaks.some (world.peers subscriber).connection)) breaks.next_is
-            (peer_ends world subscriber (broken checked world.transactions subscriber now event (world.peers subscriber) breaks.some (world.peers subscriber).connection) all
-            (broken_end checked world.transactions (published checked covered keeps world good) sayable subscriber now timed event (world.peers subscriber) breaks.some (world.peers subscriber).connection refl
+        | inl moves ↦ same_end next (with_peer world subscriber (step_in checked world subscriber now event).1) moves.next_is
+            (peer_ends world subscriber (step_in checked world subscriber now event).1 all
+            (peer_end (source_in checked world subscriber) now event (world.peers subscriber) (world.peers subscriber).connection (good.peers subscriber) (all subscriber)))
+        | inr breaks ↦ same_end next (with_peer world subscriber (broken_in checked world subscriber now event breaks.some)) breaks.next_is
+            (peer_ends world subscriber (broken_in checked world subscriber now event breaks.some) all
+            (broken_end (source_in checked world subscriber) (published checked covered keeps world good) sayable now timed event (world.peers subscriber) breaks.some (world.peers subscriber).connection refl
             (good.peers subscriber) (all subscriber)))
       ]
 

@@ -3,8 +3,6 @@ use Rattle.std.proofs.Common.{◌≡◌, ℕ, zero, suc, ◌+◌, ◌-◌, ◌�
 use Rattle.std.specs.Prelude.{Option, Some, None, min}
 use Rattle.std.proofs.Math.Seq.{take-add}
 use Rattle.std.proofs.lemmas.List.{length-take-le, drop_at}
-use Rattle.shard_checker.specs.CheckedView.{CheckedOf}
-use Rattle.tables_log.specs.StandsFor.{Transaction}
 use Rattle.copy_frames.specs.Frames.{Cut, cut, fault_of, rest_of}
 use Rattle.copy_frames.proofs.PieceLemmas.{rest_with_more}
 use Rattle.copy_both.specs.LinkLaws.{IsStreaming}
@@ -20,10 +18,11 @@ use Rattle.test_subscriber.specs.declared.subscriber.Subscriber.{Subscriber}
 use Rattle.test_subscriber.proofs.FeedingLemmas.{while_open, hears_open, hears_no_fault, hears_more}
 use Rattle.shard_world.specs.Connections.{DeliversStep, front_of}
 use Rattle.stream_laws.specs.Items.{frame_in}
-use Rattle.shard_world.specs.Joined.{AlikeBut, Speaks, run_of, down_of}
-use Rattle.shard_world.specs.PeerSteps.{Case, IsCase, peer_of}
+use Rattle.shard_world.specs.Joined.{AlikeBut, Speaks, run_of}
+use Rattle.shard_world.specs.PeerSteps.{Case, IsCase, peer_of, source_of}
 use Rattle.shard_world.specs.World as w
-use Rattle.shard_world.specs.World.{Connection, as_many, down_items, down_bytes, place_of}
+use Rattle.shard_world.specs.World.{Connection, as_many, down_items, down_bytes, place_of, down_of}
+use Rattle.shard_world.proofs.WorldSteps.{stays_within}
 use Rattle.shard_world.proofs.CaseLemmas.{case_good, case_published, case_sayable, is_open}
 use Rattle.stream_laws.proofs.CuttingLemmas.{IsPiece, pieces_are_cut}
 use Rattle.stream_laws.proofs.FollowingBytesLemmas.{item_frames}
@@ -33,16 +32,16 @@ use Rattle.shard_world.proofs.WorldPeers.{IsConnected, IsConnectedAt, bytes_of_i
 
 -- ---- what waits at the publisher's end
 
-pub output_by : (case : Case) (link : Link) (moves : List Move) (delivered : ℕ) (start : Option ℕ) → Speaks case.checked case.world.transactions case.number link moves delivered start
-    → delivered ≤ length (down_bytes case.checked case.world.transactions case.number start moves)
-    → link_output link ≡ drop delivered (down_bytes case.checked case.world.transactions case.number start moves)
+pub output_by : (case : Case) (link : Link) (moves : List Move) (delivered : ℕ) (start : Option ℕ) → Speaks (source_of case) link moves delivered start
+    → delivered ≤ length (down_bytes (source_of case) start moves)
+    → link_output link ≡ drop delivered (down_bytes (source_of case) start moves)
 output_by case link moves delivered None silent within = silent.output ∙ nothing delivered within
   where
     nothing : (n : ℕ) → n ≤ 0 → ◌≡◌ {A = List ℕ} [] (drop n [])
     nothing zero h = refl
     nothing (suc n) h = refl
 output_by case link moves delivered (Some start) streams within =
-    let all = down_bytes case.checked case.world.transactions case.number (Some start) moves in
+    let all = down_bytes (source_of case) (Some start) moves in
     sym (drop_at (take delivered all) (link_output link) delivered (length-take-le delivered all within)) ∙ ap (drop delivered) streams.says.bytes
 
 -- ---- what a piece does
@@ -50,37 +49,31 @@ output_by case link moves delivered (Some start) streams within =
 -- a connection of the subscriber in its world
 pub record Connected (case : Case) (c : Connection) : Type 0 where
   pub reached : ℕ
-  pub is : IsConnected case.checked case.world.transactions case.number (peer_of case).position (peer_of case).confirmed reached c
+  pub is : IsConnected (source_of case) (peer_of case).position (peer_of case).confirmed reached c
 
 pub connected : (case : Case) → IsCase case → (c : Connection) → (peer_of case).connection ≡ Some c → Connected case c
 connected case is c some =
-    let at : IsConnectedAt case.checked case.world.transactions case.number (peer_of case) (Some c) = subst (IsConnectedAt case.checked case.world.transactions case.number (peer_of case)) some (case_good case is).connected in
+    let at : IsConnectedAt (source_of case) (peer_of case) (Some c) = subst (IsConnectedAt (source_of case) (peer_of case)) some (case_good case is).connected in
     record { reached = at.0; is = at.1 }
 
 module _ (case : Case) (is : IsCase case) (c : Connection) (some : (peer_of case).connection ≡ Some c) where
-  abbrev checked : CheckedOf
-  checked = case.checked
-
-  abbrev transactions : List Transaction
-  transactions = case.world.transactions
-
   abbrev downs : List ℕ
-  downs = down_of checked transactions case.number c
+  downs = down_of (source_of case) c
 
   -- what is delivered is heard with no fault
   pub fine : (delivered : ℕ) → delivered ≤ length downs → (hear_cut (cut limit (take delivered downs)) (opened (peer_of case).machine)).fault ≡ None
   fine delivered within =
       let c_is = connected case is c some in
-      (delivered_followed checked transactions (case_published case is) (case_sayable case is) case.number (peer_of case).position (peer_of case).machine (case_good case is).follows c.start c_is.is.started
-      c.moves c_is.is.clocked delivered (subst (λ bytes. delivered ≤ length bytes) (bytes_of_items checked transactions case.number c.start c.moves) within)).no_fault
+      (delivered_followed (source_of case) (case_published case is) (case_sayable case is) (peer_of case).position (peer_of case).machine (case_good case is).follows c.start c_is.is.started
+      c.moves c_is.is.clocked delivered (subst (λ bytes. delivered ≤ length bytes) (bytes_of_items (source_of case) c.start c.moves) within)).no_fault
 
-  pub down_piece : (more : ℕ) → c.delivered + more ≤ length downs → IsPiece frame_in limit (down_items checked transactions case.number c.start c.moves) downs c.delivered more
+  pub down_piece : (more : ℕ) → c.delivered + more ≤ length downs → IsPiece frame_in limit (down_items (source_of case) c.start c.moves) downs c.delivered more
   down_piece more within =
       let c_is = connected case is c some in
-      pieces_are_cut frame_in limit (down_items checked transactions case.number c.start c.moves) downs c.delivered more
-      (item_frames (down_items checked transactions case.number c.start c.moves)
-      (down_sent checked transactions (case_published case is) (case_sayable case is) case.number (peer_of case).position (peer_of case).machine (case_good case is).follows c.start c_is.is.started c.moves c_is.is.clocked))
-      (bytes_of_items checked transactions case.number c.start c.moves) within
+      pieces_are_cut frame_in limit (down_items (source_of case) c.start c.moves) downs c.delivered more
+      (item_frames (down_items (source_of case) c.start c.moves)
+      (down_sent (source_of case) (case_published case is) (case_sayable case is) (peer_of case).position (peer_of case).machine (case_good case is).follows c.start c_is.is.started c.moves c_is.is.clocked))
+      (bytes_of_items (source_of case) c.start c.moves) within
 
   -- what a subscriber makes of a piece that comes after what was delivered
   pub record Makes (more : ℕ) (subscriber : Subscriber) (heard : Heard) : Type 0 where
@@ -123,15 +116,12 @@ module _ (case : Case) (is : IsCase case) (c : Connection) (some : (peer_of case
 count_is : (count all done : ℕ) → done ≤ all → min count (all - done) ≡ as_many count all done
 count_is count all done h = refl
 
-pub stays_within : (count all done : ℕ) → done ≤ all → done + as_many count all done ≤ all
-stays_within count all done h = omega (arith, h)
-
 pub delivers_on : DeliversStep
 delivers_on case is slots old link new after count stands some feeds passes =
     let here = is_open case slots old link stands some in
     let c = here.c in
     let linked = here.linked in
-    let downs = down_of case.checked case.world.transactions case.number c in
+    let downs = down_of (source_of case) c in
     let more = as_many count (length downs) c.delivered in
     let within : c.delivered + more ≤ length downs = stays_within count (length downs) c.delivered linked.delivered in
     let out : link_output link ≡ drop c.delivered downs = output_by case link c.moves c.delivered c.start linked.speaks linked.delivered in
@@ -177,8 +167,8 @@ delivers_on case is slots old link new after count stands some feeds passes =
     })
   where
     passes_by : (case : Case) (link new : Link) (moves : List Move) (delivered more : ℕ) (start : Option ℕ) → LinkPasses link new more
-        → link_output link ≡ drop delivered (down_bytes case.checked case.world.transactions case.number start moves)
-        → Speaks case.checked case.world.transactions case.number link moves delivered start → Speaks case.checked case.world.transactions case.number new moves (delivered + more) start
+        → link_output link ≡ drop delivered (down_bytes (source_of case) start moves)
+        → Speaks (source_of case) link moves delivered start → Speaks (source_of case) new moves (delivered + more) start
     passes_by case link new moves delivered more None passes out silent = record {
       stage_is = passes.voice.stage_is ∙ silent.stage_is;
       output = passes.voice.output ∙ ap (drop more) silent.output ∙ nothing more;
@@ -189,7 +179,7 @@ delivers_on case is slots old link new after count stands some feeds passes =
         nothing zero = refl
         nothing (suc n) = refl
     passes_by case link new moves delivered more (Some start) passes out streams =
-        subst (λ passed. IsStreaming new (record (run_of case.checked case.world.transactions case.number start moves delivered) { passed = passed }) (place_of case.checked case.world.transactions case.number start moves))
-        (ap (λ bytes. take delivered (down_bytes case.checked case.world.transactions case.number (Some start) moves) ++ take more bytes) out
-        ∙ sym (take-add delivered more (down_bytes case.checked case.world.transactions case.number (Some start) moves)))
-        (passes_on link new (run_of case.checked case.world.transactions case.number start moves delivered) (place_of case.checked case.world.transactions case.number start moves) more streams passes)
+        subst (λ passed. IsStreaming new (record (run_of (source_of case) start moves delivered) { passed = passed }) (place_of (source_of case) start moves))
+        (ap (λ bytes. take delivered (down_bytes (source_of case) (Some start) moves) ++ take more bytes) out
+        ∙ sym (take-add delivered more (down_bytes (source_of case) (Some start) moves)))
+        (passes_on link new (run_of (source_of case) start moves delivered) (place_of (source_of case) start moves) more streams passes)

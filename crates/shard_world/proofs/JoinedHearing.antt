@@ -1,7 +1,7 @@
 -- The publisher hears a subscriber as in the world: which frames a piece brings, and what they do.
 use Rattle.std.proofs.Common.{◌≡◌, ℕ, zero, suc, ◌+◌, ◌-◌, ◌<◌, ◌≤◌, ◌≢◌, min, max, Bool, true, false, List, [], ◌∷◌, ◌++◌, drop, length, map, replicate, refl, sym, ap, subst, ◌∙◌, arith, append-nil, length-append}
-use Rattle.std.specs.Prelude.{Option, Some, None, All, fold, is_some, nat_le, nat_lt, slice_get, if◌then◌else◌}
-use Rattle.std.proofs.lemmas.Bool.{le-leb, leb-true, leb-false, ltb-true}
+use Rattle.std.specs.Prelude.{Option, Some, None, All, fold, is_some, nat_le, slice_get, if◌then◌else◌}
+use Rattle.std.proofs.lemmas.Bool.{le-leb, leb-true, leb-false, le-ltb}
 use Rattle.std.proofs.lemmas.Option.{slice_get_within}
 use Rattle.std.proofs.lemmas.List.Elements.{All-nil, All-cons, All-head, All-tail, All-drop}
 use Rattle.table_changes.proofs.TableLemmas.{by_test}
@@ -16,9 +16,9 @@ use Rattle.copy_both.specs.Hearing.{HearingOf, Served, Begins, begun, first_sent
 use Rattle.copy_both.specs.Streams.{Move, Keep}
 use Rattle.stream_laws.specs.Cutting.{if_whole, whole_by}
 use Rattle.shard_world.specs.Joined.{HasSlot, IsAsked, stream_of}
-use Rattle.shard_world.specs.PeerSteps.{Case, IsCase, peer_of}
+use Rattle.shard_world.specs.PeerSteps.{Case, IsCase, peer_of, source_of}
 use Rattle.shard_world.specs.UpsHeard.{IsHearing, IsOwn, IsWithin, session_of, start_in}
-use Rattle.shard_world.specs.World.{Up, Asks, Says, Connection, Session, start_of, hear_up, newly, heard_of, spelled_up, up_frame, ups_of}
+use Rattle.shard_world.specs.World.{Up, Asks, Says, Connection, Session, start_of, hear_up, newly, heard_of, spelled_up, up_frame, ups_of, asking_length}
 use Rattle.shard_world.proofs.CaseLemmas.{case_asks, case_good, opened_small}
 use Rattle.shard_world.proofs.SlotLemmas.{confirmed_is, others_stay, streams_slot}
 use Rattle.shard_world.proofs.UpsHeardLemmas.{HasSlotBy, start_step, starts_are_heard, statuses_are_heard, statuses_go}
@@ -70,7 +70,7 @@ map_drop f (suc n) (x ∷ xs) = map_drop f n xs
 
 module _ (case : Case) (c : Connection) (more : ℕ) where
   abbrev asking : ℕ
-  asking = length (spelled_up case.checked case.number (Asks (peer_of case).position))
+  asking = asking_length (source_of case) (peer_of case).position
 
   abbrev reports_whole : ℕ → List Up
   reports_whole count = whole_by (up_frame case.checked case.number) count (map Says c.reports)
@@ -83,7 +83,7 @@ module _ (case : Case) (c : Connection) (more : ℕ) where
       (λ whole. let fits : asking ≤ count = leb-true asking count whole in absurd (omega (arith, fits, short)))
       (λ part. ap (λ b. if_whole b (Asks (peer_of case).position) (reports_whole (count - asking))) part)
 
-  new_by : (start : Option ℕ) → IsAsked c.heard asking start → NewOf case.checked case.number (peer_of case).position c.reports asking (c.heard + more) start (newly case.checked case.number (peer_of case) c more)
+  new_by : (start : Option ℕ) → IsAsked c.heard asking start → NewOf case.checked case.number (peer_of case).position c.reports asking (c.heard + more) start (newly (source_of case) (peer_of case) c more)
   new_by None before = by_test (nat_le asking (c.heard + more))
       (λ whole. Command refl (leb-true asking (c.heard + more) whole) (c.heard + more - asking)
       (ap (λ few. drop (length few) (whole_by (up_frame case.checked case.number) (c.heard + more) (ups_of (peer_of case) c))) (none_asked c.heard before)
@@ -98,7 +98,7 @@ module _ (case : Case) (c : Connection) (more : ℕ) where
       ∙ ap (drop (length (reports_whole (c.heard - asking)))) (says_whole case.checked case.number (c.heard + more - asking) c.reports)
       ∙ map_drop Says (length (reports_whole (c.heard - asking))) (whole_by (λ status. up_frame case.checked case.number (Says status)) (c.heard + more - asking) c.reports))
 
-  pub what_is_new : IsAsked c.heard asking c.start → NewOf case.checked case.number (peer_of case).position c.reports asking (c.heard + more) c.start (newly case.checked case.number (peer_of case) c more)
+  pub what_is_new : IsAsked c.heard asking c.start → NewOf case.checked case.number (peer_of case).position c.reports asking (c.heard + more) c.start (newly (source_of case) (peer_of case) c more)
   what_is_new asked = new_by c.start asked
 
 -- ---- of all statuses some have what all have
@@ -152,16 +152,16 @@ module _ (case : Case) (is : IsCase case) (c : Connection) (commits : ℕ) (h : 
     pub replies : h.heard.replies ≡ 0
     pub goes_on : is_over h ≡ false
     pub slot : HasSlot h.slots case.number (peer_of case).confirmed (is_some c.start)
-    pub asked : IsAsked c.heard (length (spelled_up case.checked case.number (Asks (peer_of case).position))) c.start
+    pub asked : IsAsked c.heard (asking_length (source_of case) (peer_of case).position) c.start
     pub starts : c.start ≡ None → (peer_of case).confirmed ≤ (peer_of case).position
     pub low : (limit : ℕ) → sent_limit c.start (peer_of case).position h.sent ≡ limit → All (IsWithin (min limit (end_after commits))) c.reports
 
   module _ (before : Before) (more : ℕ) where
     abbrev new : List Up
-    new = newly case.checked case.number (peer_of case) c more
+    new = newly (source_of case) (peer_of case) c more
 
     abbrev heard_now : HearingOf
-    heard_now = frames_heard served_of h (map (up_frame case.checked case.number) (newly case.checked case.number (peer_of case) c more))
+    heard_now = frames_heard served_of h (map (up_frame case.checked case.number) (newly (source_of case) (peer_of case) c more))
 
     abbrev first_session : Session
     first_session = record { confirmed = (peer_of case).confirmed; start = c.start; moves = c.moves }
@@ -200,6 +200,10 @@ module _ (case : Case) (is : IsCase case) (c : Connection) (commits : ℕ) (h : 
       };
     }
 
+    start_stays_so : (statuses : List Status) (session : Session) → (fold (hear_up case.now) session (map Says statuses)).start ≡ session.start
+    start_stays_so [] session = refl
+    start_stays_so (status ∷ statuses) session = start_stays_so statuses (hear_up case.now session (Says status))
+
     statuses_come : (at : ℕ) → c.start ≡ Some at → (statuses : List Status) → All (IsWithin (min h.sent (end_after commits))) statuses
         → Comes (map Says statuses) (frames_heard served_of h (map (up_frame case.checked case.number) (map Says statuses)))
     statuses_come at start statuses within =
@@ -215,20 +219,13 @@ module _ (case : Case) (is : IsCase case) (c : Connection) (commits : ℕ) (h : 
           others = goes.others;
           taken = subst (λ start. HasSlotBy last.slots case.number (is_some start)) (sym still) (goes.own (peer_of case).confirmed (is_some c.start) before.slot);
         }
-      where
-        start_stays_so : (statuses : List Status) (session : Session) → (fold (hear_up case.now) session (map Says statuses)).start ≡ session.start
-        start_stays_so [] session = refl
-        start_stays_so (status ∷ statuses) session = start_stays_so statuses (hear_up case.now session (Says status))
 
     free : c.start ≡ None → start_fault h.slots (end_after commits) case.number (peer_of case).position ≡ None
     free none =
         ap (λ found. slot_fault found (end_after commits) (peer_of case).position) before.slot
         ∙ ap (λ start. slot_fault (Some (record { confirmed = (peer_of case).confirmed; taken = is_some start })) (end_after commits) (peer_of case).position) none
-        ∙ ap (λ b. if b then Some Ahead else None) (above (end_after commits) (peer_of case).position
+        ∙ ap (λ b. if b then Some Ahead else None) (le-ltb (end_after commits) (peer_of case).position
         (omega (arith, (case_good case is).follows.within, before.commits_is)))
-      where
-        above : (a b : ℕ) → b ≤ a → nat_lt a b ≡ false
-        above a b le = by_test (nat_lt a b) (λ less. absurd (let k = ltb-true a b less in omega (arith, k, le))) (λ not. not)
 
     command_comes : c.start ≡ None → (statuses : List Status) → All (IsWithin (min (first_sent (peer_of case).position) (end_after commits))) statuses
         → Comes (Asks (peer_of case).position ∷ map Says statuses) (frames_heard served_of h (map (up_frame case.checked case.number) (Asks (peer_of case).position ∷ map Says statuses)))
@@ -265,20 +262,16 @@ module _ (case : Case) (is : IsCase case) (c : Connection) (commits : ℕ) (h : 
         greater : (a b : ℕ) → b ≤ a → max a b ≡ a
         greater a b h = omega (arith, h)
 
-        start_stays_so : (statuses : List Status) (session : Session) → (fold (hear_up case.now) session (map Says statuses)).start ≡ session.start
-        start_stays_so [] session = refl
-        start_stays_so (status ∷ statuses) session = start_stays_so statuses (hear_up case.now session (Says status))
-
     some_within : (done count limit : ℕ) → All (IsWithin limit) c.reports → All (IsWithin limit) (some_of case.checked case.number done count c.reports)
     some_within done count limit all = some_all case.checked case.number (IsWithin limit) done count c.reports all
 
-    comes_by : (ups : List Up) → newly case.checked case.number (peer_of case) c more ≡ ups
+    comes_by : (ups : List Up) → newly (source_of case) (peer_of case) c more ≡ ups
         → Comes ups (frames_heard served_of h (map (up_frame case.checked case.number) ups))
-        → Comes (newly case.checked case.number (peer_of case) c more) heard_now
+        → Comes (newly (source_of case) (peer_of case) c more) heard_now
     comes_by ups e comes = subst (λ its. Comes its (frames_heard served_of h (map (up_frame case.checked case.number) its))) (sym e) comes
 
-    new_comes : NewOf case.checked case.number (peer_of case).position c.reports (length (spelled_up case.checked case.number (Asks (peer_of case).position))) (c.heard + more) c.start (newly case.checked case.number (peer_of case) c more)
-        → Comes (newly case.checked case.number (peer_of case) c more) heard_now
+    new_comes : NewOf case.checked case.number (peer_of case).position c.reports (asking_length (source_of case) (peer_of case).position) (c.heard + more) c.start (newly (source_of case) (peer_of case) c more)
+        → Comes (newly (source_of case) (peer_of case) c more) heard_now
     unfolding frames_heard
     new_comes (Nothing none short e) = comes_by [] e nothing_comes
     new_comes (Command none long count e) = comes_by (Asks (peer_of case).position ∷ map Says (some_of case.checked case.number 0 count c.reports)) e
@@ -292,25 +285,25 @@ module _ (case : Case) (is : IsCase case) (c : Connection) (commits : ℕ) (h : 
     -- what was heard is as in the world
     pub record After : Type 0 where
       pub hears : IsHearing case.number heard_now
-      pub session_is : session_of case.number case.now c.moves heard_now ≡ heard_of case.checked case.number case.now (peer_of case) c more
+      pub session_is : session_of case.number case.now c.moves heard_now ≡ heard_of (source_of case) case.now (peer_of case) c more
       pub others : (other : ℕ) → other ≢ case.number → slice_get heard_now.slots other ≡ slice_get h.slots other
-      pub started : heard_now.started ≡ stream_of case.number (heard_of case.checked case.number case.now (peer_of case) c more).start
-      pub slot : HasSlot heard_now.slots case.number (heard_of case.checked case.number case.now (peer_of case) c more).confirmed
-          (is_some (heard_of case.checked case.number case.now (peer_of case) c more).start)
-      pub moves_are : (heard_of case.checked case.number case.now (peer_of case) c more).moves ≡ c.moves ++ replicate heard_now.heard.replies (Keep case.now false)
+      pub started : heard_now.started ≡ stream_of case.number (heard_of (source_of case) case.now (peer_of case) c more).start
+      pub slot : HasSlot heard_now.slots case.number (heard_of (source_of case) case.now (peer_of case) c more).confirmed
+          (is_some (heard_of (source_of case) case.now (peer_of case) c more).start)
+      pub moves_are : (heard_of (source_of case) case.now (peer_of case) c more).moves ≡ c.moves ++ replicate heard_now.heard.replies (Keep case.now false)
 
     pub heard_after : After
     heard_after =
         let comes = new_comes (what_is_new case c more before.asked) in
-        let start : start_in heard_now.started ≡ (heard_of case.checked case.number case.now (peer_of case) c more).start = ap (λ (session : Session). session.start) comes.session_is in
-        let confirmed : comes.taken.confirmed ≡ (heard_of case.checked case.number case.now (peer_of case) c more).confirmed =
+        let start : start_in heard_now.started ≡ (heard_of (source_of case) case.now (peer_of case) c more).start = ap (λ (session : Session). session.start) comes.session_is in
+        let confirmed : comes.taken.confirmed ≡ (heard_of (source_of case) case.now (peer_of case) c more).confirmed =
         sym (confirmed_is heard_now.slots case.number comes.taken.confirmed (is_some (start_in heard_now.started)) comes.taken.has) ∙ ap (λ (session : Session). session.confirmed) comes.session_is in
         record {
           hears = comes.hears;
           session_is = comes.session_is;
           others = comes.others;
-          started = stream_is case.number heard_now.started (heard_of case.checked case.number case.now (peer_of case) c more).start comes.hears.own start;
-          slot = subst (λ n. HasSlot heard_now.slots case.number n (is_some (heard_of case.checked case.number case.now (peer_of case) c more).start)) confirmed
+          started = stream_is case.number heard_now.started (heard_of (source_of case) case.now (peer_of case) c more).start comes.hears.own start;
+          slot = subst (λ n. HasSlot heard_now.slots case.number n (is_some (heard_of (source_of case) case.now (peer_of case) c more).start)) confirmed
               (subst (λ its. HasSlot heard_now.slots case.number comes.taken.confirmed (is_some its)) start comes.taken.has);
           moves_are = sym (ap (λ (session : Session). session.moves) comes.session_is);
         }

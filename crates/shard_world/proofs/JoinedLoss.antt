@@ -9,7 +9,7 @@ use Rattle.copy_both.specs.Links.{link_ear}
 use Rattle.test_subscriber.specs.Machine.{Machine}
 use Rattle.shard_world.specs.Connections.{LosesStep}
 use Rattle.shard_world.specs.Joined.{HasSlot, stream_of}
-use Rattle.shard_world.specs.PeerSteps.{peer_of}
+use Rattle.shard_world.specs.PeerSteps.{peer_of, source_of}
 use Rattle.shard_world.specs.World as w
 use Rattle.shard_world.proofs.CaseLemmas.{is_open}
 use Rattle.shard_world.proofs.JoinedSteps.{steps_to, still_named}
@@ -56,5 +56,5 @@ loses_on case before after old link new subscriber stands some lost_link lost_su
     }
   where
     now_is : (c : w.Connection) → (peer_of case).connection ≡ Some c
-        → w.machine_in case.checked case.world.transactions case.number (peer_of case) (Some c) ≡ w.machine_now case.checked case.world.transactions case.number (peer_of case)
-    now_is c is = ap (w.machine_in case.checked case.world.transactions case.number (peer_of case)) (sym is)
+        → w.machine_in (source_of case) (peer_of case) (Some c) ≡ w.machine_now (source_of case) (peer_of case)
+    now_is c is = ap (w.machine_in (source_of case) (peer_of case)) (sym is)

@@ -9,17 +9,16 @@ use Rattle.copy_both.specs.Links.{HasNext, link_stage}
 use Rattle.copy_both.specs.Streams.{Place}
 use Rattle.copy_both.specs.Voices.{IsStarted}
 use Rattle.copy_both.specs.declared.link.Link.{Link}
-use Rattle.stream_laws.specs.Following.{log_of}
 use Rattle.shard_world.specs.Joined.{PeerOf, Speaks}
-use Rattle.shard_world.specs.PeerSteps.{Case, StandsIn, peer_of, stepped}
-use Rattle.shard_world.specs.World.{AsksMemory, Connection, PeerEvent, Open, Hear, Take, Keep, Deliver, Report, keep_step, peer_step, place_of, take_step, takes, took}
+use Rattle.shard_world.specs.PeerSteps.{Case, StandsIn, peer_of, stepped, source_of}
+use Rattle.shard_world.specs.World.{AsksMemory, Connection, PeerEvent, Open, Hear, Take, Keep, Deliver, Report, keep_step, peer_step, place_of, take_step, takes, took, log_in}
 use Rattle.shard_world.proofs.CaseLemmas.{is_open, is_shut}
 
 -- by the connection of the subscriber, if it has one
 needs_by : (case : Case) (event : PeerEvent) (connection : Option Connection) → (peer_of case).connection ≡ connection
-    → AsksMemory (peer_step case.checked case.world.transactions case.number case.now event (peer_of case) connection).0 → AsksMemory (stepped case event).0
+    → AsksMemory (peer_step (source_of case) case.now event (peer_of case) connection).0 → AsksMemory (stepped case event).0
 needs_by case event connection is needs =
-    subst (λ its. AsksMemory (peer_step case.checked case.world.transactions case.number case.now event (peer_of case) its).0) (sym is) needs
+    subst (λ its. AsksMemory (peer_step (source_of case) case.now event (peer_of case) its).0) (sym is) needs
 
 pub open_needs : (case : Case) (slots : List Slot) (old : PeerOf) → StandsIn case slots old → old.link ≡ None → AsksMemory (stepped case Open).0
 open_needs case slots old stands none = needs_by case Open None (is_shut case slots old stands none).none tt
@@ -38,12 +37,12 @@ module _ (case : Case) (slots : List Slot) (old : PeerOf) (link : Link) where
   keep_needs want stands some started =
       let here = is_open case slots old link stands some in needs_by case (Keep want) (Some here.c) here.some (by_start here.c here.c.start here.linked.speaks)
     where
-      by_start : (c : Connection) (start : Option ℕ) → Speaks case.checked case.world.transactions case.number link c.moves c.delivered start
+      by_start : (c : Connection) (start : Option ℕ) → Speaks (source_of case) link c.moves c.delivered start
           → AsksMemory (keep_step case.now want (peer_of case) c start).0
       by_start c None silent = absurd (subst IsStarted silent.stage_is started)
       by_start c (Some start) streams = tt
 
-  pub take_needs : StandsIn case slots old → old.link ≡ Some link → HasNext (link_stage link) (log_of case.checked case.world.transactions) → AsksMemory (stepped case Take).0
+  pub take_needs : StandsIn case slots old → old.link ≡ Some link → HasNext (link_stage link) (log_in (source_of case)) → AsksMemory (stepped case Take).0
   take_needs stands some next =
       let here = is_open case slots old link stands some in needs_by case Take (Some here.c) here.some (by_start here.c here.c.start here.linked.speaks)
     where
@@ -55,10 +54,10 @@ module _ (case : Case) (slots : List Slot) (old : PeerOf) (link : Link) where
       found c place None there = absurd cc
       found c place (Some commit) there = took_asks commit.number (messages_for case.checked place.slot place.told commit)
 
-      by_start : (c : Connection) (start : Option ℕ) → Speaks case.checked case.world.transactions case.number link c.moves c.delivered start
-          → AsksMemory (take_step case.checked case.world.transactions case.number case.now (peer_of case) c start).0
-      by_start c None silent = absurd (subst (λ stage. HasNext stage (log_of case.checked case.world.transactions)) silent.stage_is next)
+      by_start : (c : Connection) (start : Option ℕ) → Speaks (source_of case) link c.moves c.delivered start
+          → AsksMemory (take_step (source_of case) case.now (peer_of case) c start).0
+      by_start c None silent = absurd (subst (λ stage. HasNext stage (log_in (source_of case))) silent.stage_is next)
       by_start c (Some start) streams =
-          let place = place_of case.checked case.world.transactions case.number start c.moves in
-          found c place (slice_get (log_of case.checked case.world.transactions) place.done)
-          (subst (λ stage. HasNext stage (log_of case.checked case.world.transactions)) streams.stage_is next)
+          let place = place_of (source_of case) start c.moves in
+          found c place (slice_get (log_in (source_of case)) place.done)
+          (subst (λ stage. HasNext stage (log_in (source_of case))) streams.stage_is next)

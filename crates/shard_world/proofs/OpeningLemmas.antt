@@ -18,7 +18,7 @@ use Rattle.tables_log.proofs.StandLemmas.{new_stands}
 use Rattle.shard_world.specs.Joined.{PeerOf, PeerIs, IsAt}
 use Rattle.shard_world.specs.Openings.{IsFirstPeer, AreFirstPeers}
 use Rattle.shard_world.specs.World as w
-use Rattle.shard_world.specs.World.{first_peer, first_world}
+use Rattle.shard_world.specs.World.{first_peer, first_world, source_in}
 use Rattle.shard_world.specs.WorldCalls.{PeerAt, IsWorldBy}
 use Rattle.shard_world.specs.WorldLaws.{IsPublisher, IsTimedEvent}
 use Rattle.shard_world.proofs.PublisherLemmas.{checked_publish}
@@ -70,14 +70,14 @@ module _ (publisher : Checked) (most : ℕ) (book : Book) (peers : List PeerOf) 
   checked = checked_view publisher
 
   peer_stands : (number : ℕ) → number < length checked.catalog.subscriptions → (there : IsThere checked.catalog.publications checked.catalog.subscriptions number peers)
-      → PeerIs checked [] number (book_slots book) there.peer first_peer
+      → PeerIs (source_in checked first_world number) (book_slots book) there.peer first_peer
   peer_stands number within there = record {
     named = record {
       slot = there.is.slot ∙ ap w.subscription_name (sym there.at);
       publications = there.is.takes
           ∙ ap (λ subscription. map (λ publication. w.publication_name (slice_get checked.catalog.publications publication)) (w.publications_taken subscription)) (sym there.at);
     };
-    at = subst (λ link. IsAt checked [] number (book_slots book) link there.peer.subscriber first_peer None) (sym there.is.none) (record {
+    at = subst (λ link. IsAt (source_in checked first_world number) (book_slots book) link there.peer.subscriber first_peer None) (sym there.is.none) (record {
       machine = record { position = there.is.machine.position; kept = there.is.machine.kept; rows = there.is.machine.rows };
       slot = ap (λ slots. slice_get slots number) new.slots ∙ got_replicated (length checked.catalog.subscriptions) number (record { confirmed = 0; taken = false }) within;
     });
@@ -98,5 +98,5 @@ module _ (publisher : Checked) (most : ℕ) (book : Book) (peers : List PeerOf) 
         each = λ number within.
             let here : number < length checked.catalog.subscriptions = subst (λ n. number < n) planned within in
             let there = first_at checked.catalog.publications checked.catalog.subscriptions peers number are here in
-            subst (PeerAt checked [] number (book_slots book) first_peer) (sym there.peer_at) (peer_stands number here there);
+            subst (PeerAt (source_in checked first_world number) (book_slots book) first_peer) (sym there.peer_at) (peer_stands number here there);
       }

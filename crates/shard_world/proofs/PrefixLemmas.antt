@@ -1,5 +1,5 @@
 -- The first frames of a stream, and how many bytes they are.
-use Rattle.std.proofs.Common.{◌≡◌, ℕ, ◌+◌, ◌-◌, ◌<◌, ◌≤◌, Bool, true, false, List, [], ◌∷◌, ◌++◌, drop, length, take, refl, sym, ap, subst, ◌∙◌, arith, append_assoc, append-nil, length-append}
+use Rattle.std.proofs.Common.{◌≡◌, ℕ, ◌+◌, ◌-◌, ◌<◌, ◌≤◌, Bool, true, false, List, [], ◌∷◌, ◌++◌, drop, length, take, refl, sym, ap, subst, ◌∙◌, arith, append_assoc, append-nil, length-append, add-zero}
 use Rattle.std.specs.Prelude.{nat_le}
 use Rattle.std.specs.Int.{to_be_bytes, w32}
 use Rattle.std.specs.List.{flat_map}
@@ -123,12 +123,9 @@ module _ {X : Type 0} (frame : X → Frame) where
     part_by [] e = record {
       some = 0;
       within = omega arith;
-      new_is = ap (λ n. drop (length few) (whole_by frame n all)) (nothing_more done) ∙ none_left few ∙ sym e;
+      new_is = ap (λ n. drop (length few) (whole_by frame n all)) (add-zero done) ∙ none_left few ∙ sym e;
     }
       where
-        nothing_more : (n : ℕ) → n + 0 ≡ n
-        nothing_more n = omega arith
-
         none_left : (xs : List X) → drop (length xs) xs ≡ []
         none_left xs = ap (drop (length xs)) (sym (append-nil xs)) ∙ drop_at xs [] (length xs) refl
     part_by (x ∷ xs) e =

@@ -6,12 +6,11 @@ use Rattle.std.proofs.lemmas.Bool.{lt-ltb}
 use Rattle.std.proofs.lemmas.List.Elements.{All-head, All-tail}
 use Rattle.shard_checker.specs.CheckedView.{CheckedOf}
 use Rattle.tables_log.specs.Commits.{CommitOf}
-use Rattle.tables_log.specs.StandsFor.{Transaction}
 use Rattle.copy_both.specs.Streams.{Place}
 use Rattle.pgoutput_msgs.specs.declared.message.Msg.{Msg}
 use Rattle.shard_world.specs.CatchingUp.{next_peer}
 use Rattle.shard_world.specs.Pumping.{EndsWalk, GoesOn, on_clock}
-use Rattle.shard_world.specs.World.{Connection, Peer, World, PeerEvent, Open, Hear, Take, Keep, Deliver, Report, Lose, On, Answer, OutOfMemory, place_of, took, takes, take_step, keep_step, open_step, peer_step, with_peer, Steps, StepsOn}
+use Rattle.shard_world.specs.World.{Connection, Peer, World, PeerEvent, Open, Hear, Take, Keep, Deliver, Report, Lose, On, Answer, OutOfMemory, place_of, took, takes, take_step, keep_step, open_step, peer_step, with_peer, Steps, StepsOn, Source, source_in, step_in}
 use Rattle.shard_world.specs.WorldCalls.{Runs}
 
 -- ---- one event
@@ -23,21 +22,21 @@ own_peer world subscriber peer =
 
 -- the connection's own step is made
 record IsMade (checked : CheckedOf) (world : World) (subscriber now : ℕ) (event : PeerEvent) (answer : Answer) (next : World) : Type 0 where
-  answer_is : answer ≡ (peer_step checked world.transactions subscriber now event (world.peers subscriber) (world.peers subscriber).connection).0
+  answer_is : answer ≡ (step_in checked world subscriber now event).0
   transactions_are : next.transactions ≡ world.transactions
-  peer_is : next.peers subscriber ≡ next_peer checked world.transactions subscriber now event (world.peers subscriber)
+  peer_is : next.peers subscriber ≡ next_peer (source_in checked world subscriber) now event (world.peers subscriber)
 
 -- so many answers, each of the peer's own step
-abbrev pub PeerRuns : CheckedOf → List Transaction → ℕ → ℕ → List PeerEvent → List Answer → Peer → Peer → Type 0
-PeerRuns checked transactions subscriber now [] [] peer last = last ≡ peer
-PeerRuns checked transactions subscriber now (event ∷ events) (answer ∷ answers) peer last =
-    (answer ≡ (peer_step checked transactions subscriber now event peer peer.connection).0)
-    × PeerRuns checked transactions subscriber now events answers (next_peer checked transactions subscriber now event peer) last
-PeerRuns checked transactions subscriber now events answers peer last = ⊥
+abbrev pub PeerRuns : Source → ℕ → List PeerEvent → List Answer → Peer → Peer → Type 0
+PeerRuns source now [] [] peer last = last ≡ peer
+PeerRuns source now (event ∷ events) (answer ∷ answers) peer last =
+    (answer ≡ (peer_step source now event peer peer.connection).0)
+    × PeerRuns source now events answers (next_peer source now event peer) last
+PeerRuns source now events answers peer last = ⊥
 
-pub record RunsAs (checked : CheckedOf) (transactions : List Transaction) (subscriber now : ℕ) (events : List PeerEvent) (answers : List Answer) (peer : Peer) (next : World) : Type 0 where
-  pub transactions_are : next.transactions ≡ transactions
-  pub runs : PeerRuns checked transactions subscriber now events answers peer (next.peers subscriber)
+pub record RunsAs (source : Source) (now : ℕ) (events : List PeerEvent) (answers : List Answer) (peer : Peer) (next : World) : Type 0 where
+  pub transactions_are : next.transactions ≡ source.transactions
+  pub runs : PeerRuns source now events answers peer (next.peers source.number)
 
 -- ---- a connection that is there goes on
 
@@ -49,20 +48,20 @@ abbrev pub KeepsOpen : PeerEvent → Type 0
 KeepsOpen Lose = ⊥
 KeepsOpen event = Unit {0}
 
-module _ (checked : CheckedOf) (transactions : List Transaction) (subscriber now : ℕ) where
-  takes_keep : (peer : Peer) (c : Connection) (place : Place) (found : Option CommitOf) → HasConnection peer → HasConnection (takes checked now peer c place found).1
+module _ (source : Source) (now : ℕ) where
+  takes_keep : (peer : Peer) (c : Connection) (place : Place) (found : Option CommitOf) → HasConnection peer → HasConnection (takes source.checked now peer c place found).1
   takes_keep peer c place None has = has
   takes_keep peer c place (Some commit) has = record { c = _; is = refl }
 
-  take_keeps : (peer : Peer) (c : Connection) (start : Option ℕ) → HasConnection peer → HasConnection (take_step checked transactions subscriber now peer c start).1
+  take_keeps : (peer : Peer) (c : Connection) (start : Option ℕ) → HasConnection peer → HasConnection (take_step source now peer c start).1
   take_keeps peer c None has = has
-  take_keeps peer c (Some start) has = takes_keep peer c (place_of checked transactions subscriber start c.moves) _ has
+  take_keeps peer c (Some start) has = takes_keep peer c (place_of source start c.moves) _ has
 
   keep_keeps : (want : Bool) (peer : Peer) (c : Connection) (start : Option ℕ) → HasConnection peer → HasConnection (keep_step now want peer c start).1
   keep_keeps want peer c None has = has
   keep_keeps want peer c (Some start) has = record { c = _; is = refl }
 
-  open_keeps : (event : PeerEvent) (peer : Peer) (c : Connection) → KeepsOpen event → HasConnection peer → HasConnection (open_step checked transactions subscriber now event peer c).1
+  open_keeps : (event : PeerEvent) (peer : Peer) (c : Connection) → KeepsOpen event → HasConnection peer → HasConnection (open_step source now event peer c).1
   open_keeps Open peer c keeps has = has
   open_keeps (Hear count) peer c keeps has = record { c = _; is = refl }
   open_keeps Take peer c keeps has = take_keeps peer c c.start has
@@ -71,28 +70,28 @@ module _ (checked : CheckedOf) (transactions : List Transaction) (subscriber now
   open_keeps (Report want) peer c keeps has = record { c = _; is = refl }
   open_keeps Lose peer c keeps has = absurd keeps
 
-  next_keeps : (event : PeerEvent) (peer : Peer) → KeepsOpen event → HasConnection peer → HasConnection (next_peer checked transactions subscriber now event peer)
+  next_keeps : (event : PeerEvent) (peer : Peer) → KeepsOpen event → HasConnection peer → HasConnection (next_peer source now event peer)
   next_keeps event peer keeps has =
-      subst (λ connection. HasConnection (peer_step checked transactions subscriber now event peer connection).1) (sym has.is) (open_keeps event peer has.c keeps has)
+      subst (λ connection. HasConnection (peer_step source now event peer connection).1) (sym has.is) (open_keeps event peer has.c keeps has)
 
   -- no answer of its own says that there is none
   took_on : (number : ℕ) (messages : List Msg) → EndsWalk (took number messages) → ⊥
   took_on number [] ends = ends
   took_on number (message ∷ messages) ends = ends
 
-  takes_on : (peer : Peer) (c : Connection) (place : Place) (found : Option CommitOf) → EndsWalk (takes checked now peer c place found).0 → ⊥
+  takes_on : (peer : Peer) (c : Connection) (place : Place) (found : Option CommitOf) → EndsWalk (takes source.checked now peer c place found).0 → ⊥
   takes_on peer c place None ends = ends
   takes_on peer c place (Some commit) ends = took_on commit.number _ ends
 
-  take_on : (peer : Peer) (c : Connection) (start : Option ℕ) → EndsWalk (take_step checked transactions subscriber now peer c start).0 → ⊥
+  take_on : (peer : Peer) (c : Connection) (start : Option ℕ) → EndsWalk (take_step source now peer c start).0 → ⊥
   take_on peer c None ends = ends
-  take_on peer c (Some start) ends = takes_on peer c (place_of checked transactions subscriber start c.moves) _ ends
+  take_on peer c (Some start) ends = takes_on peer c (place_of source start c.moves) _ ends
 
   keep_on : (want : Bool) (peer : Peer) (c : Connection) (start : Option ℕ) → EndsWalk (keep_step now want peer c start).0 → ⊥
   keep_on want peer c None ends = ends
   keep_on want peer c (Some start) ends = ends
 
-  open_on : (event : PeerEvent) (peer : Peer) (c : Connection) → EndsWalk (open_step checked transactions subscriber now event peer c).0 → ⊥
+  open_on : (event : PeerEvent) (peer : Peer) (c : Connection) → EndsWalk (open_step source now event peer c).0 → ⊥
   open_on Open peer c ends = ends
   open_on (Hear count) peer c ends = ends
   open_on Take peer c ends = take_on peer c c.start ends
@@ -119,7 +118,7 @@ module _ (checked : CheckedOf) (most subscriber now : ℕ) (there : subscriber <
   ]
 
   pub runs_as : (events : List PeerEvent) (answers : List Answer) (world next : World) → All GoesOn answers → Runs checked most (map (on_clock now subscriber) events) answers world next
-      → RunsAs checked world.transactions subscriber now events answers (world.peers subscriber) next
+      → RunsAs (source_in checked world subscriber) now events answers (world.peers subscriber) next
   runs_as [] [] world next goes runs = record { transactions_are = ap (λ (its : World). its.transactions) runs; runs = ap (λ (its : World). its.peers subscriber) runs }
   runs_as (event ∷ events) (answer ∷ answers) world next goes runs =
       let made = is_made world runs.0 event answer (All-head GoesOn answer answers goes) runs.1 in
@@ -128,8 +127,8 @@ module _ (checked : CheckedOf) (most subscriber now : ℕ) (there : subscriber <
         transactions_are = later.transactions_are ∙ made.transactions_are;
         runs = (
           made.answer_is,
-          subst (λ peer. PeerRuns checked world.transactions subscriber now events answers peer (next.peers subscriber)) made.peer_is
-              (subst (λ its. PeerRuns checked its subscriber now events answers (runs.0.peers subscriber) (next.peers subscriber)) made.transactions_are later.runs),
+          subst (λ peer. PeerRuns (source_in checked world subscriber) now events answers peer (next.peers subscriber)) made.peer_is
+              (subst (λ its. PeerRuns (record { checked = checked; transactions = its; number = subscriber }) now events answers (runs.0.peers subscriber) (next.peers subscriber)) made.transactions_are later.runs),
         );
       }
   runs_as [] (answer ∷ answers) world next goes runs = absurd runs
@@ -141,12 +140,12 @@ module _ (checked : CheckedOf) (most subscriber now : ℕ) (there : subscriber <
   last_answer [] [] answer world next keeps goes ends runs c is = absurd runs
   last_answer [] (first ∷ answers) answer world next keeps goes ends runs c is = absurd runs
   last_answer (event ∷ events) [] answer world next keeps goes ends runs c is = elim (step_there world runs.0 event answer runs.1) [
-    | inl moves ↦ absurd (open_on checked world.transactions subscriber now event (world.peers subscriber) c
-        (subst (λ connection. EndsWalk (peer_step checked world.transactions subscriber now event (world.peers subscriber) connection).0) is (subst EndsWalk moves.answer_is ends)))
+    | inl moves ↦ absurd (open_on (source_in checked world subscriber) now event (world.peers subscriber) c
+        (subst (λ connection. EndsWalk (peer_step (source_in checked world subscriber) now event (world.peers subscriber) connection).0) is (subst EndsWalk moves.answer_is ends)))
     | inr breaks ↦ breaks.answer_is
   ]
   last_answer (event ∷ events) (first ∷ answers) answer world next keeps goes ends runs c is =
       let made = is_made world runs.0 event first (All-head GoesOn first answers goes) runs.1 in
-      let kept = next_keeps checked world.transactions subscriber now event (world.peers subscriber) (All-head KeepsOpen event events keeps) (record { c = c; is = is }) in
+      let kept = next_keeps (source_in checked world subscriber) now event (world.peers subscriber) (All-head KeepsOpen event events keeps) (record { c = c; is = is }) in
       last_answer events answers answer runs.0 next (All-tail KeepsOpen event events keeps) (All-tail GoesOn first answers goes) ends runs.2 kept.c
       (ap (λ (peer : Peer). peer.connection) made.peer_is ∙ kept.is)

@@ -11,7 +11,7 @@ use Rattle.copy_both.specs.Streams.{count_before, end_of}
 use Rattle.stream_laws.specs.Following.{log_of}
 use Rattle.shard_world.specs.Pumping.{EndsIdle, IsPosition, IsEndOfLog, InEach, ReachesEnd, TakesEnough, WantsMemory, WalksAll, TakesAll, PumpsAll, PumpsSome, PumpsThrough, Walks, all_bytes, on_clock, pump_events}
 use Rattle.shard_world.specs.World as w
-use Rattle.shard_world.specs.World.{Answer, Event, Peer, PeerEvent, Hear, Take, Keep, Deliver, Report, position_now, first_world}
+use Rattle.shard_world.specs.World.{Answer, Event, Peer, PeerEvent, Hear, Take, Keep, Deliver, Report, position_now, first_world, Source, source_in, position_of, log_in}
 use Rattle.shard_world.specs.WorldCalls.{IsWorld, Runs, RunsInto, world_book, world_checked, world_peers}
 use Rattle.shard_world.specs.declared.world.World.{World}
 use Rattle.shard_world.proofs.AskingLemmas.{end_of_count, leads_asked}
@@ -57,24 +57,24 @@ end_of_log before after subscriber position reaches at there most events world i
     at (subst (λ (c : CheckedOf). subscriber < length c.plan) (sym end.checked) there) most end.events end.world end.is ∙ end.position_is
 
 -- a position that counts all commits, and isn't 0
-record IsPast (checked : CheckedOf) (transactions : List Transaction) (subscriber : ℕ) (peer : Peer) : Type 0 where
-  all : length (log_of checked transactions) ≤ count_before (position_now checked transactions subscriber peer)
-  some : 1 ≤ position_now checked transactions subscriber peer
+record IsPast (source : Source) (peer : Peer) : Type 0 where
+  all : length (log_in source) ≤ count_before (position_now source peer)
+  some : 1 ≤ position_now source peer
 
 past_is_end : (code : World) (subscriber most : ℕ) (events : List (ℕ × Event)) (world : w.World) → IsWorld code most events world
-    → IsPast (world_checked code) world.transactions subscriber (world.peers subscriber)
-    → position_now (world_checked code) world.transactions subscriber (world.peers subscriber) ≡ end_of (length world.transactions)
+    → IsPast (source_in (world_checked code) world subscriber) (world.peers subscriber)
+    → position_of (world_checked code) world subscriber ≡ end_of (length world.transactions)
 past_is_end code subscriber most events world is past =
     let checked : CheckedOf = world_checked code in
     let sayable = can_be_said checked most is.publisher events is.times world is.leads in
     let good = good_at checked is.publisher.covered is.publisher.apart most events (all_timed events is.times) world is.leads sayable in
     let public = published checked is.publisher.covered is.publisher.apart world good in
-    let end = now_end checked world.transactions subscriber (world.peers subscriber) (good.peers subscriber)
+    let end = now_end (source_in checked world subscriber) (world.peers subscriber) (good.peers subscriber)
     (ends_at checked is.publisher.covered is.publisher.apart most events (all_timed events is.times) world is.leads sayable subscriber) in
-    let follows = good_follows checked world.transactions public sayable subscriber (world.peers subscriber) (good.peers subscriber) in
+    let follows = good_follows (source_in checked world subscriber) public sayable (world.peers subscriber) (good.peers subscriber) in
     let count : length (log_of checked world.transactions) ≡ length world.transactions = entries_length (setting_in checked) no_rows 1 world.transactions in
-    end_of_count (position_now checked world.transactions subscriber (world.peers subscriber)) (length world.transactions) end
-    (all_counted (position_now checked world.transactions subscriber (world.peers subscriber)) (length world.transactions) (length (log_of checked world.transactions)) count past.all follows.within) past.some
+    end_of_count (position_of checked world subscriber) (length world.transactions) end
+    (all_counted (position_of checked world subscriber) (length world.transactions) (length (log_of checked world.transactions)) count past.all follows.within) past.some
   where
     all_counted : (position count logged : ℕ) → logged ≡ count → logged ≤ count_before position → count_before position ≤ count → count_before position ≡ count
     all_counted position count logged e low high = omega (arith, e, low, high)
@@ -110,29 +110,29 @@ module _ (before between later after : World) (now subscriber : ℕ) (timed : no
       → (heard : RunsInto before between most events world hearing hears.answers)
       → (taken : RunsInto between later most (events ++ hearing) heard.next taking takes.walks.answers)
       → (told : RunsInto later after most ((events ++ hearing) ++ taking) taken.next telling tells.answers)
-      → IsPast (world_checked before) world.transactions subscriber (told.next.peers subscriber) × (told.next.transactions ≡ world.transactions)
+      → IsPast (source_in (world_checked before) world subscriber) (told.next.peers subscriber) × (told.next.transactions ≡ world.transactions)
   told_past most events world there is heard taken told =
       let checked : CheckedOf = world_checked before in
       let transactions : List Transaction = world.transactions in
       let sayable = can_be_said checked most is.publisher events is.times world is.leads in
       let good = good_at checked is.publisher.covered is.publisher.apart most events (all_timed events is.times) world is.leads sayable in
       let public = published checked is.publisher.covered is.publisher.apart world good in
-      let heard_as : RunsAs checked transactions subscriber now (Hear all_bytes ∷ []) hears.answers (world.peers subscriber) heard.next =
+      let heard_as : RunsAs (source_in checked world subscriber) now (Hear all_bytes ∷ []) hears.answers (world.peers subscriber) heard.next =
       runs_as checked most subscriber now there (Hear all_bytes ∷ []) hears.answers world heard.next hears.go_on heard.runs in
-      let taken_as : RunsAs checked heard.next.transactions subscriber now (replicate takes.takes Take) takes.walks.answers (heard.next.peers subscriber) taken.next =
+      let taken_as : RunsAs (source_in checked heard.next subscriber) now (replicate takes.takes Take) takes.walks.answers (heard.next.peers subscriber) taken.next =
       runs_as checked most subscriber now there (replicate takes.takes Take) takes.walks.answers heard.next taken.next takes.walks.go_on
       (subst (λ its. Runs its most taking takes.walks.answers heard.next taken.next) heard.checked taken.runs) in
-      let told_as : RunsAs checked taken.next.transactions subscriber now last_events tells.answers (taken.next.peers subscriber) told.next =
+      let told_as : RunsAs (source_in checked taken.next subscriber) now last_events tells.answers (taken.next.peers subscriber) told.next =
       runs_as checked most subscriber now there last_events tells.answers taken.next told.next tells.go_on
       (subst (λ its. Runs its most telling tells.answers taken.next told.next) (taken.checked ∙ heard.checked) told.runs) in
       let same_taken : taken.next.transactions ≡ transactions = taken_as.transactions_are ∙ heard_as.transactions_are in
-      let started = hears_all checked transactions public sayable subscriber now timed hears.answers (world.peers subscriber) (heard.next.peers subscriber) heard_as.runs hears.go_on
+      let started = hears_all (source_in checked world subscriber) public sayable now timed hears.answers (world.peers subscriber) (heard.next.peers subscriber) heard_as.runs hears.go_on
       (leads_asked checked most events first_world world is.leads (λ other. tt) subscriber) (good.peers subscriber) in
-      let left = takes_all checked transactions public sayable subscriber now timed started.start takes.takes takes.walks.answers (heard.next.peers subscriber) (taken.next.peers subscriber)
-      (subst (λ its. PeerRuns checked its subscriber now (replicate takes.takes Take) takes.walks.answers (heard.next.peers subscriber) (taken.next.peers subscriber)) heard_as.transactions_are taken_as.runs)
+      let left = takes_all (source_in checked world subscriber) public sayable now timed started.start takes.takes takes.walks.answers (heard.next.peers subscriber) (taken.next.peers subscriber)
+      (subst (λ its. PeerRuns (record { checked = checked; transactions = its; number = subscriber }) now (replicate takes.takes Take) takes.walks.answers (heard.next.peers subscriber) (taken.next.peers subscriber)) heard_as.transactions_are taken_as.runs)
       (enough most (events ++ hearing) heard.next heard.is transactions heard_as.transactions_are) started.left in
-      let past = tells_all checked transactions public sayable subscriber now timed started.start (taken.next.peers subscriber) (told.next.peers subscriber) tells.answers
-      (subst (λ its. PeerRuns checked its subscriber now last_events tells.answers (taken.next.peers subscriber) (told.next.peers subscriber)) same_taken told_as.runs) tells.go_on left in
+      let past = tells_all (source_in checked world subscriber) public sayable now timed started.start (taken.next.peers subscriber) (told.next.peers subscriber) tells.answers
+      (subst (λ its. PeerRuns (record { checked = checked; transactions = its; number = subscriber }) now last_events tells.answers (taken.next.peers subscriber) (told.next.peers subscriber)) same_taken told_as.runs) tells.go_on left in
       (record { all = past.all; some = past.some }, told_as.transactions_are ∙ same_taken)
 
   pub reaches_end_of_log : ReachesEnd before after subscriber
@@ -148,8 +148,8 @@ module _ (before between later after : World) (now subscriber : ℕ) (timed : no
         is = told.is;
         checked = same;
         position_is = past_is_end after subscriber most (((events ++ hearing) ++ taking) ++ telling) told.next told.is
-            (subst (λ its. IsPast its told.next.transactions subscriber (told.next.peers subscriber)) (sym same)
-            (subst (λ its. IsPast (world_checked before) its subscriber (told.next.peers subscriber)) (sym past.1) past.0))
+            (subst (λ its. IsPast (source_in its told.next subscriber) (told.next.peers subscriber)) (sym same)
+            (subst (λ its. IsPast (record { checked = world_checked before; transactions = its; number = subscriber }) (told.next.peers subscriber)) (sym past.1) past.0))
             ∙ ap end_of (ap length past.1);
       }
 
@@ -157,7 +157,7 @@ module _ (before between later after : World) (now subscriber : ℕ) (timed : no
   takes_enough there most events world is =
       let heard = hears.runs most events world is in
       let taken = takes.walks.runs most (events ++ hearing) heard.next heard.is in
-      let heard_as : RunsAs (world_checked before) world.transactions subscriber now (Hear all_bytes ∷ []) hears.answers (world.peers subscriber) heard.next =
+      let heard_as : RunsAs (source_in (world_checked before) world subscriber) now (Hear all_bytes ∷ []) hears.answers (world.peers subscriber) heard.next =
       runs_as (world_checked before) most subscriber now there (Hear all_bytes ∷ []) hears.answers world heard.next hears.go_on heard.runs in
       record {
         heard = hears.answers;

@@ -23,12 +23,11 @@ use Rattle.test_subscriber.specs.declared.phase.Phase.{Phase}
 use Rattle.test_subscriber.specs.declared.phase.Phase.TheVariants.{Shut, Waiting, Idle, Busy}
 use Rattle.test_subscriber.specs.declared.subscriber.Subscriber.{Subscriber}
 use Rattle.test_subscriber.proofs.FeedingLemmas.{IsOpen, cut_open}
-use Rattle.stream_laws.specs.Following.{log_of}
-use Rattle.shard_world.specs.Joined.{IsLinked, Speaks, down_of}
-use Rattle.shard_world.specs.PeerSteps.{Case, peer_of}
+use Rattle.shard_world.specs.Joined.{IsLinked, Speaks}
+use Rattle.shard_world.specs.PeerSteps.{Case, peer_of, source_of}
 use Rattle.shard_world.specs.Refusals.{IsAnswered, HearsAreAnswered, KeepsAreAnswered, OpensAreAnswered, ReportsAreAnswered, TakesAreAnswered}
 use Rattle.shard_world.specs.World as w
-use Rattle.shard_world.specs.World.{Connection, place_of, spelled_up}
+use Rattle.shard_world.specs.World.{Connection, place_of, spelled_up, down_of, log_in}
 use Rattle.shard_world.proofs.CaseLemmas.{is_open, is_shut}
 use Rattle.shard_world.proofs.JoinedEar.{commits, connection, heard_all, heard_before, heard_is, linked, more, not_over, piece, start_view}
 use Rattle.shard_world.proofs.JoinedHearing.{heard_after}
@@ -45,7 +44,7 @@ pub keeps_are_answered : KeepsAreAnswered
 keeps_are_answered case slots old link stands some =
     let here = is_open case slots old link stands some in by_start here.c here.c.start here.linked.speaks
   where
-    by_start : (c : Connection) (start : Option ℕ) → Speaks case.checked case.world.transactions case.number link c.moves c.delivered start → IsAnswered (keep_answer (link_stage link))
+    by_start : (c : Connection) (start : Option ℕ) → Speaks (source_of case) link c.moves c.delivered start → IsAnswered (keep_answer (link_stage link))
     by_start c None silent = record { value = false; is = ap keep_answer silent.stage_is }
     by_start c (Some start) streams = record { value = true; is = ap keep_answer streams.stage_is }
 
@@ -54,28 +53,28 @@ keeps_are_answered case slots old link stands some =
 pub takes_are_answered : TakesAreAnswered
 takes_are_answered case is slots old link stands some =
     let here = is_open case slots old link stands some in
-    subst (λ checked. IsAnswered (next_answer checked (link_stage link) (log_of case.checked case.world.transactions))) (sym here.linked.checked_is)
+    subst (λ checked. IsAnswered (next_answer checked (link_stage link) (log_in (source_of case)))) (sym here.linked.checked_is)
     (by_start here.c here.c.start here.linked.speaks)
   where
-    found : (place : Place) (its : Option CommitOf) → slice_get (log_of case.checked case.world.transactions) place.done ≡ its → IsAnswered (found_answer case.checked place its)
+    found : (place : Place) (its : Option CommitOf) → slice_get (log_in (source_of case)) place.done ≡ its → IsAnswered (found_answer case.checked place its)
     found place None e = record { value = taken.Idle; is = refl }
     found place (Some commit) e = record { value = taken_of commit.number (spelled_for case.checked place.slot place.told commit); is = refl }
 
-    by_start : (c : Connection) (start : Option ℕ) → Speaks case.checked case.world.transactions case.number link c.moves c.delivered start
-        → IsAnswered (next_answer case.checked (link_stage link) (log_of case.checked case.world.transactions))
-    by_start c None silent = record { value = taken.NotStarted; is = ap (λ stage. next_answer case.checked stage (log_of case.checked case.world.transactions)) silent.stage_is }
+    by_start : (c : Connection) (start : Option ℕ) → Speaks (source_of case) link c.moves c.delivered start
+        → IsAnswered (next_answer case.checked (link_stage link) (log_in (source_of case)))
+    by_start c None silent = record { value = taken.NotStarted; is = ap (λ stage. next_answer case.checked stage (log_in (source_of case))) silent.stage_is }
     by_start c (Some start) streams =
-        let place = place_of case.checked case.world.transactions case.number start c.moves in
-        subst (λ stage. IsAnswered (next_answer case.checked stage (log_of case.checked case.world.transactions))) (sym streams.stage_is)
-        (found place (slice_get (log_of case.checked case.world.transactions) place.done) refl)
+        let place = place_of (source_of case) start c.moves in
+        subst (λ stage. IsAnswered (next_answer case.checked stage (log_in (source_of case)))) (sym streams.stage_is)
+        (found place (slice_get (log_in (source_of case)) place.done) refl)
 
 -- ---- report
 
 -- there is a connection
-pub linked_open : (case : Case) (slots : List Slot) (link : Link) (subscriber : Subscriber) (c : Connection) → IsLinked case.checked case.world.transactions case.number slots link subscriber (peer_of case) c
+pub linked_open : (case : Case) (slots : List Slot) (link : Link) (subscriber : Subscriber) (c : Connection) → IsLinked (source_of case) slots link subscriber (peer_of case) c
     → IsOpen (sub_machine subscriber).phase
 linked_open case slots link subscriber c linked =
-    subst IsOpen (sym linked.machine.phase) (cut_open (cut limit (take c.delivered (down_of case.checked case.world.transactions case.number c))) (opened (peer_of case).machine) tt)
+    subst IsOpen (sym linked.machine.phase) (cut_open (cut limit (take c.delivered (down_of (source_of case) c))) (opened (peer_of case).machine) tt)
 
 status_answered : (phase : Phase) → IsOpen phase → IsAnswered (status_answer phase)
 status_answered Shut opens = absurd opens

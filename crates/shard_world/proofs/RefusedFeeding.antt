@@ -18,14 +18,15 @@ use Rattle.test_subscriber.specs.declared.subscriber.Subscriber.{Subscriber}
 use Rattle.test_subscriber.proofs.FeedingLemmas.{hears_open}
 use Rattle.shard_world.specs.Connections.{front_of}
 use Rattle.stream_laws.specs.Items.{Item, frame_in}
-use Rattle.shard_world.specs.Joined.{IsLinked, PeerOf, down_of}
-use Rattle.shard_world.specs.PeerSteps.{Case, Halts, HasStreamBy, IsCase, IsHalf, StandsIn, peer_of}
+use Rattle.shard_world.specs.Joined.{IsLinked, PeerOf}
+use Rattle.shard_world.specs.PeerSteps.{Case, Halts, HasStreamBy, IsCase, IsHalf, StandsIn, peer_of, source_of}
 use Rattle.shard_world.specs.Refusals.{DeliverHalts, DeliversAreAnswered}
 use Rattle.shard_world.specs.World as w
-use Rattle.shard_world.specs.World.{Connection, as_many, delivers, down_items}
+use Rattle.shard_world.specs.World.{Connection, as_many, delivers, down_items, down_of}
+use Rattle.shard_world.proofs.WorldSteps.{stays_within}
 use Rattle.shard_world.proofs.CaseLemmas.{is_open}
 use Rattle.stream_laws.proofs.FollowingBytesLemmas.{FirstFrames, first_frames}
-use Rattle.shard_world.proofs.JoinedFeeding.{down_piece, makes, output_by, stays_within}
+use Rattle.shard_world.proofs.JoinedFeeding.{down_piece, makes, output_by}
 use Rattle.shard_world.proofs.JoinedSteps.{still_named}
 use Rattle.shard_world.proofs.PrefixLemmas.{first_part, new_in}
 use Rattle.shard_world.proofs.RefusedAnswers.{linked_open}
@@ -58,14 +59,14 @@ module _ (case : Case) (is : IsCase case) (slots : List Slot) (old : PeerOf) (li
   is_there : (peer_of case).connection ≡ Some c
   is_there = (is_open case slots old link stands some).some
 
-  linked : IsLinked case.checked case.world.transactions case.number slots link old.subscriber (peer_of case) c
+  linked : IsLinked (source_of case) slots link old.subscriber (peer_of case) c
   linked = (is_open case slots old link stands some).linked
 
   abbrev downs : List ℕ
-  downs = down_of case.checked case.world.transactions case.number c
+  downs = down_of (source_of case) c
 
   abbrev items : List Item
-  items = down_items case.checked case.world.transactions case.number c.start c.moves
+  items = down_items (source_of case) c.start c.moves
 
   abbrev more : ℕ
   more = as_many count (length downs) c.delivered

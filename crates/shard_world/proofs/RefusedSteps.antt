@@ -14,7 +14,7 @@ use Rattle.test_subscriber.specs.Machine.{Machine}
 use Rattle.test_subscriber.specs.Subscribers.{Loses, sub_machine}
 use Rattle.test_subscriber.specs.declared.subscriber.Subscriber.{Subscriber}
 use Rattle.shard_world.specs.Joined.{AlikeBut, HasSlot, IsAt, IsLinked, PeerIs, PeerOf, StaysAlike, stream_of}
-use Rattle.shard_world.specs.PeerSteps.{Case, Halts, HasStream, HasStreamBy, IsHalf, IsOwnStream, before_loss, peer_of}
+use Rattle.shard_world.specs.PeerSteps.{Case, Halts, HasStream, HasStreamBy, IsHalf, IsOwnStream, before_loss, peer_of, source_of}
 use Rattle.shard_world.specs.Refusals.{KeepHalts, LossBreaks, OpenBreaks, OpenStays, ReportHalts, StepBreaks, TakeHalts}
 use Rattle.shard_world.specs.World as w
 use Rattle.shard_world.specs.World.{Connection, PeerEvent, machine_in, machine_now, broken}
@@ -31,10 +31,10 @@ stays_lost old new machine alike loses = record {
   rows = λ oid key. loses.machine.rows oid key ∙ alike.rows oid key;
 }
 
-pub stays_now : (case : Case) (c : Connection) → (peer_of case).connection ≡ Some c → (machine : Machine) → AlikeBut machine (machine_in case.checked case.world.transactions case.number (peer_of case) (Some c))
-    → StaysAlike machine (machine_now case.checked case.world.transactions case.number (peer_of case))
+pub stays_now : (case : Case) (c : Connection) → (peer_of case).connection ≡ Some c → (machine : Machine) → AlikeBut machine (machine_in (source_of case) (peer_of case) (Some c))
+    → StaysAlike machine (machine_now (source_of case) (peer_of case))
 stays_now case c some machine alike =
-    subst (λ connection. StaysAlike machine (machine_in case.checked case.world.transactions case.number (peer_of case) connection)) (sym some)
+    subst (λ connection. StaysAlike machine (machine_in (source_of case) (peer_of case) connection)) (sym some)
     (record { position = alike.position; kept = alike.kept; rows = alike.rows })
 
 pub own_stream : (number : ℕ) (start : Option ℕ) → IsOwnStream number (stream_of number start)
@@ -62,7 +62,7 @@ pub closed_apart : phase.Closed ≢ phase.Lost
 closed_apart e = cc
 
 module _ (case : Case) (slots : List Slot) (link : Link) (subscriber : Subscriber) (c : Connection)
-    (linked : IsLinked case.checked case.world.transactions case.number slots link subscriber (peer_of case) c) where
+    (linked : IsLinked (source_of case) slots link subscriber (peer_of case) c) where
   pub stream_stays : HasStream slots case.number (peer_of case).confirmed link
   stream_stays = has_stream slots case.number (peer_of case).confirmed link c.start phase.Open linked.hears.started linked.hears.phase_is open_apart linked.slot
 
@@ -100,19 +100,19 @@ report_halts case slots old link after want stands some loses =
     let here = is_open case slots old link stands some in
     halts_with case (w.Report want) slots (record { link = old.link; subscriber = after }) here.c 0 here.some (record {
       named = still_named case old.subscriber after stands.named loses.cleared.names;
-      machine = stays_lost old.subscriber after (machine_now case.checked case.world.transactions case.number (peer_of case))
+      machine = stays_lost old.subscriber after (machine_now (source_of case) (peer_of case))
           (stays_now case here.c here.some (sub_machine old.subscriber) here.linked.machine) loses;
       stream = subst (HasStreamBy slots case.number (peer_of case).confirmed) (sym some) (stream_stays case slots link old.subscriber here.c here.linked);
     })
 
 -- ---- open
 
-breaks_without : (case : Case) (slots : List Slot) (code : PeerOf) → (peer_of case).connection ≡ None → PeerIs case.checked case.world.transactions case.number slots code (peer_of case)
+breaks_without : (case : Case) (slots : List Slot) (code : PeerOf) → (peer_of case).connection ≡ None → PeerIs (source_of case) slots code (peer_of case)
     → StepBreaks case w.Open slots code
 breaks_without case slots code none is = record {
   some = 0;
-  peer_is = subst (λ connection. PeerIs case.checked case.world.transactions case.number slots code
-      (broken case.checked case.world.transactions case.number case.now w.Open (peer_of case) 0 connection)) (sym none) is;
+  peer_is = subst (λ connection. PeerIs (source_of case) slots code
+      (broken (source_of case) case.now w.Open (peer_of case) 0 connection)) (sym none) is;
 }
 
 pub open_stays : OpenStays
@@ -123,7 +123,7 @@ open_breaks case slots old after stands none loses =
     let shut = is_shut case slots old stands none in
     breaks_without case slots (record { link = None; subscriber = after }) shut.none (record {
       named = still_named case old.subscriber after stands.named loses.cleared.names;
-      at = subst (IsAt case.checked case.world.transactions case.number slots None after (peer_of case)) (sym shut.none)
+      at = subst (IsAt (source_of case) slots None after (peer_of case)) (sym shut.none)
           (record { machine = stays_lost old.subscriber after (peer_of case).machine shut.is_apart.machine loses; slot = shut.is_apart.slot });
     })
 
@@ -144,38 +144,27 @@ module _ (number : ℕ) (slots : List Slot) where
   not_lost_before phase.Closed started apart = refl
   not_lost_before phase.Lost started apart = absurd (apart refl)
 
--- what the connection's loss leaves
-broken_is : (case : Case) (event : PeerEvent) (some : ℕ) (c : Connection)
-    → w.loses case.checked case.world.transactions case.number (before_loss case event some (peer_of case) (Some c)) ≡ broken case.checked case.world.transactions case.number case.now event (peer_of case) some (Some c)
-broken_is case w.Open some c = refl
-broken_is case (w.Hear count) some c = refl
-broken_is case w.Take some c = refl
-broken_is case (w.Keep want) some c = refl
-broken_is case (w.Deliver count) some c = refl
-broken_is case (w.Report want) some c = refl
-broken_is case w.Lose some c = refl
-
 module _ (case : Case) (event : PeerEvent) (some : ℕ) (before after : List Slot) (link : Option Link) (old new : Subscriber) (loses : Loses old new) where
   -- what was there before the loss, its slot is given back
   peer_lost : (connection : Option Connection) → (peer_of case).connection ≡ connection → IsHalf case before link old (before_loss case event some (peer_of case) connection)
       → HasSlot after case.number (before_loss case event some (peer_of case) connection).confirmed false
-      → PeerIs case.checked case.world.transactions case.number after (record { link = None; subscriber = new })
-      (broken case.checked case.world.transactions case.number case.now event (peer_of case) some connection)
+      → PeerIs (source_of case) after (record { link = None; subscriber = new })
+      (broken (source_of case) case.now event (peer_of case) some connection)
   peer_lost None e half slot = record {
     named = still_named case old new half.named loses.cleared.names;
-    at = subst (IsAt case.checked case.world.transactions case.number after None new (peer_of case)) (sym e) (record {
-      machine = subst (λ connection. StaysAlike (sub_machine new) (machine_in case.checked case.world.transactions case.number (peer_of case) connection)) e
-          (stays_lost old new (machine_now case.checked case.world.transactions case.number (peer_of case)) half.machine loses);
+    at = subst (IsAt (source_of case) after None new (peer_of case)) (sym e) (record {
+      machine = subst (λ connection. StaysAlike (sub_machine new) (machine_in (source_of case) (peer_of case) connection)) e
+          (stays_lost old new (machine_now (source_of case) (peer_of case)) half.machine loses);
       slot = slot;
     });
   }
   peer_lost (Some c) e half slot =
       let its = before_loss case event some (peer_of case) (Some c) in
-      let stays = stays_lost old new (machine_now case.checked case.world.transactions case.number its) half.machine loses in
-      subst (PeerIs case.checked case.world.transactions case.number after (record { link = None; subscriber = new })) (broken_is case event some c) (record {
+      let stays = stays_lost old new (machine_now (source_of case) its) half.machine loses in
+      record {
         named = still_named case old new half.named loses.cleared.names;
         at = record { machine = record { position = stays.position; kept = stays.kept; rows = stays.rows }; slot = slot };
-      })
+      }
 
 pub loss_breaks : LossBreaks
 loss_breaks case event before after code link new subscriber halts some lost_link lost_subscriber =

@@ -1,5 +1,5 @@
 -- A subscriber reaches no more than the sent position, and that is within the log.
-use Rattle.std.proofs.Common.{◌≡◌, ℕ, ◌+◌, ◌-◌, ◌≤◌, Bool, true, false, List, [], ◌∷◌, ◌++◌, length, map, refl, sym, ap, subst, arith, eqb-true}
+use Rattle.std.proofs.Common.{◌≡◌, ℕ, ◌+◌, ◌-◌, ◌≤◌, Bool, true, false, List, [], ◌∷◌, ◌++◌, length, map, refl, sym, ap, subst, arith, eqb-true, le_trans}
 use Rattle.std.specs.Prelude.{Option, Some, None, All, ◌==◌, nat_le, slice_get, if◌then◌else◌}
 use Rattle.std.proofs.lemmas.List.Elements.{All-nil, All-cons, All-head, All-tail}
 use Rattle.table_changes.proofs.TableLemmas.{by_test}
@@ -80,10 +80,7 @@ module _ (checked : CheckedOf) (log : List CommitOf) (numbered : (place : ℕ) (
   all_sent (move ∷ moves) place sent =
       let here = next_place place move sent in
       let later = all_sent moves (moved (telling_of checked) log place move) here.sent in
-      record { sent = later.sent; more = through place.sent (moved (telling_of checked) log place move).sent _ here.more later.more }
-    where
-      through : (a b d : ℕ) → a ≤ b → b ≤ d → a ≤ d
-      through a b d h k = omega (arith, h, k)
+      record { sent = later.sent; more = le_trans here.more later.more }
 
   carried_within : (most number clock : ℕ) (messages : List Msg) (rest : List Item) → All (TellsBy (λ end. end ≤ most)) messages → All (IsWithinItem most) rest
       → All (IsWithinItem most) (map (Carries (head_of number clock)) messages ++ rest)

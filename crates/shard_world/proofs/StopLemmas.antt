@@ -18,13 +18,12 @@ use Rattle.test_subscriber.specs.Subscribers.{FeedStops, Loses, sub_output}
 use Rattle.test_subscriber.specs.declared.fault.SubFault.{SubFault}
 use Rattle.test_subscriber.specs.declared.subscriber.Subscriber.{Subscriber}
 use Rattle.shard_world.specs.Connections.{front_of}
-use Rattle.stream_laws.specs.Following.{log_of}
 use Rattle.shard_world.specs.Joined.{PeerOf, PeerIs, IsAt}
 use Rattle.shard_world.specs.PeerCalls.{Makes, IsStopped, Stops, LosesIfThere, Drops, Moves}
-use Rattle.shard_world.specs.PeerSteps.{Case, ChangesOwn, Halts, peer_of}
+use Rattle.shard_world.specs.PeerSteps.{Case, ChangesOwn, Halts, peer_of, source_of}
 use Rattle.shard_world.specs.Refusals.{BreaksOn, HaltsOn}
 use Rattle.shard_world.specs.World as w
-use Rattle.shard_world.specs.World.{Answer, Connection, PeerEvent, Open, Hear, Take, Keep, Deliver, Report, broken}
+use Rattle.shard_world.specs.World.{Answer, Connection, PeerEvent, Open, Hear, Take, Keep, Deliver, Report, broken, log_in}
 use Rattle.shard_world.proofs.CallLemmas.{kept_own}
 use Rattle.shard_world.proofs.JoinedSteps.{still_named}
 use Rattle.shard_world.proofs.NeedsLemmas.{open_needs, hear_needs, take_needs, keep_needs, deliver_needs, report_needs}
@@ -61,7 +60,7 @@ pub take_stops : (checked : CheckedOf) (now : ℕ) (book : Book) (old : PeerOf) 
 take_stops checked now book old link new error some closes told memory case stands = record {
   needed =
       let answered = takes_are_answered case stands.is (book_slots book) old link stands.peer some in
-      let wanted = memory (only_memory error (next_answer (link_checked link) (link_stage link) (log_of case.checked case.world.transactions))
+      let wanted = memory (only_memory error (next_answer (link_checked link) (link_stage link) (log_in (source_of case)))
       (subst (λ log. TellsFault (told_fault error) (next_answer (link_checked link) (link_stage link) log)) stands.log.log_is told) answered) in
       take_needs case (book_slots book) old link stands.peer some (subst (HasNext (link_stage link)) stands.log.log_is wanted);
   stopped = halts_so case Take book (record { link = Some new; subscriber = old.subscriber }) (take_halts case (book_slots book) old link new stands.peer some closes);
@@ -108,13 +107,13 @@ deliver_stops checked now book old link after count error piece some is fed case
 
 -- the subscriber without a connection loses what it has not
 module _ (case : Case) (slots : List Slot) (old new : Subscriber) (loses : Loses old new) where
-  at_apart : (peer : w.Peer) (connection : Option Connection) → IsAt case.checked case.world.transactions case.number slots None old peer connection
-      → IsAt case.checked case.world.transactions case.number slots None new peer connection
+  at_apart : (peer : w.Peer) (connection : Option Connection) → IsAt (source_of case) slots None old peer connection
+      → IsAt (source_of case) slots None new peer connection
   at_apart peer None at = record { machine = stays_lost old new peer.machine at.machine loses; slot = at.slot }
   at_apart peer (Some c) at = absurd at
 
-  is_apart : (peer : w.Peer) → PeerIs case.checked case.world.transactions case.number slots (record { link = None; subscriber = old }) peer
-      → PeerIs case.checked case.world.transactions case.number slots (record { link = None; subscriber = new }) peer
+  is_apart : (peer : w.Peer) → PeerIs (source_of case) slots (record { link = None; subscriber = old }) peer
+      → PeerIs (source_of case) slots (record { link = None; subscriber = new }) peer
   is_apart peer is = record { named = still_named case old new is.named loses.cleared.names; at = at_apart peer peer.connection is.at }
 
 -- what changes, one change after the other
@@ -143,10 +142,10 @@ module _ (case : Case) (event : PeerEvent) (before between after : Book) (subscr
       record {
         breaks = record {
           some = stopped.breaks.some;
-          peer_is = subst (λ slots. PeerIs case.checked case.world.transactions case.number slots (record { link = None; subscriber = subscriber })
-              (broken case.checked case.world.transactions case.number case.now event (peer_of case) stopped.breaks.some (peer_of case).connection)) (sym kept.slots_are)
+          peer_is = subst (λ slots. PeerIs (source_of case) slots (record { link = None; subscriber = subscriber })
+              (broken (source_of case) case.now event (peer_of case) stopped.breaks.some (peer_of case).connection)) (sym kept.slots_are)
               (is_apart case (book_slots between) old subscriber loses
-              (broken case.checked case.world.transactions case.number case.now event (peer_of case) stopped.breaks.some (peer_of case).connection) stopped.breaks.peer_is);
+              (broken (source_of case) case.now event (peer_of case) stopped.breaks.some (peer_of case).connection) stopped.breaks.peer_is);
         };
         own = own_then case.number before between after stopped.own (own_of_kept case.number between after kept);
       }

@@ -28,7 +28,7 @@ use Rattle.shard_world.specs.Joined.{PeerOf, PeerIs, IsAt, StaysAlike}
 use Rattle.shard_world.specs.Seeing.{AllAt, FoundIn, FoundBy, IsSeen, SeenAt, AreSeen}
 use Rattle.shard_world.specs.Viewing.{AreRows, ShowsSubscriber, ShowsWorld, is_let_through, tables_after}
 use Rattle.shard_world.specs.World as w
-use Rattle.shard_world.specs.World.{Connection, Event, machine_in, machine_now, position_now}
+use Rattle.shard_world.specs.World.{Connection, Event, machine_in, machine_now, position_now, source_in, position_of, machine_of}
 use Rattle.shard_world.specs.Pumping.{IsPosition}
 use Rattle.shard_world.specs.WorldCalls.{PeerAt, IsWorldBy, world_book, world_checked, world_peers}
 use Rattle.shard_world.specs.declared.world.World.{World}
@@ -117,26 +117,26 @@ at_also P Q (x ∷ xs) all also (suc number) = at_also (λ n. P (suc n)) (λ n. 
 
 module _ (checked : CheckedOf) (most : ℕ) (book : Book) (peers : List PeerOf) (events : List (ℕ × Event)) (world : w.World) (is : IsWorldBy checked most book peers events world) where
   -- a subscriber that matches that of the world is at its position, and has its rows
-  stays_at : (number : ℕ) (code : PeerOf) → PeerIs checked world.transactions number (book_slots book) code (world.peers number)
-      → StaysAlike (sub_machine code.subscriber) (machine_now checked world.transactions number (world.peers number))
+  stays_at : (number : ℕ) (code : PeerOf) → PeerIs (source_in checked world number) (book_slots book) code (world.peers number)
+      → StaysAlike (sub_machine code.subscriber) (machine_of checked world number)
   stays_at number code stands = by_link code.link (world.peers number).connection refl stands.at
     where
       by_link : (link : Option Link) (connection : Option Connection) → (world.peers number).connection ≡ connection
-          → IsAt checked world.transactions number (book_slots book) link code.subscriber (world.peers number) connection
-          → StaysAlike (sub_machine code.subscriber) (machine_now checked world.transactions number (world.peers number))
+          → IsAt (source_in checked world number) (book_slots book) link code.subscriber (world.peers number) connection
+          → StaysAlike (sub_machine code.subscriber) (machine_of checked world number)
       by_link None None e at =
-          subst (λ its. StaysAlike (sub_machine code.subscriber) (machine_in checked world.transactions number (world.peers number) its)) (sym e) at.machine
+          subst (λ its. StaysAlike (sub_machine code.subscriber) (machine_in (source_in checked world number) (world.peers number) its)) (sym e) at.machine
       by_link (Some link) (Some c) e at =
-          subst (λ its. StaysAlike (sub_machine code.subscriber) (machine_in checked world.transactions number (world.peers number) its)) (sym e)
+          subst (λ its. StaysAlike (sub_machine code.subscriber) (machine_in (source_in checked world number) (world.peers number) its)) (sym e)
           (record { position = at.machine.position; kept = at.machine.kept; rows = at.machine.rows })
       by_link None (Some c) e at = absurd at
       by_link (Some link) None e at = absurd at
 
-  slot_at : (number : ℕ) (code : PeerOf) → PeerIs checked world.transactions number (book_slots book) code (world.peers number)
+  slot_at : (number : ℕ) (code : PeerOf) → PeerIs (source_in checked world number) (book_slots book) code (world.peers number)
       → confirmed_at (book_slots book) number ≡ (world.peers number).confirmed
   slot_at number code stands = by_link code.link (world.peers number).connection stands.at
     where
-      by_link : (link : Option Link) (connection : Option Connection) → IsAt checked world.transactions number (book_slots book) link code.subscriber (world.peers number) connection
+      by_link : (link : Option Link) (connection : Option Connection) → IsAt (source_in checked world number) (book_slots book) link code.subscriber (world.peers number) connection
           → confirmed_at (book_slots book) number ≡ (world.peers number).confirmed
       by_link None None at = grind (arith, at.slot)
       by_link (Some link) (Some c) at = grind (arith, at.slot)
@@ -144,20 +144,20 @@ module _ (checked : CheckedOf) (most : ℕ) (book : Book) (peers : List PeerOf) 
       by_link (Some link) None at = absurd at
 
   follows_at : (number : ℕ) → Follows checked world.transactions number
-      (position_now checked world.transactions number (world.peers number)) (machine_now checked world.transactions number (world.peers number))
+      (position_of checked world number) (machine_of checked world number)
   follows_at number =
       let sayable = can_be_said checked most is.publisher events is.times world is.leads in
       let good = good_at checked is.publisher.covered is.publisher.apart most events (all_timed events is.times) world is.leads sayable in
-      good_follows checked world.transactions (published checked is.publisher.covered is.publisher.apart world good) sayable number (world.peers number) (good.peers number)
+      good_follows (source_in checked world number) (published checked is.publisher.covered is.publisher.apart world good) sayable (world.peers number) (good.peers number)
 
   -- it has its shard after as many commits as are shown
-  finds_shown : (number count table : ℕ) (code : PeerOf) → count ≡ count_before (position_now checked world.transactions number (world.peers number))
-      → StaysAlike (sub_machine code.subscriber) (machine_now checked world.transactions number (world.peers number))
+  finds_shown : (number count table : ℕ) (code : PeerOf) → count ≡ count_before (position_of checked world number)
+      → StaysAlike (sub_machine code.subscriber) (machine_of checked world number)
       → FindsRows (own_key checked table) ((sub_machine code.subscriber).rows (oid_of table)) (in_shard (setting_in checked) number (tables_after checked world.transactions count) table)
   finds_shown number count table code e alike =
       subst (λ n. FindsRows (own_key checked table) ((sub_machine code.subscriber).rows (oid_of table)) (in_shard (setting_in checked) number (tables_after checked world.transactions n) table)) (sym e)
-      (finds_alike (own_key checked table) ((machine_now checked world.transactions number (world.peers number)).rows (oid_of table)) ((sub_machine code.subscriber).rows (oid_of table))
-      (in_shard (setting_in checked) number (tables_after checked world.transactions (count_before (position_now checked world.transactions number (world.peers number)))) table)
+      (finds_alike (own_key checked table) ((machine_of checked world number).rows (oid_of table)) ((sub_machine code.subscriber).rows (oid_of table))
+      (in_shard (setting_in checked) number (tables_after checked world.transactions (count_before (position_of checked world number))) table)
       (λ key. alike.rows (oid_of table) key) ((follows_at number).rows table))
 
   -- what a subscriber's share of a table takes is what its publications let through
@@ -169,11 +169,11 @@ module _ (checked : CheckedOf) (most : ℕ) (book : Book) (peers : List PeerOf) 
       (sym ((takes_what_passes checked.catalog checked.plan is.publisher.own).same number table within row))) are
 
   shows_subscriber : (tables number : ℕ) → tables ≡ length checked.catalog.tables → (code : PeerOf) (shown : SubscriberView)
-      → PeerIs checked world.transactions number (book_slots book) code (world.peers number) → IsSeen book tables number code.subscriber shown
-      → ShowsSubscriber checked world.transactions number (world.peers number) shown
+      → PeerIs (source_in checked world number) (book_slots book) code (world.peers number) → IsSeen book tables number code.subscriber shown
+      → ShowsSubscriber (source_in checked world number) (world.peers number) shown
   shows_subscriber tables number width code shown stands seen =
       let alike = stays_at number code stands in
-      let position : shown.position ≡ position_now checked world.transactions number (world.peers number) = seen.position_is ∙ alike.position ∙ (follows_at number).position_is in
+      let position : shown.position ≡ position_of checked world number = seen.position_is ∙ alike.position ∙ (follows_at number).position_is in
       let shard = at_also (λ table rows. FoundBy code.subscriber table rows.items)
       (λ table rows. AreRows (in_shard (setting_in checked) number (tables_after checked world.transactions shown.applied) table) rows.items) shown.rows.items seen.rows
       (λ table rows there found. are_rows (own_key checked table) ((sub_machine code.subscriber).rows (oid_of table))
@@ -193,8 +193,8 @@ module _ (checked : CheckedOf) (most : ℕ) (book : Book) (peers : List PeerOf) 
 
   -- a subscriber that is shown is there
   shows_at : (tables number : ℕ) → tables ≡ length checked.catalog.tables → (shown : SubscriberView) → number < length checked.plan → (code : Option PeerOf) → slice_get peers number ≡ code
-      → PeerAt checked world.transactions number (book_slots book) (world.peers number) code → IfSome code (λ peer. IsSeen book tables number peer.subscriber shown)
-      → ShowsSubscriber checked world.transactions number (world.peers number) shown
+      → PeerAt (source_in checked world number) (book_slots book) (world.peers number) code → IfSome code (λ peer. IsSeen book tables number peer.subscriber shown)
+      → ShowsSubscriber (source_in checked world number) (world.peers number) shown
   shows_at tables number width shown within None e at seen = absurd at
   shows_at tables number width shown within (Some code) e at seen = shows_subscriber tables number width code shown at seen
 
@@ -213,8 +213,8 @@ module _ (checked : CheckedOf) (most : ℕ) (book : Book) (peers : List PeerOf) 
       within_plan : (number : ℕ) → number < length shown.subscribers.items → number < length checked.plan
       within_plan number h = omega (arith, h, seen.count, is.count)
 
-      shows_each : AllAt (λ number subscriber. ShowsSubscriber checked world.transactions number (world.peers number) subscriber) shown.subscribers.items
-      shows_each = at_also (SeenAt book tables peers) (λ number subscriber. ShowsSubscriber checked world.transactions number (world.peers number) subscriber) shown.subscribers.items seen.each
+      shows_each : AllAt (λ number subscriber. ShowsSubscriber (source_in checked world number) (world.peers number) subscriber) shown.subscribers.items
+      shows_each = at_also (SeenAt book tables peers) (λ number subscriber. ShowsSubscriber (source_in checked world number) (world.peers number) subscriber) shown.subscribers.items seen.each
           (λ number subscriber there its.
           let within : number < length checked.plan = within_plan number (slice_get_within shown.subscribers.items number subscriber there) in
           shows_at tables number width subscriber within (slice_get peers number) refl (is.each number within) its)
@@ -223,8 +223,8 @@ module _ (checked : CheckedOf) (most : ℕ) (book : Book) (peers : List PeerOf) 
 
 pub position_shown : (code : World) (number : ℕ) (peer : PeerOf) → slice_get (world_peers code) number ≡ Some peer → IsPosition code number (sub_machine peer.subscriber).position
 position_shown code number peer at there most events world is =
-    let stands : PeerIs (world_checked code) world.transactions number (book_slots (world_book code)) peer (world.peers number) =
-    subst (PeerAt (world_checked code) world.transactions number (book_slots (world_book code)) (world.peers number)) at (is.each number there) in
+    let stands : PeerIs (source_in (world_checked code) world number) (book_slots (world_book code)) peer (world.peers number) =
+    subst (PeerAt (source_in (world_checked code) world number) (book_slots (world_book code)) (world.peers number)) at (is.each number there) in
     (stays_at (world_checked code) most (world_book code) (world_peers code) events world is number peer stands).position
     ∙ (follows_at (world_checked code) most (world_book code) (world_peers code) events world is number).position_is
 

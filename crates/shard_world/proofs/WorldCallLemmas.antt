@@ -22,9 +22,9 @@ use Rattle.stream_laws.specs.Following.{log_of}
 use Rattle.shard_world.specs.Joined.{PeerOf, PeerIs, IsAt, IsLinked, AlikeBut, Speaks, run_of}
 use Rattle.stream_laws.specs.Items.{spelled}
 use Rattle.shard_world.specs.World as w
-use Rattle.shard_world.specs.World.{Connection, Event, Answer, Steps, Leads, down_bytes, place_of}
+use Rattle.shard_world.specs.World.{Connection, Event, Answer, Steps, Leads, down_bytes, place_of, Source, log_in}
 use Rattle.shard_world.proofs.WorldHearing.{down_longer}
-use Rattle.shard_world.proofs.WorldItems.{log_goes_on, moved_longer}
+use Rattle.shard_world.proofs.WorldItems.{log_goes_on, moved_longer, with_more}
 use Rattle.shard_world.proofs.WorldPeers.{StartsAt, IsConnected, IsConnectedAt, IsGood, bytes_of_items}
 
 -- ---- one event more
@@ -38,9 +38,9 @@ leads_one_more checked most (one ∷ events) first world now event answer next l
 
 -- ---- another slot changes
 
-module _ (checked : CheckedOf) (transactions : List Transaction) (number : ℕ) (before after : List Slot) (same : slice_get after number ≡ slice_get before number) where
-  at_elsewhere : (link : Option Link) (subscriber : Subscriber) (peer : w.Peer) (connection : Option Connection) → IsAt checked transactions number before link subscriber peer connection
-      → IsAt checked transactions number after link subscriber peer connection
+module _ (source : Source) (before after : List Slot) (same : slice_get after source.number ≡ slice_get before source.number) where
+  at_elsewhere : (link : Option Link) (subscriber : Subscriber) (peer : w.Peer) (connection : Option Connection) → IsAt source before link subscriber peer connection
+      → IsAt source after link subscriber peer connection
   at_elsewhere None subscriber peer None at = record { machine = at.machine; slot = same ∙ at.slot }
   at_elsewhere (Some link) subscriber peer (Some c) at = record {
     heard = at.heard;
@@ -56,7 +56,7 @@ module _ (checked : CheckedOf) (transactions : List Transaction) (number : ℕ) 
   at_elsewhere None subscriber peer (Some c) at = absurd at
   at_elsewhere (Some link) subscriber peer None at = absurd at
 
-  pub is_elsewhere : (code : PeerOf) (peer : w.Peer) → PeerIs checked transactions number before code peer → PeerIs checked transactions number after code peer
+  pub is_elsewhere : (code : PeerOf) (peer : w.Peer) → PeerIs source before code peer → PeerIs source after code peer
   is_elsewhere code peer is = record { named = is.named; at = at_elsewhere code.link code.subscriber peer peer.connection is.at }
 
 -- ---- the log grows
@@ -68,51 +68,45 @@ all_moved_longer checked log more place (move ∷ moves) there =
     ap (λ at. all_moved (telling_of checked) (log ++ more) at moves) (moved_longer checked log more place move there.0)
     ∙ all_moved_longer checked log more (moved (telling_of checked) log place move) moves there.1
 
-module _ (checked : CheckedOf) (transactions more : List Transaction) (number position : ℕ) where
+module _ (source : Source) (more : List Transaction) (position : ℕ) where
   abbrev IsThereAt : List Move → Type 0
-  IsThereAt moves = AllThere (telling_of checked) (log_of checked transactions) (place_at number (length checked.catalog.tables) position) moves
+  IsThereAt moves = AllThere (telling_of source.checked) (log_in source) (place_at source.number (length source.checked.catalog.tables) position) moves
 
   bytes_longer : (start : Option ℕ) → StartsAt position start → (moves : List Move) → IsThereAt moves
-      → down_bytes checked (transactions ++ more) number start moves ≡ down_bytes checked transactions number start moves
+      → down_bytes (with_more source more) start moves ≡ down_bytes source start moves
   bytes_longer start at moves there =
-      bytes_of_items checked (transactions ++ more) number start moves
-      ∙ ap (flat_map spelled) (down_longer checked transactions more number position start at moves there)
-      ∙ sym (bytes_of_items checked transactions number start moves)
+      bytes_of_items (with_more source more) start moves
+      ∙ ap (flat_map spelled) (down_longer source more position start at moves there)
+      ∙ sym (bytes_of_items source start moves)
 
   place_longer : (start : ℕ) → start ≡ position → (moves : List Move) → IsThereAt moves
-      → place_of checked (transactions ++ more) number start moves ≡ place_of checked transactions number start moves
+      → place_of (with_more source more) start moves ≡ place_of source start moves
   place_longer start at moves there =
-      let on = log_goes_on checked transactions more in
-      ap (λ log. all_moved (telling_of checked) log (place_at number (length checked.catalog.tables) start) moves) on.is
-      ∙ all_moved_longer checked (log_of checked transactions) on.others (place_at number (length checked.catalog.tables) start) moves
-      (subst (λ p. AllThere (telling_of checked) (log_of checked transactions) (place_at number (length checked.catalog.tables) p) moves) (sym at) there)
+      let on = log_goes_on source.checked source.transactions more in
+      ap (λ log. all_moved (telling_of source.checked) log (place_at source.number (length source.checked.catalog.tables) start) moves) on.is
+      ∙ all_moved_longer source.checked (log_in source) on.others (place_at source.number (length source.checked.catalog.tables) start) moves
+      (subst (λ p. AllThere (telling_of source.checked) (log_in source) (place_at source.number (length source.checked.catalog.tables) p) moves) (sym at) there)
 
   abbrev run_with : ℕ → List Move → List CommitOf → List ℕ → Run
-  run_with start moves log passed = record {
-    checked = checked;
-    log = log;
-    start = record { slot = number; tables = length checked.catalog.tables; position = start };
-    moves = moves;
-    passed = passed;
-  }
+  run_with start moves log passed = record (run_of source start moves 0) { log = log; passed = passed }
 
   speaks_longer : (link : Link) (moves : List Move) (delivered : ℕ) → IsThereAt moves → (start : Option ℕ) → StartsAt position start
-      → Speaks checked transactions number link moves delivered start → Speaks checked (transactions ++ more) number link moves delivered start
+      → Speaks source link moves delivered start → Speaks (with_more source more) link moves delivered start
   speaks_longer link moves delivered there None at speaks = speaks
   speaks_longer link moves delivered there (Some start) at speaks =
-      let on = log_goes_on checked transactions more in
-      let place : Place = place_of checked transactions number start moves in
-      let grown : IsStreaming link (run_with start moves (log_of checked transactions ++ on.others) (take delivered (down_bytes checked transactions number (Some start) moves))) place =
-      log_grows link (run_of checked transactions number start moves delivered) place on.others speaks in
-      subst (IsStreaming link (run_of checked (transactions ++ more) number start moves delivered)) (sym (place_longer start at moves there))
-      (subst (λ bytes. IsStreaming link (run_with start moves (log_of checked (transactions ++ more)) (take delivered bytes)) place) (sym (bytes_longer (Some start) at moves there))
-      (subst (λ log. IsStreaming link (run_with start moves log (take delivered (down_bytes checked transactions number (Some start) moves))) place) (sym on.is) grown))
+      let on = log_goes_on source.checked source.transactions more in
+      let place : Place = place_of source start moves in
+      let grown : IsStreaming link (run_with start moves (log_in source ++ on.others) (take delivered (down_bytes source (Some start) moves))) place =
+      log_grows link (run_of source start moves delivered) place on.others speaks in
+      subst (IsStreaming link (run_of (with_more source more) start moves delivered)) (sym (place_longer start at moves there))
+      (subst (λ bytes. IsStreaming link (run_with start moves (log_of source.checked (source.transactions ++ more)) (take delivered bytes)) place) (sym (bytes_longer (Some start) at moves there))
+      (subst (λ log. IsStreaming link (run_with start moves log (take delivered (down_bytes source (Some start) moves))) place) (sym on.is) grown))
 
-module _ (checked : CheckedOf) (transactions more : List Transaction) (number : ℕ) where
-  linked_longer : (slots : List Slot) (link : Link) (subscriber : Subscriber) (peer : w.Peer) (reached : ℕ) (c : Connection) → IsConnected checked transactions number peer.position peer.confirmed reached c
-      → IsLinked checked transactions number slots link subscriber peer c → IsLinked checked (transactions ++ more) number slots link subscriber peer c
+module _ (source : Source) (more : List Transaction) where
+  linked_longer : (slots : List Slot) (link : Link) (subscriber : Subscriber) (peer : w.Peer) (reached : ℕ) (c : Connection) → IsConnected source peer.position peer.confirmed reached c
+      → IsLinked source slots link subscriber peer c → IsLinked (with_more source more) slots link subscriber peer c
   linked_longer slots link subscriber peer reached c connected linked =
-      let same = bytes_longer checked transactions more number peer.position c.start connected.started c.moves connected.there in
+      let same = bytes_longer source more peer.position c.start connected.started c.moves connected.there in
       record {
         heard = linked.heard;
         delivered = subst (λ bytes. c.delivered ≤ length bytes) (sym same) linked.delivered;
@@ -120,18 +114,25 @@ module _ (checked : CheckedOf) (transactions more : List Transaction) (number : 
         held = linked.held ∙ ap (λ bytes. rest_of (cut limit (take c.delivered bytes))) (sym same);
         machine = subst (λ bytes. AlikeBut (sub_machine subscriber) (hear_cut (cut limit (take c.delivered bytes)) (opened peer.machine)).machine) (sym same) linked.machine;
         checked_is = linked.checked_is;
-        hears = linked.hears;
-        speaks = speaks_longer checked transactions more number peer.position link c.moves c.delivered connected.there c.start connected.started linked.speaks;
+        hears = record {
+          checked_is = linked.hears.checked_is;
+          phase_is = linked.hears.phase_is;
+          started = linked.hears.started;
+          asked = linked.hears.asked;
+          statuses = linked.hears.statuses;
+          held = linked.hears.held;
+        };
+        speaks = speaks_longer source more peer.position link c.moves c.delivered connected.there c.start connected.started linked.speaks;
         slot = linked.slot;
       }
 
-  at_longer : (slots : List Slot) (link : Option Link) (subscriber : Subscriber) (peer : w.Peer) (connection : Option Connection) → IsConnectedAt checked transactions number peer connection
-      → IsAt checked transactions number slots link subscriber peer connection → IsAt checked (transactions ++ more) number slots link subscriber peer connection
+  at_longer : (slots : List Slot) (link : Option Link) (subscriber : Subscriber) (peer : w.Peer) (connection : Option Connection) → IsConnectedAt source peer connection
+      → IsAt source slots link subscriber peer connection → IsAt (with_more source more) slots link subscriber peer connection
   at_longer slots None subscriber peer None good at = record { machine = at.machine; slot = at.slot }
   at_longer slots (Some link) subscriber peer (Some c) good at = linked_longer slots link subscriber peer good.0 c good.1 at
   at_longer slots None subscriber peer (Some c) good at = absurd at
   at_longer slots (Some link) subscriber peer None good at = absurd at
 
-  pub is_longer : (slots : List Slot) (code : PeerOf) (peer : w.Peer) → IsGood checked transactions number peer → PeerIs checked transactions number slots code peer
-      → PeerIs checked (transactions ++ more) number slots code peer
+  pub is_longer : (slots : List Slot) (code : PeerOf) (peer : w.Peer) → IsGood source peer → PeerIs source slots code peer
+      → PeerIs (with_more source more) slots code peer
   is_longer slots code peer good is = record { named = is.named; at = at_longer slots code.link code.subscriber peer peer.connection good.connected is.at }

@@ -12,11 +12,11 @@ use Rattle.copy_both.specs.Streams.{Place, Move, Take, Keep, place_at, moved}
 use Rattle.copy_both.specs.Tellings.{telling_of}
 use Rattle.copy_frames.specs.declared.status.Status.{Status}
 use Rattle.stream_laws.specs.Cutting.{if_whole, whole_in}
-use Rattle.stream_laws.specs.Following.{position_after, log_of}
-use Rattle.stream_laws.specs.Items.{Item, Response, spelled, all_items}
-use Rattle.shard_world.specs.World.{Up, Asks, Says, Connection, Peer, Session, down_items, position_in, position_now, spelled_up, whole_up, ups_of, start_at, replied, hear_up, newly, heard_of, hears}
+use Rattle.stream_laws.specs.Following.{position_after}
+use Rattle.stream_laws.specs.Items.{Response, spelled, all_items}
+use Rattle.shard_world.specs.World.{Up, Asks, Says, Connection, Peer, Session, down_items, position_in, position_now, spelled_up, whole_up, ups_of, start_at, replied, hear_up, newly, heard_of, hears, Source, log_in}
 use Rattle.stream_laws.proofs.FollowingBytesLemmas.{follows_longer}
-use Rattle.shard_world.proofs.WorldItems.{none_in_nothing, moved_longer, items_longer, log_goes_on}
+use Rattle.shard_world.proofs.WorldItems.{none_in_nothing, moved_longer, items_longer, log_goes_on, with_more}
 use Rattle.shard_world.proofs.WorldPeers.{StartsAt, IsReported, IsConnected, IsConnectedAt, IsGood, moves_connected}
 
 -- ---- what the subscriber sends
@@ -42,10 +42,10 @@ whole_fair checked subscriber P count (up ∷ ups) fair =
 
 -- ---- one command or status
 
-module _ (checked : CheckedOf) (transactions : List Transaction) (subscriber position reached now : ℕ) (timed : now < 2 ^ 64) (reports : List Status) (heard delivered : ℕ) where
+module _ (source : Source) (position reached now : ℕ) (timed : now < 2 ^ 64) (reports : List Status) (heard delivered : ℕ) where
   -- the connection that a session makes
   abbrev IsHeardTo : Session → Type 0
-  IsHeardTo session = IsConnected checked transactions subscriber position session.confirmed reached
+  IsHeardTo session = IsConnected source position session.confirmed reached
       (record { start = session.start; moves = session.moves; reports = reports; heard = heard; delivered = delivered })
 
   asks_connected : (confirmed : ℕ) (start : Option ℕ) (moves : List Move) → IsHeardTo (record { confirmed = confirmed; start = start; moves = moves })
@@ -55,9 +55,9 @@ module _ (checked : CheckedOf) (transactions : List Transaction) (subscriber pos
     started = greatest confirmed (subst (λ n. confirmed ≤ n) (sym connected.reached_is) connected.confirmed_is);
     there = connected.there;
     clocked = connected.clocked;
-    delivered = at_most delivered (length (flat_map spelled (down_items checked transactions subscriber (Some (max position confirmed)) moves))) connected.delivered;
-    reached_is = subst (λ n. position_after position (whole_in n (down_items checked transactions subscriber (Some (max position confirmed)) moves)) ≡ reached) (zero_is delivered connected.delivered)
-        (ap (position_after position) (none_whole (down_items checked transactions subscriber (Some (max position confirmed)) moves)) ∙ connected.reached_is);
+    delivered = at_most delivered (length (flat_map spelled (down_items source (Some (max position confirmed)) moves))) connected.delivered;
+    reached_is = subst (λ n. position_after position (whole_in n (down_items source (Some (max position confirmed)) moves)) ≡ reached) (zero_is delivered connected.delivered)
+        (ap (position_after position) (none_in_nothing (down_items source (Some (max position confirmed)) moves)) ∙ connected.reached_is);
     confirmed_is = connected.confirmed_is;
     reports = connected.reports;
   }
@@ -71,13 +71,10 @@ module _ (checked : CheckedOf) (transactions : List Transaction) (subscriber pos
       zero_is : (a : ℕ) → a ≤ 0 → 0 ≡ a
       zero_is a h = omega (arith, h)
 
-      none_whole : (items : List Item) → whole_in 0 items ≡ []
-      none_whole items = none_in_nothing items
-
   replies_connected : (confirmed : ℕ) (start : Option ℕ) (moves : List Move) (wants : Bool) → IsHeardTo (record { confirmed = confirmed; start = start; moves = moves })
       → IsHeardTo (record { confirmed = confirmed; start = start; moves = moves ++ replied wants now })
   replies_connected confirmed start moves true connected =
-      moves_connected checked transactions subscriber position confirmed reached
+      moves_connected source position confirmed reached
       (record { start = start; moves = moves; reports = reports; heard = heard; delivered = delivered }) (Keep now false) connected timed tt
   replies_connected confirmed start moves false connected =
       subst (λ all. IsHeardTo (record { confirmed = confirmed; start = start; moves = all })) (sym (append-nil moves)) connected
@@ -111,14 +108,14 @@ module _ (checked : CheckedOf) (transactions : List Transaction) (subscriber pos
       ups_connected ups (hear_up now session up) (All-tail (IsFair position reached) up ups fair) (up_connected session up (All-head (IsFair position reached) up ups fair) connected)
 
 -- where a connection hears more bytes
-heard_connected : (checked : CheckedOf) (transactions : List Transaction) (subscriber now : ℕ) → now < 2 ^ 64 → (peer : Peer) (c : Connection) (more : ℕ)
-    → (good : IsGood checked transactions subscriber (record peer { connection = Some c }))
-    → IsConnected checked transactions subscriber peer.position (heard_of checked subscriber now peer c more).confirmed good.connected.0
-    (record c { start = (heard_of checked subscriber now peer c more).start; moves = (heard_of checked subscriber now peer c more).moves; heard = c.heard + more })
-heard_connected checked transactions subscriber now timed peer c more good =
-    let fair = All-drop (IsFair peer.position good.connected.0) (length (whole_up checked subscriber c.heard (ups_of peer c))) (whole_up checked subscriber (c.heard + more) (ups_of peer c))
-    (whole_fair checked subscriber (IsFair peer.position good.connected.0) (c.heard + more) (ups_of peer c) (ups_fair peer.position good.connected.0 c.reports good.connected.1.reports)) in
-    ups_connected checked transactions subscriber peer.position good.connected.0 now timed c.reports (c.heard + more) c.delivered (newly checked subscriber peer c more)
+heard_connected : (source : Source) (now : ℕ) → now < 2 ^ 64 → (peer : Peer) (c : Connection) (more : ℕ)
+    → (good : IsGood source (record peer { connection = Some c }))
+    → IsConnected source peer.position (heard_of source now peer c more).confirmed good.connected.0
+    (record c { start = (heard_of source now peer c more).start; moves = (heard_of source now peer c more).moves; heard = c.heard + more })
+heard_connected source now timed peer c more good =
+    let fair = All-drop (IsFair peer.position good.connected.0) (length (whole_up source.checked source.number c.heard (ups_of peer c))) (whole_up source.checked source.number (c.heard + more) (ups_of peer c))
+    (whole_fair source.checked source.number (IsFair peer.position good.connected.0) (c.heard + more) (ups_of peer c) (ups_fair peer.position good.connected.0 c.reports good.connected.1.reports)) in
+    ups_connected source peer.position good.connected.0 now timed c.reports (c.heard + more) c.delivered (newly source peer c more)
     (record { confirmed = peer.confirmed; start = c.start; moves = c.moves }) fair
     (record {
       started = good.connected.1.started;
@@ -130,17 +127,17 @@ heard_connected checked transactions subscriber now timed peer c more good =
       reports = good.connected.1.reports;
     })
 
-pub hears_good : (checked : CheckedOf) (transactions : List Transaction) (subscriber now : ℕ) → now < 2 ^ 64 → (peer : Peer) (c : Connection) (more : ℕ)
-    → IsGood checked transactions subscriber (record peer { connection = Some c }) → IsGood checked transactions subscriber (hears checked subscriber now peer c more)
-hears_good checked transactions subscriber now timed peer c more good =
-    record { follows = good.follows; connected = (good.connected.0, heard_connected checked transactions subscriber now timed peer c more good) }
+pub hears_good : (source : Source) (now : ℕ) → now < 2 ^ 64 → (peer : Peer) (c : Connection) (more : ℕ)
+    → IsGood source (record peer { connection = Some c }) → IsGood source (hears source now peer c more)
+hears_good source now timed peer c more good =
+    record { follows = good.follows; connected = (good.connected.0, heard_connected source now timed peer c more good) }
 
 -- the subscriber stays where it is
-pub hears_stay : (checked : CheckedOf) (transactions : List Transaction) (subscriber now : ℕ) → now < 2 ^ 64 → (peer : Peer) (c : Connection) (more : ℕ)
-    → IsGood checked transactions subscriber (record peer { connection = Some c })
-    → position_now checked transactions subscriber (hears checked subscriber now peer c more) ≡ position_in checked transactions subscriber peer (Some c)
-hears_stay checked transactions subscriber now timed peer c more good =
-    (heard_connected checked transactions subscriber now timed peer c more good).reached_is ∙ sym good.connected.1.reached_is
+pub hears_stay : (source : Source) (now : ℕ) → now < 2 ^ 64 → (peer : Peer) (c : Connection) (more : ℕ)
+    → IsGood source (record peer { connection = Some c })
+    → position_now source (hears source now peer c more) ≡ position_in source peer (Some c)
+hears_stay source now timed peer c more good =
+    (heard_connected source now timed peer c more good).reached_is ∙ sym good.connected.1.reached_is
 
 -- ---- the log grows
 
@@ -157,25 +154,25 @@ there_longer checked log more place (move ∷ moves) there = (
       (there_longer checked log more (moved (telling_of checked) log place move) moves there.1),
 )
 
-pub down_longer : (checked : CheckedOf) (transactions more : List Transaction) (subscriber position : ℕ) (start : Option ℕ) → StartsAt position start → (moves : List Move)
-    → AllThere (telling_of checked) (log_of checked transactions) (place_at subscriber (length checked.catalog.tables) position) moves
-    → down_items checked (transactions ++ more) subscriber start moves ≡ down_items checked transactions subscriber start moves
-down_longer checked transactions more subscriber position None at moves there = refl
-down_longer checked transactions more subscriber position (Some start) at moves there =
-    let on = log_goes_on checked transactions more in
-    let there_at = subst (λ p. AllThere (telling_of checked) (log_of checked transactions) (place_at subscriber (length checked.catalog.tables) p) moves) (sym at) there in
-    ap (λ log. Response ∷ all_items checked log (place_at subscriber (length checked.catalog.tables) start) moves) on.is
-    ∙ ap (λ items. Response ∷ items) (items_longer checked (log_of checked transactions) on.others (place_at subscriber (length checked.catalog.tables) start) moves there_at)
+pub down_longer : (source : Source) (more : List Transaction) (position : ℕ) (start : Option ℕ) → StartsAt position start → (moves : List Move)
+    → AllThere (telling_of source.checked) (log_in source) (place_at source.number (length source.checked.catalog.tables) position) moves
+    → down_items (with_more source more) start moves ≡ down_items source start moves
+down_longer source more position None at moves there = refl
+down_longer source more position (Some start) at moves there =
+    let on = log_goes_on source.checked source.transactions more in
+    let there_at = subst (λ p. AllThere (telling_of source.checked) (log_in source) (place_at source.number (length source.checked.catalog.tables) p) moves) (sym at) there in
+    ap (λ log. Response ∷ all_items source.checked log (place_at source.number (length source.checked.catalog.tables) start) moves) on.is
+    ∙ ap (λ items. Response ∷ items) (items_longer source.checked (log_in source) on.others (place_at source.number (length source.checked.catalog.tables) start) moves there_at)
 
-longer_connected : (checked : CheckedOf) (transactions more : List Transaction) (subscriber position confirmed reached : ℕ) (c : Connection)
-    → IsConnected checked transactions subscriber position confirmed reached c → IsConnected checked (transactions ++ more) subscriber position confirmed reached c
-longer_connected checked transactions more subscriber position confirmed reached c connected =
-    let on = log_goes_on checked transactions more in
-    let same = down_longer checked transactions more subscriber position c.start connected.started c.moves connected.there in
+longer_connected : (source : Source) (more : List Transaction) (position confirmed reached : ℕ) (c : Connection)
+    → IsConnected source position confirmed reached c → IsConnected (with_more source more) position confirmed reached c
+longer_connected source more position confirmed reached c connected =
+    let on = log_goes_on source.checked source.transactions more in
+    let same = down_longer source more position c.start connected.started c.moves connected.there in
     record {
       started = connected.started;
-      there = subst (λ log. AllThere (telling_of checked) log (place_at subscriber (length checked.catalog.tables) position) c.moves) (sym on.is)
-          (there_longer checked (log_of checked transactions) on.others (place_at subscriber (length checked.catalog.tables) position) c.moves connected.there);
+      there = subst (λ log. AllThere (telling_of source.checked) log (place_at source.number (length source.checked.catalog.tables) position) c.moves) (sym on.is)
+          (there_longer source.checked (log_in source) on.others (place_at source.number (length source.checked.catalog.tables) position) c.moves connected.there);
       clocked = connected.clocked;
       delivered = subst (λ items. c.delivered ≤ length (flat_map spelled items)) (sym same) connected.delivered;
       reached_is = ap (λ items. position_after position (whole_in c.delivered items)) same ∙ connected.reached_is;
@@ -183,15 +180,15 @@ longer_connected checked transactions more subscriber position confirmed reached
       reports = connected.reports;
     }
 
-longer_at : (checked : CheckedOf) (transactions more : List Transaction) (subscriber : ℕ) (peer : Peer) (connection : Option Connection)
-    → IsConnectedAt checked transactions subscriber peer connection → IsConnectedAt checked (transactions ++ more) subscriber peer connection
-longer_at checked transactions more subscriber peer None connected = connected
-longer_at checked transactions more subscriber peer (Some c) connected =
-    (connected.0, longer_connected checked transactions more subscriber peer.position peer.confirmed connected.0 c connected.1)
+longer_at : (source : Source) (more : List Transaction) (peer : Peer) (connection : Option Connection)
+    → IsConnectedAt source peer connection → IsConnectedAt (with_more source more) peer connection
+longer_at source more peer None connected = connected
+longer_at source more peer (Some c) connected =
+    (connected.0, longer_connected source more peer.position peer.confirmed connected.0 c connected.1)
 
-pub longer_good : (checked : CheckedOf) (transactions more : List Transaction) (subscriber : ℕ) (peer : Peer) → IsGood checked transactions subscriber peer
-    → IsGood checked (transactions ++ more) subscriber peer
-longer_good checked transactions more subscriber peer good = record {
-  follows = follows_longer checked transactions more subscriber peer.position peer.machine good.follows;
-  connected = longer_at checked transactions more subscriber peer peer.connection good.connected;
+pub longer_good : (source : Source) (more : List Transaction) (peer : Peer) → IsGood source peer
+    → IsGood (with_more source more) peer
+longer_good source more peer good = record {
+  follows = follows_longer source.checked source.transactions more source.number peer.position peer.machine good.follows;
+  connected = longer_at source more peer peer.connection good.connected;
 }

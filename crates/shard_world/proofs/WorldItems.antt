@@ -1,5 +1,5 @@
 -- Streams grow, and so do their items that are whole, and the position that they tell.
-use Rattle.std.proofs.Common.{◌≡◌, ℕ, zero, suc, ◌+◌, ◌-◌, ◌<◌, ◌≤◌, true, false, List, [], ◌∷◌, ◌++◌, length, refl, sym, ◌∙◌, ap, subst, arith, append_assoc, length-append}
+use Rattle.std.proofs.Common.{◌≡◌, ℕ, zero, suc, ◌+◌, ◌-◌, ◌<◌, ◌≤◌, List, [], ◌∷◌, ◌++◌, length, refl, sym, ◌∙◌, ap, subst, arith, append_assoc, length-append, add-zero}
 use Rattle.std.specs.Prelude.{fold, nat_le, slice_get}
 use Rattle.std.specs.List.{flat_map}
 use Rattle.std.proofs.lemmas.Bool.{leb-true, leb-false}
@@ -22,6 +22,7 @@ use Rattle.stream_laws.specs.Cutting.{if_whole, whole_in}
 use Rattle.stream_laws.specs.Following.{raised_by_message, raised_by, position_after, log_of}
 use Rattle.stream_laws.specs.Items.{Item, Response, Carries, Alive, spelled, take_items, move_items, all_items}
 use Rattle.stream_laws.specs.Sayable.{IsSayable}
+use Rattle.shard_world.specs.World.{Source}
 
 -- ---- items that are whole
 
@@ -31,11 +32,8 @@ long_item item = omega arith
 pub none_in_nothing : (items : List Item) → whole_in 0 items ≡ []
 none_in_nothing [] = refl
 none_in_nothing (item ∷ items) = by_test (nat_le (length (spelled item)) 0)
-    (λ fits. let short : length (spelled item) ≤ 0 = le_of (length (spelled item)) 0 fits in absurd (omega (arith, short, long_item item)))
+    (λ fits. let short : length (spelled item) ≤ 0 = leb-true (length (spelled item)) 0 fits in absurd (omega (arith, short, long_item item)))
     (λ over. ap (λ b. if_whole b item (whole_in (0 - length (spelled item)) items)) over)
-  where
-    le_of : (a b : ℕ) → nat_le a b ≡ true → a ≤ b
-    le_of a b h = leb-true a b h
 
 -- more items change nothing of the bytes of those that are there
 pub whole_more : (count : ℕ) (items more : List Item) → count ≤ length (flat_map spelled items) → whole_in count (items ++ more) ≡ whole_in count items
@@ -80,15 +78,9 @@ more_raise position count more (item ∷ items) h = by_test (nat_le (length (spe
     (λ also. subst (λ b. position_after position (if_whole b item (whole_in (count - length (spelled item)) items)) ≤ position_after position (whole_in more (item ∷ items))) (sym fits)
     (subst (λ b. position_after (raised_by position item) (whole_in (count - length (spelled item)) items) ≤ position_after position (if_whole b item (whole_in (more - length (spelled item)) items))) (sym also)
     (more_raise (raised_by position item) (count - length (spelled item)) (more - length (spelled item)) items (omega (arith, h)))))
-    (λ over. absurd (let small = le_of (length (spelled item)) count fits in let big = not_le_of (length (spelled item)) more over in omega (arith, small, big, h))))
+    (λ over. absurd (let small = leb-true (length (spelled item)) count fits in let big = leb-false (length (spelled item)) more over in omega (arith, small, big, h))))
     (λ over. subst (λ b. position_after position (if_whole b item (whole_in (count - length (spelled item)) items)) ≤ position_after position (whole_in more (item ∷ items))) (sym over)
     (items_raise position (whole_in more (item ∷ items))))
-  where
-    le_of : (a b : ℕ) → nat_le a b ≡ true → a ≤ b
-    le_of a b k = leb-true a b k
-
-    not_le_of : (a b : ℕ) → nat_le a b ≡ false → b < a
-    not_le_of a b k = leb-false a b k
 
 -- ---- one move more
 
@@ -101,6 +93,9 @@ items_append checked log place (first ∷ moves) move =
     (move_items checked log (all_moved (telling_of checked) log (moved (telling_of checked) log place first) moves) move))
 
 -- ---- a longer log
+
+abbrev pub with_more : Source → List Transaction → Source
+with_more source more = record source { transactions = source.transactions ++ more }
 
 got_longer : {C : Type 0} (log more : List C) (n : ℕ) → n < length log → slice_get (log ++ more) n ≡ slice_get log n
 got_longer [] more n less = absurd (omega (arith, less))
@@ -128,10 +123,7 @@ items_longer checked log more place (move ∷ moves) there =
 entries_append : (setting : Setting) (tables : Tables) (number : ℕ) (transactions more : List Transaction)
     → entries_from setting tables number (transactions ++ more)
     ≡ entries_from setting tables number transactions ++ entries_from setting (fold (left_by setting) tables transactions) (number + length transactions) more
-entries_append setting tables number [] more = ap (λ n. entries_from setting tables n more) (at_first number)
-  where
-    at_first : (n : ℕ) → n ≡ n + 0
-    at_first n = omega arith
+entries_append setting tables number [] more = ap (λ n. entries_from setting tables n more) (sym (add-zero number))
 entries_append setting tables number (transaction ∷ transactions) more =
     ap (λ others. log.commit_of number transaction.time (record_of setting tables transaction.commands) ∷ others)
     (entries_append setting (left_by setting tables transaction) (number + 1) transactions more

@@ -3,7 +3,7 @@ use Rattle.std.proofs.Common.{◌≡◌, ℕ, ◌<◌, ◌≤◌, ◌^◌, Bool,
 use Rattle.std.specs.Prelude.{All, ◌==◌, fold, nat_lt, slice_index_or, if◌then◌else◌, Option, Some, None}
 use Rattle.std.specs.Cmp.{unsigned_Decides}
 use Rattle.std.proofs.Common.{inl, inr}
-use Rattle.std.proofs.lemmas.Bool.{ltb-true, ltb-false}
+use Rattle.std.proofs.lemmas.Bool.{ltb-true, ltb-false, and_parts}
 use Rattle.std.proofs.lemmas.List.{append-nil, get_or_past}
 use Rattle.std.proofs.lemmas.List.Elements.{All-nil, All-cons, All-head, All-tail, All-append}
 use Rattle.filter_tree.specs.Datum.{Datum}
@@ -19,7 +19,7 @@ use Rattle.table_changes.specs.Setting.{Setting}
 use Rattle.tables_log.specs.StandsFor.{Transaction, left_by, after, IsAccepted, AreAccepted}
 use Rattle.stream_laws.specs.Finding.{in_shard}
 use Rattle.stream_laws.specs.Following.{IsPublished}
-use Rattle.shard_world.specs.World.{Connection, Peer, World, Event, Commit, On, Answer, first_world, peer_step, broken, with_peer, with_transaction, StepsOn, Steps, Leads}
+use Rattle.shard_world.specs.World.{Connection, Peer, World, Event, Commit, On, Answer, first_world, with_peer, with_transaction, StepsOn, Steps, Leads, source_in, step_in, broken_in}
 use Rattle.stream_laws.specs.Sayable.{IsTimedTransaction, IsSayable}
 use Rattle.shard_world.specs.WorldLaws.{IsPublisher, HasTime, IsTimedEvent, HoldsExactly, WorldsHoldExactly, IsStartedAsAsked, WorldsStartAsAsked, has_row, WorldsDivideRows}
 use Rattle.stream_laws.proofs.CommandSteps.{IsRight}
@@ -78,7 +78,7 @@ leads_grow checked most (event ∷ events) world last leads =
 
 pub record IsGoodWorld (checked : CheckedOf) (world : World) : Type 0 where
   pub accepted : AreAccepted (setting_in checked) no_rows world.transactions
-  pub peers : (subscriber : ℕ) → IsGood checked world.transactions subscriber (world.peers subscriber)
+  pub peers : (subscriber : ℕ) → IsGood (source_in checked world subscriber) (world.peers subscriber)
 
 module _ (checked : CheckedOf) (covered : Covered (setting_in checked)) (keeps : KeepsApart (setting_in checked)) where
   pub published : (world : World) → IsGoodWorld checked world → IsPublished checked world.transactions
@@ -87,13 +87,13 @@ module _ (checked : CheckedOf) (covered : Covered (setting_in checked)) (keeps :
   same_world : (one other : World) → one ≡ other → IsGoodWorld checked other → IsGoodWorld checked one
   same_world one other e good = subst (IsGoodWorld checked) (sym e) good
 
-  peer_changes : (world : World) (subscriber : ℕ) (peer : Peer) → IsGoodWorld checked world → IsGood checked world.transactions subscriber peer → IsGoodWorld checked (with_peer world subscriber peer)
+  peer_changes : (world : World) (subscriber : ℕ) (peer : Peer) → IsGoodWorld checked world → IsGood (source_in checked world subscriber) peer → IsGoodWorld checked (with_peer world subscriber peer)
   peer_changes world subscriber peer good new = record {
     accepted = good.accepted;
     peers = λ other. by_test (other == subscriber)
-        (λ same. subst (IsGood checked world.transactions other) (sym (ap (λ b. if b then peer else world.peers other) same))
-        (subst (λ n. IsGood checked world.transactions n peer) (sym ((unsigned_Decides other subscriber).0 same)) new))
-        (λ differ. subst (IsGood checked world.transactions other) (sym (ap (λ b. if b then peer else world.peers other) differ)) (good.peers other));
+        (λ same. subst (IsGood (source_in checked world other)) (sym (ap (λ b. if b then peer else world.peers other) same))
+        (subst (λ n. IsGood (source_in checked world n) peer) (sym ((unsigned_Decides other subscriber).0 same)) new))
+        (λ differ. subst (IsGood (source_in checked world other)) (sym (ap (λ b. if b then peer else world.peers other) differ)) (good.peers other));
   }
 
   pub step_good : (most : ℕ) (world : World) (now : ℕ) (event : Event) (answer : Answer) (next : World) → now < 2 ^ 64 → IsSayable checked world.transactions → IsGoodWorld checked world
@@ -101,7 +101,7 @@ module _ (checked : CheckedOf) (covered : Covered (setting_in checked)) (keeps :
   step_good most world now (Commit commands time) answer next timed sayable good steps = elim steps [
     | inl commits ↦ same_world next (with_transaction world commands time) commits.next_is (record {
       accepted = accepted_more (setting_in checked) no_rows world.transactions (record { commands = commands; time = time }) good.accepted commits.accepted;
-      peers = λ subscriber. longer_good checked world.transactions (record { commands = commands; time = time } ∷ []) subscriber (world.peers subscriber) (good.peers subscriber);
+      peers = λ subscriber. longer_good (source_in checked world subscriber) (record { commands = commands; time = time } ∷ []) (world.peers subscriber) (good.peers subscriber);
     })
     | inr refuses ↦ same_world next world refuses.next_is good
   ]
@@ -111,13 +111,13 @@ module _ (checked : CheckedOf) (covered : Covered (setting_in checked)) (keeps :
       by_number false step = same_world next world step.1 good
       by_number true step = elim step [
         | inl moves ↦ same_world next
-            (with_peer world subscriber (peer_step checked world.transactions subscriber now event (world.peers subscriber) (world.peers subscriber).connection).1) moves.next_is
-            (peer_changes world subscriber (peer_step checked world.transactions subscriber now event (world.peers subscriber) (world.peers subscriber).connection).1 good
-            (peer_good checked world.transactions (published world good) sayable subscriber now timed event (world.peers subscriber) (world.peers subscriber).connection refl (good.peers subscriber)))
+            (with_peer world subscriber (step_in checked world subscriber now event).1) moves.next_is
+            (peer_changes world subscriber (step_in checked world subscriber now event).1 good
+            (peer_good (source_in checked world subscriber) (published world good) sayable now timed event (world.peers subscriber) (world.peers subscriber).connection refl (good.peers subscriber)))
         | inr breaks ↦ same_world next
-            (with_peer world subscriber (broken checked world.transactions subscriber now event (world.peers subscriber) breaks.some (world.peers subscriber).connection)) breaks.next_is
-            (peer_changes world subscriber (broken checked world.transactions subscriber now event (world.peers subscriber) breaks.some (world.peers subscriber).connection) good
-            (broken_good checked world.transactions (published world good) sayable subscriber now timed event (world.peers subscriber) breaks.some (world.peers subscriber).connection refl (good.peers subscriber)))
+            (with_peer world subscriber (broken_in checked world subscriber now event breaks.some)) breaks.next_is
+            (peer_changes world subscriber (broken_in checked world subscriber now event breaks.some) good
+            (broken_good (source_in checked world subscriber) (published world good) sayable now timed event (world.peers subscriber) breaks.some (world.peers subscriber).connection refl (good.peers subscriber)))
       ]
 
   leads_good : (most : ℕ) (events : List (ℕ × Event)) → All IsTimed events → (world last : World) → Leads checked most events world last → IsSayable checked last.transactions
@@ -142,7 +142,7 @@ module _ (checked : CheckedOf) (covered : Covered (setting_in checked)) (keeps :
       → HoldsExactly checked world
   hold_exactly most events timed world leads sayable subscriber =
       let good = good_at most events timed world leads sayable in
-      (good_follows checked world.transactions (published world good) sayable subscriber (world.peers subscriber) (good.peers subscriber)).rows
+      (good_follows (source_in checked world subscriber) (published world good) sayable (world.peers subscriber) (good.peers subscriber)).rows
 
   pub tables_right : (most : ℕ) (events : List (ℕ × Event)) → All IsTimed events → (world : World) → Leads checked most events first_world world → IsSayable checked world.transactions
       → (count : ℕ) → IsRight (setting_in checked) (after (setting_in checked) (take count world.transactions))
@@ -214,7 +214,7 @@ worlds_start_as_asked checked most publisher events timed world leads subscriber
     let good = good_at checked publisher.covered publisher.apart most events (all_timed events timed) world leads (can_be_said checked most publisher events timed world leads) in
     asked (world.peers subscriber) (world.peers subscriber).connection (good.peers subscriber).connected
   where
-    asked : (peer : Peer) (connection : Option Connection) → IsConnectedAt checked world.transactions subscriber peer connection → IsStartedAsAsked peer connection
+    asked : (peer : Peer) (connection : Option Connection) → IsConnectedAt (source_in checked world subscriber) peer connection → IsStartedAsAsked peer connection
     asked peer None connected = tt
     asked peer (Some c) connected = connected.1.started
 
@@ -232,10 +232,6 @@ taker_is_one checked subscriber table row h = by_test (nat_lt subscriber (length
     no_share : (n : ℕ) → takes (slice_index_or [] n Nothing) row ≡ false
     no_share n = ap (λ share. takes share row) (get_or_past [] n Nothing (omega arith))
 
-left_of : (p q : Bool) → (p && q) ≡ true → p ≡ true
-left_of true q h = refl
-left_of false q h = absurd cc
-
 pub worlds_divide_rows : WorldsDivideRows
 worlds_divide_rows checked most publisher sound events timed world leads count applied = record {
   somewhere = λ table row there.
@@ -248,8 +244,8 @@ worlds_divide_rows checked most publisher sound events timed world leads count a
         no_other = λ other is_other has_it. owner.no_other other (both_true (holds (setting_in checked).keys (after (setting_in checked) (take count world.transactions)) table row)
             ((setting_in checked).passes other table row) (sym (has_as other is_other table row) ∙ has_it)).1;
       };
-  nothing_else = λ subscriber table row is_one has_it. left_of (holds (setting_in checked).keys (after (setting_in checked) (take count world.transactions)) table row)
-      ((setting_in checked).passes subscriber table row) (sym (has_as subscriber is_one table row) ∙ has_it);
+  nothing_else = λ subscriber table row is_one has_it. (and_parts (holds (setting_in checked).keys (after (setting_in checked) (take count world.transactions)) table row)
+      ((setting_in checked).passes subscriber table row) (sym (has_as subscriber is_one table row) ∙ has_it)).0;
 }
   where
     has_as : (subscriber : ℕ) → subscriber < length checked.plan → (table : ℕ) (row : List Datum)

@@ -14,7 +14,7 @@ use Rattle.shard_world.specs.Joined.{PeerOf, PeerIs}
 use Rattle.shard_world.specs.PeerCalls.{Made, Breaks, Moves}
 use Rattle.shard_world.specs.PeerSteps.{Case, HasLog, IsCase}
 use Rattle.shard_world.specs.World as w
-use Rattle.shard_world.specs.World.{Answer, Event, PeerEvent, Commit, On, Committed, Refused, NoSubscriber, Steps, with_peer, with_transaction}
+use Rattle.shard_world.specs.World.{Answer, Event, PeerEvent, Commit, On, Committed, Refused, NoSubscriber, Steps, with_peer, with_transaction, source_in}
 use Rattle.shard_world.specs.WorldCalls.{PeerAt, IsWorldBy, IsWorld, StepsOn, world_book, world_checked, world_peers}
 use Rattle.shard_world.specs.declared.world.World.{World}
 use Rattle.shard_world.proofs.WorldStepLemmas.{commit_after, commit_steps, refused_after, refusal_steps, world_after, log_there, one_timed}
@@ -62,23 +62,23 @@ module _ (before after : World) (same : world_checked after ≡ world_checked be
   moves_one number now event old new answer timed at peers moves most events world is =
       elim (moves case (record { is = is_case; checked_is = refl; now_is = refl; log = log; peer = peer_there })) [
         | inl made ↦ record {
-          next = with_peer world number (w.peer_step (world_checked before) world.transactions number now event (world.peers number) (world.peers number).connection).1;
+          next = with_peer world number (w.step_in (world_checked before) world number now event).1;
           steps = made_steps made;
           is = as_world most (events ++ (now, On number event) ∷ [])
-              (with_peer world number (w.peer_step (world_checked before) world.transactions number now event (world.peers number) (world.peers number).connection).1)
+              (with_peer world number (w.step_in (world_checked before) world number now event).1)
               (slice_set (world_peers before) number new) peers
               (world_after (world_checked before) most (world_book before) (world_peers before) events world is (world_book after) number now there timed new made.own event answer
-              (w.peer_step (world_checked before) world.transactions number now event (world.peers number) (world.peers number).connection).1 made.steps.peer_is (made_steps made));
+              (w.step_in (world_checked before) world number now event).1 made.steps.peer_is (made_steps made));
           checked = same;
         }
         | inr broke ↦ record {
-          next = with_peer world number (w.broken (world_checked before) world.transactions number now event (world.peers number) broke.on.breaks.some (world.peers number).connection);
+          next = with_peer world number (w.broken_in (world_checked before) world number now event broke.on.breaks.some);
           steps = broke_steps broke;
           is = as_world most (events ++ (now, On number event) ∷ [])
-              (with_peer world number (w.broken (world_checked before) world.transactions number now event (world.peers number) broke.on.breaks.some (world.peers number).connection))
+              (with_peer world number (w.broken_in (world_checked before) world number now event broke.on.breaks.some))
               (slice_set (world_peers before) number new) peers
               (world_after (world_checked before) most (world_book before) (world_peers before) events world is (world_book after) number now there timed new broke.on.own event answer
-              (w.broken (world_checked before) world.transactions number now event (world.peers number) broke.on.breaks.some (world.peers number).connection) broke.on.breaks.peer_is (broke_steps broke));
+              (w.broken_in (world_checked before) world number now event broke.on.breaks.some) broke.on.breaks.peer_is (broke_steps broke));
           checked = same;
         }
       ]
@@ -95,8 +95,8 @@ module _ (before after : World) (same : world_checked after ≡ world_checked be
           within : number < length (world_peers before) → length (world_peers before) ≡ length (world_checked before).plan → number < length (world_checked before).plan
           within h e = omega (arith, h, e)
 
-      peer_there : PeerIs (world_checked before) world.transactions number (book_slots (world_book before)) old (world.peers number)
-      peer_there = subst (PeerAt (world_checked before) world.transactions number (book_slots (world_book before)) (world.peers number)) at (is.each number there)
+      peer_there : PeerIs (source_in (world_checked before) world number) (book_slots (world_book before)) old (world.peers number)
+      peer_there = subst (PeerAt (source_in (world_checked before) world number) (book_slots (world_book before)) (world.peers number)) at (is.each number there)
 
       is_case : IsCase case
       is_case = record { publisher = is.publisher; times = is.times; leads = is.leads; there = there; timed = timed }
@@ -106,16 +106,16 @@ module _ (before after : World) (same : world_checked after ≡ world_checked be
 
       made_steps : Made case event answer (world_book before) (world_book after) new
           → Steps (world_checked before) most world now (On number event) answer
-          (with_peer world number (w.peer_step (world_checked before) world.transactions number now event (world.peers number) (world.peers number).connection).1)
+          (with_peer world number (w.step_in (world_checked before) world number now event).1)
       made_steps made = subst (λ its. w.StepsOn its (world_checked before) world number now event answer
-          (with_peer world number (w.peer_step (world_checked before) world.transactions number now event (world.peers number) (world.peers number).connection).1)) (sym known)
+          (with_peer world number (w.step_in (world_checked before) world number now event).1)) (sym known)
           (inl (record { answer_is = made.steps.answer_is; next_is = refl }))
 
       broke_steps : (broke : Breaks case event answer (world_book before) (world_book after) new)
           → Steps (world_checked before) most world now (On number event) answer
-          (with_peer world number (w.broken (world_checked before) world.transactions number now event (world.peers number) broke.on.breaks.some (world.peers number).connection))
+          (with_peer world number (w.broken_in (world_checked before) world number now event broke.on.breaks.some))
       broke_steps broke = subst (λ its. w.StepsOn its (world_checked before) world number now event answer
-          (with_peer world number (w.broken (world_checked before) world.transactions number now event (world.peers number) broke.on.breaks.some (world.peers number).connection))) (sym known)
+          (with_peer world number (w.broken_in (world_checked before) world number now event broke.on.breaks.some))) (sym known)
           (inr (record { needed = broke.needed; some = broke.on.breaks.some; answer_is = broke.answer_is; next_is = refl }))
 
   -- ---- no such subscriber
@@ -145,5 +145,5 @@ module _ (before after : World) (same : world_checked after ≡ world_checked be
         limit_is = kept.limit ∙ is.limit_is;
         stands = slots_keep_it (world_book before) (world_book after) (book_slots (world_book before)) kept world.transactions is.stands;
         count = is.count;
-        each = λ other within. subst (λ slots. PeerAt (world_checked before) world.transactions other slots (world.peers other) (slice_get (world_peers before) other)) (sym kept.slots_are) (is.each other within);
+        each = λ other within. subst (λ slots. PeerAt (source_in (world_checked before) world other) slots (world.peers other) (slice_get (world_peers before) other)) (sym kept.slots_are) (is.each other within);
       }

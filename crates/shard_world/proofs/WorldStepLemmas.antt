@@ -23,24 +23,25 @@ use Rattle.stream_laws.specs.Following.{log_of}
 use Rattle.shard_world.specs.Joined.{PeerOf, PeerIs}
 use Rattle.shard_world.specs.PeerSteps.{ChangesOwn, HasLog}
 use Rattle.shard_world.specs.World as w
-use Rattle.shard_world.specs.World.{Answer, Event, PeerEvent, Commit, On, Committed, Refused, RefusedFor, Steps, first_world, with_peer, with_transaction}
+use Rattle.shard_world.specs.World.{Answer, Event, PeerEvent, Commit, On, Committed, Refused, RefusedFor, Steps, first_world, with_peer, with_transaction, Source, source_in}
 use Rattle.shard_world.specs.WorldCalls.{PeerAt, IsWorldBy}
 use Rattle.shard_world.specs.WorldLaws.{IsTimedEvent}
 use Rattle.shard_world.proofs.WorldCallLemmas.{leads_one_more, is_elsewhere, is_longer}
 use Rattle.shard_world.proofs.WorldLemmas.{all_timed, can_be_said, good_at}
 use Rattle.shard_world.proofs.WorldPeers.{IsGood}
+use Rattle.shard_world.proofs.WorldItems.{with_more}
 
 -- ---- subscribers
 
-at_elsewhere : (checked : CheckedOf) (transactions : List Transaction) (number : ℕ) (before after : List Slot) (peer : w.Peer) → slice_get after number ≡ slice_get before number → (code : Option PeerOf)
-    → PeerAt checked transactions number before peer code → PeerAt checked transactions number after peer code
-at_elsewhere checked transactions number before after peer same None at = at
-at_elsewhere checked transactions number before after peer same (Some code) at = is_elsewhere checked transactions number before after same code peer at
+at_elsewhere : (source : Source) (before after : List Slot) (peer : w.Peer) → slice_get after source.number ≡ slice_get before source.number → (code : Option PeerOf)
+    → PeerAt source before peer code → PeerAt source after peer code
+at_elsewhere source before after peer same None at = at
+at_elsewhere source before after peer same (Some code) at = is_elsewhere source before after same code peer at
 
-at_longer : (checked : CheckedOf) (transactions more : List Transaction) (number : ℕ) (slots : List Slot) (peer : w.Peer) → IsGood checked transactions number peer → (code : Option PeerOf)
-    → PeerAt checked transactions number slots peer code → PeerAt checked (transactions ++ more) number slots peer code
-at_longer checked transactions more number slots peer good None at = at
-at_longer checked transactions more number slots peer good (Some code) at = is_longer checked transactions more number slots code peer good at
+at_longer : (source : Source) (more : List Transaction) (slots : List Slot) (peer : w.Peer) → IsGood source peer → (code : Option PeerOf)
+    → PeerAt source slots peer code → PeerAt (with_more source more) slots peer code
+at_longer source more slots peer good None at = at
+at_longer source more slots peer good (Some code) at = is_longer source more slots code peer good at
 
 set_length : {X : Type 0} (xs : List X) (i : ℕ) (x : X) → length (slice_set xs i x) ≡ length xs
 set_length [] i x = refl
@@ -48,7 +49,7 @@ set_length (first ∷ xs) zero x = refl
 set_length (first ∷ xs) (suc i) x = ap suc (set_length xs i x)
 
 module _ (checked : CheckedOf) (most : ℕ) (book : Book) (peers : List PeerOf) (events : List (ℕ × Event)) (world : w.World) (is : IsWorldBy checked most book peers events world) where
-  good_peer : (number : ℕ) → IsGood checked world.transactions number (world.peers number)
+  good_peer : (number : ℕ) → IsGood (source_in checked world number) (world.peers number)
   good_peer number = (good_at checked is.publisher.covered is.publisher.apart most events (all_timed events is.times) world is.leads
       (can_be_said checked most is.publisher events is.times world is.leads)).peers number
 
@@ -64,8 +65,8 @@ module _ (checked : CheckedOf) (most : ℕ) (book : Book) (peers : List PeerOf) 
   -- ---- a step on a connection
 
   module _ (after : Book) (number now : ℕ) (there : number < length checked.plan) (timed : now < 2 ^ 64) (new : PeerOf) (own : ChangesOwn number book after) where
-    each_after : (peer : w.Peer) → PeerIs checked world.transactions number (book_slots after) new peer → (other : ℕ) → other < length checked.plan
-        → PeerAt checked world.transactions other (book_slots after) ((with_peer world number peer).peers other) (slice_get (slice_set peers number new) other)
+    each_after : (peer : w.Peer) → PeerIs (source_in checked world number) (book_slots after) new peer → (other : ℕ) → other < length checked.plan
+        → PeerAt (source_in checked world other) (book_slots after) ((with_peer world number peer).peers other) (slice_get (slice_set peers number new) other)
     each_after peer new_is other within = by_test (other == number)
         (λ same. at_number (sym ((unsigned_Decides other number).0 same)) same)
         (λ differ. at_other (λ e. false_is differ e) differ)
@@ -76,20 +77,20 @@ module _ (checked : CheckedOf) (most : ℕ) (book : Book) (peers : List PeerOf) 
             cc
 
         at_number : number ≡ other → other == number ≡ true
-            → PeerAt checked world.transactions other (book_slots after) ((with_peer world number peer).peers other) (slice_get (slice_set peers number new) other)
+            → PeerAt (source_in checked world other) (book_slots after) ((with_peer world number peer).peers other) (slice_get (slice_set peers number new) other)
         at_number e same =
-            subst (λ its. PeerAt checked world.transactions other (book_slots after) (if its then peer else world.peers other) (slice_get (slice_set peers number new) other)) (sym same)
-            (subst (λ n. PeerAt checked world.transactions n (book_slots after) peer (slice_get (slice_set peers number new) n)) e
-            (subst (PeerAt checked world.transactions number (book_slots after) peer) (sym (get_set_here peers number new (omega (arith, there, is.count)))) new_is))
+            subst (λ its. PeerAt (source_in checked world other) (book_slots after) (if its then peer else world.peers other) (slice_get (slice_set peers number new) other)) (sym same)
+            (subst (λ n. PeerAt (source_in checked world n) (book_slots after) peer (slice_get (slice_set peers number new) n)) e
+            (subst (PeerAt (source_in checked world number) (book_slots after) peer) (sym (get_set_here peers number new (omega (arith, there, is.count)))) new_is))
 
         at_other : other ≢ number → other == number ≡ false
-            → PeerAt checked world.transactions other (book_slots after) ((with_peer world number peer).peers other) (slice_get (slice_set peers number new) other)
+            → PeerAt (source_in checked world other) (book_slots after) ((with_peer world number peer).peers other) (slice_get (slice_set peers number new) other)
         at_other apart differ =
-            subst (λ its. PeerAt checked world.transactions other (book_slots after) (if its then peer else world.peers other) (slice_get (slice_set peers number new) other)) (sym differ)
-            (subst (PeerAt checked world.transactions other (book_slots after) (world.peers other)) (sym (get_set_beside peers number other new apart))
-            (at_elsewhere checked world.transactions other (book_slots book) (book_slots after) (world.peers other) (own.others other apart) (slice_get peers other) (is.each other within)))
+            subst (λ its. PeerAt (source_in checked world other) (book_slots after) (if its then peer else world.peers other) (slice_get (slice_set peers number new) other)) (sym differ)
+            (subst (PeerAt (source_in checked world other) (book_slots after) (world.peers other)) (sym (get_set_beside peers number other new apart))
+            (at_elsewhere (source_in checked world other) (book_slots book) (book_slots after) (world.peers other) (own.others other apart) (slice_get peers other) (is.each other within)))
 
-    pub world_after : (event : PeerEvent) (answer : Answer) (peer : w.Peer) → PeerIs checked world.transactions number (book_slots after) new peer
+    pub world_after : (event : PeerEvent) (answer : Answer) (peer : w.Peer) → PeerIs (source_in checked world number) (book_slots after) new peer
         → Steps checked most world now (On number event) answer (with_peer world number peer)
         → IsWorldBy checked most after (slice_set peers number new) (events ++ (now, On number event) ∷ []) (with_peer world number peer)
     world_after event answer peer new_is steps = record {
@@ -116,8 +117,8 @@ module _ (checked : CheckedOf) (most : ℕ) (book : Book) (peers : List PeerOf) 
     limit_is = commits.limit ∙ is.limit_is;
     stands = commits_add_one book after_it commands time number commits world.transactions is.stands;
     count = is.count;
-    each = λ other within. subst (λ slots. PeerAt checked (world.transactions ++ record { commands = commands; time = time } ∷ []) other slots (world.peers other) (slice_get peers other)) (sym commits.slots)
-        (at_longer checked world.transactions (record { commands = commands; time = time } ∷ []) other (book_slots book) (world.peers other) (good_peer other) (slice_get peers other) (is.each other within));
+    each = λ other within. subst (λ slots. PeerAt (source_in checked (with_transaction world commands time) other) slots (world.peers other) (slice_get peers other)) (sym commits.slots)
+        (at_longer (source_in checked world other) (record { commands = commands; time = time } ∷ []) (book_slots book) (world.peers other) (good_peer other) (slice_get peers other) (is.each other within));
   }
 
   alike : AreAlike (setting_in checked) (book_rows book) (after (setting_in checked) world.transactions)
@@ -162,7 +163,7 @@ module _ (checked : CheckedOf) (most : ℕ) (book : Book) (peers : List PeerOf) 
     limit_is = kept.limit ∙ is.limit_is;
     stands = slots_keep_it book after_it (book_slots book) kept world.transactions is.stands;
     count = is.count;
-    each = λ other within. subst (λ slots. PeerAt checked world.transactions other slots (world.peers other) (slice_get peers other)) (sym kept.slots_are) (is.each other within);
+    each = λ other within. subst (λ slots. PeerAt (source_in checked world other) slots (world.peers other) (slice_get peers other)) (sym kept.slots_are) (is.each other within);
   }
 
   pub refusal_steps : (commands : List Command) (time now : ℕ) (error : CommitError) → RefusedBy book commands error → (error ≡ e.OutOfMemory → HasRoomFor book commands)

@@ -12,10 +12,9 @@ use Rattle.copy_both.specs.declared.taken.Taken.{Taken}
 use Rattle.copy_both.specs.declared.taken.Taken.TheVariants as taken
 use Rattle.test_subscriber.specs.Subscribers.{Feeds, Loses, Opens, Passes, Reports, sub_output}
 use Rattle.test_subscriber.specs.declared.subscriber.Subscriber.{Subscriber}
-use Rattle.stream_laws.specs.Following.{log_of}
 use Rattle.shard_world.specs.Joined.{PeerOf}
-use Rattle.shard_world.specs.PeerSteps.{Case, ChangesOwn, HasLog, IsCase, StandsIn, StepsTo}
-use Rattle.shard_world.specs.World.{Answer, Delivered, Idle, Kept, Lost, NotStarted, Opened, Reported, Sent, Skipped, Open, Hear, Take, Keep, Deliver, Report, Lose}
+use Rattle.shard_world.specs.PeerSteps.{Case, ChangesOwn, HasLog, IsCase, StandsIn, StepsTo, source_of}
+use Rattle.shard_world.specs.World.{Answer, Delivered, Idle, Kept, Lost, NotStarted, Opened, Reported, Sent, Skipped, Open, Hear, Take, Keep, Deliver, Report, Lose, log_in}
 use Rattle.shard_world.specs.World as w
 
 -- the first bytes that wait, at most so many
@@ -57,9 +56,9 @@ HearsStep = (case : Case) → IsCase case → (before after : Book) (old : PeerO
 -- the next commit is taken up
 abbrev pub TakesStep : Type 0
 TakesStep = (case : Case) (slots : List Slot) (old : PeerOf) (link new : Link) → StandsIn case slots old → old.link ≡ Some link
-    → LinkSays link new (next_bytes (link_checked link) (link_stage link) (log_of case.checked case.world.transactions) case.now)
-    (next_stage (link_checked link) (link_stage link) (log_of case.checked case.world.transactions) case.now)
-    → (found : Taken) → Ok found ≡ next_answer (link_checked link) (link_stage link) (log_of case.checked case.world.transactions)
+    → LinkSays link new (next_bytes (link_checked link) (link_stage link) (log_in (source_of case)) case.now)
+    (next_stage (link_checked link) (link_stage link) (log_in (source_of case)) case.now)
+    → (found : Taken) → Ok found ≡ next_answer (link_checked link) (link_stage link) (log_in (source_of case))
     → StepsTo case Take (answer_of found) slots (record { link = Some new; subscriber = old.subscriber })
 
 -- a keepalive is said

@@ -1,9 +1,7 @@
 -- When a subscriber of a program and its connection match those of the world: PostgreSQL 15, "Logical Replication", 31.2 Subscription, and 55.4. Streaming Replication Protocol.
 use Rattle.std.specs.Prelude.{◌≡◌, ◌<◌, ◌≤◌, ◌^◌, ℕ, Bool, false, is_some, List, [], All, drop, length, map, slice_get, take, Option, Some, None}
-use Rattle.std.specs.List.{flat_map}
 use Rattle.filter_tree.specs.Datum.{Datum}
 use Rattle.shard_checker.specs.CheckedView.{CheckedOf}
-use Rattle.tables_log.specs.StandsFor.{Transaction}
 use Rattle.tables_log.specs.declared.slots.Slot.{Slot}
 use Rattle.copy_frames.specs.Frames.{cut, rest_of}
 use Rattle.copy_frames.specs.declared.status.Status.{Status}
@@ -18,10 +16,9 @@ use Rattle.test_subscriber.specs.Feeding.{limit}
 use Rattle.test_subscriber.specs.Machine.{Machine}
 use Rattle.test_subscriber.specs.Subscribers.{sub_held, sub_machine, sub_output, sub_publications, sub_slot}
 use Rattle.test_subscriber.specs.declared.subscriber.Subscriber.{Subscriber}
-use Rattle.stream_laws.specs.Following.{log_of}
 use Rattle.shard_world.specs.World as w
 use Rattle.shard_world.specs.declared.peer.Peer.{Peer}
-use Rattle.shard_world.specs.World.{Connection, spelled_up, ups_of, down_bytes, machine_in}
+use Rattle.shard_world.specs.World.{Connection, down_bytes, machine_in, Source, up_bytes, down_of, log_in, asking_length}
 
 -- ---- machines
 
@@ -58,13 +55,6 @@ pub record IsApart (number : ℕ) (slots : List Slot) (subscriber : Subscriber) 
   pub machine : StaysAlike (sub_machine subscriber) peer.machine
   pub slot : HasSlot slots number peer.confirmed false
 
--- all that was to be sent on the connection, by the subscriber and by the publisher
-abbrev pub up_bytes : CheckedOf → ℕ → w.Peer → Connection → List ℕ
-up_bytes checked number peer c = flat_map (spelled_up checked number) (ups_of peer c)
-
-abbrev pub down_of : CheckedOf → List Transaction → ℕ → Connection → List ℕ
-down_of checked transactions number c = down_bytes checked transactions number c.start c.moves
-
 -- the publisher's end: nothing was said before the start
 pub record IsSilent (link : Link) (moves : List Move) : Type 0 where
   pub stage_is : link_stage link ≡ voices.NotStarted
@@ -72,19 +62,19 @@ pub record IsSilent (link : Link) (moves : List Move) : Type 0 where
   pub none : moves ≡ []
 
 -- and then the stream, so much of which was delivered
-abbrev pub run_of : CheckedOf → List Transaction → ℕ → ℕ → List Move → ℕ → Run
-run_of checked transactions number start moves delivered = record {
-  checked = checked;
-  log = log_of checked transactions;
-  start = record { slot = number; tables = length checked.catalog.tables; position = start };
+abbrev pub run_of : Source → ℕ → List Move → ℕ → Run
+run_of source start moves delivered = record {
+  checked = source.checked;
+  log = log_in source;
+  start = record { slot = source.number; tables = length source.checked.catalog.tables; position = start };
   moves = moves;
-  passed = take delivered (down_bytes checked transactions number (Some start) moves);
+  passed = take delivered (down_bytes source (Some start) moves);
 }
 
-abbrev pub Speaks : CheckedOf → List Transaction → ℕ → Link → List Move → ℕ → Option ℕ → Type 0
-Speaks checked transactions number link moves delivered None = IsSilent link moves
-Speaks checked transactions number link moves delivered (Some start) =
-    IsStreaming link (run_of checked transactions number start moves delivered) (w.place_of checked transactions number start moves)
+abbrev pub Speaks : Source → Link → List Move → ℕ → Option ℕ → Type 0
+Speaks source link moves delivered None = IsSilent link moves
+Speaks source link moves delivered (Some start) =
+    IsStreaming link (run_of source start moves delivered) (w.place_of source start moves)
 
 abbrev pub stream_of : ℕ → Option ℕ → Option (ℕ × ℕ)
 stream_of number None = None
@@ -102,35 +92,35 @@ pub record IsOneStatus (status : Status) : Type 0 where
   pub timed : status.clock < 2 ^ 64
 
 -- what the publisher heard of what the subscriber sent
-pub record Hears (checked : CheckedOf) (number : ℕ) (link : Link) (peer : w.Peer) (c : Connection) : Type 0 where
-  pub checked_is : ear_checked (link_ear link) ≡ checked
+pub record Hears (source : Source) (link : Link) (peer : w.Peer) (c : Connection) : Type 0 where
+  pub checked_is : ear_checked (link_ear link) ≡ source.checked
   pub phase_is : ear_phase (link_ear link) ≡ phase.Open
-  pub started : ear_started (link_ear link) ≡ stream_of number c.start
-  pub asked : IsAsked c.heard (length (spelled_up checked number (w.Asks peer.position))) c.start
+  pub started : ear_started (link_ear link) ≡ stream_of source.number c.start
+  pub asked : IsAsked c.heard (asking_length source peer.position) c.start
   pub statuses : All IsOneStatus c.reports
-  pub held : ear_held (link_ear link) ≡ rest_of (cut 65536 (take c.heard (up_bytes checked number peer c)))
+  pub held : ear_held (link_ear link) ≡ rest_of (cut 65536 (take c.heard (up_bytes source peer c)))
 
 -- with a connection: what waits is what was not heard and not delivered, and what is held is no whole frame
-pub record IsLinked (checked : CheckedOf) (transactions : List Transaction) (number : ℕ) (slots : List Slot) (link : Link) (subscriber : Subscriber) (peer : w.Peer) (c : Connection) : Type 0 where
-  pub heard : c.heard ≤ length (up_bytes checked number peer c)
-  pub delivered : c.delivered ≤ length (down_of checked transactions number c)
-  pub sends : sub_output subscriber ≡ drop c.heard (up_bytes checked number peer c)
-  pub held : sub_held subscriber ≡ rest_of (cut limit (take c.delivered (down_of checked transactions number c)))
-  pub machine : AlikeBut (sub_machine subscriber) (machine_in checked transactions number peer (Some c))
-  pub checked_is : link_checked link ≡ checked
-  pub hears : Hears checked number link peer c
-  pub speaks : Speaks checked transactions number link c.moves c.delivered c.start
-  pub slot : HasSlot slots number peer.confirmed (is_some c.start)
+pub record IsLinked (source : Source) (slots : List Slot) (link : Link) (subscriber : Subscriber) (peer : w.Peer) (c : Connection) : Type 0 where
+  pub heard : c.heard ≤ length (up_bytes source peer c)
+  pub delivered : c.delivered ≤ length (down_of source c)
+  pub sends : sub_output subscriber ≡ drop c.heard (up_bytes source peer c)
+  pub held : sub_held subscriber ≡ rest_of (cut limit (take c.delivered (down_of source c)))
+  pub machine : AlikeBut (sub_machine subscriber) (machine_in source peer (Some c))
+  pub checked_is : link_checked link ≡ source.checked
+  pub hears : Hears source link peer c
+  pub speaks : Speaks source link c.moves c.delivered c.start
+  pub slot : HasSlot slots source.number peer.confirmed (is_some c.start)
 
-abbrev pub IsAt : CheckedOf → List Transaction → ℕ → List Slot → Option Link → Subscriber → w.Peer → Option Connection → Type 0
-IsAt checked transactions number slots None subscriber peer None = IsApart number slots subscriber peer
-IsAt checked transactions number slots (Some link) subscriber peer (Some c) = IsLinked checked transactions number slots link subscriber peer c
-IsAt checked transactions number slots link subscriber peer connection = ⊥
+abbrev pub IsAt : Source → List Slot → Option Link → Subscriber → w.Peer → Option Connection → Type 0
+IsAt source slots None subscriber peer None = IsApart source.number slots subscriber peer
+IsAt source slots (Some link) subscriber peer (Some c) = IsLinked source slots link subscriber peer c
+IsAt source slots link subscriber peer connection = ⊥
 
 -- a subscriber of a program, and the publisher's end of its connection while there is one
 abbrev pub PeerOf : Type 0
 PeerOf = Peer
 
-pub record PeerIs (checked : CheckedOf) (transactions : List Transaction) (number : ℕ) (slots : List Slot) (code : PeerOf) (peer : w.Peer) : Type 0 where
-  pub named : IsNamed checked number code.subscriber
-  pub at : IsAt checked transactions number slots code.link code.subscriber peer peer.connection
+pub record PeerIs (source : Source) (slots : List Slot) (code : PeerOf) (peer : w.Peer) : Type 0 where
+  pub named : IsNamed source.checked source.number code.subscriber
+  pub at : IsAt source slots code.link code.subscriber peer peer.connection

@@ -1,5 +1,5 @@
 -- One step on the connection of a subscriber, in a world that events lead to: PostgreSQL 15, 55.4. Streaming Replication Protocol.
-use Rattle.std.specs.Prelude.{◌≡◌, ◌≢◌, ◌<◌, ◌^◌, ℕ, false, is_some, min, List, All, length, slice_get, Option, Some, None}
+use Rattle.std.specs.Prelude.{◌≡◌, ◌≢◌, ◌<◌, ◌^◌, ℕ, false, is_some, List, All, length, slice_get, Option, Some, None}
 use Rattle.shard_checker.specs.CheckedView.{CheckedOf}
 use Rattle.tables_log.specs.BookView.{book_checked, book_log, book_slots}
 use Rattle.tables_log.specs.Committing.{ChangesSlots}
@@ -11,10 +11,9 @@ use Rattle.copy_both.specs.declared.link.Link.{Link}
 use Rattle.copy_both.specs.declared.phase.Phase.TheVariants.{Lost}
 use Rattle.test_subscriber.specs.Subscribers.{sub_machine}
 use Rattle.test_subscriber.specs.declared.subscriber.Subscriber.{Subscriber}
-use Rattle.stream_laws.specs.Following.{log_of}
-use Rattle.shard_world.specs.Joined.{HasSlot, IsNamed, PeerOf, PeerIs, StaysAlike, up_bytes, down_of}
+use Rattle.shard_world.specs.Joined.{HasSlot, IsNamed, PeerOf, PeerIs, StaysAlike}
 use Rattle.shard_world.specs.World as w
-use Rattle.shard_world.specs.World.{Answer, Connection, Event, PeerEvent, Open, Hear, Take, Keep, Deliver, Report, Lose, Leads, first_world, as_many, hears, delivers, machine_now, peer_step}
+use Rattle.shard_world.specs.World.{Answer, Connection, Event, PeerEvent, Open, Hear, Take, Keep, Deliver, Report, Lose, Leads, first_world, as_many, hears, delivers, machine_now, peer_step, Source, source_in, step_in, in_part, log_in}
 use Rattle.shard_world.specs.WorldLaws.{IsPublisher, IsTimedEvent}
 
 -- ---- in which world
@@ -27,6 +26,9 @@ pub record Case : Type 0 where
   pub world : w.World
   pub number : ℕ
   pub now : ℕ
+
+abbrev pub source_of : Case → Source
+source_of case = source_in case.checked case.world case.number
 
 abbrev pub peer_of : Case → w.Peer
 peer_of case = case.world.peers case.number
@@ -41,22 +43,22 @@ pub record IsCase (case : Case) : Type 0 where
 
 -- the subscriber of a program matches that of the world
 abbrev pub StandsIn : Case → List Slot → PeerOf → Type 0
-StandsIn case slots code = PeerIs case.checked case.world.transactions case.number slots code (peer_of case)
+StandsIn case slots code = PeerIs (source_of case) slots code (peer_of case)
 
 -- the book has the log of the world
 pub record HasLog (case : Case) (book : Book) : Type 0 where
   pub checked_is : book_checked book ≡ case.checked
-  pub log_is : book_log book ≡ log_of case.checked case.world.transactions
+  pub log_is : book_log book ≡ log_in (source_of case)
 
 -- ---- what a step leaves
 
 abbrev pub stepped : Case → PeerEvent → Answer × w.Peer
-stepped case event = peer_step case.checked case.world.transactions case.number case.now event (peer_of case) (peer_of case).connection
+stepped case event = step_in case.checked case.world case.number case.now event
 
 -- it answers what the world's step answers, and leaves what matches what that leaves
 pub record StepsTo (case : Case) (event : PeerEvent) (answer : Answer) (slots : List Slot) (code : PeerOf) : Type 0 where
   pub answer_is : answer ≡ (stepped case event).0
-  pub peer_is : PeerIs case.checked case.world.transactions case.number slots code (stepped case event).1
+  pub peer_is : PeerIs (source_of case) slots code (stepped case event).1
 
 -- no other slot changes, and nothing else of the book
 pub record ChangesOwn (number : ℕ) (before after : Book) : Type 0 where
@@ -68,15 +70,7 @@ pub record ChangesOwn (number : ℕ) (before after : Book) : Type 0 where
 -- what was done before the connection is lost: some of the bytes were heard or delivered
 abbrev pub before_loss : Case → PeerEvent → ℕ → w.Peer → Option Connection → w.Peer
 before_loss case event some peer None = peer
-before_loss case (Hear count) some peer (Some c) =
-    hears case.checked case.number case.now peer c (as_many (min some count) (length (up_bytes case.checked case.number peer c)) c.heard)
-before_loss case (Deliver count) some peer (Some c) =
-    delivers peer c (as_many (min some count) (length (down_of case.checked case.world.transactions case.number c)) c.delivered)
-before_loss case Open some peer (Some c) = peer
-before_loss case Take some peer (Some c) = peer
-before_loss case (Keep want) some peer (Some c) = peer
-before_loss case (Report want) some peer (Some c) = peer
-before_loss case Lose some peer (Some c) = peer
+before_loss case event some peer (Some c) = in_part (source_of case) case.now event peer some c
 
 abbrev pub IsOwnStream : ℕ → Option (ℕ × ℕ) → Type 0
 IsOwnStream number None = Unit {0}
@@ -95,7 +89,7 @@ HasStreamBy slots number confirmed (Some link) = HasStream slots number confirme
 -- what stays over connections is that of this subscriber of the world
 pub record IsHalf (case : Case) (slots : List Slot) (link : Option Link) (subscriber : Subscriber) (peer : w.Peer) : Type 0 where
   pub named : IsNamed case.checked case.number subscriber
-  pub machine : StaysAlike (sub_machine subscriber) (machine_now case.checked case.world.transactions case.number peer)
+  pub machine : StaysAlike (sub_machine subscriber) (machine_now (source_of case) peer)
   pub stream : HasStreamBy slots case.number peer.confirmed link
 
 pub record Halts (case : Case) (event : PeerEvent) (slots : List Slot) (code : PeerOf) : Type 0 where

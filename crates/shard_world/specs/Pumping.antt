@@ -4,7 +4,7 @@ use Rattle.copy_both.specs.Streams.{end_of}
 use Rattle.tables_log.specs.BookView.{book_log}
 use Rattle.shard_world.specs.PeerCalls.{IsCounted}
 use Rattle.shard_world.specs.World as w
-use Rattle.shard_world.specs.World.{Answer, At, Connection, Event, Idle, NoSubscriber, NotOpen, On, OutOfMemory, PeerEvent, Hear, Take, Keep, Deliver, Report, position_now}
+use Rattle.shard_world.specs.World.{Answer, At, Connection, Event, Idle, NoSubscriber, NotOpen, On, OutOfMemory, PeerEvent, Hear, Take, Keep, Deliver, Report, position_now, position_of}
 use Rattle.shard_world.specs.WorldCalls.{IsWorld, RunsOn, world_book, world_checked}
 use Rattle.shard_world.specs.declared.world.World.{World}
 
@@ -80,7 +80,7 @@ pump_events takes = Hear all_bytes ∷ (replicate takes Take ++ Keep false ∷ D
 abbrev pub IsPosition : World → ℕ → ℕ → Type 0
 IsPosition code subscriber position =
     subscriber < length (world_checked code).plan → (most : ℕ) (events : List (ℕ × Event)) (world : w.World) → IsWorld code most events world
-    → position ≡ position_now (world_checked code) world.transactions subscriber (world.peers subscriber)
+    → position ≡ position_of (world_checked code) world subscriber
 
 -- after what was heard is answered, the answers to so many takes: the last says that there is no further commit, or there are more takes than commits
 pub record TakesEnough (takes commits : ℕ) (answers : List Answer) : Type 0 where
@@ -114,7 +114,7 @@ pub record IsAtEnd (before after : World) (subscriber count most : ℕ) : Type 0
   pub world : w.World
   pub is : IsWorld after most events world
   pub checked : world_checked after ≡ world_checked before
-  pub position_is : position_now (world_checked after) world.transactions subscriber (world.peers subscriber) ≡ end_of count
+  pub position_is : position_of (world_checked after) world subscriber ≡ end_of count
 
 -- where the log ends
 abbrev pub ReachesEnd : World → World → ℕ → Type 0

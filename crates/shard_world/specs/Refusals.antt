@@ -14,10 +14,9 @@ use Rattle.test_subscriber.specs.Subscribers.{FeedStops, Loses, fed_heard, statu
 use Rattle.test_subscriber.specs.declared.fault.SubFault.{SubFault}
 use Rattle.test_subscriber.specs.declared.subscriber.Subscriber.{Subscriber}
 use Rattle.shard_world.specs.Connections.{front_of}
-use Rattle.stream_laws.specs.Following.{log_of}
 use Rattle.shard_world.specs.Joined.{PeerIs, PeerOf}
-use Rattle.shard_world.specs.PeerSteps.{Case, ChangesOwn, Halts, HasLog, IsCase, StandsIn, peer_of}
-use Rattle.shard_world.specs.World.{PeerEvent, Open, Hear, Take, Keep, Deliver, Report, broken}
+use Rattle.shard_world.specs.PeerSteps.{Case, ChangesOwn, Halts, HasLog, IsCase, StandsIn, source_of}
+use Rattle.shard_world.specs.World.{PeerEvent, Open, Hear, Take, Keep, Deliver, Report, broken_in, log_in}
 
 -- ---- the answer is no fault, so that an error says that memory was refused
 
@@ -35,7 +34,7 @@ HearsAreAnswered = (case : Case) → IsCase case → (book : Book) (old : PeerOf
 
 abbrev pub TakesAreAnswered : Type 0
 TakesAreAnswered = (case : Case) → IsCase case → (slots : List Slot) (old : PeerOf) (link : Link) → StandsIn case slots old → old.link ≡ Some link
-    → IsAnswered (next_answer (link_checked link) (link_stage link) (log_of case.checked case.world.transactions))
+    → IsAnswered (next_answer (link_checked link) (link_stage link) (log_in (source_of case)))
 
 abbrev pub KeepsAreAnswered : Type 0
 KeepsAreAnswered = (case : Case) (slots : List Slot) (old : PeerOf) (link : Link) → StandsIn case slots old → old.link ≡ Some link → IsAnswered (keep_answer (link_stage link))
@@ -52,8 +51,7 @@ ReportsAreAnswered = (case : Case) (slots : List Slot) (old : PeerOf) (link : Li
 -- what is there matches what the world's step leaves where memory is refused
 pub record StepBreaks (case : Case) (event : PeerEvent) (slots : List Slot) (code : PeerOf) : Type 0 where
   pub some : ℕ
-  pub peer_is : PeerIs case.checked case.world.transactions case.number slots code
-      (broken case.checked case.world.transactions case.number case.now event (peer_of case) some (peer_of case).connection)
+  pub peer_is : PeerIs (source_of case) slots code (broken_in case.checked case.world case.number case.now event some)
 
 -- nothing changed
 abbrev pub OpenStays : Type 0

@@ -11,7 +11,7 @@ use Rattle.copy_both.specs.Streams.{count_before}
 use Rattle.stream_laws.specs.Finding.{in_shard}
 use Rattle.shard_world.specs.Seeing.{AllAt}
 use Rattle.shard_world.specs.World as w
-use Rattle.shard_world.specs.World.{position_now}
+use Rattle.shard_world.specs.World.{position_now, Source, source_in}
 use Rattle.shard_world.specs.declared.view.SubscriberView.{SubscriberView}
 use Rattle.shard_world.specs.declared.view.View.{View}
 
@@ -30,13 +30,13 @@ abbrev pub is_let_through : CheckedOf → ℕ → Tables → ℕ → List Datum 
 is_let_through checked number tables table row = holds (setting_in checked).keys tables table row && passes checked.catalog number table row
 
 -- A subscriber's position, how many commits that counts, and its rows: those of its shard of the publisher's tables after these commits, which are those that its publications let through.
-pub record ShowsSubscriber (checked : CheckedOf) (transactions : List Transaction) (number : ℕ) (peer : w.Peer) (shown : SubscriberView) : Type 0 where
-  pub position_is : shown.position ≡ position_now checked transactions number peer
+pub record ShowsSubscriber (source : Source) (peer : w.Peer) (shown : SubscriberView) : Type 0 where
+  pub position_is : shown.position ≡ position_now source peer
   pub applied_is : shown.applied ≡ count_before shown.position
   pub confirmed_is : shown.confirmed ≡ peer.confirmed
-  pub tables : length shown.rows.items ≡ length checked.catalog.tables
-  pub rows : AllAt (λ table rows. AreRows (in_shard (setting_in checked) number (tables_after checked transactions shown.applied) table) rows.items) shown.rows.items
-  pub let_through : AllAt (λ table rows. AreRows (is_let_through checked number (tables_after checked transactions shown.applied) table) rows.items) shown.rows.items
+  pub tables : length shown.rows.items ≡ length source.checked.catalog.tables
+  pub rows : AllAt (λ table rows. AreRows (in_shard (setting_in source.checked) source.number (tables_after source.checked source.transactions shown.applied) table) rows.items) shown.rows.items
+  pub let_through : AllAt (λ table rows. AreRows (is_let_through source.checked source.number (tables_after source.checked source.transactions shown.applied) table) rows.items) shown.rows.items
 
 -- ---- all together
 
@@ -77,5 +77,5 @@ pub record ShowsWorld (checked : CheckedOf) (world : w.World) (shown : View) : T
   pub tables : length shown.rows.items ≡ length checked.catalog.tables
   pub rows : AllAt (λ table rows. AreRows (holds (setting_in checked).keys (after (setting_in checked) world.transactions) table) rows.items) shown.rows.items
   pub count : length shown.subscribers.items ≡ length checked.plan
-  pub each : AllAt (λ number subscriber. ShowsSubscriber checked world.transactions number (world.peers number) subscriber) shown.subscribers.items
+  pub each : AllAt (λ number subscriber. ShowsSubscriber (source_in checked world number) (world.peers number) subscriber) shown.subscribers.items
   pub divided : ShowsDivided checked world.transactions shown

@@ -62,30 +62,49 @@ first_world = record { transactions = []; peers = λ subscriber. first_peer }
 
 -- ---- what is seen of a subscriber
 
+-- what the stream of a subscriber is made of: the publisher's catalog, what was committed, and the subscriber's number
+pub record Source : Type 0 where
+  pub checked : CheckedOf
+  pub transactions : List Transaction
+  pub number : ℕ
+
+abbrev pub source_in : CheckedOf → World → ℕ → Source
+source_in checked world subscriber = record { checked = checked; transactions = world.transactions; number = subscriber }
+
+abbrev pub log_in : Source → List CommitOf
+log_in source = log_of source.checked source.transactions
+
 -- the items of its stream, and their bytes; none before the start
-abbrev pub down_items : CheckedOf → List Transaction → ℕ → Option ℕ → List Move → List Item
-down_items checked transactions subscriber None moves = []
-down_items checked transactions subscriber (Some start) moves = items_from checked transactions subscriber start moves
+abbrev pub down_items : Source → Option ℕ → List Move → List Item
+down_items source None moves = []
+down_items source (Some start) moves = items_from source.checked source.transactions source.number start moves
 
-abbrev pub down_bytes : CheckedOf → List Transaction → ℕ → Option ℕ → List Move → List ℕ
-down_bytes checked transactions subscriber None moves = []
-down_bytes checked transactions subscriber (Some start) moves = stream (telling_of checked) (log_of checked transactions) subscriber (length checked.catalog.tables) start moves
+abbrev pub down_bytes : Source → Option ℕ → List Move → List ℕ
+down_bytes source None moves = []
+down_bytes source (Some start) moves = stream (telling_of source.checked) (log_in source) source.number (length source.checked.catalog.tables) start moves
 
-abbrev pub position_in : CheckedOf → List Transaction → ℕ → Peer → Option Connection → ℕ
-position_in checked transactions subscriber peer None = peer.position
-position_in checked transactions subscriber peer (Some c) = position_after peer.position (whole_in c.delivered (down_items checked transactions subscriber c.start c.moves))
+abbrev pub position_in : Source → Peer → Option Connection → ℕ
+position_in source peer None = peer.position
+position_in source peer (Some c) = position_after peer.position (whole_in c.delivered (down_items source c.start c.moves))
 
-abbrev pub machine_in : CheckedOf → List Transaction → ℕ → Peer → Option Connection → Machine
-machine_in checked transactions subscriber peer None = peer.machine
-machine_in checked transactions subscriber peer (Some c) =
-    (hear_cut (cut limit (take c.delivered (down_bytes checked transactions subscriber c.start c.moves))) (opened peer.machine)).machine
+abbrev pub machine_in : Source → Peer → Option Connection → Machine
+machine_in source peer None = peer.machine
+machine_in source peer (Some c) =
+    (hear_cut (cut limit (take c.delivered (down_bytes source c.start c.moves))) (opened peer.machine)).machine
 
 -- the position and the machine now
-abbrev pub position_now : CheckedOf → List Transaction → ℕ → Peer → ℕ
-position_now checked transactions subscriber peer = position_in checked transactions subscriber peer peer.connection
+abbrev pub position_now : Source → Peer → ℕ
+position_now source peer = position_in source peer peer.connection
 
-abbrev pub machine_now : CheckedOf → List Transaction → ℕ → Peer → Machine
-machine_now checked transactions subscriber peer = machine_in checked transactions subscriber peer peer.connection
+abbrev pub machine_now : Source → Peer → Machine
+machine_now source peer = machine_in source peer peer.connection
+
+-- in a world
+abbrev pub position_of : CheckedOf → World → ℕ → ℕ
+position_of checked world subscriber = position_now (source_in checked world subscriber) (world.peers subscriber)
+
+abbrev pub machine_of : CheckedOf → World → ℕ → Machine
+machine_of checked world subscriber = machine_now (source_in checked world subscriber) (world.peers subscriber)
 
 -- ---- events
 
@@ -110,6 +129,17 @@ first_connection = record { start = None; moves = []; reports = []; heard = 0; d
 abbrev pub ups_of : Peer → Connection → List Up
 ups_of peer c = Asks peer.position ∷ map Says c.reports
 
+-- how many bytes the command has by which it asks for its stream
+abbrev pub asking_length : Source → ℕ → ℕ
+asking_length source position = length (spelled_up source.checked source.number (Asks position))
+
+-- all that it sends, and all of its stream
+abbrev pub up_bytes : Source → Peer → Connection → List ℕ
+up_bytes source peer c = flat_map (spelled_up source.checked source.number) (ups_of peer c)
+
+abbrev pub down_of : Source → Connection → List ℕ
+down_of source c = down_bytes source c.start c.moves
+
 pub record Session : Type 0 where
   pub confirmed : ℕ
   pub start : Option ℕ
@@ -130,12 +160,12 @@ hear_up now session (Asks position) = record session { start = start_at session.
 hear_up now session (Says status) = record session { confirmed = max session.confirmed status.flushed; moves = session.moves ++ replied status.wants_reply now }
 
 -- what is whole in these bytes and wasn't in those heard before
-abbrev pub newly : CheckedOf → ℕ → Peer → Connection → ℕ → List Up
-newly checked subscriber peer c more =
-    drop (length (whole_up checked subscriber c.heard (ups_of peer c))) (whole_up checked subscriber (c.heard + more) (ups_of peer c))
+abbrev pub newly : Source → Peer → Connection → ℕ → List Up
+newly source peer c more =
+    drop (length (whole_up source.checked source.number c.heard (ups_of peer c))) (whole_up source.checked source.number (c.heard + more) (ups_of peer c))
 
-abbrev pub heard_of : CheckedOf → ℕ → ℕ → Peer → Connection → ℕ → Session
-heard_of checked subscriber now peer c more = fold (hear_up now) (record { confirmed = peer.confirmed; start = c.start; moves = c.moves }) (newly checked subscriber peer c more)
+abbrev pub heard_of : Source → ℕ → Peer → Connection → ℕ → Session
+heard_of source now peer c more = fold (hear_up now) (record { confirmed = peer.confirmed; start = c.start; moves = c.moves }) (newly source peer c more)
 
 -- as many bytes as are asked for, or as wait
 abbrev pub as_many : ℕ → ℕ → ℕ → ℕ
@@ -146,26 +176,26 @@ as_many asked all done = min asked (all - done)
 abbrev pub with_connection : Peer → Connection → Peer
 with_connection peer c = record peer { connection = Some c }
 
-abbrev pub hears : CheckedOf → ℕ → ℕ → Peer → Connection → ℕ → Peer
-hears checked subscriber now peer c more =
-    let session = heard_of checked subscriber now peer c more in
+abbrev pub hears : Source → ℕ → Peer → Connection → ℕ → Peer
+hears source now peer c more =
+    let session = heard_of source now peer c more in
     record peer { confirmed = session.confirmed; connection = Some (record c { start = session.start; moves = session.moves; heard = c.heard + more }) }
 
 abbrev pub delivers : Peer → Connection → ℕ → Peer
 delivers peer c more = with_connection peer (record c { delivered = c.delivered + more })
 
 -- the connection is lost: what was half read is dropped, and the position and rows stay
-abbrev pub loses : CheckedOf → List Transaction → ℕ → Peer → Peer
-loses checked transactions subscriber peer =
-    record peer { position = position_now checked transactions subscriber peer; machine = lost (machine_now checked transactions subscriber peer); connection = None }
+abbrev pub loses : Source → Peer → Peer
+loses source peer =
+    record peer { position = position_now source peer; machine = lost (machine_now source peer); connection = None }
 
 abbrev pub moves_on : Peer → Connection → Move → Peer
 moves_on peer c move = with_connection peer (record c { moves = c.moves ++ move ∷ [] })
 
 -- where a stream of these moves is
-abbrev pub place_of : CheckedOf → List Transaction → ℕ → ℕ → List Move → Place
-place_of checked transactions subscriber start moves =
-    all_moved (telling_of checked) (log_of checked transactions) (place_at subscriber (length checked.catalog.tables) start) moves
+abbrev pub place_of : Source → ℕ → List Move → Place
+place_of source start moves =
+    all_moved (telling_of source.checked) (log_in source) (place_at source.number (length source.checked.catalog.tables) start) moves
 
 abbrev pub took : ℕ → List Msg → Answer
 took number [] = Skipped number
@@ -175,26 +205,26 @@ abbrev pub takes : CheckedOf → ℕ → Peer → Connection → Place → Optio
 takes checked now peer c place None = (Idle, peer)
 takes checked now peer c place (Some commit) = (took commit.number (messages_for checked place.slot place.told commit), moves_on peer c (s.Take now))
 
-abbrev pub take_step : CheckedOf → List Transaction → ℕ → ℕ → Peer → Connection → Option ℕ → Answer × Peer
-take_step checked transactions subscriber now peer c None = (NotStarted, peer)
-take_step checked transactions subscriber now peer c (Some start) =
-    let place = place_of checked transactions subscriber start c.moves in takes checked now peer c place (slice_get (log_of checked transactions) place.done)
+abbrev pub take_step : Source → ℕ → Peer → Connection → Option ℕ → Answer × Peer
+take_step source now peer c None = (NotStarted, peer)
+take_step source now peer c (Some start) =
+    let place = place_of source start c.moves in takes source.checked now peer c place (slice_get (log_in source) place.done)
 
 abbrev pub keep_step : ℕ → Bool → Peer → Connection → Option ℕ → Answer × Peer
 keep_step now want peer c None = (NotStarted, peer)
 keep_step now want peer c (Some start) = (Kept, moves_on peer c (s.Keep now want))
 
-abbrev pub open_step : CheckedOf → List Transaction → ℕ → ℕ → PeerEvent → Peer → Connection → Answer × Peer
-open_step checked transactions subscriber now Open peer c = (AlreadyOpen, peer)
-open_step checked transactions subscriber now (Hear count) peer c =
-    let more = as_many count (length (flat_map (spelled_up checked subscriber) (ups_of peer c))) c.heard in (Heard more, hears checked subscriber now peer c more)
-open_step checked transactions subscriber now Take peer c = take_step checked transactions subscriber now peer c c.start
-open_step checked transactions subscriber now (Keep want) peer c = keep_step now want peer c c.start
-open_step checked transactions subscriber now (Deliver count) peer c =
-    let more = as_many count (length (down_bytes checked transactions subscriber c.start c.moves)) c.delivered in (Delivered more, delivers peer c more)
-open_step checked transactions subscriber now (Report want) peer c =
-    (Reported, with_connection peer (record c { reports = c.reports ++ status_at (position_now checked transactions subscriber peer) now want ∷ [] }))
-open_step checked transactions subscriber now Lose peer c = (Lost, loses checked transactions subscriber peer)
+abbrev pub open_step : Source → ℕ → PeerEvent → Peer → Connection → Answer × Peer
+open_step source now Open peer c = (AlreadyOpen, peer)
+open_step source now (Hear count) peer c =
+    let more = as_many count (length (up_bytes source peer c)) c.heard in (Heard more, hears source now peer c more)
+open_step source now Take peer c = take_step source now peer c c.start
+open_step source now (Keep want) peer c = keep_step now want peer c c.start
+open_step source now (Deliver count) peer c =
+    let more = as_many count (length (down_of source c)) c.delivered in (Delivered more, delivers peer c more)
+open_step source now (Report want) peer c =
+    (Reported, with_connection peer (record c { reports = c.reports ++ status_at (position_now source peer) now want ∷ [] }))
+open_step source now Lose peer c = (Lost, loses source peer)
 
 abbrev pub shut_step : PeerEvent → Peer → Answer × Peer
 shut_step Open peer = (Opened, with_connection peer first_connection)
@@ -205,22 +235,24 @@ shut_step (Deliver count) peer = (NotOpen, peer)
 shut_step (Report want) peer = (NotOpen, peer)
 shut_step Lose peer = (NotOpen, peer)
 
-abbrev pub peer_step : CheckedOf → List Transaction → ℕ → ℕ → PeerEvent → Peer → Option Connection → Answer × Peer
-peer_step checked transactions subscriber now event peer None = shut_step event peer
-peer_step checked transactions subscriber now event peer (Some c) = open_step checked transactions subscriber now event peer c
+abbrev pub peer_step : Source → ℕ → PeerEvent → Peer → Option Connection → Answer × Peer
+peer_step source now event peer None = shut_step event peer
+peer_step source now event peer (Some c) = open_step source now event peer c
+
+-- some of the bytes that were to be heard or delivered
+abbrev pub in_part : Source → ℕ → PeerEvent → Peer → ℕ → Connection → Peer
+in_part source now (Hear count) peer some c = hears source now peer c (as_many (min some count) (length (up_bytes source peer c)) c.heard)
+in_part source now (Deliver count) peer some c = delivers peer c (as_many (min some count) (length (down_of source c)) c.delivered)
+in_part source now Open peer some c = peer
+in_part source now Take peer some c = peer
+in_part source now (Keep want) peer some c = peer
+in_part source now (Report want) peer some c = peer
+in_part source now Lose peer some c = peer
 
 -- Where memory was refused the connection is lost, after some of the bytes that were to be heard or delivered.
-abbrev pub broken : CheckedOf → List Transaction → ℕ → ℕ → PeerEvent → Peer → ℕ → Option Connection → Peer
-broken checked transactions subscriber now event peer some None = peer
-broken checked transactions subscriber now (Hear count) peer some (Some c) =
-    loses checked transactions subscriber (hears checked subscriber now peer c (as_many (min some count) (length (flat_map (spelled_up checked subscriber) (ups_of peer c))) c.heard))
-broken checked transactions subscriber now (Deliver count) peer some (Some c) =
-    loses checked transactions subscriber (delivers peer c (as_many (min some count) (length (down_bytes checked transactions subscriber c.start c.moves)) c.delivered))
-broken checked transactions subscriber now Open peer some (Some c) = loses checked transactions subscriber peer
-broken checked transactions subscriber now Take peer some (Some c) = loses checked transactions subscriber peer
-broken checked transactions subscriber now (Keep want) peer some (Some c) = loses checked transactions subscriber peer
-broken checked transactions subscriber now (Report want) peer some (Some c) = loses checked transactions subscriber peer
-broken checked transactions subscriber now Lose peer some (Some c) = loses checked transactions subscriber peer
+abbrev pub broken : Source → ℕ → PeerEvent → Peer → ℕ → Option Connection → Peer
+broken source now event peer some None = peer
+broken source now event peer some (Some c) = loses source (in_part source now event peer some c)
 
 -- ---- steps of the world
 
@@ -252,10 +284,16 @@ pub record Refuses (checked : CheckedOf) (most : ℕ) (world : World) (commands 
   pub answer_is : answer ≡ Refused error
   pub next_is : next ≡ world
 
+abbrev pub step_in : CheckedOf → World → ℕ → ℕ → PeerEvent → Answer × Peer
+step_in checked world subscriber now event = peer_step (source_in checked world subscriber) now event (world.peers subscriber) (world.peers subscriber).connection
+
+abbrev pub broken_in : CheckedOf → World → ℕ → ℕ → PeerEvent → ℕ → Peer
+broken_in checked world subscriber now event some = broken (source_in checked world subscriber) now event (world.peers subscriber) some (world.peers subscriber).connection
+
 -- the connection's own step, or memory was refused
 pub record Moves (checked : CheckedOf) (world : World) (subscriber now : ℕ) (event : PeerEvent) (answer : Answer) (next : World) : Type 0 where
-  pub answer_is : answer ≡ (peer_step checked world.transactions subscriber now event (world.peers subscriber) (world.peers subscriber).connection).0
-  pub next_is : next ≡ with_peer world subscriber (peer_step checked world.transactions subscriber now event (world.peers subscriber) (world.peers subscriber).connection).1
+  pub answer_is : answer ≡ (step_in checked world subscriber now event).0
+  pub next_is : next ≡ with_peer world subscriber (step_in checked world subscriber now event).1
 
 -- memory is asked for where the step has something to do, and so not in place of these answers
 abbrev pub AsksMemory : Answer → Type 0
@@ -267,10 +305,10 @@ AsksMemory Lost = ⊥
 AsksMemory answer = Unit {0}
 
 pub record Breaks (checked : CheckedOf) (world : World) (subscriber now : ℕ) (event : PeerEvent) (answer : Answer) (next : World) : Type 0 where
-  pub needed : AsksMemory (peer_step checked world.transactions subscriber now event (world.peers subscriber) (world.peers subscriber).connection).0
+  pub needed : AsksMemory (step_in checked world subscriber now event).0
   pub some : ℕ
   pub answer_is : answer ≡ OutOfMemory
-  pub next_is : next ≡ with_peer world subscriber (broken checked world.transactions subscriber now event (world.peers subscriber) some (world.peers subscriber).connection)
+  pub next_is : next ≡ with_peer world subscriber (broken_in checked world subscriber now event some)
 
 abbrev pub StepsOn : Bool → CheckedOf → World → ℕ → ℕ → PeerEvent → Answer → World → Type 0
 StepsOn false checked world subscriber now event answer next = (answer ≡ NoSubscriber) × (next ≡ world)

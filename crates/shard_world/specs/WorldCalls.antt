@@ -3,12 +3,12 @@ use Rattle.std.specs.Prelude.{◌≡◌, ◌<◌, ℕ, List, [], ◌∷◌, ◌+
 use Rattle.std.specs.Arc.{arc_value}
 use Rattle.shard_checker.specs.CheckedView.{CheckedOf, checked_view}
 use Rattle.tables_log.specs.BookView.{book_checked, book_limit, book_slots}
-use Rattle.tables_log.specs.StandsFor.{Transaction, StandsFor}
+use Rattle.tables_log.specs.StandsFor.{StandsFor}
 use Rattle.tables_log.specs.declared.book.Book.{Book}
 use Rattle.tables_log.specs.declared.slots.Slot.{Slot}
 use Rattle.shard_world.specs.Joined.{PeerOf, PeerIs}
 use Rattle.shard_world.specs.World as w
-use Rattle.shard_world.specs.World.{Answer, Event, first_world, Steps, Leads}
+use Rattle.shard_world.specs.World.{Answer, Event, first_world, Steps, Leads, Source, source_in}
 use Rattle.shard_world.specs.WorldLaws.{IsPublisher, IsTimedEvent}
 use Rattle.shard_world.specs.declared.world.World.{World}
 
@@ -27,9 +27,9 @@ world_peers world = world.peers.items
 -- ---- which world it matches
 
 -- the subscriber of this number is there, and matches that of the world
-abbrev pub PeerAt : CheckedOf → List Transaction → ℕ → List Slot → w.Peer → Option PeerOf → Type 0
-PeerAt checked transactions number slots peer None = ⊥
-PeerAt checked transactions number slots peer (Some code) = PeerIs checked transactions number slots code peer
+abbrev pub PeerAt : Source → List Slot → w.Peer → Option PeerOf → Type 0
+PeerAt source slots peer None = ⊥
+PeerAt source slots peer (Some code) = PeerIs source slots code peer
 
 -- A book and subscribers match those of a world that these events led to. The log takes at most so many commits.
 pub record IsWorldBy (checked : CheckedOf) (most : ℕ) (book : Book) (peers : List PeerOf) (events : List (ℕ × Event)) (world : w.World) : Type 0 where
@@ -40,7 +40,7 @@ pub record IsWorldBy (checked : CheckedOf) (most : ℕ) (book : Book) (peers : L
   pub limit_is : book_limit book ≡ most
   pub stands : StandsFor book world.transactions
   pub count : length peers ≡ length checked.plan
-  pub each : (number : ℕ) → number < length checked.plan → PeerAt checked world.transactions number (book_slots book) (world.peers number) (slice_get peers number)
+  pub each : (number : ℕ) → number < length checked.plan → PeerAt (source_in checked world number) (book_slots book) (world.peers number) (slice_get peers number)
 
 abbrev pub IsWorld : World → ℕ → List (ℕ × Event) → w.World → Type 0
 IsWorld code most events world = IsWorldBy (world_checked code) most (world_book code) (world_peers code) events world

@@ -12,7 +12,7 @@ use Rattle.tables_log.specs.StandsFor.{after}
 use Rattle.pgoutput_msgs.specs.Telling.{oid_of}
 use Rattle.copy_both.specs.Streams.{count_before}
 use Rattle.stream_laws.specs.Following.{own_key, HasShard}
-use Rattle.shard_world.specs.World.{Connection, Peer, World, Event, Commit, On, first_world, position_now, machine_now, Leads}
+use Rattle.shard_world.specs.World.{Connection, Peer, World, Event, Commit, On, first_world, Leads, position_of, machine_of}
 
 -- ---- what is asked of the publisher and of events
 
@@ -57,11 +57,11 @@ WorldsStartAsAsked = (checked : CheckedOf) (most : ℕ) → IsPublisher checked 
 
 -- how many commits a subscriber has applied: those among them without a change for it are counted too
 abbrev pub applied_in : CheckedOf → World → ℕ → ℕ
-applied_in checked world subscriber = count_before (position_now checked world.transactions subscriber (world.peers subscriber))
+applied_in checked world subscriber = count_before (position_of checked world subscriber)
 
 abbrev pub HoldsExactly : CheckedOf → World → Type 0
 HoldsExactly checked world = (subscriber : ℕ)
-    → HasShard checked subscriber (machine_now checked world.transactions subscriber (world.peers subscriber)) (after (setting_in checked) (take (applied_in checked world subscriber) world.transactions))
+    → HasShard checked subscriber (machine_of checked world subscriber) (after (setting_in checked) (take (applied_in checked world subscriber) world.transactions))
 
 abbrev pub WorldsHoldExactly : Type 0
 WorldsHoldExactly = (checked : CheckedOf) (most : ℕ) → IsPublisher checked most → (events : List (ℕ × Event)) → All IsTimedEvent events
@@ -72,7 +72,7 @@ WorldsHoldExactly = (checked : CheckedOf) (most : ℕ) → IsPublisher checked m
 -- the subscriber has the row
 abbrev pub has_row : CheckedOf → World → ℕ → ℕ → List Datum → Bool
 has_row checked world subscriber table row =
-    is_row ((machine_now checked world.transactions subscriber (world.peers subscriber)).rows (oid_of table) (own_key checked table row)) row
+    is_row ((machine_of checked world subscriber).rows (oid_of table) (own_key checked table row)) row
 
 abbrev pub HaveApplied : CheckedOf → World → ℕ → Type 0
 HaveApplied checked world count = (subscriber : ℕ) → subscriber < length checked.plan → applied_in checked world subscriber ≡ count

@@ -3,7 +3,7 @@ use Rattle.std.proofs.Common.{◌≡◌, ℕ, ◌<◌, Bool, true, false, List, 
 use Rattle.std.specs.Prelude.{Option, Some, None, Ok, Err, ◌==◌, All, is_some, slice_get, if◌then◌else◌}
 use Rattle.std.specs.Cmp.{unsigned_Decides}
 use Rattle.std.specs.Option.{option_map}
-use Rattle.std.proofs.lemmas.Option.{slice_get_within}
+use Rattle.std.proofs.lemmas.Option.{slice_get_within, same_Some}
 use Rattle.std.proofs.lemmas.List.Elements.{All-nil, All-cons}
 use Rattle.filter_tree.specs.Datum.{Datum}
 use Rattle.filter_tree.specs.Same.{same_row}
@@ -65,10 +65,7 @@ module _ (checked : CheckedOf) (number : ℕ) (table : Table) (there : slice_get
   valid_row : (row : List Datum) → fits (setting_in checked) number row ≡ true → IsValid table.columns row
   valid_row row fit =
       let its = row_of checked number row fit in
-      subst (λ (t : Table). IsValid t.columns row) (table_is its.table table (sym its.there ∙ there)) its.valid
-    where
-      table_is : (one other : Table) → Some one ≡ Some other → one ≡ other
-      table_is one other h = cc
+      subst (λ (t : Table). IsValid t.columns row) (same_Some its.table table (sym its.there ∙ there)) its.valid
 
   row_read : (row : List Datum) → fits (setting_in checked) number row ≡ true → read_in (shape_for number table) (cells_of row) ≡ Ok row
   row_read row fit = ap or_bad (valid_rows_back table.columns row (valid_row row fit))

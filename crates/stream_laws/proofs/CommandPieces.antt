@@ -7,7 +7,7 @@ use Rattle.std.specs.List.{list_all, prefix_len}
 use Rattle.std.specs.Str.Parse.{AllDigits}
 use Rattle.std.proofs.Math.Nat.{pow-suc}
 use Rattle.std.proofs.lemmas.Bool.Decides.{nat_tests}
-use Rattle.std.proofs.lemmas.Bool.{and_parts}
+use Rattle.std.proofs.lemmas.Bool.{and_parts, eq-eqb}
 use Rattle.std.proofs.lemmas.Fmt.{digits_is_IsNumeral}
 use Rattle.std.proofs.lemmas.List.{take_at, drop_at}
 use Rattle.sql_tokens.specs.Doubled.{doubled, in_quotes}
@@ -51,17 +51,14 @@ unfolding quoted
 no_quote quote b [] e some = absurd (omega arith)
 no_quote quote b (c ∷ tail) e some = rw e refl
 
-same : (n : ℕ) → n == n ≡ true
-same n = grind (arith, nat_tests)
-
 last_quote : (quote : ℕ) (after : List ℕ) → get_or after 0 0 ≢ quote → quoted quote (quote ∷ after) ≡ found_as [] 1
 unfolding quoted
-last_quote quote [] other = rw (same quote) refl
-last_quote quote (c ∷ after) other = let e : c == quote ≡ false = grind (arith, nat_tests) in rw (same quote, e) refl
+last_quote quote [] other = rw (eq-eqb quote quote refl) refl
+last_quote quote (c ∷ after) other = let e : c == quote ≡ false = grind (arith, nat_tests) in rw (eq-eqb quote quote refl, e) refl
 
 two_quotes : (quote : ℕ) (after : List ℕ) → quoted quote (quote ∷ quote ∷ after) ≡ longer 2 quote (quoted quote after)
 unfolding quoted
-two_quotes quote after = rw (same quote) refl
+two_quotes quote after = rw (eq-eqb quote quote refl) refl
 
 -- what is written with each quote in it twice is read as it was
 pub quoted_back : (quote : ℕ) (text after : List ℕ) → get_or after 0 0 ≢ quote

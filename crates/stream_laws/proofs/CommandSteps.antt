@@ -20,7 +20,8 @@ use Rattle.table_changes.specs.Tables.{Tables, is_row, found_at, take_out, witho
 use Rattle.table_changes.proofs.ChangeLemmas.{rows_stand}
 use Rattle.table_changes.proofs.TableLemmas.{by_test, free_place, held, holds_without, or_false, and_true, and_false, row_found, some_is}
 use Rattle.stream_laws.specs.Finding.{FindsRows, in_shard, FindsShard}
-use Rattle.stream_laws.proofs.SwapLemmas.{Found, Swaps, swapped, IsDone, follows_swap, finds_same, is_it, or_left}
+use Rattle.stream_laws.proofs.SwapLemmas.{Found, Swaps, swapped, IsDone, follows_swap, finds_same, is_it}
+use Rattle.std.proofs.lemmas.Bool.{or_left, eq-eqb, eqb-true}
 
 -- ---- what it takes to be accepted
 
@@ -50,9 +51,6 @@ pub record ChangesRows (setting : Setting) (before after : Tables) (table : ℕ)
   pub there : (row : List Datum) → old ≡ Some row → holds setting.keys before table row ≡ true
   pub room : (row : List Datum) → new ≡ Some row → holds setting.keys before table row ≡ true → old ≡ Some row
 
-same_table : (table : ℕ) → (table == table) ≡ true
-same_table table = (unsigned_Decides table table).1 refl
-
 -- a row that a key names is there
 named_there : (setting : Setting) (tables : Tables) → Stands setting.keys tables → (table : ℕ) (key row : List Datum) → named tables table key ≡ Some row
     → holds setting.keys tables table row ≡ true
@@ -68,10 +66,10 @@ not_free setting tables table row free h =
     cc
 
 same_new : (setting : Setting) (table : ℕ) (new row : List Datum) (others : Bool) → (is_this table new table row || others) ≡ (same_row new row || others)
-same_new setting table new row others = ap (λ b. (b && same_row new row) || others) (same_table table)
+same_new setting table new row others = ap (λ b. (b && same_row new row) || others) (eq-eqb table table refl)
 
 same_old : (table : ℕ) (old : Option (List Datum)) (row : List Datum) (first : Bool) → (first && not ((table == table) && is_row old row)) ≡ (first && not (is_row old row))
-same_old table old row first = ap (λ b. first && not (b && is_row old row)) (same_table table)
+same_old table old row first = ap (λ b. first && not (b && is_row old row)) (eq-eqb table table refl)
 
 pub insert_changes : (setting : Setting) → HasPrimaryKeys setting.keys → (tables : Tables) → Stands setting.keys tables → (table : ℕ) (new : List Datum)
     → fault_of setting tables (Insert table new) ≡ None
@@ -93,7 +91,7 @@ left_free setting has tables stands table key new (Some old) e free h = by_test 
     (λ same. row_found (Some old) new same)
     (λ differ. absurd (not_free setting (take_out setting.keys tables table old) table new free
     (holds_without setting.keys has tables stands table 0 key old e table new
-    ∙ ap (λ b. holds setting.keys tables table new && not (b && same_row old new)) (same_table table)
+    ∙ ap (λ b. holds setting.keys tables table new && not (b && same_row old new)) (eq-eqb table table refl)
     ∙ ap (λ b. holds setting.keys tables table new && not b) differ ∙ and_true (holds setting.keys tables table new) ∙ h)))
 
 pub update_changes : (setting : Setting) → HasPrimaryKeys setting.keys → (tables : Tables) → Stands setting.keys tables → (table : ℕ) (key new : List Datum)
@@ -205,14 +203,11 @@ finds_alike key_of found other rows finds same = record {
   each = λ row. ap (λ o. is_row o row) (same (key_of row)) ∙ finds.each row;
 }
 
-same_number : (one other : ℕ) → (one == other) ≡ true → one ≡ other
-same_number one other h = (unsigned_Decides one other).0 h
-
 flipped : (one other : ℕ) → nat_eq one other ≡ (other == one)
 flipped one other = by_test (nat_eq one other)
-    (λ same. same ∙ sym ((unsigned_Decides other one).1 (sym (same_number one other same))))
+    (λ same. same ∙ sym ((unsigned_Decides other one).1 (sym (eqb-true one other same))))
     (λ differ. by_test (other == one)
-    (λ same. absurd (let back : nat_eq one other ≡ true = (unsigned_Decides one other).1 (sym (same_number other one same)) in cc))
+    (λ same. absurd (let back : nat_eq one other ≡ true = (unsigned_Decides one other).1 (sym (eqb-true other one same)) in cc))
     (λ beside. differ ∙ sym beside))
 
 any_flipped : (number : ℕ) (numbers : List ℕ) → list_any (nat_eq number) numbers ≡ list_any (λ one. one == number) numbers
@@ -230,7 +225,7 @@ any_with table numbers item = by_has (list_any (nat_eq item) numbers) refl
     by_has : (has : Bool) → list_any (nat_eq item) numbers ≡ has
         → list_any (λ number. number == table) (if has then numbers else numbers ++ item ∷ []) ≡ (list_any (λ number. number == table) numbers || (item == table))
     by_has true h = or_itself (list_any (λ number. number == table) numbers) (item == table)
-        (λ same. subst (λ t. list_any (λ number. number == t) numbers ≡ true) (same_number item table same) (sym (any_flipped item numbers) ∙ h))
+        (λ same. subst (λ t. list_any (λ number. number == t) numbers ≡ true) (eqb-true item table same) (sym (any_flipped item numbers) ∙ h))
     by_has false h = list_any-append (λ number. number == table) numbers (item ∷ []) ∙ ap (λ b. list_any (λ number. number == table) numbers || b) (or_false (item == table))
 
 or_again : (p q s : Bool) → ((p || q) || s) ≡ (p || (q || s))
@@ -248,7 +243,7 @@ any_fold table numbers (item ∷ more) =
 among_carried : (carries : ℕ → Bool) (numbers : List ℕ) (table : ℕ)
     → list_any (λ number. number == table) (filter carries (distinct nat_eq numbers)) ≡ (carries table && list_any (λ number. number == table) numbers)
 among_carried carries numbers table =
-    any-filter_same (λ number. number == table) carries (carries table) (λ number h. ap carries (same_number number table h)) (distinct nat_eq numbers)
+    any-filter_same (λ number. number == table) carries (carries table) (λ number h. ap carries (eqb-true number table h)) (distinct nat_eq numbers)
     ∙ ap (λ b. carries table && b) (any_fold table [] numbers)
 
 pub truncate_clears : (setting : Setting) → HasPrimaryKeys setting.keys → Covered setting → (key_of : ℕ → List Datum → List Datum) (subscriber : ℕ) (copies : ℕ → Found) (tables : Tables) → Stands setting.keys tables

@@ -1,10 +1,10 @@
 -- A first part of a stream's bytes is cut into the frames that are whole in it.
-use Rattle.std.proofs.Common.{◌≡◌, ℕ, ◌+◌, ◌-◌, ◌<◌, ◌≤◌, ◌^◌, Bool, true, false, List, [], ◌∷◌, ◌++◌, map, length, take, drop, refl, sym, ap, subst, ◌∙◌, arith, length-append, length-drop}
+use Rattle.std.proofs.Common.{◌≡◌, ℕ, ◌+◌, ◌-◌, ◌<◌, ◌≤◌, ◌^◌, Bool, true, false, List, [], ◌∷◌, ◌++◌, map, length, take, drop, refl, sym, ap, subst, ◌∙◌, arith, length-append, length-drop, zero-add}
 use Rattle.std.specs.Prelude.{None, nat_le, nat_lt}
 use Rattle.std.specs.Int.{from_be_bytes, to_be_bytes, w32}
 use Rattle.std.specs.List.{flat_map}
-use Rattle.std.proofs.lemmas.Bool.{ltb-true, ltb-false, lt-ltb, leb-true, leb-false, le-leb}
-use Rattle.std.proofs.lemmas.List.{append-nil, take-append-drop, take-append-le, drop-append-le, length-take-le, take_at, drop_at}
+use Rattle.std.proofs.lemmas.Bool.{ltb-true, ltb-false, lt-ltb, leb-true, leb-false, le-leb, le-ltb}
+use Rattle.std.proofs.lemmas.List.{append-nil, take-append-drop, take-append-le, drop-append-le, length-take-le, take_at, drop_at, nil_from_length}
 use Rattle.std.proofs.Math.Seq.{take-add}
 use mathlib.Core.List.{map-append}
 use Rattle.std.proofs.lemmas.Nat.{from_be_bytes-to_be_bytes_4}
@@ -17,9 +17,6 @@ use Rattle.copy_frames.proofs.PieceLemmas.{with_more, cut_more, more_after, afte
 use Rattle.stream_laws.specs.Cutting.{if_whole, whole_by, IsCutBy, FirstPartsAreCut}
 use Rattle.stream_laws.specs.Items.{frame_in}
 use Rattle.table_changes.proofs.TableLemmas.{by_test}
-
-not_below : (a b : ℕ) → b ≤ a → nat_lt a b ≡ false
-not_below a b h = by_test (nat_lt a b) (λ below. absurd (omega (arith, ltb-true a b below))) (λ above. above)
 
 length_framed : (frame : Frame) → length (framed frame) ≡ length frame.body + 5
 length_framed frame = omega (arith, length-append (to_be_bytes w32 (length frame.body + 4)) frame.body)
@@ -38,7 +35,7 @@ is_part limit frame bytes others more allowed same short = by_test (nat_lt (leng
     ∙ ap (λ all. take 4 (drop 1 all)) same in
     let number : from_be_bytes w32 (take 4 (drop 1 bytes)) ≡ size =
     ap (from_be_bytes w32) digits ∙ from_be_bytes-to_be_bytes_4 size (omega (arith, allowed.signed)) in
-    rw (enough, number, not_below size 4 (omega arith), lt-ltb size (2 ^ 31) allowed.signed, not_below limit size allowed.within, lt-ltb (length bytes) (size + 1) (omega (arith, length_framed frame))) refl)
+    rw (enough, number, le-ltb size 4 (omega arith), lt-ltb size (2 ^ 31) allowed.signed, le-ltb limit size allowed.within, lt-ltb (length bytes) (size + 1) (omega (arith, length_framed frame))) refl)
 
 -- the first frame is whole, and this comes after it
 record Begins (bytes : List ℕ) (frame : Frame) (others more : List ℕ) : Type 0 where
@@ -63,17 +60,13 @@ cut_first : (limit : ℕ) (frame : Frame) (bytes : List ℕ) → IsFrame limit f
 cut_first limit frame bytes allowed =
     ap (λ first. cut limit (first ++ bytes)) (sym (append-nil (framed frame))) ∙ spelled_are_cut limit (frame ∷ []) bytes (allowed, tt)
 
-nothing_left : (bytes others : List ℕ) → bytes ++ others ≡ [] → bytes ≡ []
-nothing_left [] others h = refl
-nothing_left (byte ∷ bytes) others h = absurd cc
-
 pub cut_nothing : (limit : ℕ) → cut limit [] ≡ Rest []
 unfolding cut
 cut_nothing limit = refl
 
 pub parts_are_cut : {X : Type 0} (frame : X → Frame) (limit : ℕ) (all : List X) (bytes others : List ℕ) → AreFrames limit (map frame all)
     → bytes ++ others ≡ flat_map (λ x. framed (frame x)) all → IsCutBy frame limit all bytes
-parts_are_cut frame limit [] bytes others allowed same = record { rest = []; cuts = ap (cut limit) (nothing_left bytes others same) ∙ cut_nothing limit }
+parts_are_cut frame limit [] bytes others allowed same = record { rest = []; cuts = ap (cut limit) (nil_from_length bytes (omega (arith, ap length same, length-append bytes others))) ∙ cut_nothing limit }
 parts_are_cut frame limit (x ∷ xs) bytes others allowed same = by_test (nat_le (length (framed (frame x))) (length bytes))
     (λ long.
     let first = begins bytes (frame x) others (flat_map (λ y. framed (frame y)) xs) same (ltb-true _ _ long) in
@@ -105,9 +98,6 @@ module _ {X : Type 0} (frame : X → Frame) where
   if_more true false x few many both h = absurd (let wrong : false ≡ true = both refl in cc)
   if_more false other x few many both h = refl
 
-  none_more : (n : ℕ) → 0 + n ≡ n
-  none_more n = omega arith
-
   pub whole_more_by : (count more : ℕ) (all : List X)
       → whole_by frame count all ++ drop (length (whole_by frame count all)) (whole_by frame (count + more) all) ≡ whole_by frame (count + more) all
   whole_more_by count more [] = refl
@@ -126,7 +116,7 @@ module _ {X : Type 0} (frame : X → Frame) where
       let none : count - length (framed (frame x)) ≡ 0 = omega (arith, less) in
       subst (λ n. whole_by frame n xs ++ drop (length (whole_by frame n xs)) (whole_by frame (count + more - length (framed (frame x))) xs) ≡ whole_by frame (count + more - length (framed (frame x))) xs)
       (sym none)
-      (subst (λ m. whole_by frame 0 xs ++ drop (length (whole_by frame 0 xs)) (whole_by frame m xs) ≡ whole_by frame m xs) (none_more (count + more - length (framed (frame x))))
+      (subst (λ m. whole_by frame 0 xs ++ drop (length (whole_by frame 0 xs)) (whole_by frame m xs) ≡ whole_by frame m xs) (zero-add (count + more - length (framed (frame x))))
       (whole_more_by 0 (count + more - length (framed (frame x))) xs))))
 
 -- the whole frames of a piece that comes after others, and what is held then

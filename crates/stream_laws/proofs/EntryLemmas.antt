@@ -1,6 +1,6 @@
 -- The entry of a log at a place, and the tables before and after it.
-use Rattle.std.proofs.Common.{◌≡◌, ℕ, zero, suc, ◌+◌, ◌<◌, List, [], ◌∷◌, length, take, refl, sym, ◌∙◌, ap, arith}
-use Rattle.std.specs.Prelude.{Some, fold, slice_get}
+use Rattle.std.proofs.Common.{◌≡◌, ℕ, zero, suc, ◌+◌, ◌<◌, ◌≤◌, List, [], ◌∷◌, length, take, refl, sym, ◌∙◌, ap, arith, add-zero}
+use Rattle.std.specs.Prelude.{Some, None, fold, slice_get}
 use Rattle.table_changes.specs.Records.{record_of}
 use Rattle.table_changes.specs.Setting.{Setting}
 use Rattle.table_changes.specs.Standing.{KeepsApart}
@@ -11,6 +11,7 @@ use Rattle.shard_checker.specs.CheckedView.{CheckedOf, setting_in}
 use Rattle.tables_log.specs.Commits.{CommitOf, commit_of}
 use Rattle.tables_log.specs.StandsFor.{Transaction, left_by, IsAccepted, AreAccepted, entries_from}
 use Rattle.stream_laws.proofs.CommandSteps.{IsRight}
+use Rattle.std.proofs.lemmas.Option.{same_Some}
 
 -- the transaction of an entry, which comes after so many others
 pub record IsEntry (setting : Setting) (tables : Tables) (number : ℕ) (transactions : List Transaction) (place : ℕ) (commit : CommitOf) : Type 0 where
@@ -21,14 +22,13 @@ pub record IsEntry (setting : Setting) (tables : Tables) (number : ℕ) (transac
   pub accepted : IsAccepted setting (fold (left_by setting) tables (take place transactions)) transaction
   pub left : fold (left_by setting) tables (take (suc place) transactions) ≡ left_by setting (fold (left_by setting) tables (take place transactions)) transaction
 
-commit_is : (one other : CommitOf) → Some one ≡ Some other → one ≡ other
-commit_is one other h = cc
-
-at_first : (number : ℕ) → number ≡ number + 0
-at_first number = omega arith
-
 at_later : (number place : ℕ) → number + 1 + place ≡ number + suc place
 at_later number place = omega arith
+
+pub past_end : {X : Type 0} (xs : List X) (place : ℕ) → slice_get xs place ≡ None → length xs ≤ place
+past_end [] place e = omega arith
+past_end (x ∷ xs) zero e = absurd cc
+past_end (x ∷ xs) (suc place) e = let later : length xs ≤ place = past_end xs place e in omega (arith, later)
 
 pub entry_at : (setting : Setting) (tables : Tables) (number : ℕ) (transactions : List Transaction) (place : ℕ) (commit : CommitOf) → AreAccepted setting tables transactions
     → slice_get (entries_from setting tables number transactions) place ≡ Some commit → IsEntry setting tables number transactions place commit
@@ -37,7 +37,7 @@ entry_at setting tables number (transaction ∷ transactions) zero commit accept
   transaction = transaction;
   there = refl;
   within = omega arith;
-  is = commit_is commit _ (sym h) ∙ ap (λ n. commit_of n transaction.time (record_of setting tables transaction.commands)) (at_first number);
+  is = same_Some commit _ (sym h) ∙ ap (λ n. commit_of n transaction.time (record_of setting tables transaction.commands)) (sym (add-zero number));
   accepted = accepted.0;
   left = refl;
 }

@@ -32,9 +32,10 @@ use Rattle.stream_laws.specs.FollowingBytes.{items_from, AreFirst, position_in, 
 use Rattle.stream_laws.specs.Items.{Item, Response, Carries, Alive, frame_in, spelled}
 use Rattle.stream_laws.proofs.CommandSteps.{finds_none}
 use Rattle.stream_laws.proofs.CuttingLemmas.{first_parts_are_cut, whole_more_by}
-use Rattle.stream_laws.proofs.FollowingLemmas.{IsOpened, first_safe, stream_safe}
+use Rattle.stream_laws.proofs.FollowingLemmas.{IsOpened, first_safe, stream_safe, same_item, same_items}
 use Rattle.stream_laws.proofs.ItemLemmas.{streams_are_items}
 use Rattle.stream_laws.proofs.StreamSteps.{has_rows}
+use Rattle.copy_frames.proofs.PieceLemmas.{frames_before}
 
 -- ---- frames of items
 
@@ -214,12 +215,6 @@ record GoesOn (short long : List Item) : Type 0 where
   more : List Item
   is : long ≡ short ++ more
 
-same_item : (one other : Item) (items others : List Item) → one ∷ items ≡ other ∷ others → one ≡ other
-same_item one other items others h = cc
-
-same_items : (one other : Item) (items others : List Item) → one ∷ items ≡ other ∷ others → items ≡ others
-same_items one other items others h = cc
-
 goes_on : (short long after rest : List Item) → short ++ after ≡ long ++ rest → length short ≤ length long → GoesOn short long
 goes_on [] long after rest same less = record { more = long; is = refl }
 goes_on (item ∷ short) [] after rest same less = absurd (omega (arith, less))
@@ -243,15 +238,11 @@ module _ (checked : CheckedOf) (transactions : List Transaction) (published : Is
   follows_there : Follows checked transactions number (sub_machine old).position (sub_machine between)
   follows_there = sub_follows checked transactions number old between follows opens
 
-  frames_before : frames_of (fed_cut between bytes) ≡ map frame_in before
-  frames_before =
+  frames_are : frames_of (fed_cut between bytes) ≡ map frame_in before
+  frames_are =
       let at = cuts checked transactions published number (sub_machine between) (sub_opened old between opens) (sub_machine old).position follows_there moves sent bytes (piece ++ others)
       (sym (append_assoc bytes piece others) ∙ first) in
-      ap (λ held. frames_of (cut limit (held ++ bytes))) opens.held ∙ ap frames_of at.cuts ∙ frames_before_rest (map frame_in before) at.rest
-    where
-      frames_before_rest : (frames : List Frame) (rest : List ℕ) → frames_of (after_frames frames (Rest rest)) ≡ frames
-      frames_before_rest [] rest = refl
-      frames_before_rest (frame ∷ frames) rest = ap (λ later. frame ∷ later) (frames_before_rest frames rest)
+      ap (λ held. frames_of (cut limit (held ++ bytes))) opens.held ∙ ap frames_of at.cuts ∙ frames_before (map frame_in before) at.rest
 
   stopped_beyond : StopsBeyond between bytes piece new → StopsFollowing checked transactions number (sub_machine old).position before fed new
   stopped_beyond stop =
@@ -262,7 +253,7 @@ module _ (checked : CheckedOf) (transactions : List Transaction) (published : Is
       let some = first_frames frames stop.rest fed at.rest (stop.among ∙ held_is ∙ at.cuts) in
       let less : length before ≤ length some.items =
       let one : length frames ≡ length (frames_of (fed_cut between bytes)) + length stop.more = length-append (frames_of (fed_cut between bytes)) stop.more in
-      let two : length (frames_of (fed_cut between bytes)) ≡ length before = ap length frames_before ∙ length-map before frame_in in
+      let two : length (frames_of (fed_cut between bytes)) ≡ length before = ap length frames_are ∙ length-map before frame_in in
       let three : length frames ≡ length some.items = ap length some.frames_are ∙ length-map some.items frame_in in
       omega (arith, one, two, three) in
       let both = whole_both in

@@ -76,6 +76,12 @@ SafeItems checked transactions subscriber position (item ∷ items) machine =
     Follows checked transactions subscriber position machine
     × IsOkAnd (hear_frame (frame_in item) machine) (SafeItems checked transactions subscriber (raised_by position item) items)
 
+pub same_item : (one other : Item) (xs ys : List Item) → one ∷ xs ≡ other ∷ ys → one ≡ other
+same_item one other xs ys e = cc
+
+pub same_items : (one other : Item) (xs ys : List Item) → one ∷ xs ≡ other ∷ ys → xs ≡ ys
+same_items one other xs ys e = cc
+
 module _ (checked : CheckedOf) (transactions : List Transaction) (subscriber : ℕ) where
   -- the items of messages
   carried_safe : (head : XLogData) → IsHead head → (messages : List Msg) (rest : List Item) (position : ℕ) (machine : Machine) → All IsSentItem (map (Carries head) messages ++ rest)
@@ -101,17 +107,11 @@ module _ (checked : CheckedOf) (transactions : List Transaction) (subscriber : �
   first_safe (first ∷ fed) others [] position machine e h = absurd cc
   first_safe (first ∷ fed) others (item ∷ items) position machine e h =
       subst (λ one. IsOkAnd (next_heard (hear_frame (frame_in one) machine) (hear_frames (map frame_in fed))) (Follows checked transactions subscriber (position_after (raised_by position one) fed)))
-      (sym (first_is first item (fed ++ others) items e))
+      (sym (same_item first item (fed ++ others) items e))
       (then_ok (hear_frame (frame_in item) machine) (hear_frames (map frame_in fed)) (SafeItems checked transactions subscriber (raised_by position item) items)
       (Follows checked transactions subscriber (position_after (raised_by position item) fed)) h.1
-      (λ next later. first_safe fed others items (raised_by position item) next (rest_is first item (fed ++ others) items e) later))
+      (λ next later. first_safe fed others items (raised_by position item) next (same_items first item (fed ++ others) items e) later))
     where
-      first_is : (one other : Item) (xs ys : List Item) → one ∷ xs ≡ other ∷ ys → one ≡ other
-      first_is one other xs ys e = cc
-
-      rest_is : (one other : Item) (xs ys : List Item) → one ∷ xs ≡ other ∷ ys → xs ≡ ys
-      rest_is one other xs ys e = cc
-
       then_ok : (outcome : Outcome) (more : Machine → Outcome) (P Q : Machine → Type 0) → IsOkAnd outcome P → ((next : Machine) → P next → IsOkAnd (more next) Q)
           → IsOkAnd (next_heard outcome more) Q
       then_ok (Ok next) more P Q h on = on next h

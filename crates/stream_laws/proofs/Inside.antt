@@ -21,6 +21,8 @@ use Rattle.stream_laws.proofs.CommandSteps.{finds_alike}
 use Rattle.stream_laws.proofs.RelationSteps.{Knows, learns, told_same, told_other}
 use Rattle.stream_laws.proofs.Safety.{Safe, safe_heard, safe_both}
 use Rattle.stream_laws.proofs.SwapLemmas.{Found}
+use Rattle.std.proofs.lemmas.Bool.{eqb-true}
+use Rattle.stream_laws.proofs.EntryLemmas.{past_end}
 
 -- the number of a table that was told stays told
 pub record Inside (checked : CheckedOf) (subscriber begin : ℕ) (outer : Machine) (told : List Bool) (tables : Tables) (machine : Machine) : Type 0 where
@@ -46,19 +48,16 @@ abbrev pub AllTold : List Bool → List ℕ → Type 0
 AllTold told [] = Unit {0}
 AllTold told (number ∷ numbers) = (slice_index_or told number false ≡ true) × AllTold told numbers
 
-same_number : (one other : ℕ) → (one == other) ≡ true → one ≡ other
-same_number one other h = (unsigned_Decides one other).0 h
-
 -- a table that was told stays told
 stays_told_one : (told : List Bool) (number other : ℕ) → number < length told → slice_index_or told other false ≡ true → slice_index_or (told_one told number) other false ≡ true
 stays_told_one told number other less h = by_test (other == number)
-    (λ here. ap (λ n. slice_index_or (told_one told number) n false) (same_number other number here) ∙ told_same told number less)
+    (λ here. ap (λ n. slice_index_or (told_one told number) n false) (eqb-true other number here) ∙ told_same told number less)
     (λ beside. told_other told number other beside ∙ h)
 
 still_told_one : (told : List Bool) (number other : ℕ) → slice_index_or told number false ≡ true → slice_index_or (told_one told number) other false ≡ slice_index_or told other false
 still_told_one told number other h = by_test (other == number)
     (λ here.
-    let same : other ≡ number = same_number other number here in
+    let same : other ≡ number = eqb-true other number here in
     ap (λ n. slice_index_or (told_one told number) n false) same ∙ told_same told number (within told number h) ∙ sym h ∙ ap (λ n. slice_index_or told n false) (sym same))
     (λ beside. told_other told number other beside)
   where
@@ -97,12 +96,7 @@ module _ (checked : CheckedOf) (transactions : List Transaction) (subscriber beg
       → Inside checked subscriber begin outer told tables machine
       → Safe (Follows checked transactions subscriber) position (relation_at number found) machine
       (λ at next. (at ≡ position) × Inside checked subscriber begin outer (told_one told number) tables next)
-  new_relation told number None machine e less inside = absurd (none_there checked.catalog.tables number e (subst (λ c. number < c) inside.knows.flags less))
-    where
-      none_there : (all : List Table) (n : ℕ) → slice_get all n ≡ None → n < length all → ⊥
-      none_there [] n e less = omega (arith, less)
-      none_there (first ∷ all) zero e less = cc
-      none_there (first ∷ all) (suc n) e less = none_there all n e (omega (arith, less))
+  new_relation told number None machine e less inside = absurd (let past = past_end checked.catalog.tables number e in omega (arith, past, less, inside.knows.flags))
   new_relation told number (Some table) machine e less inside =
       let learnt = learns checked told machine number table e less inside.knows inside.relations in
       safe_heard (Follows checked transactions subscriber) (λ at next. (at ≡ position) × Inside checked subscriber begin outer (told_one told number) tables next)
@@ -174,7 +168,7 @@ staged_inside checked subscriber begin outer told before after machine number fo
   relations = inside.relations;
   work = λ other. by_test (number == other)
       (λ same.
-      let numbers : number ≡ other = same_number number other same in
+      let numbers : number ≡ other = eqb-true number other same in
       let oids : (oid_of other == oid_of number) ≡ true = (unsigned_Decides (oid_of other) (oid_of number)).1 (ap oid_of (sym numbers)) in
       finds_alike (own_key checked other) found (with_found machine.work (oid_of number) found (oid_of other)) (in_shard (setting_in checked) subscriber after other)
       (subst (λ n. FindsRows (own_key checked n) found (in_shard (setting_in checked) subscriber after n)) numbers here)
@@ -187,7 +181,7 @@ staged_inside checked subscriber begin outer told before after machine number fo
     oids_differ : (one another : ℕ) → (one == another) ≡ false → (oid_of another == oid_of one) ≡ false
     oids_differ one another h = by_test (oid_of another == oid_of one)
         (λ same. absurd (
-        let oids : oid_of another ≡ oid_of one = same_number (oid_of another) (oid_of one) same in
+        let oids : oid_of another ≡ oid_of one = eqb-true (oid_of another) (oid_of one) same in
         let numbers : (one == another) ≡ true = (unsigned_Decides one another).1 (omega (arith, oids)) in
         cc))
         (λ differ. differ)

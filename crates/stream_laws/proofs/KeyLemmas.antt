@@ -1,10 +1,10 @@
 -- The columns that a Relation flags identify rows as the replica identity does.
-use Rattle.std.proofs.Common.{◌≡◌, ℕ, zero, suc, ◌+◌, ◌<◌, ◌≤◌, Bool, true, false, ◌||◌, List, [], ◌∷◌, length, refl, sym, ◌∙◌, ap, subst, arith}
+use Rattle.std.proofs.Common.{◌≡◌, ℕ, zero, suc, ◌+◌, ◌<◌, ◌≤◌, Bool, true, false, ◌||◌, List, [], ◌∷◌, length, refl, sym, ◌∙◌, ap, subst, arith, add-zero, zero-add}
 use Rattle.std.specs.Prelude.{Option, Some, None, ◌==◌, nat_lt, is_none, slice_get, unwrap_or}
 use Rattle.std.specs.Cmp.{unsigned_Decides}
 use Rattle.std.specs.List.{list_any}
-use Rattle.std.proofs.lemmas.Bool.{ltb-true, ltb-false}
-use Rattle.std.proofs.lemmas.Option.{slice_get_past}
+use Rattle.std.proofs.lemmas.Bool.{ltb-true, ltb-false, or_right, eq-eqb}
+use Rattle.std.proofs.lemmas.Option.{slice_get_past, same_Some}
 use Rattle.filter_tree.specs.Datum.{Datum, Missing, value_at}
 use Rattle.filter_tree.specs.Valid.{IsValid}
 use Rattle.filter_tree.specs.declared.table.Column.{Column}
@@ -23,6 +23,7 @@ use Rattle.pgoutput_msgs.specs.Telling.{columns_from}
 use Rattle.test_subscriber.specs.Shapes.{if_flagged, flagged_from}
 use Rattle.stream_laws.specs.Following.{flagged_in, own_key}
 use Rattle.stream_laws.proofs.CommandSteps.{TellsIdentity}
+use Rattle.stream_laws.proofs.EntryLemmas.{past_end}
 
 -- ---- values in columns, one by one
 
@@ -34,13 +35,6 @@ others_same x y xs ys h = cc
 
 both_same : (x y : Datum) (xs ys : List Datum) → x ≡ y → xs ≡ ys → x ∷ xs ≡ y ∷ ys
 both_same x y xs ys h k = cc
-
-or_right : (p q : Bool) → q ≡ true → (p || q) ≡ true
-or_right true q h = refl
-or_right false q h = h
-
-number_itself : (number : ℕ) → (number == number) ≡ true
-number_itself number = (unsigned_Decides number number).1 refl
 
 abbrev has : List ℕ → ℕ → Bool
 has columns column = list_any (λ number. number == column) columns
@@ -58,7 +52,7 @@ all_same : (columns : List ℕ) (one other : List Datum) → ((column : ℕ) →
 all_same [] one other h = refl
 all_same (first ∷ columns) one other h =
     both_same (value_at one first) (value_at other first) (values_at columns one) (values_at columns other)
-    (h first (ap (λ b. b || has columns first) (number_itself first)))
+    (h first (ap (λ b. b || has columns first) (eq-eqb first first refl)))
     (all_same columns one other (λ column k. h column (or_right (first == column) (has columns column) k)))
 
 -- ---- columns that are flagged
@@ -78,9 +72,6 @@ flagged_both : (flag : Bool) (number : ℕ) (others : List ℕ) (one other : Lis
 flagged_both true number others one other h k = both_same (value_at one number) (value_at other number) (values_at others one) (values_at others other) (h refl) k
 flagged_both false number others one other h k = k
 
-at_zero : (number : ℕ) → number + 0 ≡ number
-at_zero number = omega arith
-
 at_next : (number k : ℕ) → number + suc k ≡ number + 1 + k
 at_next number k = omega arith
 
@@ -89,9 +80,9 @@ each_flagged : (table : Table) (number : ℕ) (columns : List Column) (one other
     → (k : ℕ) → k < length columns → is_covered table (number + k) ≡ true → value_at one (number + k) ≡ value_at other (number + k)
 each_flagged table number [] one other h k less covered = absurd (omega (arith, less))
 each_flagged table number (column ∷ columns) one other h zero less covered =
-    subst (λ n. value_at one n ≡ value_at other n) (sym (at_zero number))
+    subst (λ n. value_at one n ≡ value_at other n) (sym (add-zero number))
     (flagged_head (is_covered table number) number (flagged_from (number + 1) (columns_from table (number + 1) columns)) one other
-    (subst (λ n. is_covered table n ≡ true) (at_zero number) covered) h)
+    (subst (λ n. is_covered table n ≡ true) (add-zero number) covered) h)
 each_flagged table number (column ∷ columns) one other h (suc k) less covered =
     subst (λ n. value_at one n ≡ value_at other n) (sym (at_next number k))
     (each_flagged table (number + 1) columns one other
@@ -104,12 +95,9 @@ all_flagged : (table : Table) (number : ℕ) (columns : List Column) (one other 
 all_flagged table number [] one other h = refl
 all_flagged table number (column ∷ columns) one other h =
     flagged_both (is_covered table number) number (flagged_from (number + 1) (columns_from table (number + 1) columns)) one other
-    (λ covered. subst (λ n. value_at one n ≡ value_at other n) (at_zero number) (h 0 (subst (λ n. is_covered table n ≡ true) (sym (at_zero number)) covered)))
+    (λ covered. subst (λ n. value_at one n ≡ value_at other n) (add-zero number) (h 0 (subst (λ n. is_covered table n ≡ true) (sym (add-zero number)) covered)))
     (all_flagged table (number + 1) columns one other
     (λ k covered. subst (λ n. value_at one n ≡ value_at other n) (at_next number k) (h (suc k) (subst (λ n. is_covered table n ≡ true) (sym (at_next number k)) covered))))
-
-zero_more : (number : ℕ) → 0 + number ≡ number
-zero_more number = omega arith
 
 value_past : (row : List Datum) (column : ℕ) → length row ≤ column → value_at row column ≡ Missing
 value_past row column h = ap (λ found. unwrap_or found Missing) (slice_get_past row column h)
@@ -119,8 +107,8 @@ identity_from_flags : (table : Table) (one other : List Datum) → length one �
     → values_at (flagged_in (Some table)) one ≡ values_at (flagged_in (Some table)) other → values_at (identity_columns table) one ≡ values_at (identity_columns table) other
 identity_from_flags table one other wide also h = all_same (identity_columns table) one other
     (λ column covered. by_test (nat_lt column (length table.columns))
-    (λ less. subst (λ n. value_at one n ≡ value_at other n) (zero_more column)
-    (each_flagged table 0 table.columns one other h column (ltb-true column (length table.columns) less) (subst (λ n. is_covered table n ≡ true) (sym (zero_more column)) covered)))
+    (λ less. subst (λ n. value_at one n ≡ value_at other n) (zero-add column)
+    (each_flagged table 0 table.columns one other h column (ltb-true column (length table.columns) less) (subst (λ n. is_covered table n ≡ true) (sym (zero-add column)) covered)))
     (λ past.
     let most : length table.columns ≤ column = ltb-false column (length table.columns) past in
     value_past one column (omega (arith, most, wide)) ∙ sym (value_past other column (omega (arith, most, also)))))
@@ -148,20 +136,12 @@ row_of checked number row h = by_found (slice_get checked.catalog.tables number)
     both = both_true (nat_lt number (length checked.catalog.tables)) (is_none (fault_in (slice_get checked.catalog.tables number) row)) h
 
     by_found : (found : Option Table) → slice_get checked.catalog.tables number ≡ found → IsRowOf checked number row
-    by_found None e = absurd (missing checked.catalog.tables number e (ltb-true number (length checked.catalog.tables) both.0))
-      where
-        missing : (tables : List Table) (n : ℕ) → slice_get tables n ≡ None → n < length tables → ⊥
-        missing [] n e less = omega (arith, less)
-        missing (table ∷ tables) zero e less = cc
-        missing (table ∷ tables) (suc n) e less = missing tables n e (omega (arith, less))
+    by_found None e = absurd (let past = past_end checked.catalog.tables number e in omega (arith, past, ltb-true number (length checked.catalog.tables) both.0))
     by_found (Some table) e = record {
       table = table;
       there = e;
       valid = valid_from_no_fault table.columns row (ap (λ found. fault_in found row) (sym e) ∙ none_is (fault_in (slice_get checked.catalog.tables number) row) both.1);
     }
-
-same_table : (one other : Table) → Some one ≡ Some other → one ≡ other
-same_table one other h = cc
 
 pub key_at_table : (checked : CheckedOf) (number : ℕ) (table : Table) (row : List Datum) → slice_get checked.catalog.tables number ≡ Some table
     → own_key checked number row ≡ values_at (flagged_in (Some table)) row
@@ -179,7 +159,7 @@ tells_identity checked covered = record {
   same_identity = λ number one other first second keys.
       let of_one = row_of checked number one first in
       let of_other = row_of checked number other second in
-      let tables : of_other.table ≡ of_one.table = same_table of_other.table of_one.table (sym of_other.there ∙ of_one.there) in
+      let tables : of_other.table ≡ of_one.table = same_Some of_other.table of_one.table (sym of_other.there ∙ of_one.there) in
       let wide : length other ≡ length of_one.table.columns = of_other.valid.wide ∙ ap (λ (t : Table). length t.columns) tables in
       ap (λ found. identity_in found one) of_one.there ∙ columns_identify of_one.table one of_one.valid.wide
       ∙ identity_from_flags of_one.table one other of_one.valid.wide wide
@@ -188,7 +168,7 @@ tells_identity checked covered = record {
   same_key = λ number one other first second same.
       let of_one = row_of checked number one first in
       let of_other = row_of checked number other second in
-      let tables : of_other.table ≡ of_one.table = same_table of_other.table of_one.table (sym of_other.there ∙ of_one.there) in
+      let tables : of_other.table ≡ of_one.table = same_Some of_other.table of_one.table (sym of_other.there ∙ of_one.there) in
       let wide : length other ≡ length of_one.table.columns = of_other.valid.wide ∙ ap (λ (t : Table). length t.columns) tables in
       key_at_table checked number of_one.table one of_one.there
       ∙ flags_from_identity of_one.table one other

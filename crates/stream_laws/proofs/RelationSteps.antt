@@ -1,5 +1,5 @@
 -- A subscriber hears the Relations of tables that it was not told of.
-use Rattle.std.proofs.Common.{◌≡◌, ℕ, ◌+◌, ◌<◌, Bool, true, false, ◌&&◌, ◌||◌, List, [], ◌∷◌, length, refl, sym, ◌∙◌, ap, arith, get_or-set_same, get_or-set_other}
+use Rattle.std.proofs.Common.{◌≡◌, ℕ, ◌+◌, ◌<◌, Bool, true, false, ◌||◌, List, [], ◌∷◌, length, refl, sym, ◌∙◌, ap, arith, get_or-set_same, get_or-set_other}
 use Rattle.std.specs.Prelude.{Option, Some, None, Ok, ◌==◌, nat_eq, slice_get, slice_index_or}
 use Rattle.std.specs.Bool.{beq}
 use Rattle.std.specs.Cmp.{unsigned_Decides, booleans_Decides}
@@ -26,11 +26,10 @@ use Rattle.test_subscriber.specs.SameRelation.{same_identity, same_column, same_
 use Rattle.test_subscriber.specs.Shapes.{kind_with, with_kind, kinds_of, shaped, shape_of}
 use Rattle.test_subscriber.specs.declared.shape.TableShape.{TableShape}
 use Rattle.stream_laws.specs.Following.{KeepsRelations}
+use Rattle.std.proofs.lemmas.Bool.{and_from, eq-eqb}
+use Rattle.std.proofs.lemmas.Option.{same_Some}
 
 -- ---- a Relation is the same as itself
-
-both_are : (p q : Bool) → p ≡ true → q ≡ true → (p && q) ≡ true
-both_are p q h k = rw (h, k) refl
 
 identity_itself : (identity : ReplicaIdentity) → same_identity identity identity ≡ true
 identity_itself i.Default = refl
@@ -38,26 +37,23 @@ identity_itself i.Nothing = refl
 identity_itself i.Full = refl
 identity_itself i.Index = refl
 
-number_itself : (number : ℕ) → nat_eq number number ≡ true
-number_itself number = (unsigned_Decides number number).1 refl
-
 column_itself : (column : RelationColumn) → same_column column column ≡ true
 column_itself column =
-    both_are (beq column.is_key column.is_key) _ ((booleans_Decides column.is_key column.is_key).1 refl)
-    (both_are _ _ ((bytes_eq-Decides column.name column.name).1 refl)
-    (both_are (nat_eq column.type_oid column.type_oid) (int_eq column.type_modifier column.type_modifier) (number_itself column.type_oid)
+    and_from (beq column.is_key column.is_key) _ ((booleans_Decides column.is_key column.is_key).1 refl)
+    (and_from _ _ ((bytes_eq-Decides column.name column.name).1 refl)
+    (and_from (nat_eq column.type_oid column.type_oid) (int_eq column.type_modifier column.type_modifier) (eq-eqb column.type_oid column.type_oid refl)
     ((Decides-int_eq column.type_modifier column.type_modifier).1 refl)))
 
 columns_itself : (columns : List RelationColumn) → same_columns columns columns ≡ true
 columns_itself [] = refl
-columns_itself (column ∷ columns) = both_are (same_column column column) (same_columns columns columns) (column_itself column) (columns_itself columns)
+columns_itself (column ∷ columns) = and_from (same_column column column) (same_columns columns columns) (column_itself column) (columns_itself columns)
 
 relation_itself : (relation : Relation) → same_relation relation relation ≡ true
 relation_itself relation =
-    both_are (nat_eq relation.oid relation.oid) _ (number_itself relation.oid)
-    (both_are _ _ ((bytes_eq-Decides relation.namespace relation.namespace).1 refl)
-    (both_are _ _ ((bytes_eq-Decides relation.name relation.name).1 refl)
-    (both_are (same_identity relation.identity relation.identity) (same_columns relation.columns relation.columns) (identity_itself relation.identity)
+    and_from (nat_eq relation.oid relation.oid) _ (eq-eqb relation.oid relation.oid refl)
+    (and_from _ _ ((bytes_eq-Decides relation.namespace relation.namespace).1 refl)
+    (and_from _ _ ((bytes_eq-Decides relation.name relation.name).1 refl)
+    (and_from (same_identity relation.identity relation.identity) (same_columns relation.columns relation.columns) (identity_itself relation.identity)
     (columns_itself relation.columns))))
 
 -- ---- what a Relation says
@@ -131,9 +127,6 @@ knows_more checked told machine next number less known is other = ap (λ (f : �
 shape_is : (one other : TableShape) → Some one ≡ Some other → one ≡ other
 shape_is one other h = cc
 
-table_is : (one other : Table) → Some one ≡ Some other → one ≡ other
-table_is one other h = cc
-
 same_flags : (checked : CheckedOf) (told : List Bool) (number : ℕ) → length told ≡ length checked.catalog.tables → length (told_one told number) ≡ length checked.catalog.tables
 same_flags checked told number h = length-set told number true ∙ h
 
@@ -148,7 +141,7 @@ learns checked told machine number table there less known keeps_all = by_kept (m
     kept_after next here elsewhere other another at flag = by_test (other == number)
         (λ same.
         let numbers : other ≡ number = (unsigned_Decides other number).0 same in
-        let tables : table ≡ another = table_is table another (sym there ∙ ap (slice_get checked.catalog.tables) (sym numbers) ∙ at) in
+        let tables : table ≡ another = same_Some table another (sym there ∙ ap (slice_get checked.catalog.tables) (sym numbers) ∙ at) in
         ap (λ n. next.kept (oid_of n)) numbers ∙ here ∙ ap (λ n. Some (shape_for n table)) (sym numbers) ∙ ap (λ (t : Table). Some (shape_for other t)) tables)
         (λ beside. elsewhere other beside ∙ known.kept other another at (sym (told_other told number other beside) ∙ flag))
 
@@ -157,7 +150,7 @@ learns checked told machine number table there less known keeps_all = by_kept (m
     relations_after next here elsewhere other another shape at h = by_test (other == number)
         (λ same.
         let numbers : other ≡ number = (unsigned_Decides other number).0 same in
-        let tables : table ≡ another = table_is table another (sym there ∙ ap (slice_get checked.catalog.tables) (sym numbers) ∙ at) in
+        let tables : table ≡ another = same_Some table another (sym there ∙ ap (slice_get checked.catalog.tables) (sym numbers) ∙ at) in
         let shapes : Some (shape_for number table) ≡ Some shape = sym here ∙ ap (λ n. next.kept (oid_of n)) (sym numbers) ∙ h in
         ap (λ n. shape_of (relation_of n another)) numbers ∙ ap (λ (t : Table). shape_of (relation_of number t)) (sym tables) ∙ has_shape number table ∙ shapes)
         (λ beside. keeps_all other another shape at (sym (elsewhere other beside) ∙ h))
@@ -165,7 +158,7 @@ learns checked told machine number table there less known keeps_all = by_kept (m
     by_kept : (found : Option TableShape) → machine.kept (oid_of number) ≡ found → Learns checked (told_one told number) machine (relation_of number table)
     by_kept None e =
         let next : Machine = learned (oid_of number) (shape_for number table) machine in
-        let here : next.kept (oid_of number) ≡ Some (shape_for number table) = rw (number_itself (oid_of number)) refl in
+        let here : next.kept (oid_of number) ≡ Some (shape_for number table) = rw (eq-eqb (oid_of number) (oid_of number) refl) refl in
         let elsewhere : (other : ℕ) → (other == number) ≡ false → next.kept (oid_of other) ≡ machine.kept (oid_of other) =
         λ other beside. rw (oid_differs other number beside) refl in
         record {

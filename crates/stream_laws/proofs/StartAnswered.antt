@@ -1,9 +1,8 @@
 -- A start that a subscriber asks for is not refused, and which stream it starts.
-use Rattle.std.proofs.Common.{◌≡◌, ℕ, zero, suc, ◌^◌, ◌<◌, Bool, true, false, ◌||◌, ◌==◌, List, [], ◌∷◌, ◌++◌, length, Option, Some, None, refl, sym, ap, ◌∙◌, arith, append_assoc}
+use Rattle.std.proofs.Common.{◌≡◌, ℕ, zero, suc, ◌^◌, ◌<◌, Bool, true, false, ◌||◌, List, [], ◌∷◌, ◌++◌, length, Option, Some, None, refl, sym, ap, ◌∙◌, arith, append_assoc}
 use Rattle.std.specs.Prelude.{map, max, nat_lt, slice_get, All}
 use Rattle.std.specs.List.{list_all, list_any}
 use Rattle.std.specs.Str.{bytes_eq}
-use Rattle.std.proofs.lemmas.Bool.Decides.{nat_tests}
 use Rattle.std.proofs.lemmas.List.{length-map}
 use Rattle.std.proofs.lemmas.List.Elements.{All-nil, All-cons, All-head, All-tail}
 use Rattle.filter_tree.specs.Expr.{Expr}
@@ -22,17 +21,15 @@ use Rattle.stream_laws.specs.Asking.{IsShortName, CanAsk, start_command, StartsA
 use Rattle.stream_laws.specs.Ups.{publication_name, publications_taken, subscription_name}
 use Rattle.stream_laws.proofs.CommandReading.{commands_are_read}
 use Rattle.stream_laws.proofs.StartTexts.{start_is_text, query_text}
+use Rattle.std.proofs.lemmas.Bool.{eq-eqb}
 
 or_true : (b : Bool) → b || true ≡ true
 or_true true = refl
 or_true false = refl
 
-same_byte : (n : ℕ) → n == n ≡ true
-same_byte n = grind (arith, nat_tests)
-
 same_bytes : (bytes : List ℕ) → bytes_eq bytes bytes ≡ true
 same_bytes [] = refl
-same_bytes (b ∷ bytes) = rw (same_byte b, same_bytes bytes) refl
+same_bytes (b ∷ bytes) = rw (eq-eqb b b refl, same_bytes bytes) refl
 
 any_at : {X : Type 0} (p : X → Bool) (before : List X) (x : X) (after : List X) → p x ≡ true → list_any p (before ++ (x ∷ after)) ≡ true
 any_at p [] x after e = rw e refl

@@ -8,6 +8,7 @@ use Rattle.table_changes.specs.Seen.{passing}
 use Rattle.table_changes.specs.Tables.{is_row}
 use Rattle.table_changes.proofs.TableLemmas.{by_test, or_false, and_true, some_is, row_found}
 use Rattle.stream_laws.specs.Finding.{FindsRows}
+use Rattle.std.proofs.lemmas.Bool.{and_parts, or_left, or_right, not-true}
 
 -- the rows that are found by a key
 abbrev pub Found : Type 0
@@ -99,18 +100,6 @@ pub record Swaps (key_of : List Datum → List Datum) (old new : Option (List Da
 pub is_it : (found : Option (List Datum)) (row : List Datum) → found ≡ Some row → is_row found row ≡ true
 is_it None row h = absurd cc
 is_it (Some found) row h = same_row_of_equal found row (some_is found row h)
-
-pub left_of : (p q : Bool) → (p && q) ≡ true → p ≡ true
-left_of true q h = refl
-left_of false q h = absurd cc
-
-or_right : (p q : Bool) → q ≡ true → (p || q) ≡ true
-or_right true q h = refl
-or_right false q h = h
-
-pub or_left : (p q : Bool) → p ≡ true → (p || q) ≡ true
-or_left true q h = refl
-or_left false q h = absurd cc
 
 still_there : (p q : Bool) → p ≡ true → q ≡ false → (p && not q) ≡ true
 still_there p q h k = rw (h, k) refl
@@ -247,8 +236,8 @@ module _ (key_of : List Datum → List Datum) (passes : List Datum → Bool) (fo
       let free : put found (key_of away) None (key_of coming) ≡ None =
       vacant key_of old coming rows (λ row. (rows row && passes row) && not (same_row away row)) (put found (key_of away) None) (with_new coming is.0) left
       (λ row h. (
-        left_of (rows row) (passes row) (left_of (rows row && passes row) (not (same_row away row)) h),
-        ap (λ o. is_row o row) was.0 ∙ not_true (same_row away row) (right_of (rows row && passes row) (not (same_row away row)) h),
+        (and_parts (rows row) (passes row) (and_parts (rows row && passes row) (not (same_row away row)) h).0).0,
+        ap (λ o. is_row o row) was.0 ∙ not-true (same_row away row) (and_parts (rows row && passes row) (not (same_row away row)) h).1,
       )) in (
         found_there key_of found (λ row. rows row && passes row) away finds there,
         free,
@@ -256,14 +245,6 @@ module _ (key_of : List Datum → List Datum) (passes : List Datum → Bool) (fo
             (finds_put key_of (put found (key_of away) None) (λ row. (rows row && passes row) && not (same_row away row)) coming left free)
             (λ row. to_after (Some away) (Some coming) e f row),
       )
-    where
-      right_of : (p q : Bool) → (p && q) ≡ true → q ≡ true
-      right_of true q h = h
-      right_of false q h = absurd cc
-
-      not_true : (b : Bool) → not b ≡ true → b ≡ false
-      not_true true h = absurd cc
-      not_true false h = refl
 
   pub follows_swap : IsDone key_of found (passing passes old) (passing passes new) (λ row. swapped old new rows row && passes row)
   follows_swap = by_both (passing passes old) (passing passes new) refl refl

@@ -2,10 +2,11 @@ use Rattle.std.proofs.Common.{ap, ◌∙◌, ℕ}
 use Rattle.shard_checker.specs.CheckedView.{CheckedOf}
 use Rattle.tables_log.specs.declared.book.Book.{Book}
 use Rattle.std.specs.Prelude.{Some}
+use Rattle.copy_both.proofs.RepliesLemmas.{on_err}
 use Rattle.shard_world.specs.Connections.{front_of}
 use Rattle.shard_world.specs.PeerCalls.{Stops}
 use Rattle.shard_world.specs.World.{Deliver}
-use Rattle.shard_world.proofs.CallLemmas.{delivers_piece, on_err}
+use Rattle.shard_world.proofs.CallLemmas.{delivers_piece}
 use Rattle.shard_world.proofs.StopLemmas.{deliver_stops}
 use Rattle.shard_world.proofs.peer.Peer.deliver.Goals as goal
 

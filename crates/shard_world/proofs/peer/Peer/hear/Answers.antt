@@ -1,10 +1,11 @@
 use Rattle.std.proofs.Common.{ap, ◌∙◌}
 use Rattle.shard_checker.specs.CheckedView.{CheckedOf}
 use Rattle.std.specs.Prelude.{Some}
+use Rattle.copy_both.proofs.RepliesLemmas.{on_err}
 use Rattle.shard_world.specs.Connections.{front_of}
 use Rattle.shard_world.specs.PeerCalls.{Stops}
 use Rattle.shard_world.specs.World.{Hear}
-use Rattle.shard_world.proofs.CallLemmas.{hears_piece, on_err}
+use Rattle.shard_world.proofs.CallLemmas.{hears_piece}
 use Rattle.shard_world.proofs.StopLemmas.{hear_stops}
 use Rattle.shard_world.proofs.peer.Peer.hear.Goals as goal
 

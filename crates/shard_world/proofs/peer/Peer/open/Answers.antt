@@ -2,9 +2,10 @@ use Rattle.std.proofs.Common.{ℕ, sym, ◌∙◌}
 use Rattle.std.specs.Arc.{arc_value}
 use Rattle.shard_checker.specs.CheckedView.{checked_view}
 use Rattle.tables_log.specs.declared.book.Book.{Book}
+use Rattle.copy_both.proofs.RepliesLemmas.{on_err}
 use Rattle.shard_world.specs.PeerCalls.{Stops}
 use Rattle.shard_world.specs.World.{Open}
-use Rattle.shard_world.proofs.CallLemmas.{none_is, on_err}
+use Rattle.shard_world.proofs.CallLemmas.{none_is}
 use Rattle.shard_world.proofs.StopLemmas.{open_is_refused}
 use Rattle.shard_world.proofs.peer.Peer.open.Goals as goal
 
