@@ -1,0 +1,9 @@
+use Rattle.std.specs.Arc.{arc_value}
+use Rattle.shard_checker.specs.CheckedView.{checked_view}
+use Rattle.refused_calls.proofs.sessions.is_refused.Given as goal
+
+abbrev pub ghosts-publish-P-Ledger : goal.ghosts-publish-P-Ledger
+ghosts-publish-P-Ledger g a = record { name = a.blank.name; parts = a.blank.parts }
+
+abbrev pub ghosts-publish-P-Publishing : goal.ghosts-publish-P-Publishing
+ghosts-publish-P-Publishing g a = record { checked = checked_view (arc_value a.checked); limit = 5 }
