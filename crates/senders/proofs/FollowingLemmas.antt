@@ -1,8 +1,8 @@
 -- What was written is a first part of a stream over the log, and who is fed it follows.
-use Rattle.std.proofs.Common.{◌≡◌, ℕ, suc, List, [], ◌∷◌, ◌++◌, length, refl, sym, ◌∙◌, ap, subst, append-nil, append_assoc, length-append, arith}
+use Rattle.std.proofs.Common.{◌≡◌, ℕ, List, [], ◌∷◌, ◌++◌, length, refl, sym, ◌∙◌, ap, subst, append-nil, append_assoc, length-append, arith}
 use Rattle.std.specs.Prelude.{◌≤◌, ◌<◌, ◌^◌, All, Bool, Option, unwrap_or}
 use Rattle.std.specs.Arc.{arc_value}
-use Rattle.std.proofs.lemmas.List.{length-map}
+use Rattle.std.proofs.lemmas.List.{length-map, nil_from_length}
 use Rattle.std.proofs.lemmas.List.Elements.{All-nil, All-cons, All-head, All-tail, All-append, All-contains}
 use Rattle.std.proofs.lemmas.List.Sorted.{All-permutation}
 use Rattle.shard_checker.specs.CheckedView.{CheckedOf, checked_view, setting_in}
@@ -62,22 +62,14 @@ cut (x ∷ a) b (y ∷ c) d e =
 
 -- ---- what was written
 
-front_none : (front rest : List ℕ) → front ++ rest ≡ [] → front ≡ []
-front_none [] rest none = refl
-front_none (x ∷ front) rest none = absurd cc
-
 last_part : (frames : List Frame) (last front rest : List ℕ) → last ≡ front ++ rest → IsLast frames last → IsLastPart frames front
-last_part frames last front rest is (serving.Nothing none) = NoBytes (front_none front rest (sym is ∙ none))
+last_part frames last front rest is (serving.Nothing none) = NoBytes (nil_from_length front (omega (arith, ap length (sym is ∙ none), length-append front rest)))
 last_part frames last front rest is (serving.Done done ends) = OfDone rest (sym is ∙ done) ends
-
-nothing : (list : List ℕ) → length list ≡ 0 → list ≡ []
-nothing [] none = refl
-nothing (x ∷ list) none = absurd (let some : length (x ∷ list) ≡ suc (length list) = refl in omega arith)
 
 -- where the whole stream was written, nothing of it is left
 none_between : (middle last rest : List ℕ) → IsTail rest last → rest ≡ middle ++ last → middle ≡ []
 none_between middle last rest tail is =
-    nothing middle (omega (arith, ap length is, ap length tail.list_is, length-append middle last, length-append tail.front rest))
+    nil_from_length middle (omega (arith, ap length is, ap length tail.list_is, length-append middle last, length-append tail.front rest))
 
 module _ (checked : CheckedOf) (transactions : List Transaction) (frames : List Frame) (slot start : ℕ) (taken : List CommitOf) (written : List ℕ) (failed : Bool) (why : End)
     (is : IsStream checked frames slot start taken written failed why) where

@@ -1,3 +1,4 @@
+pub mod Crossing
 pub mod FlushingLemmas
 pub mod FollowingLemmas
 pub mod HearingLemmas

@@ -20,7 +20,7 @@ use Rattle.served_connections.specs.declared.end.End.TheVariants as end
 use Rattle.served_connections.specs.declared.served.Served.{Served}
 use Rattle.std.proofs.lemmas.List.Elements.{All-nil}
 use Rattle.stream_laws.specs.Sayable.{IsClocked}
-use Rattle.senders.specs.Causes.{chosen, end_by, unopened_by}
+use Rattle.senders.specs.Causes.{chosen, chosen_by, end_by, goes_first, unopened_by}
 use Rattle.senders.specs.Refusing.{cause_by}
 use Rattle.senders.specs.Running.{Concludes, IsEndOf, IsWithout, Memory, Writing, Whole, Heard, Streams}
 use Rattle.senders.specs.Sending.{Breaks, Follows, GoesOn, Spells, StopsAs, started_telling}
@@ -128,10 +128,13 @@ stop_unfinished stop.Finished not is = not refl
 stop_unfinished stop.WriteFault not is = cc
 stop_unfinished stop.OutOfMemory not is = cc
 
+by_unfinished : (s : Stop) (is_first : Bool) (why : Ending) → (s ≡ stop.Finished → ⊥) → chosen_by s is_first why ≡ end.Finished → ⊥
+by_unfinished s true why not is = stop_unfinished s not is
+by_unfinished s false why not is = heard_unfinished why is
+
 unfinished : (s : Stop) (is_first : Bool) (why : Option Ending) → (s ≡ stop.Finished → ⊥) → chosen s is_first why ≡ end.Finished → ⊥
 unfinished s is_first None not is = stop_unfinished s not is
-unfinished s true (Some why) not is = stop_unfinished s not is
-unfinished s false (Some why) not is = heard_unfinished why is
+unfinished s is_first (Some why) not is = by_unfinished s (goes_first is_first why) why not is
 
 stop_ends : (s : Stop) (why : Option Ending) (failed : Bool) (is : End) → (s ≡ stop.WriteFault → failed ≡ true) → is ≡ end_by s → IsEndOf why failed is
 stop_ends stop.Told why failed is fails same = Memory same
@@ -139,10 +142,13 @@ stop_ends stop.Finished why failed is fails same = Whole same
 stop_ends stop.WriteFault why failed is fails same = Writing same (fails refl)
 stop_ends stop.OutOfMemory why failed is fails same = Memory same
 
+both_end : (s : Stop) (is_first : Bool) (why : Ending) (failed : Bool) (is : End) → (s ≡ stop.WriteFault → failed ≡ true) → is ≡ chosen_by s is_first why → IsEndOf (Some why) failed is
+both_end s true why failed is fails same = stop_ends s (Some why) failed is fails same
+both_end s false why failed is fails same = Heard why refl same
+
 ends_by : (s : Stop) (is_first : Bool) (why : Option Ending) (failed : Bool) (is : End) → (s ≡ stop.WriteFault → failed ≡ true) → is ≡ chosen s is_first why → IsEndOf why failed is
 ends_by s is_first None failed is fails same = stop_ends s None failed is fails same
-ends_by s true (Some why) failed is fails same = stop_ends s (Some why) failed is fails same
-ends_by s false (Some why) failed is fails same = Heard why refl same
+ends_by s is_first (Some why) failed is fails same = both_end s (goes_first is_first why) why failed is fails same
 
 -- ---- all of a stream
 

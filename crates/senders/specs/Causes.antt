@@ -1,10 +1,11 @@
--- Which cause of an end is told: the first that was met (the project's own).
+-- Which cause of an end is told: the first that was met, but for want of memory at the listener, which is told whatever came first (the project's own).
 use Rattle.std.specs.Prelude.{Bool, true, false, Option, Some, None}
 use Rattle.copy_both.specs.declared.link_fault.LinkFault.TheVariants as fault
 use Rattle.served_connections.specs.declared.end.End.{End}
 use Rattle.served_connections.specs.declared.end.End.TheVariants as end
 use Rattle.senders.specs.Refusing.{cause_by}
 use Rattle.senders.specs.declared.ending.Ending.{Ending}
+use Rattle.senders.specs.declared.ending.Ending.TheVariants as ending
 use Rattle.senders.specs.declared.stop.Stop.{Stop}
 use Rattle.senders.specs.declared.stop.Stop.TheVariants as stop
 
@@ -21,11 +22,16 @@ unopened_by stop.Finished why = end_by stop.Finished
 unopened_by stop.WriteFault why = cause_by why
 unopened_by stop.OutOfMemory why = end_by stop.OutOfMemory
 
--- the sender's, where it came first or the listener has none
+-- the sender's cause goes before the listener's: it came first, and the listener was refused no memory
+abbrev pub goes_first : Bool → Ending → Bool
+goes_first is_first (ending.Fault fault.OutOfMemory) = false
+goes_first is_first other = is_first
+
 abbrev pub chosen_by : Stop → Bool → Ending → End
 chosen_by stop true why = end_by stop
 chosen_by stop false why = cause_by why
 
+-- the sender's, where it goes first or the listener has none
 abbrev pub chosen : Stop → Bool → Option Ending → End
 chosen stop is_first None = end_by stop
-chosen stop is_first (Some why) = chosen_by stop is_first why
+chosen stop is_first (Some why) = chosen_by stop (goes_first is_first why) why

@@ -88,7 +88,8 @@ pub(crate) fn starts_threads<R: Threads>(rt: &R) -> bool {
     }
 }
 
-/// Sends and listens side by side, to the end of the connection.
+/// Sends and listens side by side, to the end of the connection. Where no other thread can be had, it is sent to first,
+/// and heard once its sender has stopped.
 pub(crate) fn run_both<
     P: Publishing + Sync,
     S: Source + Send,
@@ -115,8 +116,13 @@ pub(crate) fn run_both<
         (S.has_ended reader.new) listener.old listener.new result.1 }
 {
     let (slot, start) = started;
-    join_mut(
+    let (why, sent) = join_mut(
         rt,
+        &mut || -> Option<Ending>
+            requires { 0 < length listener.now.piece.items }
+            ensures { HearsAll P.checked (S.left reader.entry.now) (S.left reader.exit.now)
+                (S.has_failed reader.exit.now) (S.has_ended reader.exit.now) listener.entry.now listener.exit.now result }
+        { hear(rt, publisher, slot, listener, reader) },
         &mut || -> Sent
             requires { IsQuiet voice.now (started_telling P.checked slot start copy_both_response) }
             ensures sent { StopsAs result.stop (W.taken writer.entry.now) (W.taken writer.exit.now)
@@ -124,10 +130,6 @@ pub(crate) fn run_both<
                 (started_telling P.checked slot start copy_both_response) }
             ensures failed { result.stop ≡ WriteFault → W.has_failed writer.exit.now ≡ true }
         { send(rt, publisher, (slot, start), voice, writer, gate) },
-        &mut || -> Option<Ending>
-            requires { 0 < length listener.now.piece.items }
-            ensures { HearsAll P.checked (S.left reader.entry.now) (S.left reader.exit.now)
-                (S.has_failed reader.exit.now) (S.has_ended reader.exit.now) listener.entry.now listener.exit.now result }
-        { hear(rt, publisher, slot, listener, reader) },
-    )
+    );
+    (sent, why)
 }

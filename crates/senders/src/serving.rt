@@ -2,6 +2,7 @@
 
 ghost use Rattle.std.specs.Prelude.{◌≡◌, ◌<◌, [], length, map, None, Some};
 ghost use Rattle.std.specs.Arc.{arc_value};
+ghost use Rattle.senders.specs.Causes as spec;
 ghost use Rattle.senders.specs.Causes.{chosen, end_by, unopened_by};
 ghost use Rattle.senders.specs.Running.{Concludes, IsWithout, RunsOn, Streams};
 ghost use Rattle.senders.specs.Speaking.{IsQuietAt};
@@ -37,14 +38,26 @@ fn end_of(stop: Stop) -> End
     }
 }
 
-/// The first cause of an end: the sender's where it came first, or where the listener has none; else the listener's.
-fn first_cause(stop: Stop, is_first: bool, why: Option<Ending>) -> End
+/// Whether the sender's cause of an end goes before the listener's: it came first, and the listener was refused no
+/// memory, by which what its client confirms may be lost.
+fn goes_first(is_first: bool, why: Ending) -> bool
+    ensures { result ≡ spec.goes_first is_first why }
+{
+    match why {
+        Ending::Fault(LinkFault::OutOfMemory) => false,
+        Ending::ReadFault | Ending::NoMore | Ending::Frame(_) | Ending::Fault(_) => is_first,
+    }
+}
+
+/// The cause of an end that is told: the sender's where it goes before the listener's, or where the listener has none;
+/// else the listener's.
+fn told_cause(stop: Stop, is_first: bool, why: Option<Ending>) -> End
     ensures { result ≡ chosen stop is_first why }
 {
     match why {
         None => end_of(stop),
         Some(why) => {
-            if is_first {
+            if goes_first(is_first, why) {
                 end_of(stop)
             } else {
                 cause_of(why)
@@ -104,7 +117,7 @@ fn conclude<W: Sink>(
         (W.has_failed writer.old) (W.has_failed writer.new) result }
 {
     say_last(voice, sent.stop, why, writer);
-    let end = first_cause(sent.stop, sent.is_first, why);
+    let end = told_cause(sent.stop, sent.is_first, why);
     Served {
         slot: Some(started.0),
         start: Some(started.1),

@@ -10,7 +10,8 @@ use std::thread::{Threads, join};
 use std::time::Clock;
 use table_changes::Command;
 
-/// Commits the lists in one thread, while others serve a connection for each place. It returns when all have ended.
+/// Commits the lists in this thread, while others serve a connection for each place. It returns when all have ended.
+/// Where no other thread can be had, the lists are committed first, and then each connection is served all of them.
 pub fn run_both<P: Publishing + Sync, R: Threads + Wait + Clock + Sync>(
     rt: &R,
     publisher: &Publisher<P>,
@@ -19,10 +20,10 @@ pub fn run_both<P: Publishing + Sync, R: Threads + Wait + Clock + Sync>(
     listener: &TcpListener,
     places: &mut [Place],
 ) -> Result<(), AllocError> {
-    let (committed, ()) = join(
+    let ((), committed) = join(
         rt,
-        || commit_and_finish(rt, publisher, seat, lists),
         || fill_all(rt, publisher, listener, places),
+        || commit_and_finish(rt, publisher, seat, lists),
     );
     committed
 }

@@ -21,7 +21,6 @@ operation_word o.Truncate = codes "truncate"
 abbrev pub refusal_name : CheckError → List ℕ
 refusal_name (e.PublishMissing publication operation) = codes "PublishMissing"
 refusal_name (e.NoIdentity table) = codes "NoIdentity"
-refusal_name (e.UnknownTable publication table) = codes "UnknownTable"
 refusal_name (e.NotCovered publication table column) = codes "NotCovered"
 refusal_name e.CertCount = codes "CertCount"
 refusal_name (e.BadIndex table node) = codes "BadIndex"
@@ -46,7 +45,6 @@ entry_words catalog publication table = publication_name catalog.publications pu
 abbrev pub arguments_of : CatalogOf Expr → CheckError → List (List ℕ)
 arguments_of catalog (e.PublishMissing publication operation) = publication_name catalog.publications publication ∷ operation_word operation ∷ []
 arguments_of catalog (e.NoIdentity table) = table_name catalog.tables table ∷ []
-arguments_of catalog (e.UnknownTable publication table) = entry_words catalog publication table
 arguments_of catalog (e.NotCovered publication table column) = entry_words catalog publication table ++ column_name catalog.tables table column ∷ []
 arguments_of catalog e.CertCount = []
 arguments_of catalog (e.BadIndex table node) = node_words catalog.tables table node

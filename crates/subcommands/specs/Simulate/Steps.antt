@@ -33,7 +33,7 @@ module _ (checked : CheckedOf) (most : ℕ) where
     pub position : ℕ
     pub go_on : All GoesOn answers
     pub runs : Runs checked most (map (on_clock now subscriber) (pump_events takes)) answers world next
-    pub position_is : subscriber < length checked.plan → position ≡ w.position_now checked next.transactions subscriber (next.peers subscriber)
+    pub position_is : subscriber < length checked.plan → position ≡ w.position_of checked next subscriber
     pub at_end : subscriber < length checked.plan → position ≡ end_of (length world.transactions)
     pub are : lines ≡ answer_line (At position) ∷ []
 

@@ -30,7 +30,6 @@ fn refusal_name(error: CheckError) -> &'static str
     match error {
         CheckError::PublishMissing { .. } => "PublishMissing",
         CheckError::NoIdentity { .. } => "NoIdentity",
-        CheckError::UnknownTable { .. } => "UnknownTable",
         CheckError::NotCovered { .. } => "NotCovered",
         CheckError::CertCount => "CertCount",
         CheckError::BadIndex { .. } => "BadIndex",
@@ -107,9 +106,6 @@ fn push_arguments(line: &mut String, catalog: &Catalog, error: CheckError) -> Re
             push_word(line, operation_word(operation))
         }
         CheckError::NoIdentity { table } => push_table(line, tables, table),
-        CheckError::UnknownTable { publication, table } => {
-            push_entry(line, catalog, publication, table)
-        }
         CheckError::NotCovered {
             publication,
             table,

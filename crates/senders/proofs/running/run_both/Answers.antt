@@ -1,23 +1,20 @@
 use mir.Syntax.{of_param}
 use base.Fraction.{full_share}
 use mathlib.Core.List.{[]}
-use denote.Builtin.{usize, u64}
+use denote.Builtin.{usize}
 use denote.Param.{param}
 use denote.Param.Send.{IsSync, Quiet-if, part_keyless, sendable}
-use Rattle.copy_both.specs.contracts.voice.Voice as V
-use Rattle.copy_both.proofs.Crossing.{voice_send}
 use Rattle.publisher_desk.proofs.Crossing.{publisher_sync}
+use Rattle.senders.specs.contracts.listener.Listener as L
+use Rattle.senders.proofs.Crossing.{listener_send}
 use Rattle.senders.proofs.running.run_both.Goals as goal
 
 slot_sync : IsSync usize
 slot_sync = search sendable
 
-start_sync : IsSync u64
-start_sync = search sendable
-
--- captures: rt, publisher, slot, start, voice, writer, gate
-pub join_mut-requires-send-F : goal.join_mut-requires-send-F
-join_mut-requires-send-F g c κs within =
+-- captures: rt, publisher, slot, listener, reader
+pub join_mut-why-requires-send-F : goal.join_mut-why-requires-send-F
+join_mut-why-requires-send-F g c κs within =
     let publisher = publisher_sync (param 0 g.row.P) g.P.Publishing g.P.Ledger in
     record {
       owned = λ x vs vss. (
@@ -29,21 +26,15 @@ join_mut-requires-send-F g c κs within =
             (
               (tt, slot_sync.shared x.2.now x.2.ref_ptr.0 x.2.ref_ptr.1 []),
               (
-                (tt, start_sync.shared x.3.now x.3.ref_ptr.0 x.3.ref_ptr.1 []),
+                (tt, (tt, λ y. (part_keyless L.the_row listener_send full_share y x.3.ref_ptr.0 x.3.ref_ptr.1, tt))),
                 (
-                  (tt, (tt, λ y. (part_keyless V.the_row voice_send full_share y x.4.ref_ptr.0 x.4.ref_ptr.1, tt))),
-                  (
-                    (tt, (tt, λ y. (part_keyless _ c.type_bounds.send-W full_share y x.5.ref_ptr.0 x.5.ref_ptr.1, tt))),
-                    (
-                      (tt, c.type_bounds.sync-G.shared x.6.now x.6.ref_ptr.0 x.6.ref_ptr.1 _),
-                      tt,
-                    ),
-                  ),
+                  (tt, (tt, λ y. (part_keyless _ c.type_bounds.send-S full_share y x.4.ref_ptr.0 x.4.ref_ptr.1, tt))),
+                  tt,
                 ),
               ),
             ),
           ),
         ),
       );
-      leaving = λ k. Quiet-if (k (of_param 1)) _ _ (λ x w. (tt, (tt, (tt, (tt, (tt, (tt, tt))))))) (λ x w. tt);
+      leaving = λ k. Quiet-if (k (of_param 1)) _ _ (λ x w. (tt, (tt, (tt, (tt, (tt, tt)))))) (λ x w. tt);
     }

@@ -1,19 +1,17 @@
 use mathlib.Core.List.{[]}
 use mir.Syntax.{of_param}
-use base.Fraction.{full_share}
 use denote.Param.{param}
-use denote.Param.Send.{Quiet-if, part_keyless}
-use Rattle.std.proofs.Crossing.{Vec-send}
-use Rattle.publisher_desk.proofs.Crossing.{publisher_sync, seat_send}
-use Rattle.table_changes.specs.contracts.command.Command as Cmd
-use Rattle.serving.proofs.Crossing.{command_send}
+use denote.Param.Send.{Quiet-if, mut_slice_send}
+use Rattle.publisher_desk.proofs.Crossing.{publisher_sync}
+use Rattle.serving.specs.contracts.connections.Place as Pl
+use Rattle.serving.proofs.connections.Place.TheSendSync as PlS
+use Rattle.serving.proofs.Crossing.{listener_sync}
 use Rattle.serving.proofs.running.run_both.Goals as goal
 
--- captures: rt, publisher, seat, lists
+-- captures: rt, publisher, listener, places
 pub join-committed-requires-send-F : goal.join-committed-requires-send-F
 join-committed-requires-send-F g c κs within =
     let publisher = publisher_sync (param 0 g.row.P) g.P.Publishing g.P.Ledger in
-    let lists = Vec-send _ (Vec-send Cmd.the_row command_send) in
     record {
       owned = λ x vs vss. (
         tt,
@@ -22,8 +20,8 @@ join-committed-requires-send-F g c κs within =
           (
             (tt, publisher.shared x.1.now x.1.ref_ptr.0 x.1.ref_ptr.1 _),
             (
-              (tt, (tt, λ y. (part_keyless _ (seat_send (param 0 g.row.P) g.P.Publishing g.P.Ledger) full_share y x.2.ref_ptr.0 x.2.ref_ptr.1, tt))),
-              (lists.owned x.3 [], tt),
+              (tt, listener_sync.shared x.2.now x.2.ref_ptr.0 x.2.ref_ptr.1 []),
+              ((mut_slice_send (of_param 1) [] Pl.the_row PlS.the_send).owned x.3 [], tt),
             ),
           ),
         ),
