@@ -26,15 +26,16 @@ class Repository:
     def folder(self, name):
         return self.root / "crates" / name
 
-    def prove(self, name, place, jobs):
-        """Proves and builds the library in the folder `place`, and takes what was built. Answers the log if it failed."""
+    def prove(self, name, place, before, jobs):
+        """Proves and builds the library in the folder `place`, by a command with these words before it, and takes what
+        was built. Answers the log if it failed."""
         copy, kept = pathlib.Path(place), self.folder(name) / "out"
         self.copy_to(copy, name)
         made = copy / "crates" / name / "out"
         if kept.is_dir():
             shutil.move(kept, made)
         try:
-            return log_of(["rt", "lib", "--jobs", str(jobs)], made.parent)
+            return log_of([*before, "rt", "lib", "--jobs", str(jobs)], made.parent)
         finally:
             if made.is_dir():
                 shutil.move(made, kept)

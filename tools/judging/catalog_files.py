@@ -3,29 +3,11 @@
 import re
 from dataclasses import dataclass
 
-from judging import program, report, verdicts
+from judging import marks, program, report, verdicts
 from judging.catalog_tokens import statements_of, stored, table_of
 from judging.faults import BAD_COMMAND, NO_PROGRAM, NOT_READ, NOT_SOUND, SOUND, Fault
-from judging.limits import LIMITS
+from judging.kinds import KINDS
 from judging.verdicts import Verdict
-
-KINDS = {
-    "BadToken": "this is not SQL, or a quote or a comment that is not closed",
-    "Expected": "something else is expected here",
-    "LeftOut": "PostgreSQL has this form, and pgshard leaves it out",
-    "ColumnList": "the table is published with a list of columns, which pgshard leaves out",
-    "UnknownName": "nothing has this name",
-    "NameTwice": "the name is taken",
-    "TableTwice": "a publication names a table twice, once with a filter",
-    "TypeClash": "the parts of this expression do not fit together",
-    "ZeroDivisor": "a division by zero, at which the server fails",
-    "NoKey": "the table has no primary key",
-    "NullableIndex": "a column of this index may be null, so it cannot identify rows",
-    "NumberTooLarge": "pgshard reads no number past 9223372036854775807, and so not the least bigint",
-    "NameTooLong": "the name has over 63 bytes",
-    "TooDeep": "the filter nests over 64 deep",
-    "TooMany": f"this is past a limit of pgshard: {'; '.join(LIMITS.values())}",
-}
 
 
 @dataclass
@@ -51,13 +33,17 @@ def judge(path, options):
     if options.explain or options.copied or options.partial or options.catalog or options.subscriber:
         raise Fault(BAD_COMMAND, "a file is judged as it is: of judge's options only --all and --json go with one")
     catalog = read_file(path)
-    made = run("make", catalog, catalog)
+    made = program.run("make", catalog)
+    if isinstance(made, program.Unreadable):
+        marks.mark_fault(path, catalog, made)
+        raise Fault(NOT_READ, why_not_read(made, catalog))
     names = names_of(catalog)
     found = verdicts_of(catalog, names, made) if names.tables else []
     status = SOUND if found and all(it.answer == verdicts.SOUND for it in found) else NOT_SOUND
     unpublished = tuple(re.findall(r"(?m)^-- not published: (.*)$", catalog))
     answer = report.Report(Source(path, unpublished), [], None, found, {}, status)
-    print(report.json_text(answer) if options.json else report.text(answer, options.all))
+    print(report.json_text(answer) if options.json else report.text(answer, options.all), flush=True)
+    marks.mark_tables(path, catalog, found)
     return status
 
 

@@ -13,17 +13,22 @@ class Table:
     columns: list
 
 
-def tokens_of(text):
-    """The tokens of a catalog, without white space and comments."""
+def placed_tokens(text):
+    """The tokens of a catalog with their places, without white space and comments."""
     at = 0
     while at < len(text):
         token = TOKEN.match(text, at).group()
         if token == "/*":
             at = end_of_comment(text, at)
             continue
-        at += len(token)
         if not token.isspace() and not token.startswith("--"):
-            yield token
+            yield at, token
+        at += len(token)
+
+
+def tokens_of(text):
+    """The tokens of a catalog, without white space and comments."""
+    return (token for _, token in placed_tokens(text))
 
 
 def end_of_comment(text, begin):

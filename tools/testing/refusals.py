@@ -1,7 +1,7 @@
-"""A commit with each of its allocations refused in turn.
+"""Calls with each of their requests for memory refused in turn.
 
-The program `refused_commits` makes the commit, and says whether the book was as before and took the same commit next.
-The refusals come from `refusing.c`, which is compiled here.
+The program `refused_calls` makes the calls, and tests what is left after each refusal. The refusals come from
+`refusing.c`, which is compiled here.
 """
 
 import os
@@ -11,41 +11,43 @@ import shutil
 import subprocess
 import tempfile
 
+from random_cases.running import compiled
 from tally import Tally
 
 TESTING = pathlib.Path(__file__).resolve().parent
-BUILT = TESTING.parent.parent / "crates" / "refused_commits" / "out" / "refused_commits"
-NAMED = os.environ.get("REFUSED_COMMITS")
+BUILT = TESTING.parent.parent / "crates" / "refused_calls" / "out" / "refused_calls"
+NAMED = os.environ.get("REFUSED_CALLS")
+
+CALLS = [
+    "Book::commit", "Link::take", "Link::hear", "Subscriber::feed", "World::step", "make", "Publisher::commit", "serve"]
 
 # How long the program may take.
-SECONDS = 60
+SECONDS = 120
 
 
 def why_skipped() -> str | None:
-    """Why no allocation can be refused here. A program that the environment names is always run."""
+    """Why no request can be refused here. A program that the environment names is always run."""
     if shutil.which("cc") is None:
         return "no C compiler is installed"
     if not NAMED and not BUILT.exists():
-        return "the program refused_commits is not built"
+        return "the program refused_calls is not built"
     return None
 
 
 def check_refusals(tally: Tally) -> None:
     """Runs the program without refusals, and with them."""
     with tempfile.TemporaryDirectory() as folder:
-        library = f"{folder}/refusing.so"
-        compiled = subprocess.run(["cc", "-shared", "-fPIC", "-O", "-o", library, TESTING / "refusing.c"])
-        tally.check("how refusing.c is compiled", compiled.returncode, 0)
-        tally.check("a commit with no allocation refused", run({}), (0, "0 allocations were refused\n", ""))
-        check_refused(tally, run({"LD_PRELOAD": library}))
+        library = compiled(folder, "refusing")
+        none = "".join(f"{call}: 0 refused\n" for call in CALLS)
+        tally.check("calls with no request refused", run({}), (0, none, ""))
+        check_refused(tally, *run({"LD_PRELOAD": library}))
 
 
-def check_refused(tally: Tally, found: tuple[int | None, str, str]) -> None:
-    """A run with refusals: there are some, and the program tells of as many as the library."""
-    refused = re.fullmatch("([1-9][0-9]*) refused\n", found[2])
-    count = refused[1] if refused else "some"
-    told = f"{count} allocations were refused; after each the book was as before and took the same commit next\n"
-    tally.check("a commit with each allocation refused", found, (0, told, f"{count} refused\n"))
+def check_refused(tally: Tally, status: int | None, output: str, errors: str) -> None:
+    """A run with refusals: each call meets some, and in all they are as many as the library tells."""
+    met = re.findall("^(.*): ([1-9][0-9]*) refused$", output, re.M)
+    tally.check(f"calls with each request refused, which wrote {output!r}", (status, [call for call, _ in met]), (0, CALLS))
+    tally.check("how many requests were refused", errors, f"{sum(int(count) for _, count in met)} refused\n")
 
 
 def run(variables: dict[str, str]) -> tuple[int | None, str, str]:

@@ -8,6 +8,9 @@ from model.catalogs import Catalog
 from model.worlds import Step, World
 from programs import pgshard
 from random_cases.case import parts
+from runs.case import two_parts
+from runs.catalogs import halves
+from runs.checks import HIGH, LOW, tree_of
 
 from .running import NO_MEMORY, OUT_OF_MEMORY, SECONDS, Answer
 from .scripts import CATALOG, STEPS, catalog_text, script_input
@@ -93,6 +96,8 @@ def cases() -> Iterator[Case]:
     yield Lines("check of a shop", ("check",), with_certificates(shop.decode()))
     yield Lines("check of three tables", ("check",), with_certificates(catalog_text()))
     yield Lines("check of a sharding that is refused", ("check",), shop + b"%%\no 0\no 1\n")
+    nodes = two_parts(halves(LOW, HIGH), tree_of(8)).encode()
+    yield Lines("check of a certificate of 9,841 nodes", ("check",), nodes)
     yield Lines("check of a bad certificate", ("check",), shop + b"%%\ns 0 o\n")
     yield Lines("check of a bad catalog", ("check",), b"CREATE TABLE t (id integer PRIMARY KEY);\nDROP;%%\n")
     yield Lines("make of a shop", ("make",), shop)

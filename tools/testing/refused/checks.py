@@ -9,13 +9,10 @@ from tally import Tally
 
 from .cases import Case, cases
 from .running import NO_MEMORY, Answer, Refusal, refused_runs, run
-from .serves import SHOP, Serving, refused_serves
+from .serves import LONG_IDLE_SECONDS, SHOP, Serving, refused_serves, refused_threads
 
 # Of so many runs of a case that fail, what is wrong is shown.
 MOST_SHOWN = 3
-
-# How long a client of a run without refusals waits for more, in seconds.
-PLAIN_IDLE = 5
 
 
 def check_refused_runs(tally: Tally) -> None:
@@ -35,7 +32,9 @@ def check_all(tally: Tally, library: str) -> None:
     met: Counter[str] = Counter()
     for case in cases():
         met += check_case(tally, case, library)
-    met += check_serving(tally, Serving(SHOP, library))
+    serving = Serving(SHOP, library)
+    met += check_serving(tally, serving)
+    check_threads(tally, serving)
     print(
         f"runs without memory: {met['runs']:,}, with {met['refused']:,} requests refused; {met['ended']:,} ended, "
         f"{met['other']:,} went on with other lines, and {met['same']:,} as if nothing was refused")
@@ -67,7 +66,7 @@ def fault_of(case: Case, plain: Answer, found: Answer) -> str | None:
 
 def check_serving(tally: Tally, serving: Serving) -> Counter[str]:
     """The same for `serve`. A client may leave before it has all, also where nothing was refused."""
-    plain = serving.run(Refusal(0, False), PLAIN_IDLE)
+    plain = serving.run(Refusal(0, False), LONG_IDLE_SECONDS)
     tally.check("serve: a plain run", (serving.fault(plain), serving.is_whole(plain)), (None, True))
     met: Counter[str] = Counter()
     faults = []
@@ -78,6 +77,18 @@ def check_serving(tally: Tally, serving: Serving) -> Counter[str]:
         meet(met, plain.answer, found.answer)
     tally.check("serve: with requests for memory refused", faults[:MOST_SHOWN], [])
     return met
+
+
+def check_threads(tally: Tally, serving: Serving) -> None:
+    """`serve` with threads refused: where it doesn't say that memory ran out, each client gets all."""
+    faults = []
+    for refusal, found in refused_threads(serving):
+        fault = serving.fault(found)
+        if fault is None and found.answer.status == 0 and not serving.is_whole(found):
+            fault = "status 0, and a client did not get all"
+        if fault is not None:
+            faults.append(f"{refusal} serve: {fault}")
+    tally.check("serve: with threads refused", faults[:MOST_SHOWN], [])
 
 
 def meet(met: Counter[str], plain: Answer, found: Answer) -> None:

@@ -39,18 +39,19 @@ class Answer:
 
 @dataclass(frozen=True)
 class Refusal:
-    """Which requests for memory are refused: that of a number from 1, or that one and all after it."""
+    """Which requests for memory are refused, or for threads: that of a number from 1, or that one and all after it."""
 
     number: int
     and_after: bool
+    kind: str = "REQUEST"
 
     def variables(self, library: str) -> dict[str, str]:
         """What the library reads of the environment."""
         more = {"REFUSED_AFTER": "1"} if self.and_after else {}
-        return {"LD_PRELOAD": library, "REFUSED_REQUEST": str(self.number)} | more
+        return {"LD_PRELOAD": library, f"REFUSED_{self.kind}": str(self.number)} | more
 
     def __str__(self) -> str:
-        return f"REFUSED_REQUEST={self.number}{' REFUSED_AFTER=1' if self.and_after else ''}"
+        return f"REFUSED_{self.kind}={self.number}{' REFUSED_AFTER=1' if self.and_after else ''}"
 
 
 def run(words: tuple[str, ...], text: bytes, variables: dict[str, str]) -> Answer:

@@ -1,4 +1,4 @@
-"""Runs of `serve` with two clients, in which memory is refused."""
+"""Runs of `serve` with two clients, in which memory or threads are refused."""
 
 import contextlib
 import os
@@ -32,6 +32,12 @@ AT_A_TIME = 4
 # How far apart the requests are that are refused, and those from which on all are.
 STRIDE = 4
 STRIDE_AFTER = 16
+
+# After so many threads no further one is refused, though there may be more.
+MOST_THREADS = 20
+
+# How long a client waits that is to get all, or to be told.
+LONG_IDLE_SECONDS = 5
 
 
 @dataclass
@@ -143,3 +149,14 @@ def refused_serves(serving: Serving) -> Iterator[tuple[Refusal, Served]]:
                 if any(not found.answer.refused for _, found in made):
                     break
                 first = end
+
+
+def refused_threads(serving: Serving) -> Iterator[tuple[Refusal, Served]]:
+    """Runs with each thread refused in turn, up to one that meets no refusal; and the same with all after it."""
+    for and_after in False, True:
+        for number in range(1, MOST_THREADS):
+            refusal = Refusal(number, and_after, "THREAD")
+            found = serving.run(refusal, LONG_IDLE_SECONDS)
+            yield refusal, found
+            if not found.answer.refused:
+                break

@@ -7,12 +7,12 @@ from programs import pgshard
 from tally import Tally
 
 from . import (
-    certificates, checks, command_lines, families, filters, forms, inputs, inserts, limits, makes, most, rows, serves,
-    simulations)
+    certificates, checks, command_lines, families, filters, forms, inputs, inserts, limits, loads, makes, most, rows,
+    serves, simulations)
 
 TOPICS = [
-    checks, certificates, forms, makes, families, simulations, serves, rows, inserts, filters, inputs, command_lines,
-    limits, most]
+    checks, certificates, forms, makes, families, simulations, serves, loads, rows, inserts, filters, inputs,
+    command_lines, limits, most]
 
 
 def check_runs(tally: Tally) -> None:

@@ -145,6 +145,15 @@ CATALOGS: list[tuple[str, str, int, str]] = [
 # A certificate of 65 splits, one below another, and no more.
 DEEP = "s 0 " * 65
 
+# What is answered of a tree of 8 levels of splits by the first atom: at its first leaf the second one is open.
+OPEN = "refused SecondOwner public.t 8 s1\n"
+
+
+def tree_of(levels: int) -> str:
+    """A tree of so many levels of splits by the first atom. With 8 it has 9,841 nodes."""
+    below = tree_of(levels - 1) if levels else ""
+    return f"s 0 {below} {below} {below}" if levels else "o 0"
+
 
 def cases() -> Iterator[Case]:
     """A run of check for each."""
@@ -155,3 +164,4 @@ def cases() -> Iterator[Case]:
     for number, (catalog, certificates, status, expected) in enumerate(CATALOGS, 1):
         yield Case(f"check of a catalog, case {number}", words, two_parts(catalog, certificates), status, expected)
     yield Case("check of a deep certificate", words, two_parts(halves("", ""), DEEP), 3, "certificate 1 TooDeep\n")
+    yield Case("check of 9,841 nodes", words, two_parts(halves(LOW, HIGH), tree_of(8)), 1, OPEN)

@@ -57,6 +57,7 @@ VERSIONS: list[tuple[tuple[str, ...], str]] = [
     (("--version",), "pgshard 0.1.0\n"),
     (("-V",), "pgshard 0.1.0\n"),
     (("eval", "--version"), "pgshard-eval 0.1.0\n"),
+    (("serve", "--version"), "pgshard-serve 0.1.0\n"),
 ]
 
 

@@ -2,8 +2,12 @@
 
 from collections.abc import Iterator
 
+from model.catalogs import Column, Table
+from model.messages import BEGIN, COMMIT, COPY_BOTH, change_length, relation_length
+
 from .case import ACCEPTED, Case, Made, Outline, two_parts
 from .catalogs import C, halves
+from .checks import HIGH, LOW
 from .inputs import MAX_INPUT
 from .simulations import end_of, text_of, three_parts, view_of
 
@@ -23,6 +27,7 @@ def cases() -> Iterator[Case | Made]:
     yield from largest_certificate()
     yield simulation_of_tables()
     yield simulation_of_columns()
+    yield simulation_of_pieces()
 
 
 def columns() -> Iterator[Case]:
@@ -207,3 +212,26 @@ def wide_row(key: int, texts: list[str]) -> str:
     """A row of a number and texts that have no quotes."""
     values = "', '".join(texts)
     return f"({key}, '{values}')"
+
+
+def simulation_of_pieces() -> Case:
+    """A row of 98 longest texts comes, goes and comes. What tells a subscriber of that is 19 MB, and is delivered in one
+    piece but for its last byte; then the connection is lost, and another one brings the last commit."""
+    row = (1, *[f"{number}".ljust(MAX_TEXT, "y") for number in range(98)])
+    columns = (Column("id", "integer", True), *(Column(f"c{number}", "text", False) for number in range(98)))
+    table = Table("public", "t", columns, (0,))
+    start = COPY_BOTH + relation_length(table)
+    insert = BEGIN + change_length(table, None, row) + COMMIT
+    delete = BEGIN + change_length(table, row, None) + COMMIT
+    most = start + insert + delete + insert - 1
+    text = wide_row(1, list(row[1:]))
+    script = (
+        f"COMMIT INSERT t {text}; COMMIT DELETE t (1); COMMIT INSERT t {text}; OPEN 0; HEAR 0 91; TAKE 0; TAKE 0; TAKE 0;\n"
+        f"DELIVER 0 {most}; LOSE 0; OPEN 0; HEAR 0 92; TAKE 0; DELIVER 0 1000000000; VIEW;\n")
+    lines = [
+        "commit 1", "commit 2", "commit 3", "opened", "heard 91", "sent 1", "sent 2", "sent 3", f"delivered {most}",
+        "lost", "opened", "heard 92", "sent 3", f"delivered {start + insert}", "log 3", f"public.t {text}",
+        f"s0 {end_of(3)} 3 confirmed 0/0", f"s0 public.t {text}", "s1 0/0 0 confirmed 0/0",
+    ]
+    catalog = halves(LOW, HIGH, ", ".join(f"c{number} text" for number in range(98)))
+    return Case("simulate with pieces of 19 MB", ("simulate",), three_parts(catalog, C, script), 0, text_of(lines))

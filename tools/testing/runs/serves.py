@@ -44,6 +44,9 @@ WRONG_WORDS: list[tuple[str, ...]] = [
     ("--port", "45432", "--connections", "1001"),
 ]
 
+# Commits of one row each, which go to both subscribers.
+MOST_COMMITS: list[list[Command]] = [[Insert("t", (key, None))] for key in range(-50_000, 50_000)]
+
 # How many connections are accepted where clients may try more than once.
 MANY = 40
 VERY_MANY = 300
@@ -101,6 +104,7 @@ def runs() -> Iterator[Run]:
     crowded = crowd()
     yield Run("serve of 32 subscribers", crowded, whole.together(crowded.subscribers))
     yield Run("serve of 1,000 connections", halves(whole.TWO_COMMITS), whole.together((S0, S1)), 1_000)
+    yield Run("serve of 100,000 commits", halves(MOST_COMMITS), whole.together((S0, S1)))
     yield Run("serve with clocks and times", SHOP, whole.times)
     yield Run("serve byte by byte", SHOP, whole.byte_by_byte)
     yield Run("serve of a client that is late", SHOP, whole.late)

@@ -86,13 +86,13 @@ class NotStarted(Exception):
 
 
 @contextlib.contextmanager
-def listening(words: list[str], text: str = "") -> Iterator[tuple[Started, int]]:
-    """A program that listens, and its port, which it is told by `--port`. Another port is tried where somebody else has
-    taken the first one."""
+def listening(words: list[str], text: str = "", seconds: float = SECONDS) -> Iterator[tuple[Started, int]]:
+    """A program that listens within so many seconds, and its port, which it is told by `--port`. Another port is tried
+    where somebody else has taken the first one."""
     for tries in range(1, PORTS + 1):
         port = free_port()
         with started([*words, "--port", str(port)], text) as program:
-            line = program.line()
+            line = program.line(seconds)
             if line == f"listening {port}\n":
                 yield program, port
                 return
@@ -102,9 +102,9 @@ def listening(words: list[str], text: str = "") -> Iterator[tuple[Started, int]]
 
 
 @contextlib.contextmanager
-def serving(text: str, *words: str) -> Iterator[tuple[Started, int]]:
+def serving(text: str, *words: str, seconds: float = SECONDS) -> Iterator[tuple[Started, int]]:
     """pgshard serve that listens, and its port."""
-    with listening([PGSHARD, "serve", *words], text) as program:
+    with listening([PGSHARD, "serve", *words], text, seconds) as program:
         yield program
 
 

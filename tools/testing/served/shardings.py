@@ -37,15 +37,21 @@ def large() -> Sharding:
 
 def crowd() -> Sharding:
     """Each of many subscribers has one row, which goes from one to the next."""
-    tests = ["turn < 1", *(f"turn = {number}" for number in range(1, CROWD - 1)), f"turn >= {CROWD - 1}"]
-    catalog = "CREATE TABLE t (id integer PRIMARY KEY, turn integer NOT NULL);\nALTER TABLE t REPLICA IDENTITY FULL;\n"
-    for number, test in enumerate(tests):
-        catalog += f"CREATE PUBLICATION p{number} FOR TABLE t WHERE ({test});\n"
-        catalog += f"CREATE SUBSCRIPTION s{number} CONNECTION '' PUBLICATION p{number};\n"
-    table = Table("t", (("id", "integer"), ("turn", "integer")), key=(0,), letter="f", identity=(0, 1))
     commits: list[list[Command]] = [[Insert("t", (number, number)) for number in range(CROWD)]]
     for turn in range(1, ROUNDS + 1):
         commits.append([Update("t", (number,), (number, (number + turn) % CROWD)) for number in range(CROWD)])
+    return of_crowd((("id", "integer"), ("turn", "integer")), commits)
+
+
+def of_crowd(columns: tuple[tuple[str, str], ...], commits: list[list[Command]]) -> Sharding:
+    """The second column of a table, from 0, says which of many subscribers has a row."""
+    tests = ["turn < 1", *(f"turn = {number}" for number in range(1, CROWD - 1)), f"turn >= {CROWD - 1}"]
+    listed = ", ".join(f"{name} {kind} NOT NULL" for name, kind in columns)
+    catalog = f"CREATE TABLE t ({listed}, PRIMARY KEY (id));\nALTER TABLE t REPLICA IDENTITY FULL;\n"
+    for number, test in enumerate(tests):
+        catalog += f"CREATE PUBLICATION p{number} FOR TABLE t WHERE ({test});\n"
+        catalog += f"CREATE SUBSCRIPTION s{number} CONNECTION '' PUBLICATION p{number};\n"
+    table = Table("t", columns, key=(0,), letter="f", identity=tuple(range(len(columns))))
     return Sharding(catalog, (table,), tuple(map(one_of_crowd, range(CROWD))), commits)
 
 

@@ -1,0 +1,135 @@
+"""Where a name of a definition, a type or a contract comes from."""
+
+from dataclasses import dataclass
+from functools import cache
+from pathlib import Path
+
+from believing import code, definitions
+from believing.definitions import Import
+
+ROOT = Path(__file__).resolve().parent.parent.parent
+CRATES = ROOT / "crates"
+
+
+@dataclass(frozen=True)
+class Place:
+    """A definition, a type or a contract: its file, its name, and of a contract the clauses."""
+
+    path: Path
+    name: str
+    clauses: tuple[str, ...] | None = None
+
+    @property
+    def file(self) -> str:
+        """The file's name as it is printed."""
+        return str(self.path.relative_to(CRATES))
+
+
+def spec_file(crate: str, rest: list[str]) -> Path:
+    """The file of definitions of a crate by the parts of its name."""
+    return CRATES.joinpath(crate, "specs", *rest).with_suffix(".antt")
+
+
+@cache
+def type_file(crate: str, name: str) -> Path | None:
+    """The file of a crate that has the type or the trait of this name."""
+    for path in sorted((CRATES / crate / "src").rglob("*.rt")):
+        if code.item(path, name) is not None:
+            return path
+    return None
+
+
+def declared(crate: str, rest: list[str]) -> Place | None:
+    """The type whose data `declared` has."""
+    parts = [part for part in rest if part != "TheVariants"]
+    path = type_file(crate, parts[-1])
+    return None if path is None else Place(path, parts[-1])
+
+
+def in_path(path: str, name: str) -> Place | None:
+    """What a path of a library has under this name; none where it is the standard library's."""
+    crate, specs, *rest = path.split(".")
+    if crate == "std" or specs != "specs" or not (CRATES / crate).is_dir():
+        return None
+    if rest[:1] == ["declared"]:
+        return declared(crate, rest[1:])
+    file = spec_file(crate, rest)
+    return in_file(file, name) if file.exists() else None
+
+
+def in_file(file: Path, name: str) -> Place | None:
+    """What a file of definitions has under this name: a definition of its own, or one that it hands on."""
+    read = definitions.read(file)
+    found = read.defined(name)
+    if found is not None:
+        return Place(file, found.name)
+    return imported([it for it in read.imports if it.is_public], name)
+
+
+def imported(imports: list[Import], word: str) -> Place | None:
+    """What a word means by some imports."""
+    first, _, rest = word.partition(".")
+    for it in imports:
+        if it.alias == first and rest:
+            return in_path(it.path, rest.split(".")[0])
+        if first in it.names:
+            return handed_on(it, first, rest)
+        operator = next((here for here in it.names if definitions.is_operator(here, first)), None)
+        if operator is not None:
+            return in_path(it.path, it.names[operator])
+    return None
+
+
+def handed_on(it: Import, first: str, rest: str) -> Place | None:
+    """What an imported name means. It may be another file's name for a path."""
+    name = it.names[first]
+    found = in_path(it.path, name)
+    if found is not None or not rest:
+        return found
+    crate, _, *parts = it.path.split(".")
+    file = spec_file(crate, parts)
+    if crate == "std" or not file.exists():
+        return None
+    return imported([its for its in definitions.read(file).imports if its.is_public], f"{name}.{rest}")
+
+
+def lines_of(place: Place) -> list[str]:
+    """The lines that are read of a place, without the empty ones."""
+    return [line for line in found_at(place).lines if line.strip()]
+
+
+def found_at(place: Place) -> code.Item | definitions.Definition:
+    """The definition, the type or the contract of a place."""
+    if place.path.suffix == ".antt":
+        return definitions.read(place.path).definitions[place.name]
+    found = code.item(place.path, place.name) if place.clauses is None else (
+        code.contract(place.path, place.name, place.clauses))
+    if found is None:
+        raise LookupError(f"{place.file} has no {place.name}")
+    return found
+
+
+def used_by(place: Place) -> list[Place]:
+    """What a place uses, each once, in the order of its words."""
+    found = found_at(place)
+    if place.path.suffix == ".antt":
+        read = definitions.read(place.path)
+        places = [
+            Place(place.path, own.name) if (own := read.defined(word.split(".")[0])) is not None
+            else imported(read.imports, word) for word in found.names]
+    else:
+        read = code.read(place.path)
+        crate = place.file.split("/")[0]
+        places = [named_type(crate, read, name) for name in found.types]
+        places += [imported(read.imports, word) for word in found.names]
+    return list(dict.fromkeys(it for it in places if it is not None and it != place))
+
+
+def named_type(crate: str, read: code.Code, name: str) -> Place | None:
+    """The type that a word of the code means."""
+    first = read.uses.get(name, "crate")
+    owner = crate if first in ("crate", "super", "self") else first
+    if not (CRATES / owner).is_dir():
+        return None
+    path = type_file(owner, name)
+    return None if path is None else Place(path, name)

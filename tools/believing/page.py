@@ -1,0 +1,75 @@
+"""docs/READING.md: what is computed in it, between marks. The rest of it, and each file's sentence, is by hand."""
+
+import re
+from pathlib import Path
+
+from believing import definitions
+from believing.library import ROOT, Place, lines_of
+from believing.theorems import THEOREMS, Theorem
+from believing.walking import by_files, places
+
+PAGE = ROOT / "docs" / "READING.md"
+PART = re.compile(r"<!-- computed: (\w+) -->\n(.*?)<!-- end -->\n", re.S)
+ROW = re.compile(r"\| `([^`]+)` \| .*? \| (.*) \|")
+
+
+def computed(text: str) -> str:
+    """The page with its parts computed anew."""
+    sentences = dict(ROW.findall(text))
+    parts = parts_of(sentences)
+    return PART.sub(lambda match: f"<!-- computed: {match[1]} -->\n{parts[match[1]]}<!-- end -->\n", text)
+
+
+def parts_of(sentences: dict[str, str]) -> dict[str, str]:
+    """The computed part of each theorem. What an earlier theorem has is named, and not told again."""
+    parts, before = {}, set()
+    for theorem in THEOREMS:
+        found = places(theorem)
+        parts[theorem.key] = part(theorem, found, before, sentences)
+        before.update(found)
+    return parts
+
+
+def part(theorem: Theorem, found: list[Place], before: set[Place], sentences: dict[str, str]) -> str:
+    """Where a theorem is said, what is read for it, and which names are not."""
+    lines = ["Said by:", ""]
+    lines.extend(f"- {said_in(place)}" for place in theorem.said)
+    known = by_files([place for place in found if place in before])
+    if known:
+        lines.extend(["", f"Read above, whole or in part: {', '.join(f'`{file}`' for file in known)}."])
+    lines.extend(["", "| File | Definitions | What it says |", "|---|---|---|"])
+    for file, its in by_files([it for it in found if it not in before and it.clauses is None]).items():
+        lines.append(f"| `{file}` | {names(its)} | {sentences.get(file) or sentence(its)} |")
+    if theorem.tokens:
+        lines.extend(["", "Not read, since their meaning does not matter here:", ""])
+        lines.extend(f"- {', '.join(f'`{name}`' for name in its)}: {why}." for why, its in reasons(theorem).items())
+    return "\n".join(lines) + "\n"
+
+
+def said_in(place: Place) -> str:
+    """A contract's clauses and its file."""
+    labels = ", ".join(f"`{label}`" for label in place.clauses or ())
+    which = f" ({labels})" if labels else ""
+    return f"`{place.name}`{which} in `{place.file}`"
+
+
+def names(its: list[Place]) -> str:
+    """The names of some places of a file."""
+    return ", ".join(place.name for place in its)
+
+
+def sentence(its: list[Place]) -> str:
+    """What a file's first line says, where nobody wrote a sentence yet."""
+    if its[0].path.suffix == ".antt":
+        said = definitions.read(its[0].path).first_line
+    else:
+        said = " ".join(line.strip(" /!") for line in lines_of(its[0]) if line.strip().startswith("//")) or "types"
+    return re.split(r": | \(\"|\. ", said)[0].rstrip(".")
+
+
+def reasons(theorem: Theorem) -> dict[str, list[str]]:
+    """The names that are not read, by the reason."""
+    found: dict[str, list[str]] = {}
+    for name, why in theorem.tokens.items():
+        found.setdefault(why, []).append(name)
+    return found

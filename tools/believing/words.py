@@ -1,0 +1,59 @@
+"""The words of a definition or a contract that may be names of other definitions."""
+
+import re
+
+# A name, with the names after its points; or an operator.
+WORD = re.compile(r"«?[A-Za-z_][\w']*»?(?:\.[\w']+)*|[^\s\w(){}\[\],;.«»]+")
+LAMBDA = re.compile(r"λ ([^.]*)\.(?= )")
+BOUND = re.compile(r"[({]([a-z_][\w' ]*?) :")
+STRING = re.compile(r'"[^"\n]*"')
+EQUALS = re.compile(r"\s=\s")
+LET = re.compile(r"\blet ([a-z_][\w']*) =")
+TYPED = re.compile(r"\(([\w' ]+) : [^)]*\)")
+
+# What is no name of a definition.
+LANGUAGE = {":", "=", "→", "×", "⊥", '""', "Type", "Unit", "record", "let", "in", "ghost"}
+
+# The names that begin a clause and are no variables, though they are in small letters.
+CONSTRUCTORS = {"true", "false", "zero", "suc", "record"}
+
+
+def without_comments(lines: list[str]) -> str:
+    """The text of some lines, without comments and without what is between quotes."""
+    return STRING.sub('""', "\n".join("" if line.lstrip().startswith("--") else line for line in lines))
+
+
+def bound_in(text: str) -> set[str]:
+    """The variables that a lambda, a let or a type binds."""
+    found = set(LET.findall(text))
+    for binders in LAMBDA.findall(text):
+        names = TYPED.sub(r"\1", binders)
+        found.update(re.findall(r"[a-z_][\w']*", names))
+    for names in BOUND.findall(text):
+        found.update(names.split())
+    return found
+
+
+def variables_of(left: str) -> set[str]:
+    """The variables of the left side of a clause, whose first word is the name that it defines."""
+    words = WORD.findall(left)[1:]
+    return {word for word in words if word[0].islower() and "." not in word} - CONSTRUCTORS
+
+
+def names_in(text: str, bound: set[str]) -> list[str]:
+    """The words of a text that may be names of definitions, each once, in their order."""
+    found = []
+    for match in WORD.finditer(text):
+        word = match[0].strip("«»")
+        before, after = text[match.start() - 1:match.start()], text[match.end():match.end() + 3]
+        is_field = before == "." or after.startswith(" = ")
+        if word not in found and word not in LANGUAGE and not is_field and word.split(".")[0] not in bound:
+            found.append(word)
+    return found
+
+
+def names_of_clause(text: str) -> list[str]:
+    """The names in a clause `name pattern = body`; without a body the whole is looked at."""
+    left, *body = EQUALS.split(text, maxsplit=1)
+    bound = bound_in(text) | (variables_of(left) if body else set())
+    return names_in(left, bound) + names_in("".join(body), bound)

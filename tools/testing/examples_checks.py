@@ -1,0 +1,72 @@
+"""That the program prints what the documents show of it."""
+
+import subprocess
+from dataclasses import dataclass
+
+from programs import PGSHARD, TOOLS, judge, pgshard
+from tally import Tally
+
+ROOT = TOOLS.parent
+EXAMPLES = ROOT / "examples"
+
+
+@dataclass(frozen=True)
+class Example:
+    """A run with its input and its status, and the documents that show what it prints, whole or its end."""
+
+    documents: tuple[str, ...]
+    words: tuple[str, ...]
+    text: str
+    status: int
+    lines: int | None = None
+
+
+def check_examples(tally: Tally) -> None:
+    """Runs of the examples, and what a person is told of some."""
+    for example in examples():
+        status, output = pgshard(*example.words, text=example.text)
+        shown = "".join(output.splitlines(keepends=True)[-example.lines:]) if example.lines else output
+        what = f"{example.words[0]} of {example.documents[0]}"
+        tally.check(f"{what}: its status", status, example.status)
+        for document in example.documents:
+            tally.check(f"{what}: what {document} shows", is_shown(document, shown), True)
+    for file, words in (("lossy.sql", ["make"]), ("orders.txt", ["eval", "orders"])):
+        with open(EXAMPLES / file, "rb") as given:
+            answer = subprocess.run(
+                [TOOLS / "explain", PGSHARD, *words], stdin=given, stdout=subprocess.DEVNULL, stderr=subprocess.PIPE,
+                encoding="utf-8", cwd=ROOT)
+        tally.check(f"what is told of {file}", is_shown("docs/OUTPUT.md", answer.stderr), True)
+
+
+def check_judge_example(tally: Tally, server) -> None:
+    """What judge says of the database of the README."""
+    server.create("shown", read("server.sql"))
+    output, status = judge(*server.words("shown")).rsplit("status ", 1)
+    tally.check("the status of the README's database", status, "1\n")
+    tally.check("what the README shows of its database", is_shown("README.md", output), True)
+
+
+def examples() -> list[Example]:
+    """The examples of the documents."""
+    lossy, shop = read("lossy.sql"), read("shop.sql")
+    certificates = pgshard("make", text=shop)[1]
+    moves = f"{shop}%%\n{certificates}%%\n{read('moves.txt')}"
+    return [
+        Example(("README.md",), ("make",), lossy, 1),
+        Example(("docs/CERTIFICATES.md",), ("make",), shop, 0),
+        Example(("docs/CERTIFICATES.md",), ("make",), shop.replace(", nowhere;", ";"), 1),
+        Example(("docs/OUTPUT.md",), ("eval", "orders"), read("orders.txt"), 1),
+        Example(("docs/OUTPUT.md",), ("eval", "t", "--insert"), read("regions.txt"), 0),
+        Example(("README.md",), ("simulate",), moves, 0, lines=5),
+        Example(("docs/OUTPUT.md",), ("simulate",), moves, 0),
+    ]
+
+
+def read(name: str) -> str:
+    """The text of an example."""
+    return (EXAMPLES / name).read_text(encoding="utf-8")
+
+
+def is_shown(document: str, output: str) -> bool:
+    """Whether a document has an output as lines of a block."""
+    return f"```\n{output}```\n" in (ROOT / document).read_text(encoding="utf-8")

@@ -1,0 +1,44 @@
+"""What the runs ask."""
+
+from collections.abc import Iterator
+from dataclasses import dataclass
+
+from refused.cases import with_certificates
+from refused.scripts import STEPS, catalog_text, script_input
+from runs.catalogs import C
+from runs.simulations import three_parts
+from served.shardings import HALVES_CATALOG
+
+ROWS = f"{HALVES_CATALOG}%%\n(7, 'eu')\n(100, NULL)\n(2147483648, NULL)\n('x', 1)\n(1)\n".encode()
+
+
+@dataclass(frozen=True)
+class Case:
+    """Words and an input, and how many bytes a read gives at most, and a write takes."""
+
+    words: tuple[str, ...]
+    text: bytes
+    read: int = 40
+    written: int = 7
+
+
+def cases() -> Iterator[Case]:
+    """All runs but those of `serve` that listen."""
+    yield Case(("eval", "t"), ROWS)
+    yield Case(("eval", "t", "--insert"), ROWS)
+    yield Case(("eval", "u"), ROWS)
+    yield Case(("check",), f"{HALVES_CATALOG}%%\n{C}".encode())
+    yield Case(("check",), f"{HALVES_CATALOG}%%\no 0\n".encode())
+    yield Case(("check",), f"{HALVES_CATALOG}%%\ns 0 o\n".encode())
+    yield Case(("check",), f"DROP;{HALVES_CATALOG}%%\n{C}".encode())
+    yield Case(("check",), with_certificates(catalog_text()), read=500)
+    yield Case(("make",), HALVES_CATALOG.encode())
+    yield Case(("make",), HALVES_CATALOG.replace("id >= 100", "id > 100").encode())
+    yield Case(("make",), b"\xff")
+    yield Case(("simulate",), script_input(STEPS), read=500, written=300)
+    yield Case(("simulate",), three_parts(HALVES_CATALOG, "o 0\n", "VIEW;").encode())
+    yield Case(("serve", "--port", "45432"), three_parts(HALVES_CATALOG, C, "VIEW;").encode())
+    yield Case(("serve", "--port", "x"), b"")
+    yield Case(("--help",), b"", written=60)
+    yield Case(("--version",), b"")
+    yield Case(("nope",), b"")

@@ -1,0 +1,254 @@
+"""What a person at a terminal is told of faults: by tools/explain, by the script pgshard and by judge."""
+
+import os
+import pathlib
+import shutil
+import subprocess
+import sys
+import tempfile
+
+from programs import PGSHARD, TOOLS
+from tally import Tally
+
+sys.path.insert(0, str(TOOLS))
+
+from pointing.certificates import place_of_fault, place_of_node
+from pointing.lines import explained
+from pointing.source import Source
+
+CATALOG = """\
+CREATE TABLE t (
+    id bigint PRIMARY KEY, "größe" text, region integer NOT NULL);
+ALTER TABLE t REPLICA IDENTITY FULL;
+CREATE PUBLICATION p FOR TABLE t WHERE (region < 5);
+CREATE PUBLICATION "q 2" FOR TABLE t WHERE (region >= 5);
+CREATE SUBSCRIPTION s CONNECTION '' PUBLICATION p;
+CREATE SUBSCRIPTION u CONNECTION '' PUBLICATION "q 2";
+"""
+LINES = CATALOG.count("\n")
+
+# Words, the text, the status, the output, and what is told.
+TOLD = [
+    # Texts that are not read: a column is counted in characters.
+    (["make"], "CREATE TABLE ö (", 3, "catalog 13 BadToken\n",
+     ["f:1:14: this is not SQL, or a quote or a comment that is not closed: ö"]),
+    (["make"], CATALOG.replace("region < 5", "regio < 5"), 3,
+     f"catalog {CATALOG.encode().index(b'region < 5')} UnknownName\n",
+     ["f:4:41: nothing has this name: regio"]),
+    (["make"], "CREATE TABLE t (id\n", 3, "catalog 19 Expected\n",
+     ["f:2:1: something else is expected here: the end of the text"]),
+    (["check"], f"{CATALOG}%%\ns 0 o 0 x\n", 3, "certificate 1 BadToken\n",
+     [f"f:{LINES + 2}:9: this is no part of a certificate, which has letters s, o, e, n with a number after each"]),
+    (["simulate"], f"{CATALOG}%%\no 0\n%%\nCOMMIT;\nVIEWS;", 3, "script 8 UnknownName\n",
+     [f"f:{LINES + 5}:1: nothing has this name: VIEWS"]),
+    (["eval", "x"], f"{CATALOG}%%\n", 3, "table x\n", ["pgshard: the catalog has no table x"]),
+    (["check"], CATALOG, 3, "input\n",
+     ["pgshard: pgshard check wants 2 parts, with a line %% between each two; the input has 1"]),
+    (["make"], f"{CATALOG}%%\n", 3, "input\n",
+     ["pgshard: pgshard make wants one part, with a line %% between each two; the input has 2"]),
+    (["make"], b"CREATE\xff", 3, "input\n", ["pgshard: the input is not UTF-8, at byte 6"]),
+    # Rows, each by the line of its answer.
+    (["eval", "t"], f"{CATALOG}%%\n(1, 'ä, b', 3)\n(1, 2\n(1, 'a, ''b''', 3000000000)\n(1, 'a')\n(1, 'ä', x)\n", 1,
+     "p=true q 2=false\nunreadable 5 Expected\ninvalid OutOfRange 2\ninvalid Width\nunreadable 10 Expected\n",
+     [f"f:{LINES + 3}:6: something else is expected here: the end of the row",
+      f"f:{LINES + 4}:17: region: the number is past the range of the column's type",
+      f"f:{LINES + 5}:1: the row has another number of values than the table has columns",
+      f"f:{LINES + 6}:10: something else is expected here: x"]),
+    (["eval", "public.t"], f"{CATALOG}%%\n(1, NULL, NULL)", 1, "invalid NullInNotNull 2\n",
+     [f"f:{LINES + 2}:11: region: the value is null, and the column is NOT NULL"]),
+    (["eval", "t"], f"{CATALOG}%%\n" + "(1)\n" * 23, 1, "invalid Width\n" * 23,
+     [*(f"f:{LINES + 2 + row}:1: the row has another number of values than the table has columns" for row in range(20)),
+      "pgshard: and 3 more rows"]),
+    # Tables without a certificate.
+    (["make"], CATALOG, 1, "counter public.t (0, '', 5) owners none\n",
+     ["f:1:14: public.t: no subscriber gets the row (0, '', 5)"]),
+    (["make"], CATALOG, 1, "counter public.t (0, 'a, b', 5) owners s,u\n",
+     ["f:1:14: public.t: s and u get the row (0, 'a, b', 5)"]),
+    (["make"], CATALOG, 1, "unknown public.t\n",
+     ["f:1:14: public.t: neither a certificate nor a row that shows a fault was found: the search ended without one"]),
+    (["make"], CATALOG, 1, "too large public.t\n",
+     ["f:1:14: public.t: neither a certificate nor a row that shows a fault was found: the certificate would be past "
+      "its limits"]),
+    # Shardings that are refused.
+    (["check"], f"{CATALOG}%%\ns 0 o 0 o 1 n 0\n", 1, "refused SecondOwner public.t 2 s\n",
+     [f"f:{LINES + 2}:9: public.t: the certificate names a subscriber, but another one may take the row, too, which "
+      "is s"]),
+    (["check"], f"{CATALOG}%%\n", 1, "refused CertCount\n",
+     [f"f:{LINES + 2}:1: the catalog has 1 tables, and here are 0 certificates"]),
+    (["check"], f"{CATALOG}%%\no 0\n", 1, "refused PublishMissing q 2 truncate\n",
+     ["f:5:20: publication q 2, which a subscription takes, does not publish truncate"]),
+    (["check"], f"{CATALOG}%%\no 0\n", 1, "refused NotCovered p public.t region\n",
+     ["f:4:20: the filter of publication p names column region, which is not in the replica identity of public.t"]),
+    (["simulate"], f"{CATALOG}%%\no 0\n%%\n", 1, "refused NoIdentity public.t\n",
+     ["f:1:14: the replica identity of public.t does not tell its rows apart"]),
+    (["serve", "--port", "1"], f"{CATALOG}%%\no 0\n%%\n", 1, "listening 1\nclose TakenDiffers\n",
+     ["pgshard: a connection took other commits than those of the log"]),
+    # What points at nothing.
+    (["make"], CATALOG, 0, "o 0\n", []),
+    (["make"], CATALOG, 4, "", ["pgshard: the output cannot be written"]),
+    (["serve", "--port", "1"], CATALOG, 4, "", ["pgshard: the output cannot be written, or the port cannot be had"]),
+    (["make"], CATALOG, 5, "o 0\nout of memory\n", ["pgshard: memory ran out"]),
+    (["nothing"], "", 2, "command line\nwhy\n", []),
+]
+
+# Certificates, and where they stop being one.
+CERTIFICATES = [
+    ("", 0), ("o", 1), ("o 0", 3), ("o 0 ", 3), ("o 01", 2), ("s 0 o 0 o 1", 11), ("s 0 o 0 o 1 n", 13), ("o 0 o 0", 3),
+    ("x 0", 0), ("o  0", 2), ("s 0 o 0 o 1 n 0", 15),
+]
+
+# Stands for the built program: it writes what the environment says once its input has ended, or at once.
+PROGRAM = """\
+#!/bin/sh
+[ "$1" = --help ] || cat > /dev/null
+printf '%s' "$WRITES"
+exit $ENDS
+"""
+
+# The same, where a table is not sound.
+ANSWERS = """\
+#!/bin/sh
+cat > /dev/null
+case $1 in
+    make) echo 'counter public.t (0, NULL, 5) owners none' ;;
+    check) echo 'refused CertCount' ;;
+esac
+exit 1
+"""
+
+
+def check_pointing(tally: Tally) -> None:
+    """Sentences by themselves, and then runs."""
+    for words, text, status, output, expected in TOLD:
+        data = text if isinstance(text, bytes) else text.encode()
+        tally.check(f"what is told of {output!r}", explained(words, Source("f", data), status, output), expected)
+    for line, place in CERTIFICATES:
+        tally.check(f"where {line!r} stops being a certificate", place_of_fault(line), place)
+    tally.check("the place of a node", place_of_node("s 12 o 0 o 1", 2), 9)
+    with tempfile.TemporaryDirectory() as folder:
+        path = pathlib.Path(folder)
+        check_explain(tally, path)
+        check_script(tally, path / "repository")
+        check_judge_marks(tally, path)
+    check_program(tally)
+
+
+def check_explain(tally: Tally, folder: pathlib.Path) -> None:
+    """The output and the status of a run stay, and its input need not end."""
+    program, catalog = written(folder / "program", PROGRAM), folder / "catalog.sql"
+    catalog.write_text(CATALOG)
+    says = {"WRITES": "counter public.t (0, '', 5) owners none\n", "ENDS": "1"}
+    sentence = "1:14: public.t: no subscriber gets the row (0, '', 5)\n"
+    with open(catalog, "rb") as file:
+        tally.check("a run on a file", explain(program, "make", stdin=file, **says), (
+            1, says["WRITES"], f"catalog.sql:{sentence}"))
+    tally.check("a run on a pipe", explain(program, "make", input=CATALOG, **says), (
+        1, says["WRITES"], f"input:{sentence}"))
+    long = "x" * 100_000
+    tally.check("a long output", explain(program, "make", input="", WRITES=long, ENDS="0"), (0, long, ""))
+    tally.check("an input that is not read", explain(program, "--help", input=long * 30, WRITES="help\n", ENDS="0"), (
+        0, "help\n", ""))
+    reader, writer = os.pipe()
+    tally.check("an input that does not end", explain(program, "--help", stdin=reader, WRITES="help\n", ENDS="0"), (
+        0, "help\n", ""))
+    os.close(reader), os.close(writer)
+
+
+def explain(program: pathlib.Path, *words: str, WRITES: str, ENDS: str, **given) -> tuple[int, str, str]:
+    """A run by tools/explain: its status, its output and what is told."""
+    environment = os.environ | {"WRITES": WRITES, "ENDS": ENDS}
+    answer = subprocess.run(
+        [TOOLS / "explain", program, *words], stdout=subprocess.PIPE, stderr=subprocess.PIPE, env=environment,
+        encoding="utf-8", cwd=program.parent, timeout=60, **given)
+    return answer.returncode, answer.stdout, answer.stderr
+
+
+def check_script(tally: Tally, root: pathlib.Path) -> None:
+    """The script pgshard, in a repository whose program is built: only a person at a terminal is told."""
+    (root / "crates" / "publisher_main" / "out").mkdir(parents=True)
+    for folder in "src", "specs", "proofs":
+        (root / "crates" / "publisher_main" / folder).mkdir()
+    (root / "tools").symlink_to(TOOLS)
+    (root / "crates.txt").write_text("")
+    script = pathlib.Path(shutil.copy(TOOLS.parent / "pgshard", root))
+    written(root / "crates" / "publisher_main" / "out" / "publisher_main", PROGRAM)
+    environment = os.environ | {"WRITES": "input\n", "ENDS": "3"}
+    sentence = "pgshard: pgshard make wants one part, with a line %% between each two; the input has 2\n"
+    for is_terminal in True, False:
+        found = at_terminal([script, "make"], b"%%\n", environment) if is_terminal else (
+            by_pipes([script, "make"], b"%%\n", environment))
+        told = sentence if is_terminal else ""
+        tally.check(f"the script, {'at a terminal' if is_terminal else 'by pipes'}", found, (3, "input\n", told))
+
+
+def check_judge_marks(tally: Tally, folder: pathlib.Path) -> None:
+    """judge points into a file for a person at a terminal."""
+    program, catalog = written(folder / "made", PROGRAM), folder / "judged.sql"
+    catalog.write_text(CATALOG)
+    environment = os.environ | {"PGSHARD": str(program), "WRITES": "catalog 13 TypeClash\n", "ENDS": "3"}
+    status, _, told = at_terminal([TOOLS / "judge", catalog], b"", environment)
+    tally.check("a file that judge does not read", (status, told), (
+        3, f"{catalog}:1:14: the parts of this expression do not fit together: t\n"))
+    answers = folder / "answers"
+    written(answers, ANSWERS)
+    status, output, told = at_terminal([TOOLS / "judge", catalog], b"", environment | {"PGSHARD": str(answers)})
+    tally.check("a file that is not sound", (status, told), (
+        1, f"{catalog}:1:14: public.t: NOT SOUND: the row (0, NULL, 5) goes to no subscriber\n"))
+    piped = by_pipes([TOOLS / "judge", catalog], b"", environment | {"PGSHARD": str(answers)})
+    tally.check("the same by pipes", piped, (1, output, ""))
+
+
+def check_program(tally: Tally) -> None:
+    """Runs of pgshard itself."""
+    cases = [
+        (["make"], CATALOG.replace("region < 5", "region < 6"), 1, "1:14: public.t: s and u get the row"),
+        (["make"], CATALOG.replace("PUBLICATION p;", "PUBLICATION r;"), 3, "6:49: nothing has this name: r\n"),
+        (["eval", "t"], f"{CATALOG}%%\n(1, 'ä', 7)\n(1, 'ä', 3000000000)\n", 1,
+         f"{LINES + 3}:10: region: the number is past"),
+        (["simulate"], f"{CATALOG}%%\no 0\n%%\nVIEW;\n  PUMP;\n", 3,
+         f"{LINES + 5}:7: something else is expected here: ;\n"),
+    ]
+    for words, text, status, begin in cases:
+        answer = subprocess.run(
+            [TOOLS / "explain", PGSHARD, *words], input=text.encode(), stdout=subprocess.PIPE, stderr=subprocess.PIPE)
+        told = answer.stderr.decode().removeprefix("input:")
+        tally.check(f"what is told of {words[0]}", (answer.returncode, told[:len(begin)]), (status, begin))
+
+
+def at_terminal(command: list, given: bytes, environment: dict[str, str]) -> tuple[int, str, str]:
+    """A run whose standard error is a terminal: its status, its output, and what is told there."""
+    leader, follower = os.openpty()
+    try:
+        answer = subprocess.run(
+            command, input=given, stdout=subprocess.PIPE, stderr=follower, env=environment, timeout=60)
+        os.close(follower)
+        return answer.returncode, answer.stdout.decode(), read_all(leader).decode().replace("\r\n", "\n")
+    finally:
+        os.close(leader)
+
+
+def read_all(terminal: int) -> bytes:
+    """What was written to a terminal whose other end is closed."""
+    found = b""
+    while True:
+        try:
+            piece = os.read(terminal, 65_536)
+        except OSError:
+            return found
+        if not piece:
+            return found
+        found += piece
+
+
+def by_pipes(command: list, given: bytes, environment: dict[str, str]) -> tuple[int, str, str]:
+    """The same without a terminal."""
+    answer = subprocess.run(
+        command, input=given, stdout=subprocess.PIPE, stderr=subprocess.PIPE, env=environment, timeout=60)
+    return answer.returncode, answer.stdout.decode(), answer.stderr.decode()
+
+
+def written(path: pathlib.Path, text: str) -> pathlib.Path:
+    """A script that is written there."""
+    path.write_text(text)
+    path.chmod(0o755)
+    return path

@@ -1,0 +1,164 @@
+"""Clients of `pgshard serve` under load: 100,000 commits, each of a row of one of 32 subscribers, whose clients are
+served side by side. Where some of them are rough, a few stop reading until the others have all, and others lose their
+connections again and again; those that are lost come back at the position that they have reached."""
+
+import contextlib
+import threading
+from collections.abc import Iterator
+from concurrent.futures import ThreadPoolExecutor
+
+from . import messages
+from .clients import LITTLE, Connection, back_again, client
+from .program import SECONDS
+from .publisher import Command, Insert, Publisher, end_of
+from .sharding import Sharding
+from .shardings import CROWD, of_crowd
+
+COMMITS = 100_000
+
+# So many of the first subscribers stop reading. Their rows are so long that a system doesn't keep a whole stream of a
+# client that doesn't read it, nor half of one.
+STOPPING = 3
+LONG = 1_250
+
+# How many bytes such a client reads before it stops.
+BEFORE_STOP = 100_000
+
+# So many subscribers after them lose their connections, each time after so many bytes.
+LOST = 8
+READ_BEFORE_LOSS = (3, 50, 20_000, 100_001, 250_007)
+
+# How long the clients of a run wait for each other.
+TOGETHER = 3 * SECONDS
+
+# What was found, with a name, and what should have been found.
+Found = list[tuple[str, object, object]]
+
+
+def row(number: int) -> tuple:
+    """The row of a commit, by the number of the commit from 1."""
+    turn = number % CROWD
+    return (number, turn, "x" * LONG if turn < STOPPING else "")
+
+
+def sharding() -> Sharding:
+    """Each commit inserts a row of the next subscriber."""
+    commits: list[list[Command]] = [[Insert("t", row(number))] for number in range(1, COMMITS + 1)]
+    return of_crowd((("id", "integer"), ("turn", "integer"), ("note", "text")), commits)
+
+
+class Streams:
+    """What each subscriber is to be sent, worked out commit by commit."""
+
+    def __init__(self, made: Sharding) -> None:
+        self.subscribers = made.subscribers
+        self.relation = Publisher(made.tables).relation("t")
+        self.transactions: list[list[tuple[int, list[bytes]]]] = [[] for _ in self.subscribers]
+        for number in range(1, COMMITS + 1):
+            first = messages.begin(64 * number, number + 2)
+            last = messages.commit(64 * number, end_of(number))
+            told = [first, messages.insert(16384, row(number)), last]
+            self.transactions[number % CROWD].append((number, told))
+
+    def stream(self, slot: int, position: int = 0) -> bytes:
+        """All that a connection of a subscriber is sent from a position on, with no clocks and no times."""
+        told = [it for it in self.transactions[slot] if 64 * it[0] >= position]
+        frames = [messages.xlog_data(64 * number, message) for number, listed in told for message in listed]
+        if frames:
+            frames.insert(1, messages.xlog_data(64 * told[0][0], self.relation))
+        return messages.COPY_BOTH_RESPONSE + b"".join(frames)
+
+
+class Clients:
+    """The clients of a run at a port, each in a thread of its own."""
+
+    def __init__(self, streams: Streams, port: int, are_rough: bool) -> None:
+        self.streams = streams
+        self.port = port
+        self.are_rough = are_rough
+        # All wait here for each other, and for the run: first while some have stopped reading, and then when each has
+        # its stream.
+        self.stopped = threading.Barrier(CROWD + 1, timeout=TOGETHER)
+        self.whole = threading.Barrier(CROWD + 1, timeout=TOGETHER)
+
+    @contextlib.contextmanager
+    def started(self) -> Iterator[list]:
+        """The clients, and what they find when they have ended."""
+        with ThreadPoolExecutor(CROWD) as pool:
+            try:
+                yield [pool.submit(self.findings, slot) for slot in range(CROWD)]
+            finally:
+                self.give_up()
+
+    def give_up(self) -> None:
+        """Nobody waits any longer."""
+        self.stopped.abort()
+        self.whole.abort()
+
+    def findings(self, slot: int) -> Found:
+        """What the client of a slot finds, or what kept it from finding anything."""
+        try:
+            return self.served(slot)
+        except (OSError, threading.BrokenBarrierError) as fault:
+            self.give_up()
+            return [(f"s{slot}", f"{type(fault).__name__}: {fault}", "no fault")]
+
+    def served(self, slot: int) -> Found:
+        """What a client finds that gets its whole stream, in the way that it has."""
+        if self.are_rough and slot < STOPPING:
+            return self.stops(slot)
+        if self.are_rough and slot < STOPPING + LOST:
+            return self.is_lost(slot)
+        with client(self.port) as made:
+            made.start(self.streams.subscribers[slot])
+            return self.whole_of(made, slot)
+
+    def stops(self, slot: int) -> Found:
+        """It reads the first bytes, and no more until the others have all. The last one goes on then; the others are
+        cut off, and come back."""
+        expected = self.streams.stream(slot)
+        with client(self.port, LITTLE) as made:
+            made.start(self.streams.subscribers[slot])
+            first = made.receive_as_is(BEFORE_STOP)
+            self.stopped.wait()
+            if slot == STOPPING - 1:
+                sent = messages.without_times(first + made.receive_as_is(len(expected) - len(first)))
+                self.whole.wait()
+                return [(f"what s{slot} gets", sent + made.finish(), expected + messages.COPY_DONE)]
+        frames, _ = messages.frames_of(messages.without_times(first))
+        found = b"".join(frames)
+        position = messages.end_in(frames, 0)
+        with back_again(self.port, self.streams.subscribers[slot], position) as again:
+            return [
+                (f"what s{slot} gets before it stops", found, expected[:len(found)]),
+                *self.whole_of(again, slot, position, waits=False)]
+
+    def is_lost(self, slot: int) -> Found:
+        """It is lost in the midst of its stream, and comes back, until it has all."""
+        subscriber, position, found = self.streams.subscribers[slot], 0, []
+        for count in READ_BEFORE_LOSS:
+            expected = self.streams.stream(slot, position)
+            with back_again(self.port, subscriber, position) as made:
+                frames, _ = messages.frames_of(made.receive(count))
+            got = b"".join(frames)
+            found.append((f"what s{slot} gets from {messages.written(position)} on", got, expected[:len(got)]))
+            position = messages.end_in(frames, position)
+        with back_again(self.port, subscriber, position) as made:
+            return found + self.whole_of(made, slot, position)
+
+    def whole_of(self, made: Connection, slot: int, position: int = 0, waits: bool = True) -> Found:
+        """What a started client gets that reads all."""
+        expected = self.streams.stream(slot, position)
+        sent = made.receive(len(expected))
+        if waits:
+            self.stopped.wait()
+        self.whole.wait()
+        name = f"what s{slot} gets from {messages.written(position)} on"
+        return [(name, sent + made.finish(), expected + messages.COPY_DONE)]
+
+
+def resident(process: int) -> int:
+    """How much memory a process has, in bytes, but for what is in files; 0 where it has ended."""
+    with open(f"/proc/{process}/status", encoding="ascii") as told:
+        sizes = dict(line.split(":", 1) for line in told)
+    return 1024 * int(sizes.get("RssAnon", "0 kB").split()[0])
