@@ -56,8 +56,8 @@ def run(variables: dict[str, str]) -> tuple[int | None, str, str]:
         answer = subprocess.run(
             [NAMED or BUILT], stdin=subprocess.DEVNULL, stdout=subprocess.PIPE, stderr=subprocess.PIPE,
             encoding="utf-8", timeout=SECONDS, env=os.environ | variables)
-    except subprocess.TimeoutExpired:
-        return None, "", f"no end within {SECONDS} seconds\n"
+    except subprocess.TimeoutExpired as error:
+        return None, os.fsdecode(error.stdout or b""), f"no end within {SECONDS} seconds\n"
     except OSError as error:
         return None, "", f"{error}\n"
     return answer.returncode, answer.stdout, answer.stderr

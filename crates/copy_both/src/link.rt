@@ -199,7 +199,7 @@ impl Link {
     }
 
     /// Drops so many of the first bytes that wait, or all where fewer wait, without a copy of the others. Where nothing
-    /// waits any more, the memory of the output is given back.
+    /// waits any more, the output has no room.
     pub fn passed(&mut self, count: usize)
         ensures { LinkPasses self.old self.new count }
     {

@@ -266,7 +266,7 @@ impl Voice {
     }
 
     /// Drops so many of the first bytes that wait, or all where fewer wait, without a copy of the others. Where nothing
-    /// waits any more, the memory of the output is given back.
+    /// waits any more, the output has no room.
     pub fn passed(&mut self, count: usize)
         ensures passes { spec.Passes self.old self.new count }
         ensures room { voice_output self.new ≡ [] → voice_room self.new ≡ 0 }

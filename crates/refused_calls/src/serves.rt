@@ -45,8 +45,8 @@ fn serve_query<P: Publishing + Sync, R: Threads + Wait + Clock + Sync>(
     Ok((served, bytes, was_refused))
 }
 
-/// That the connection started where the subscriber was, if it started, and ended by its client, or for want of memory
-/// where a request was refused.
+/// That the connection started where the subscriber was, if it started, and ended by its client or since all is taken
+/// up, whichever came first, or for want of memory where a request was refused.
 fn check_served(served: &Served, from: u64, was_refused: bool) -> Result<()> {
     let Served { start, end, .. } = served;
     ensure!(
@@ -55,7 +55,7 @@ fn check_served(served: &Served, from: u64, was_refused: bool) -> Result<()> {
     );
     let is_refusal = was_refused && *end == End::Link(LinkFault::OutOfMemory);
     ensure!(
-        is_refusal || *end == End::Client,
+        is_refusal || matches!(end, End::Client | End::Finished),
         "the connection ends by {end:?}"
     );
     Ok(())
@@ -127,6 +127,9 @@ fn publish<P: Publishing + Sync, R: Threads + Wait + Clock + Sync>(
     let (publisher, mut seats) = Publisher::<P>::new(alloc, blank, checked, LIMIT)?;
     let mut seat = seats.seat().context("there is no seat")?;
     commit_all(rt, alloc, &publisher, &mut seat)?;
+    // (where the request that is refused is one of the connection's second thread, the client is heard only once its
+    // sender has stopped, and a sender waits for commits until no more can come)
+    publisher.finish(rt);
     let (served, was_refused) = connect_twice(rt, alloc, &publisher, number)?;
     check_closes(alloc, publisher, seat, served)?;
     Ok(was_refused)
