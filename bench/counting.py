@@ -1,0 +1,50 @@
+"""What other work on the machine does not change: instructions, and bytes of the heap, as valgrind counts them."""
+
+import pathlib
+import re
+import shutil
+import subprocess
+import tempfile
+
+LINE = re.compile(r"I\s+refs:\s+([\d,]+)")
+HEAP = re.compile(r"mem_heap_B=(\d+)\nmem_heap_extra_B=(\d+)")
+
+
+def is_installed():
+    return shutil.which("valgrind") is not None
+
+
+def ran(tool, words, path):
+    """What valgrind says of a run of a program whose input is a file."""
+    with open(path, "rb") as text:
+        run = subprocess.run(["valgrind", *tool, *map(str, words)], stdin=text, stdout=subprocess.DEVNULL, stderr=subprocess.PIPE)
+    return run.stderr.decode(errors="replace")
+
+
+def instructions(words, path="/dev/null"):
+    """How many instructions a run takes; None without valgrind."""
+    if not is_installed():
+        return None
+    tool = ["--tool=cachegrind", "--cache-sim=no", "--cachegrind-out-file=/dev/null"]
+    told = ran(tool, words, path)
+    found = LINE.search(told)
+    if not found:
+        raise RuntimeError(f"valgrind did not count: {told[-500:]}")
+    return int(found[1].replace(",", ""))
+
+
+def heap_bytes(words, path="/dev/null"):
+    """What a run has on the heap for most of its last tenth, with what the allocator adds; None without valgrind."""
+    if not is_installed():
+        return None
+    with tempfile.TemporaryDirectory(prefix="pgshard_bench_") as folder:
+        out = pathlib.Path(folder) / "massif"
+        ran(["--tool=massif", "--depth=1", "--max-snapshots=200", f"--massif-out-file={out}"], words, path)
+        sizes = [int(heap) + int(more) for heap, more in HEAP.findall(out.read_text())]
+    last = sorted(sizes[-len(sizes) // 10 :])
+    return last[len(last) // 2]
+
+
+def difference(after, before, count):
+    """How many more of something, for each of so many; None where one is not known."""
+    return None if after is None or before is None else (after - before) / count
