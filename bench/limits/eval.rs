@@ -138,16 +138,17 @@ fn read_row<'a>(line: &'a str, row: &mut Vec<Cell<'a>>) -> Option<()> {
     }
 }
 
-fn put_answers(filters: &[Filter], row: &[Cell], out: &mut Vec<u8>) {
-    for (at, filter) in filters.iter().enumerate() {
-        let said = match filter.says(row) {
-            Some(true) => "true",
-            Some(false) => "false",
-            None => "null",
+fn put_answers(filters: &[(String, Filter)], row: &[Cell], out: &mut Vec<u8>) {
+    for (name, filter) in filters {
+        let said: &[u8] = match filter.says(row) {
+            Some(true) => b"true ",
+            Some(false) => b"false ",
+            None => b"null ",
         };
-        let gap = if at == 0 { "" } else { " " };
-        write!(out, "{gap}p{at}={said}").expect("memory");
+        out.extend_from_slice(name.as_bytes());
+        out.extend_from_slice(said);
     }
+    out.pop();
     out.push(b'\n');
 }
 
@@ -159,6 +160,7 @@ fn main() {
         "remainders" => remainders(count),
         _ => regions(count),
     };
+    let filters: Vec<_> = filters.into_iter().enumerate().map(|(at, it)| (format!("p{at}="), it)).collect();
     let (mut text, mut out) = (String::new(), Vec::new());
     std::io::stdin().read_to_string(&mut text).expect("an input");
     let (_, lines) = text.split_once("\n%%\n").expect("rows");
