@@ -1,5 +1,6 @@
 """What other work on the machine does not change: instructions, and bytes of the heap, as valgrind counts them."""
 
+import os
 import pathlib
 import re
 import shutil
@@ -7,6 +8,8 @@ import subprocess
 import tempfile
 
 LINE = re.compile(r"I\s+refs:\s+([\d,]+)")
+# Copies of long texts by vectors: valgrind would count an instruction for each byte of those that a processor makes itself.
+BY_VECTORS = {**os.environ, "GLIBC_TUNABLES": "glibc.cpu.x86_rep_movsb_threshold=1000000000"}
 HEAP = re.compile(r"mem_heap_B=(\d+)\nmem_heap_extra_B=(\d+)")
 
 
@@ -16,8 +19,9 @@ def is_installed():
 
 def ran(tool, words, path):
     """What valgrind says of a run of a program whose input is a file."""
+    whole = ["valgrind", *tool, *map(str, words)]
     with open(path, "rb") as text:
-        run = subprocess.run(["valgrind", *tool, *map(str, words)], stdin=text, stdout=subprocess.DEVNULL, stderr=subprocess.PIPE)
+        run = subprocess.run(whole, stdin=text, stdout=subprocess.DEVNULL, stderr=subprocess.PIPE, env=BY_VECTORS)
     return run.stderr.decode(errors="replace")
 
 

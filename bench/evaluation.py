@@ -13,7 +13,7 @@ import rows
 from measuring import print_table, shown
 
 COUNTS = (2, 8)
-COUNTED = 50_000
+COUNTED = 20_000
 HEADS = [
     "Filters",
     "Publications",
