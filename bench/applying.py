@@ -30,11 +30,11 @@ HEADS = [
 def loads():
     for deed in ("insert", "update", "delete"):
         for identity in ("DEFAULT", "FULL"):
-            yield Load(deed, identity)
-    yield Load(in_a_commit=1)
-    yield Load("update", in_a_commit=1)
+            yield Load(deed, identity, before=50_000)
+    for deed in ("insert", "update"):
+        yield Load(deed, in_a_commit=1, before=50_000)
     for identity in ("DEFAULT", "FULL"):
-        yield Load("update", identity, before=200_000)
+        yield Load("update", identity, before=10_000)
     for text in (1_000, 60_000):
         yield Load(text=text, in_a_commit=100)
     yield Load("update", "FULL", text=1_000, in_a_commit=100)

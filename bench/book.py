@@ -10,6 +10,7 @@ import postgres
 import simulating
 import streaming
 from measuring import print_table, shown
+from sending import sized
 from workloads import Load
 
 COUNTED = 10_000
@@ -20,13 +21,13 @@ DEEDS = ("insert", "update", "delete")
 
 def loads():
     for deed in DEEDS:
-        yield Load(deed)
-        yield Load(deed, in_a_commit=1)
+        for in_a_commit in (1_000, 1):
+            yield Load(deed, in_a_commit=in_a_commit, before=50_000)
     for deed in DEEDS[1:]:
-        yield Load(deed, "FULL")
-    for before in (100_000, 300_000):
+        yield Load(deed, "FULL", before=50_000)
+    for before in (0, 300_000):
         yield Load(before=before)
-    yield Load(in_a_commit=1, tables=64)
+    yield Load(in_a_commit=1, before=50_000, tables=64)
 
 
 def counted(setup, load):
@@ -44,7 +45,7 @@ def timed(setup, load):
 
 def row(setup, connection, load):
     pgshard, plain = counted(setup, load)
-    load = replace(load, rows=100_000 if load.in_a_commit > 1 else 40_000)
+    load = sized(load, 100_000 if load.in_a_commit > 1 else 40_000)
     taken = timed(setup, load)
     beside = streaming.changed_by_sql(connection, load) if connection else None
     named = [load.deed, load.identity, f"{load.in_a_commit:,}", f"{load.there:,}", load.tables]

@@ -21,25 +21,26 @@ def written(setup, load):
 
 
 def delivered(setup, load, path, count):
-    """The words of a run in which so many bytes of the messages come to the subscriber, and what it says of that."""
+    """The words of a run in which so many bytes of the messages come to the subscriber, its last line, and how many bytes
+    came."""
     steps = simulating.blocks(load)
     parts = [simulating.opened(load), steps["changes"], steps["takes"], [f"DELIVER 0 {count};\n"]]
-    simulating.write_input(setup, load, parts, path)
+    ends = simulating.write_input(setup, load, parts, path)
     words = simulating.words(setup, load, "delivered")
-    return words, int(setup.answer(words, path).split("delivered ")[1].split()[0])
+    return words, ends[-1], int(setup.answer(words, path).split("delivered ")[1].split()[0])
 
 
 def read(setup, load):
     """Instructions a message: all of them come but for the last byte of the Commit, so that nothing is applied."""
     with tempfile.TemporaryDirectory(prefix="pgshard_bench_") as folder:
         path = pathlib.Path(folder) / "script"
-        _, whole = delivered(setup, load, path, simulating.ALL)
+        *_, whole = delivered(setup, load, path, simulating.ALL)
         counts = []
         for count in (whole - 1, 1):
-            words, came = delivered(setup, load, path, count)
+            words, line, came = delivered(setup, load, path, count)
             if came != count:
                 raise RuntimeError(f"{came} bytes were delivered for {count}")
-            counts.append(counting.instructions(words, path))
+            counts.append(counting.instructions_until(line, words, path))
     return counting.difference(*counts, load.rows)
 
 

@@ -39,25 +39,25 @@ def loads():
             yield Load(in_a_commit=in_a_commit, slots=slots)
     for deed in ("update", "delete"):
         for identity in ("DEFAULT", "FULL"):
-            yield Load(deed, identity)
+            yield Load(deed, identity, before=50_000)
     for text in (1_000, 60_000):
         yield Load(text=text, in_a_commit=100)
     yield Load("update", "FULL", text=1_000, in_a_commit=100)
 
 
 def sized(load, rows):
-    """The load with so many rows, or as many as a script may have."""
+    """The load with so many rows, or as many as a script may have and as there are."""
     of_each = (40 + load.text) * (2 if load.deed == "update" else 1)
     steps = load.slots + 1 if load.in_a_commit == 1 else 0
-    most = min(BYTES // of_each, STEPS // steps if steps else rows, rows)
+    there = load.before if load.before and load.deed != "insert" else rows
+    most = min(BYTES // of_each, STEPS // steps if steps else rows, rows, there)
     return replace(load, rows=most - most % max(2, load.in_a_commit))
 
 
 def served(load):
-    """The load as a server's processes are given it, with enough rows of any length."""
-    if load.in_a_commit == 1:
-        return load
-    return replace(load, rows=min(100_000, SERVED // (40 + load.text) // load.in_a_commit * load.in_a_commit))
+    """The load as a server's processes are given it, with more rows where those are long."""
+    most = SERVED // (40 + load.text) // load.in_a_commit * load.in_a_commit
+    return replace(load, rows=most) if load.text >= 1_000 else load
 
 
 def counted(setup, load):

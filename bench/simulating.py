@@ -27,7 +27,6 @@ ORDERS = {
 # The answers fill the program's buffer of 8,192 bytes three times: what came before them is written, and the program waits
 # for room in the pipe before it comes to what follows.
 MARKER = ["TAKE 99;\n"] * 1_800
-PIPE = 4_096
 ALL = 1_000_000_000
 
 
@@ -84,23 +83,23 @@ def check_answers(load, order, answers):
 
 @functools.cache
 def instructions(setup, load, order):
-    """How many instructions a run in this order takes."""
+    """How many instructions a run in this order takes up to the end of its steps."""
     if not counting.is_installed():
         return None
     with tempfile.TemporaryDirectory(prefix="pgshard_bench_") as folder:
         path = pathlib.Path(folder) / "script"
         steps = blocks(load)
-        write_input(setup, load, [opened(load), *(steps[it] for it in ORDERS[order])], path)
+        ends = write_input(setup, load, [opened(load), *(steps[it] for it in ORDERS[order])], path)
         check_answers(load, order, setup.answer(words(setup, load, order), path))
-        return counting.instructions(words(setup, load, order), path)
+        return counting.instructions_until(ends[-1], words(setup, load, order), path)
 
 
 def one_run(setup, command, path, ends):
     """The processor time up to each of these lines, in µs, and all that was written."""
     times, pieces, lines = [], [], 0
     with setup.pinned(), open(path, "rb") as text, subprocess.Popen(command, stdin=text, stdout=subprocess.PIPE) as process:
-        fcntl.fcntl(process.stdout, fcntl.F_SETPIPE_SZ, PIPE)
-        while piece := os.read(process.stdout.fileno(), PIPE):
+        fcntl.fcntl(process.stdout, fcntl.F_SETPIPE_SZ, counting.PIPE)
+        while piece := os.read(process.stdout.fileno(), counting.PIPE):
             pieces.append(piece)
             lines += piece.count(b"\n")
             while len(times) < len(ends) and lines >= ends[len(times)]:

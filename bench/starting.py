@@ -53,8 +53,8 @@ def large_catalog(tables):
 
 
 def small_row(setup, words, path):
-    shown = ["pgshard" if it == setup.program else it for it in words]
-    return [" ".join(shown), shown(setup.milliseconds(words, path, RUNS))]
+    named = ["pgshard" if it == setup.program else it for it in words]
+    return [" ".join(named), shown(setup.milliseconds(words, path, RUNS))]
 
 
 def measure_small(setup, folder):
