@@ -1,94 +1,98 @@
-"""Rows that a book inserts, updates and deletes a second, and its bytes a row, beside an unlogged table of PostgreSQL 15."""
+"""What a commit costs a book: instructions and time a row beside a plain program and SQL in a loop, and bytes a row."""
 
-import drivers
+import pathlib
+import tempfile
+from dataclasses import replace
+
+import counting
+import limits
 import postgres
-from measuring import print_table
+import simulating
+import streaming
+from measuring import print_table, shown
+from sending import sized
+from workloads import Load
 
-ROWS = (1_000, 10_000, 100_000, 1_000_000)
-# how rows come one after the other: the step from the key of one to that of the next
-ORDERS = {"in order": 1, "far apart": 2_654_435_761}
-PARTS = ("insert", "update", "delete")
-HEADS = [
-    "Keys",
-    "Rows",
-    *(f"{it}, thousand rows/s" for it in PARTS),
-    *(f"{it}, times that of a tenth of the rows" for it in PARTS),
-    "bytes a row",
-    "COPY, thousand rows/s",
-    "prepared INSERT, thousand rows/s",
-]
-TABLE = "CREATE UNLOGGED TABLE t (id integer PRIMARY KEY, region text);"
+COUNTED = 10_000
+ROWS_HELD = 20_000
+HEADS = ["Change", "Identity", "Rows a commit", "Rows before", "Tables", "instructions a row", "plain Rust", "µs a row", "SQL, µs a row"]
+DEEDS = ("insert", "update", "delete")
 
 
-def number(place, rows, step):
-    """As the driver numbers its rows."""
-    return place * step % 2**64 % rows % 2_147_483_648
+def loads():
+    for deed in DEEDS:
+        for in_a_commit in (1_000, 1):
+            yield Load(deed, in_a_commit=in_a_commit, before=50_000)
+    for deed in DEEDS[1:]:
+        yield Load(deed, "FULL", before=50_000)
+    for before in (0, 300_000):
+        yield Load(before=before)
+    yield Load(in_a_commit=1, before=50_000, tables=64)
 
 
-def thousands(rows, milliseconds):
-    return f"{rows / milliseconds:,.0f}"
+def counted(setup, load):
+    """Instructions a row: of `simulate`, and of the plain program."""
+    load = replace(load, rows=COUNTED if load.in_a_commit > 1 else COUNTED // 2)
+    after, before = (simulating.instructions(setup, load, it) for it in ("committed", "refused"))
+    made, committed = (limits.instructions("stream", *load.words(), it) for it in ("made", "committed"))
+    return counting.difference(after, before, load.rows), counting.difference(committed, made, load.rows)
 
 
-def copied(connection, folder, rows, step, runs):
-    """How long COPY takes into an empty table."""
-    path = folder / "rows"
-    path.write_text("".join(f"{number(it, rows, step)}\tinserted\n" for it in range(rows)))
-    path.chmod(0o644)
-    times = []
-    for _ in range(runs):
-        connection.ask("TRUNCATE t;")
-        times.append(connection.milliseconds(f"COPY t FROM '{path}';", 1)[0])
-    return sorted(times)[len(times) // 2]
+def timed(setup, load):
+    after, before = (simulating.times(setup, load, it)["changes"] for it in ("committed", "refused"))
+    return (after - before) / load.rows
 
 
-def inserted(connection, rows, step):
-    """How long INSERTs of one row take, a thousand in a transaction, by a statement that is prepared once."""
-    connection.ask("TRUNCATE t;")
-    loop = (
-        f"DO $$ BEGIN FOR place IN 0..{rows - 1} LOOP "
-        f"INSERT INTO t VALUES ((place::numeric * {step} % {rows})::integer, 'inserted'); "
-        "IF place % 1000 = 999 THEN COMMIT; END IF; END LOOP; END $$;"
-    )
-    return connection.milliseconds(loop, 1)[0]
+def row(setup, connection, load):
+    pgshard, plain = counted(setup, load)
+    load = sized(load, 100_000 if load.in_a_commit > 1 else 40_000)
+    taken = timed(setup, load)
+    beside = streaming.changed_by_sql(connection, load) if connection else None
+    named = [load.deed, load.identity, f"{load.in_a_commit:,}", f"{load.there:,}", load.tables]
+    return [*named, *map(shown, (pgshard, plain, taken, beside))]
 
 
-def book_row(setup, program, rows, step, empty):
-    """The median of some runs of each part, and what a run has at most, over what it has without rows."""
-    runs = [drivers.told(setup, program, rows, step) for _ in range(setup.runs)]
-    times = {part: sorted(parts[part][1] for parts, _ in runs)[len(runs) // 2] / 1e6 for part in PARTS}
-    commits = -(-rows // 1_000)
-    if any(parts[part][0] != commits for parts, _ in runs for part in PARTS):
-        raise RuntimeError(f"a commit of {rows} rows was refused")
-    most = sorted(bytes_used for _, bytes_used in runs)[len(runs) // 2]
-    return times, (most - empty) / rows
+# ---- bytes
 
 
-def table(setup, program, connection, folder):
-    empty = drivers.told(setup, program, 0, 1)[1]
-    for order, step in ORDERS.items():
-        before = None
-        for rows in ROWS:
-            times, bytes_used = book_row(setup, program, rows, step, empty)
-            each = {part: times[part] / rows for part in PARTS}
-            grown = [f"{each[part] / before[part]:.2f}" if before else "" for part in PARTS]
-            before = each
-            server = ["", ""]
-            if connection:
-                server = [
-                    thousands(rows, copied(connection, folder, rows, step, setup.runs)),
-                    thousands(rows, inserted(connection, rows, step)),
-                ]
-            # fewer rows take less than the interpreter had when it started the process, which counts as the process's
-            taken = f"{bytes_used:,.0f}" if rows == ROWS[-1] else ""
-            yield [order, f"{rows:,}", *(thousands(rows, times[it]) for it in PARTS), *grown, taken, *server]
+def held(setup, load):
+    """The bytes of the heap after the script, for each of its rows."""
+    idle = ["TAKE 99;\n"] * 70_000
+    with tempfile.TemporaryDirectory(prefix="pgshard_bench_") as folder:
+        path = pathlib.Path(folder) / "script"
+        sizes = []
+        for order in ("committed", "refused"):
+            simulating.write_input(setup, load, [load.prefix(), load.changes(), idle], path)
+            sizes.append(counting.heap_bytes(simulating.words(setup, load, order), path))
+    return counting.difference(*sizes, load.rows)
 
 
-def measure(setup, _):
-    with drivers.built("book") as program:
-        if not postgres.folder_of_programs():
-            print("PostgreSQL 15 is not installed.\n")
-            print_table(HEADS, table(setup, program, None, None))
-            return
-        with postgres.server() as (folder, connection):
-            connection.ask(TABLE)
-            print_table(HEADS, table(setup, program, connection, folder))
+def held_by_plain(load):
+    """The bytes of the heap of the plain program, for each of its rows."""
+    program = limits.built("stream")
+    if program is None:
+        return None
+    sizes = [counting.heap_bytes([program, "held", *load.words(), it]) for it in ("committed", "made")]
+    return counting.difference(*sizes, load.rows)
+
+
+def bytes_row(setup, connection):
+    load = Load(rows=ROWS_HELD)
+    of_table, of_log = streaming.stored_bytes(connection, load) if connection else (None, None)
+    yield [f"{load.rows:,}", *map(shown, (held(setup, load), held_by_plain(load), of_table, of_log))]
+
+
+def measure_with(setup, folder, connection):
+    print_table(HEADS, (row(setup, connection, load) for load in loads()))
+    if connection:
+        print(f"COPY: {shown(streaming.copied(connection, Load(rows=100_000), folder / 'copied'))} µs a row\n")
+    heads = ["Rows inserted", "bytes a row, table and log", "plain Rust", "table of PostgreSQL", "its WAL"]
+    print_table(heads, bytes_row(setup, connection))
+
+
+def measure(setup, folder):
+    if not postgres.folder_of_programs():
+        print("PostgreSQL 15 is not installed.\n")
+        return measure_with(setup, folder, None)
+    with streaming.started() as (place, connection):
+        measure_with(setup, place, connection)

@@ -8,13 +8,16 @@ In the other catalogs the last subscriber has the whole table, and all others ha
 since it also asks for a remainder by 1 that is 1. Their certificates split by that atom, and then by those of the filter.
 """
 
+import counting
 import families
-from measuring import print_table, rate
+from measuring import print_table, shown
 
 # A tree has 3 nodes more for each split.
 SIZES = (1_000, 30_001, 1_000_000)
+# Instructions are counted of certificates with fewer nodes.
+MOST_COUNTED = 100_000
 SUBSCRIBERS = 32
-HEADS = ["Filters", "Leaves", "Nodes", "Splits on a path", "check, ms", "thousand nodes/s", "Answer"]
+HEADS = ["Filters", "Leaves", "Nodes", "Splits on a path", "check, ms", "instructions a node", "Answer"]
 
 
 def lower(at):
@@ -173,8 +176,9 @@ def row(setup, folder, filters, kind, catalog, tree):
     path = folder / "certificate"
     path.write_text(f"{catalog}%%\n{tree}\n")
     words = [setup.program, "check"]
-    time = setup.milliseconds(words, path)
-    return [filters, kind, nodes(tree), depth(tree), f"{time:.1f}", rate(nodes(tree), time), setup.answer(words, path).strip()]
+    taken, count = setup.milliseconds(words, path), nodes(tree)
+    each = counting.difference(counting.instructions(words, path), 0, count) if count < MOST_COUNTED else None
+    return [filters, kind, f"{count:,}", depth(tree), shown(taken), shown(each), setup.answer(words, path).strip()]
 
 
 def measure(setup, folder):

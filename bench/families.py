@@ -156,6 +156,63 @@ FAMILIES = {it.__name__: it for it in (ranges, remainders, text_lists, regions_a
 LISTS = {it.__name__: it for it in (region_lists, key_lists, remainder_lists, between, lists_and_between, shared_region)}
 
 
+# ---- hard tables
+
+
+def flags_of(names):
+    return [Column("id", "integer", True), *(Column(it, "boolean") for it in names)]
+
+
+def is_true(name):
+    return ("is true", ("cmp", name, "=", True))
+
+
+def some_flag(count):
+    """Rows in which one of so many nullable flags is true, and the others."""
+    names = [f"f{at}" for at in range(count)]
+    some = one_of([("cmp", it, "=", True) for it in names])
+    return Sharding(flags_of(names), [some, ("not", ("is true", some))])
+
+
+def first_flag(count):
+    """Rows by the first of so many nullable flags that is true, and those with none."""
+    names = [f"f{at}" for at in range(count)]
+    before = [[("not", is_true(it)) for it in names[:at]] for at in range(count)]
+    firsts = [("and", *others, is_true(name)) if others else is_true(name) for name, others in zip(names, before)]
+    return Sharding(flags_of(names), [*firsts, ("and", *(("not", is_true(it)) for it in names))])
+
+
+def pair_of_flags(count):
+    """Rows in which one of so many pairs of nullable flags is both true, and the others."""
+    pairs = [("and", ("cmp", f"a{at}", "=", True), ("cmp", f"b{at}", "=", True)) for at in range(count)]
+    names = [f"{letter}{at}" for at in range(count) for letter in "ab"]
+    return Sharding(flags_of(names), [one_of(pairs), ("not", ("is true", one_of(pairs)))])
+
+
+def sign_and_remainder(_):
+    """Negative keys by their remainders, and the other keys, where it has to be known that a negative remainder is of a
+    negative key."""
+    odd = ("cmp", ("id", 2), "=", -1)
+    even = ("and", ("cmp", "id", "<", 0), ("cmp", ("id", 2), "=", 0))
+    return Sharding([Column("id", "integer", True)], [odd, even, ("cmp", "id", ">=", 0)])
+
+
+def two_remainders(_):
+    """Keys by two divisors, where it has to be known that each remainder 5 of 8 is a remainder 1 of 4."""
+    quarter = ("cmp", ("id", 4), "=", 1)
+    return Sharding([Column("id", "integer", True)], [("or", quarter, ("cmp", ("id", 8), "=", 5)), ("not", quarter)])
+
+
+# Each with the sizes that are measured.
+HARD = {
+    some_flag: (8, 12, 16, 18, 19),
+    first_flag: (8, 12, 16, 17),
+    pair_of_flags: (4, 6, 8, 9),
+    sign_and_remainder: (3,),
+    two_remainders: (2,),
+}
+
+
 # ---- as a catalog
 
 

@@ -12,7 +12,7 @@ ROOT = pathlib.Path(__file__).resolve().parent.parent
 BUILT = ROOT / "crates" / "publisher_main" / "out" / "publisher_main"
 
 
-@dataclass
+@dataclass(frozen=True)
 class Setup:
     """The program that is measured, the core that it is kept on (None: any), and how often each run is made."""
 
@@ -52,6 +52,11 @@ class Setup:
             return subprocess.run(words, stdin=text, capture_output=True, text=True).stdout
 
 
+def processor_time(process):
+    """The processor time that a process has taken, in microseconds, by its own clock (man 3 clock_getcpuclockid)."""
+    return time.clock_gettime_ns((~process << 3) | 2) / 1e3
+
+
 def machine():
     """The machine, and how much it does besides."""
     with open("/proc/cpuinfo") as file:
@@ -62,9 +67,11 @@ def machine():
     return f"{len(models)} processors, {models[0]}, {memory:.0f} GB; load averages of 1, 5 and 15 minutes: {load}"
 
 
-def rate(count, milliseconds):
-    """So many in such a time, in thousands a second."""
-    return f"{count / milliseconds:,.0f}"
+def shown(number):
+    """A number with three digits that say something, or all where it has more; nothing for None."""
+    if number is None:
+        return ""
+    return f"{number:,.0f}" if abs(number) >= 100 else f"{number:.3g}" if abs(number) >= 0.001 else f"{number:.3f}"
 
 
 def print_table(heads, rows):

@@ -31,8 +31,8 @@ def run(words):
 class Connection:
     """`psql`, whose backend stays the same."""
 
-    def __init__(self, folder):
-        words = as_user(["psql", "-X", "-q", "-A", "-t", "-v", "ON_ERROR_STOP=1", "-h", str(folder), "-U", USER, "postgres"])
+    def __init__(self, folder, database="postgres"):
+        words = as_user(["psql", "-X", "-q", "-A", "-t", "-v", "ON_ERROR_STOP=1", "-h", str(folder), "-U", USER, database])
         self.psql = subprocess.Popen(words, stdin=subprocess.PIPE, stdout=subprocess.PIPE, text=True, cwd="/tmp")
         self.ask("SET client_min_messages = warning;")
 
@@ -57,13 +57,17 @@ class Connection:
         self.ask("\\timing off")
         return statistics.median(times), lines
 
+    def backend(self):
+        """The process that answers here."""
+        return int(self.ask("SELECT pg_backend_pid();")[0])
+
     @contextlib.contextmanager
     def pinned(self, core):
         """Keeps the backend on a core, where that may be done."""
         if core is None or os.geteuid() != 0:
             yield
             return
-        backend = int(self.ask("SELECT pg_backend_pid();")[0])
+        backend = self.backend()
         before = os.sched_getaffinity(backend)
         os.sched_setaffinity(backend, {core})
         try:

@@ -3,10 +3,9 @@
 
     bench/run.py [--program FILE] [--core N] [--first] [--runs N] [PART ..]
 
-The parts are start, large, eval, check, make, simulate, send, serve, book, messages and instructions; without one, all are run.
-The program has to be built, which the script `pgshard` does; send, book and messages build programs of their own, and so
-need `rt`.
-PostgreSQL 15, z3 and valgrind are left out where they are not installed.
+The parts are start, large, eval, check, make, book, send, apply, messages and serve; without one, all are run.
+The program has to be built, which the script `pgshard` does.
+PostgreSQL 15, z3, valgrind and rustc are left out where they are not installed.
 """
 
 import argparse
@@ -15,30 +14,28 @@ import pathlib
 import sys
 import tempfile
 
+import applying
 import book
 import checking
 import evaluation
-import instructions
 import messages
 import sending
 import serving
 import sharding
-import simulating
 import starting
 from measuring import BUILT, Setup, machine
 
 PARTS = {
     "start": ("The start of the program", starting.measure_small),
     "large": ("Catalogs near the limits", starting.measure_large),
-    "eval": ("eval", lambda setup, _: evaluation.measure(setup)),
+    "eval": ("eval", evaluation.measure),
     "check": ("check", checking.measure),
     "make": ("make", sharding.measure),
-    "simulate": ("simulate", simulating.measure),
-    "send": ("Sending", sending.measure),
-    "serve": ("serve", serving.measure),
     "book": ("The book", book.measure),
+    "send": ("The sender's side", sending.measure),
+    "apply": ("The subscriber", applying.measure),
     "messages": ("Messages", messages.measure),
-    "instructions": ("Instructions", instructions.measure),
+    "serve": ("serve", serving.measure),
 }
 
 

@@ -1,115 +1,93 @@
-"""What a row costs each subscriber that it is told of or not, beside PostgreSQL 15's processes that send a stream."""
+"""What it costs to tell slots of commits, up to the bytes that wait to be written, beside a plain program and PostgreSQL
+15's walsenders, which read the log of their server and write to sockets besides."""
 
-import pathlib
-import subprocess
-import time
+from dataclasses import replace
 
-import drivers
+import counting
+import limits
 import postgres
-from measuring import print_table
-from simulating import catalog
+import simulating
+import streaming
+from measuring import print_table, shown
+from workloads import Load
 
-SUBSCRIBERS = (1, 2, 8)
-ROWS = (1_000, 1_000_000)
-MORE = 100_000
-HEADS = ["Subscribers", "Rows before", "pump, µs a row and slot", "insert, µs a row", "walsender, µs a row and slot"]
-
-
-def sharding(setup, folder, count, rows):
-    """A catalog, and its certificate as `make` finds it."""
-    path = folder / "sent"
-    path.write_text(catalog(count, rows + MORE))
-    told = setup.answer([setup.program, "make"], path)
-    return path.read_text(), told.strip()
-
-
-def driven(setup, program, folder, count, rows):
-    """The median time of some runs, in µs: of a row and subscriber in the pumps, and of a row in the commits."""
-    words = [*sharding(setup, folder, count, rows), count, rows]
-    runs = [drivers.told(setup, program, *words)[0] for _ in range(setup.runs)]
-    if any(it["insert"][0] != MORE // 1_000 or it["pump"][0] != count for it in runs):
-        raise RuntimeError(f"{count} subscribers did not get {rows} rows")
-    middle = len(runs) // 2
-    took = {part: sorted(it[part][1] for it in runs)[middle] / 1e3 for part in ("insert", "pump")}
-    return took["pump"] / MORE / count, took["insert"] / MORE
-
-
-# ---- the server
+SLOTS = (1, 2, 8, 32)
+HEADS = [
+    "Change",
+    "Identity",
+    "Bytes of a text",
+    "Rows a commit",
+    "Slots",
+    "instructions a row and slot",
+    "plain Rust",
+    "backlog, µs a row and slot",
+    "at once, µs a row and slot",
+    "walsender, backlog",
+    "walsender, at once",
+]
+# Bytes of rows that a server's processes are given, but for some.
+SERVED = 100_000_000
+# Steps that a script of `simulate` may have, but for some.
+STEPS = 85_000
+# Bytes that its input may have, but for some.
+BYTES = 12_000_000
 
 
-def used(process):
-    """The processor time of a process, in µs, to a hundredth of a second."""
-    text = pathlib.Path(f"/proc/{process}/stat").read_text()
-    user, system = text[text.rindex(")") :].split()[11:13]
-    return (int(user) + int(system)) * 10_000
+def loads():
+    for in_a_commit in (1_000, 1):
+        for slots in SLOTS:
+            yield Load(in_a_commit=in_a_commit, slots=slots)
+    for deed in ("update", "delete"):
+        for identity in ("DEFAULT", "FULL"):
+            yield Load(deed, identity, before=50_000)
+    for text in (1_000, 60_000):
+        yield Load(text=text, in_a_commit=100)
+    yield Load("update", "FULL", text=1_000, in_a_commit=100)
 
 
-def insert(connection, first, end, all_rows):
-    """Rows as the driver numbers them, a thousand in a transaction."""
-    connection.ask(
-        f"DO $$ BEGIN FOR place IN {first}..{end - 1} LOOP "
-        f"INSERT INTO t VALUES ((place::numeric * 2654435761 % {all_rows})::integer, 'inserted'); "
-        "IF place % 1000 = 999 THEN COMMIT; END IF; END LOOP; END $$;"
-    )
+def sized(load, rows):
+    """The load with so many rows, or as many as a script may have and as there are."""
+    of_each = (40 + load.text) * (2 if load.deed == "update" else 1)
+    steps = load.slots + 1 if load.in_a_commit == 1 else 0
+    there = load.before if load.before and load.deed != "insert" else rows
+    most = min(BYTES // of_each, STEPS // steps if steps else rows, rows, there)
+    return replace(load, rows=most - most % max(2, load.in_a_commit))
 
 
-def receivers(folder, count):
-    """A client for each slot, which throws away what it is sent."""
-    program = postgres.folder_of_programs() / "pg_recvlogical"
-    for at in range(count):
-        words = [program, "-h", folder, "-U", postgres.USER, "-d", "postgres", "-S", f"s{at}", "--start", "-f", "/dev/null"]
-        words += ["-o", "proto_version=1", "-o", f"publication_names=p{at}", "--no-loop"]
-        yield subprocess.Popen([str(it) for it in words], stderr=subprocess.DEVNULL, cwd="/tmp")
+def served(load):
+    """The load as a server's processes are given it, with more rows where those are long."""
+    most = SERVED // (40 + load.text) // load.in_a_commit * load.in_a_commit
+    return replace(load, rows=most) if load.text >= 1_000 else load
 
 
-def sent(connection, count):
-    """Waits until all was sent, and gives the processor time of the processes that sent it, in µs."""
-    end = connection.ask("SELECT pg_current_wal_lsn();")[0]
-    for _ in range(3_000):
-        lines = connection.ask(f"SELECT pid FROM pg_stat_replication WHERE sent_lsn >= '{end}';")
-        if len(lines) == count:
-            return sum(map(used, lines))
-        time.sleep(0.05)
-    raise RuntimeError("the server did not send all")
+def counted(setup, load):
+    """Instructions a row and slot: of `simulate`, and of the plain program."""
+    load = sized(load, 10_000 if load.in_a_commit > 1 else 2_000)
+    shares = load.rows * load.slots
+    after, before = (simulating.instructions(setup, load, it) for it in ("taken", "committed"))
+    taken, committed = (limits.instructions("stream", *load.words(), it) for it in ("taken", "committed"))
+    return counting.difference(after, before, shares), counting.difference(taken, committed, shares)
 
 
-def served(folder, connection, count, rows):
-    """µs a row and slot of the server's processes that decode its log and send it."""
-    all_rows = rows + MORE
-    connection.ask("CREATE TABLE t (id integer PRIMARY KEY, region text);")
-    connection.ask("ALTER TABLE t REPLICA IDENTITY FULL;")
-    insert(connection, 0, rows, all_rows)
-    publications = [it for it in catalog(count, all_rows).splitlines() if it.startswith("CREATE PUBLICATION")]
-    for it in publications:
-        connection.ask(it)
-    for at in range(count):
-        connection.ask(f"SELECT pg_create_logical_replication_slot('s{at}', 'pgoutput');")
-    clients = list(receivers(folder, count))
-    before = sent(connection, count)
-    insert(connection, rows, all_rows, all_rows)
-    after = sent(connection, count)
-    for it in clients:
-        it.kill()
-        it.wait()
-    time.sleep(0.5)
-    for at in range(count):
-        connection.ask(f"SELECT pg_drop_replication_slot('s{at}');")
-        connection.ask(f"DROP PUBLICATION p{at};")
-    connection.ask("DROP TABLE t;")
-    return (after - before) / MORE / count
+def timed(setup, load):
+    """µs a row and slot: where the commits wait, and where each is taken as soon as it is made."""
+    backlog, idle = simulating.times(setup, load, "delivered"), simulating.times(setup, load, "refused")
+    at_once = simulating.time_at_once(setup, load, False) - backlog["changes"]
+    return [(it - idle["takes"]) / load.rows / load.slots for it in (backlog["takes"], at_once)]
 
 
-def table(setup, program, folder):
-    for count in SUBSCRIBERS:
-        for rows in ROWS:
-            pumped, inserted = driven(setup, program, folder, count, rows)
-            beside = ""
-            if postgres.folder_of_programs():
-                with postgres.server("-c wal_level=logical -c max_wal_senders=20 -c max_replication_slots=20") as (place, connection):
-                    beside = f"{served(place, connection, count, rows):.2f}"
-            yield [count, f"{rows:,}", f"{pumped:.2f}", f"{inserted:.2f}", beside]
+def row(setup, server, load):
+    pgshard, plain = counted(setup, load)
+    load = sized(load, 100_000)
+    backlog, at_once = timed(setup, load)
+    beside = streaming.walsenders(*server, served(load)) if server else (None, None)
+    named = [load.deed, load.identity, f"{load.text:,}", f"{load.in_a_commit:,}", load.slots]
+    return [*named, *map(shown, (pgshard, plain, backlog, at_once, *beside))]
 
 
-def measure(setup, folder):
-    with drivers.built("world") as program:
-        print_table(HEADS, table(setup, program, folder))
+def measure(setup, _):
+    if not postgres.folder_of_programs():
+        print("PostgreSQL 15 is not installed.\n")
+        return print_table(HEADS, (row(setup, None, load) for load in loads()))
+    with streaming.started() as server:
+        print_table(HEADS, (row(setup, server, load) for load in loads()))

@@ -9,23 +9,25 @@ import time
 from dataclasses import dataclass
 
 import postgres
-from measuring import print_table
-from sending import insert, receivers, sent, used
-from simulating import catalog, condition
+import simulating
+import streaming
+from measuring import print_table, processor_time, shown
+from workloads import Load
 
 CONNECTIONS = (1, 2, 8, 32)
-ROWS = 400_000
-IN_A_COMMIT = 1_000
+# How many rows there are, by how many are in a commit.
+ROWS = {1_000: 400_000, 1: 90_000}
 # What the last row that each subscriber is told of has, and no row before it.
 LAST = b"the last one"
 HEADS = [
+    "Rows a commit",
     "Connections",
     "serve, µs a row",
     "serve, µs a row and slot",
-    "serve, rows/s",
+    "serve, thousand rows/s",
     "walsenders, µs a row",
     "walsenders, µs a row and slot",
-    "walsenders, rows/s",
+    "walsenders, thousand rows/s",
 ]
 
 
@@ -40,12 +42,10 @@ class Taken:
 # ---- pgshard
 
 
-def script(count):
-    """Rows by ascending keys, a thousand in a commit, and at last a new text for one row of each subscriber."""
-    for first in range(0, ROWS, IN_A_COMMIT):
-        rows = ", ".join(f"INSERT t ({at}, 'inserted')" for at in range(first, first + IN_A_COMMIT))
-        yield f"COMMIT {rows};\n"
-    keys = (at * ROWS // count for at in range(count))
+def script(load):
+    """The rows, and at last a new text for one row of each subscriber."""
+    yield from load.changes()
+    keys = (at * load.all_rows // load.slots for at in range(load.slots))
     changes = ", ".join(f"UPDATE t ({key}) ({key}, '{LAST.decode()}')" for key in keys)
     yield f"COMMIT {changes};\n"
 
@@ -83,10 +83,10 @@ def closed(process):
 def commits_alone(setup, path):
     """The processor time of a run whose client asks for nothing, once it does no more."""
     with serving(setup, path, 1) as (process, port), socket.create_connection(("127.0.0.1", port)) as client:
-        before = -1
-        while (now := used(process.pid)) != before:
-            before = now
+        before, now = -1, 0
+        while now - before > 1_000:
             time.sleep(0.5)
+            before, now = now, processor_time(process.pid)
         client.close()
         closed(process)
     return now
@@ -117,7 +117,7 @@ def served(setup, path, count):
         for at, it in enumerate(clients):
             it.sendall(start_frame(at))
         read_all(clients)
-        taken = Taken(used(process.pid), time.perf_counter() - began)
+        taken = Taken(processor_time(process.pid), time.perf_counter() - began)
         for it in clients:
             it.close()
         closed(process)
@@ -127,48 +127,36 @@ def served(setup, path, count):
 # ---- the server
 
 
-def prepare(connection, count):
-    connection.ask("CREATE TABLE t (id integer PRIMARY KEY, region text);")
-    connection.ask("ALTER TABLE t REPLICA IDENTITY FULL;")
-    for at in range(count):
-        connection.ask(f"CREATE PUBLICATION p{at} FOR TABLE t WHERE ({condition(at, count, ROWS)});")
-        connection.ask(f"SELECT pg_create_logical_replication_slot('s{at}', 'pgoutput');")
-
-
-def walsenders(count):
+def walsenders(load):
     """The time of the server's processes that send the same rows, which were committed before."""
-    with postgres.server("-c wal_level=logical -c max_wal_senders=40 -c max_replication_slots=40") as (place, connection):
-        prepare(connection, count)
-        insert(connection, 0, ROWS, ROWS)
+    with streaming.started() as (place, connection):
+        streaming.prepare(connection, load)
+        connection.ask(load.change_loop(0, load.rows))
         began = time.perf_counter()
-        clients = list(receivers(place, count))
-        took = sent(connection, count)
-        seconds = time.perf_counter() - began
-        for it in clients:
-            it.kill()
-            it.wait()
+        with streaming.receivers(place, load.slots):
+            took = streaming.sent(connection, load.slots)
+            seconds = time.perf_counter() - began
     return Taken(took, seconds)
 
 
 # ---- both
 
 
-def cells(taken, count, alone=0.0):
-    each = (taken.used - alone) / ROWS / count
-    return [f"{taken.used / ROWS:.2f}", f"{each:.3f}", f"{ROWS / taken.seconds:,.0f}"]
+def cells(taken, load, alone=0.0):
+    each = (taken.used - alone) / load.rows / load.slots
+    return [shown(taken.used / load.rows), shown(each), shown(load.rows / taken.seconds / 1_000)]
 
 
-def table(setup, folder):
-    path = folder / "served"
-    for count in CONNECTIONS:
-        path.write_text(catalog(count, ROWS))
-        told = setup.answer([setup.program, "make"], path)
-        path.write_text(f"{path.read_text()}%%\n{told}%%\n{''.join(script(count))}")
-        alone = commits_alone(setup, path)
-        runs = sorted((served(setup, path, count) for _ in range(setup.runs)), key=lambda it: it.used)
-        line = [count, *cells(runs[len(runs) // 2], count, alone)]
-        yield line + (cells(walsenders(count), count) if postgres.folder_of_programs() else ["", "", ""])
+def row(setup, path, load):
+    catalog = load.catalog()
+    certificates = simulating.certificates(setup.program, catalog)
+    path.write_text(f"{catalog}%%\n{certificates}%%\n{''.join(script(load))}")
+    alone = sorted(commits_alone(setup, path) for _ in range(setup.runs))[setup.runs // 2]
+    runs = sorted((served(setup, path, load.slots) for _ in range(setup.runs)), key=lambda it: it.used)
+    line = [f"{load.in_a_commit:,}", load.slots, *cells(runs[len(runs) // 2], load, alone)]
+    return line + (cells(walsenders(load), load) if postgres.folder_of_programs() else ["", "", ""])
 
 
 def measure(setup, folder):
-    print_table(HEADS, table(setup, folder))
+    loads = (Load(in_a_commit=size, slots=count, rows=rows) for size, rows in ROWS.items() for count in CONNECTIONS)
+    print_table(HEADS, (row(setup, folder / "served", load) for load in loads))

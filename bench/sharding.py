@@ -2,13 +2,16 @@
 
 import shutil
 
+import counting
 import families
-from measuring import print_table
+from measuring import print_table, shown
 
 COUNTS = (2, 8, 16, 32)
 ENTRIES = (3, 10, 100)
 MOST = 32
-HEADS = ["Answer", "make, ms", "check, ms", "z3, ms", "z3 says"]
+# Runs that take longer, in ms, are not made again to count their instructions.
+LONG = 300
+HEADS = ["Answer", "make, ms", "check, ms", "z3, ms", "z3 says", "make, instructions a node"]
 
 
 def nodes(certificate):
@@ -23,7 +26,12 @@ def z3_time(setup, folder, sharding):
     path.write_text(families.question(sharding))
     words = ["z3", "-T:20", str(path)]
     solution = setup.answer(words, path).strip()
-    return setup.milliseconds(words, path, 1 if solution == "timeout" else None), solution
+    return None if solution == "timeout" else setup.milliseconds(words, path), solution
+
+
+def counted(words, path, milliseconds, count):
+    """The instructions for each node of a certificate; None where it took long to make."""
+    return counting.difference(counting.instructions(words, path), 0, count) if milliseconds < LONG else None
 
 
 def row(setup, folder, sharding):
@@ -32,16 +40,16 @@ def row(setup, folder, sharding):
     words = [setup.program, "make"]
     made, answer = setup.milliseconds(words, text), setup.answer(words, text).strip()
     is_certificate = answer[:2] in ("s ", "o ", "e ", "n ")
-    checked, said = None, answer
+    checked, said, each = None, answer, None
     if is_certificate:
+        each = counted(words, text, made, nodes(answer))
         certified.write_text(f"{families.catalog(sharding)}%%\n{answer}\n")
         words = [setup.program, "check"]
         checked, verdict = setup.milliseconds(words, certified), setup.answer(words, certified).strip()
         said = f"{nodes(answer)} nodes, {verdict}"
     solved, solution = z3_time(setup, folder, sharding)
-    agrees = {"sat": not is_certificate, "unsat": is_certificate}.get(solution, True)
-    shown = [f"{it:.1f}" if it is not None else "" for it in (made, checked, solved)]
-    return [said, *shown, solution if agrees else f"{solution}, which differs"]
+    agrees = {"sat": not is_certificate, "unsat": not answer.startswith("counter")}.get(solution, True)
+    return [said, *map(shown, (made, checked, solved)), solution if agrees else f"{solution}, which differs", shown(each)]
 
 
 def measure(setup, folder):
@@ -49,3 +57,5 @@ def measure(setup, folder):
     print_table(["Family", "Subscribers", *HEADS], rows)
     lists = ([name, entries, *row(setup, folder, it(MOST, entries))] for name, it in families.LISTS.items() for entries in ENTRIES)
     print_table(["Family", "Entries", *HEADS], lists)
+    hard = ([it.__name__, size, *row(setup, folder, it(size))] for it, sizes in families.HARD.items() for size in sizes)
+    print_table(["Hard tables", "Size", *HEADS], hard)

@@ -1,7 +1,8 @@
 """What a run costs before it has anything to do: small inputs, and catalogs near the limits."""
 
+import counting
 import families
-from measuring import print_table
+from measuring import print_table, shown
 
 RUNS = 51
 TABLES = 64
@@ -9,7 +10,15 @@ PUBLICATIONS = 64
 SUBSCRIPTIONS = 32
 COLUMNS = 100
 
-LARGE_HEADS = ["Tables", "Bytes of the catalog", "eval of one row, ms", "make, ms", "check, ms", "Answer of check"]
+LARGE_HEADS = [
+    "Tables",
+    "Bytes of the catalog",
+    "eval of one row, ms",
+    "make, ms",
+    "check, ms",
+    "Answer of check",
+    "eval, instructions a byte",
+]
 SMALL = "CREATE TABLE t (id integer PRIMARY KEY);\n"
 
 
@@ -44,8 +53,8 @@ def large_catalog(tables):
 
 
 def small_row(setup, words, path):
-    shown = ["pgshard" if it == setup.program else it for it in words]
-    return [" ".join(shown), f"{setup.milliseconds(words, path, RUNS):.2f}"]
+    named = ["pgshard" if it == setup.program else it for it in words]
+    return [" ".join(named), shown(setup.milliseconds(words, path, RUNS))]
 
 
 def measure_small(setup, folder):
@@ -76,7 +85,8 @@ def large_rows(setup, folder):
         made = setup.milliseconds([setup.program, "make"], catalog)
         checked = setup.milliseconds([setup.program, "check"], certified)
         verdict = setup.answer([setup.program, "check"], certified).strip()
-        yield [tables, len(text), f"{evaluated:.1f}", f"{made:.0f}", f"{checked:.0f}", verdict]
+        each = counting.difference(counting.instructions([setup.program, "eval", "t0"], with_row), 0, len(text))
+        yield [tables, f"{len(text):,}", *map(shown, (evaluated, made, checked)), verdict, shown(each)]
 
 
 def measure_large(setup, folder):
