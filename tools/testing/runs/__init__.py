@@ -7,12 +7,12 @@ from programs import pgshard
 from tally import Tally
 
 from . import (
-    certificates, checks, command_lines, families, filters, forms, inputs, inserts, limits, loads, makes, most, rows,
-    serves, simulations)
+    certificates, checks, command_lines, families, filters, forms, inputs, inserts, limits, loads, long, makes, memory,
+    most, rows, serves, simulations)
 
 TOPICS = [
     checks, certificates, forms, makes, families, simulations, serves, loads, rows, inserts, filters, inputs,
-    command_lines, limits, most]
+    command_lines, limits, most, long, memory]
 
 
 def check_runs(tally: Tally) -> None:

@@ -8,8 +8,10 @@ from tally import Tally
 # What check writes of a sound sharding.
 ACCEPTED = "accepted\n"
 
-# How long a run may take.
+# How long a run may take, and how long one whose input is so long that it would take longer if its time grew by the
+# square of that.
 SECONDS = 60
+LONG_SECONDS = 20
 
 
 @dataclass(frozen=True)
@@ -32,17 +34,18 @@ class Outline:
 
 @dataclass(frozen=True)
 class Case:
-    """A run, with the status that it has to have, and its whole output or an outline of it."""
+    """A run, with the status that it has to have, its whole output or an outline of it, and how long it may take."""
 
     name: str
     words: tuple[str, ...]
     text: str | bytes
     status: int
     expected: str | Outline
+    seconds: int = SECONDS
 
     def check(self, tally: Tally) -> None:
         """Makes the run."""
-        status, output = pgshard(*self.words, text=self.text, seconds=SECONDS)
+        status, output = pgshard(*self.words, text=self.text, seconds=self.seconds)
         if isinstance(self.expected, Outline):
             found = status, self.expected.of(output)
             tally.check(f"{self.name}, which wrote {output!r}", found, (self.status, self.expected))

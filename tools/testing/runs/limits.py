@@ -5,7 +5,7 @@ from collections.abc import Iterator
 from model.catalogs import Column, Table
 from model.messages import BEGIN, COMMIT, COPY_BOTH, change_length, relation_length
 
-from .case import ACCEPTED, Case, Made, Outline, two_parts
+from .case import ACCEPTED, LONG_SECONDS, Case, Made, Outline, two_parts
 from .catalogs import C, halves
 from .checks import HIGH, LOW
 from .inputs import MAX_INPUT
@@ -105,7 +105,8 @@ def largest_certificate() -> Iterator[Case]:
     catalog = halves(" WHERE (id < 100)", " WHERE (id >= 100)")
     for splits, status, expected in (333_330, 0, ACCEPTED), (333_331, 3, "certificate 1 TooLarge\n"):
         certificate = f"s 0 s 1 {empty_tree(splits)}o 0 n 1 s 1 o 1 e 0 n 1 n 0"
-        yield Case(f"a tree of {splits} splits", ("check",), two_parts(catalog, certificate), status, expected)
+        text = two_parts(catalog, certificate)
+        yield Case(f"a tree of {splits} splits", ("check",), text, status, expected, LONG_SECONDS)
 
 
 def empty_tree(splits: int) -> str:

@@ -2,7 +2,7 @@
 
 from collections.abc import Callable, Iterator
 
-from .case import Case, two_parts
+from .case import LONG_SECONDS, Case, two_parts
 from .catalogs import halves
 from .simulations import three_parts
 
@@ -77,6 +77,7 @@ def steps() -> Iterator[Case]:
     """A script that is as long as it may be, and one that is longer."""
     catalog, script = halves("", " WHERE (FALSE)"), "TAKE 0;\n" * MOST_STEPS
     answers = "not open\n" * MOST_STEPS
-    yield Case("as many steps as there may be", ("simulate",), three_parts(catalog, "o 0\n", script), 0, answers)
+    text = three_parts(catalog, "o 0\n", script)
+    yield Case("as many steps as there may be", ("simulate",), text, 0, answers, LONG_SECONDS)
     longer = three_parts(catalog, "o 0\n", f"{script}TAKE 0;")
     yield Case("one more step", ("simulate",), longer, 3, f"script {len(script)} TooMany\n")

@@ -30,7 +30,10 @@ BAD_STARTS = [
     ),
     (messages.start("london", 0, ["middle"]), "42704", 'publication "middle" does not exist'),
     (messages.start("london", 0, ["high"]), "22023", 'publications differ from those of slot "london"'),
-    (messages.start("london", 1 << 40, ["low"]), "22023", "start position is ahead of the log"),
+    *(
+        (messages.start("london", position, ["low"]), "22023", "start position is ahead of the log")
+        for position in ((1 << 32) + 64, 1 << 40, (1 << 64) - 1)
+    ),
 ]
 
 

@@ -60,10 +60,10 @@ def confirms(port: int, publisher: Publisher) -> Findings:
 
 def confirms_too_much(port: int, publisher: Publisher) -> Findings:
     """A client that confirms more than it was sent loses its connection, and what it said is not kept."""
-    with client(port) as first:
-        first.start(LONDON)
-        first.receive(len(publisher.stream(LONDON)))
-        first.send(messages.status(publisher.end() + 1))
-        yield "what comes after a status that is ahead", first.receive_all(), b""
+    for position in publisher.end() + 1, (1 << 32) + end_of(1), (1 << 64) - 1:
+        with back_again(port, LONDON, 0) as first:
+            first.receive(len(publisher.stream(LONDON)))
+            first.send(messages.status(position))
+            yield f"what comes after a status of {messages.written(position)}", first.receive_all(), b""
     with back_again(port, LONDON, 0) as again:
         yield from got_whole(again, publisher, LONDON)

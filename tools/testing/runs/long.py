@@ -1,0 +1,53 @@
+"""Long inputs, whose runs have to end soon: many commits, many rows of a table, many rows that are read, and many commits
+of many tables. Runs of many steps and of many nodes are in most.py and limits.py."""
+
+from collections.abc import Iterator
+
+from .case import LONG_SECONDS, Case, two_parts
+from .catalogs import C, halves
+from .checks import HIGH, LOW
+from .limits import catalog_of_remainders, inserts, tree_of_remainders
+from .simulations import end_of, text_of, three_parts
+
+COMMITS = 99_000
+ROWS = 150_000
+READ_ROWS = 700_000
+ROWS_OF_TABLES = 40_000
+TABLES, SUBSCRIBERS = 64, 32
+
+# How many commands a commit may have.
+COMMANDS = 1_000
+
+B = halves(LOW, HIGH, "flag boolean")
+
+
+def cases() -> Iterator[Case]:
+    """A run for each kind."""
+    keys = range(-COMMITS // 2, COMMITS // 2)
+    commits = [f"INSERT t ({key}, NULL)" for key in keys]
+    yield simulation("many commits", B, C, commits, 2)
+    comes = [f"INSERT t ({key}, NULL)" for key in range(-ROWS // 2, ROWS // 2)]
+    goes = [f"DELETE t ({key})" for key in range(-ROWS // 2, ROWS // 2)]
+    commits = [", ".join(list[at:at + COMMANDS]) for list in (comes, goes) for at in range(0, ROWS, COMMANDS)]
+    yield simulation("many rows of a table", B, C, commits, 2)
+    yield reading()
+    commits = [inserts([(number % TABLES, number)]) for number in range(ROWS_OF_TABLES)]
+    certificates = f"{tree_of_remainders()}\n" * TABLES
+    yield simulation("many rows of many tables", catalog_of_remainders(), certificates, commits, SUBSCRIBERS)
+
+
+def simulation(name: str, catalog: str, certificates: str, commits: list[str], subscribers: int) -> Case:
+    """Commits of these commands, which all subscribers are told of when all are made."""
+    script = "".join(f"COMMIT {it};\n" for it in commits)
+    script += "".join(f"OPEN {at}; PUMP {at};\n" for at in range(subscribers))
+    lines = [f"commit {number}" for number in range(1, len(commits) + 1)]
+    lines += ["opened", f"at {end_of(len(commits))}"] * subscribers
+    text = three_parts(catalog, certificates, script)
+    return Case(f"simulate with {name}", ("simulate",), text, 0, text_of(lines), LONG_SECONDS)
+
+
+def reading() -> Case:
+    """Rows below 100, and others."""
+    rows = "".join(f"({key}, NULL)\n" for key in range(READ_ROWS))
+    lines = ["pa=true pb=false"] * 100 + ["pa=false pb=true"] * (READ_ROWS - 100)
+    return Case("eval of many rows", ("eval", "t"), two_parts(B, rows), 0, text_of(lines), LONG_SECONDS)
