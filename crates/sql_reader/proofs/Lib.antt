@@ -15,6 +15,7 @@ pub mod Nesting
 pub mod OrderLemmas
 pub mod Placing
 pub mod PlainNames
+pub mod PlainRows
 pub mod Required
 pub mod SpelledRows
 pub mod Turning

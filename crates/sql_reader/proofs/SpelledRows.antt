@@ -21,6 +21,7 @@ use Rattle.sql_reader.specs.declared.item.Item.TheVariants as i
 use Rattle.sql_reader.specs.Items.{Items, Stop, Then, seen, items, items_of, size}
 use Rattle.sql_reader.specs.Keywords.{keyword_of, early_keyword, late_keyword}
 use Rattle.sql_reader.specs.Numbers.{number, placed_number, signed_number}
+use Rattle.sql_reader.specs.PlainRows.{ReadsValue}
 use Rattle.sql_reader.specs.Reading.{look, is_ahead, next_is, expect, rest_of}
 use Rattle.sql_reader.specs.Rows.{cast_or_none, string_value, number_value, value, one_value, values, end, in_parentheses, row, row_of}
 use Rattle.sql_reader.specs.Turns.{link, repeat}
@@ -28,14 +29,14 @@ use Rattle.sql_reader.specs.WrittenRows.{value_text, row_text, IsReadable, IsRea
 use Rattle.sql_reader.proofs.Turning.{link-goes_on, link-ends}
 
 -- the tokens of bytes that are at a place of the text
-abbrev ahead : ℕ → List ℕ → Items
+abbrev pub ahead : ℕ → List ℕ → Items
 ahead place text = items (tokens_from place 0 text)
 
 token_ahead : (kind : TokenKind) (place : ℕ) (text rest : List ℕ) → Begins kind place text rest → ahead place (text ++ rest) ≡ Then (seen (lexeme kind place text)) (ahead (place + length text) rest)
 unfolding items
 token_ahead kind place text rest begins = ap items begins
 
-comma_ahead : (place : ℕ) (rest : List ℕ) → ahead place (44 ∷ rest) ≡ Then (seen (lexeme t.Comma place (44 ∷ []))) (ahead (place + 1) rest)
+pub comma_ahead : (place : ℕ) (rest : List ℕ) → ahead place (44 ∷ rest) ≡ Then (seen (lexeme t.Comma place (44 ∷ []))) (ahead (place + 1) rest)
 comma_ahead place rest = token_ahead t.Comma place (44 ∷ []) rest (comma_token place rest)
 
 close_ahead : (place : ℕ) (rest : List ℕ) → ahead place (41 ∷ rest) ≡ Then (seen (lexeme t.Close place (41 ∷ []))) (ahead (place + 1) rest)
@@ -43,22 +44,17 @@ close_ahead place rest = token_ahead t.Close place (41 ∷ []) rest (close_token
 
 -- ---- a value
 
--- a value is read from tokens, of which others are left
-record ReadsValue (cell : Datum) (ts after : Items) : Type 0 where
-  reads : value ts ≡ Ok (cell, after)
-  fewer : size after < size ts
-
-null_again : (place next : ℕ) (rest : List ℕ) → EndsValue next → ReadsValue Missing (ahead place (codes "NULL" ++ (next ∷ rest))) (ahead (place + 4) (next ∷ rest))
+pub null_again : (place next : ℕ) (rest : List ℕ) → EndsValue next → ReadsValue Missing (ahead place (codes "NULL" ++ (next ∷ rest))) (ahead (place + 4) (next ∷ rest))
 unfolding value keyword_of early_keyword late_keyword
 null_again place next rest ends =
     rw (token_ahead t.Word place (codes "NULL") (next ∷ rest) (null_token place next rest ends)) (record { reads = refl; fewer = omega arith })
 
-true_again : (place next : ℕ) (rest : List ℕ) → EndsValue next → ReadsValue (Known (Truth true)) (ahead place (codes "TRUE" ++ (next ∷ rest))) (ahead (place + 4) (next ∷ rest))
+pub true_again : (place next : ℕ) (rest : List ℕ) → EndsValue next → ReadsValue (Known (Truth true)) (ahead place (codes "TRUE" ++ (next ∷ rest))) (ahead (place + 4) (next ∷ rest))
 unfolding value keyword_of early_keyword late_keyword
 true_again place next rest ends =
     rw (token_ahead t.Word place (codes "TRUE") (next ∷ rest) (true_token place next rest ends)) (record { reads = refl; fewer = omega arith })
 
-false_again : (place next : ℕ) (rest : List ℕ) → EndsValue next → ReadsValue (Known (Truth false)) (ahead place (codes "FALSE" ++ (next ∷ rest))) (ahead (place + 5) (next ∷ rest))
+pub false_again : (place next : ℕ) (rest : List ℕ) → EndsValue next → ReadsValue (Known (Truth false)) (ahead place (codes "FALSE" ++ (next ∷ rest))) (ahead (place + 5) (next ∷ rest))
 unfolding value keyword_of early_keyword late_keyword
 false_again place next rest ends =
     rw (token_ahead t.Word place (codes "FALSE") (next ∷ rest) (false_token place next rest ends)) (record { reads = refl; fewer = omega arith })
@@ -82,7 +78,7 @@ no_cast : (place next : ℕ) (rest : List ℕ) → EndsValue next → cast_or_no
 unfolding cast_or_none next_is look is_ahead
 no_cast place next rest ends = elim ends [ inl e ↦ rw (e, comma_ahead place rest) refl | inr e ↦ rw (e, close_ahead place rest) refl ]
 
-string_again : (text : List ℕ) (place next : ℕ) (rest : List ℕ) → IsReadable (Known (Bytes text)) → EndsValue next
+pub string_again : (text : List ℕ) (place next : ℕ) (rest : List ℕ) → IsReadable (Known (Bytes text)) → EndsValue next
     → ReadsValue (Known (Bytes text)) (ahead place (in_quotes 39 text ++ (next ∷ rest))) (ahead (place + length (in_quotes 39 text)) (next ∷ rest))
 unfolding value string_value
 string_again text place next rest is ends =
@@ -128,18 +124,18 @@ others_end [] = record { next = 41; rest = []; ends = inr refl; is = refl }
 others_end (cell ∷ cells) = record { next = 44; rest = 32 ∷ ((value_text cell ++ flat_map other_text cells) ++ (41 ∷ [])); ends = inl refl; is = refl }
 
 -- the tokens of the closing parenthesis at a place, up to the end of the text
-abbrev closing : ℕ → Items
+abbrev pub closing : ℕ → Items
 closing place = ahead place (41 ∷ [])
 
-one_more : (read : List Datum) (cell : Datum) (ts after : Items) → ReadsValue cell ts after → one_value read ts ≡ Ok (read ++ (cell ∷ []), after)
+pub one_more : (read : List Datum) (cell : Datum) (ts after : Items) → ReadsValue cell ts after → one_value read ts ≡ Ok (read ++ (cell ∷ []), after)
 unfolding one_value
 one_more read cell ts after takes = rw takes.reads refl
 
-comma_next : (place : ℕ) (rest : List ℕ) → next_is i.Comma (ahead place (44 ∷ rest)) ≡ Ok (true, ahead place (44 ∷ rest))
+pub comma_next : (place : ℕ) (rest : List ℕ) → next_is i.Comma (ahead place (44 ∷ rest)) ≡ Ok (true, ahead place (44 ∷ rest))
 unfolding next_is look is_ahead
 comma_next place rest = rw (comma_ahead place rest) refl
 
-close_next : (place : ℕ) → next_is i.Comma (closing place) ≡ Ok (false, closing place)
+pub close_next : (place : ℕ) → next_is i.Comma (closing place) ≡ Ok (false, closing place)
 unfolding next_is look is_ahead
 close_next place = rw (close_ahead place []) refl
 
@@ -187,7 +183,7 @@ nothing_ahead : (place : ℕ) → ahead place [] ≡ Stop place
 unfolding tokens_from items
 nothing_ahead place = refl
 
-between_parentheses : (text : List ℕ) (cells : List Datum) (place : ℕ) → values (ahead 1 text) ≡ Ok (cells, closing place) → row_of (40 ∷ text) ≡ Ok cells
+pub between_parentheses : (text : List ℕ) (cells : List Datum) (place : ℕ) → values (ahead 1 text) ≡ Ok (cells, closing place) → row_of (40 ∷ text) ≡ Ok cells
 unfolding row_of row in_parentheses items_of expect end is_ahead
 between_parentheses text cells place e = rw (open_ahead text, e, close_ahead place [], nothing_ahead (place + 1)) refl
 

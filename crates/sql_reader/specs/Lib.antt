@@ -12,6 +12,7 @@ pub mod Memberships
 pub mod Names
 pub mod Numbers
 pub mod Operands
+pub mod PlainRows
 pub mod Reading
 pub mod Rows
 pub mod Taking

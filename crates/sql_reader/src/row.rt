@@ -9,6 +9,7 @@ use crate::error::ReadError;
 use crate::item::Item;
 use crate::name::string_text;
 use crate::number::signed_number;
+use crate::plain_row::plain_row;
 use crate::reader::Reader;
 use crate::word::Keyword;
 use filter_tree::{Row, Value};
@@ -136,9 +137,23 @@ fn row(r: &mut Reader<'_>, alloc: Global) -> Result<Row, ReadError>
 /// # Errors
 ///
 /// The first fault of the text, or `OutOfMemory` where an allocation was refused.
-#[tactic(auto, unfolding(crate::specs::Rows::row_of))]
 pub fn read_row(alloc: Global, text: &str) -> Result<Row, ReadError>
     ensures { Answers (λ row. row) (spec.row_of text.now) result }
 {
-    row(&mut Reader::new(text), alloc)
+    Ok(read_row_in(alloc, Row::from_values(Vec::new(alloc)), text)?)
+}
+
+/// Reads a row as `read_row` does, in the memory of a row that is done with.
+///
+/// # Errors
+///
+/// The first fault of the text, or `OutOfMemory` where an allocation was refused.
+#[tactic(auto, unfolding(crate::specs::Rows::row_of))]
+pub fn read_row_in(alloc: Global, used: Row, text: &str) -> Result<Row, ReadError>
+    ensures { Answers (λ row. row) (spec.row_of text.now) result }
+{
+    match plain_row(alloc, used, text)? {
+        Some(row) => Ok(row),
+        None => row(&mut Reader::new(text), alloc),
+    }
 }
