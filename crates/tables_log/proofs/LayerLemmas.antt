@@ -1,15 +1,14 @@
 -- What a map that is changed in place shows after each step, and what its undo list keeps of it.
-use Rattle.std.proofs.Common.{◌≡◌, Bool, true, false, ◌||◌, List, [], ◌∷◌, ◌++◌, refl, sym, ◌∙◌, ap}
+use Rattle.std.proofs.Common.{◌≡◌, Bool, true, false, List, [], ◌∷◌, ◌++◌, refl, sym, ◌∙◌, ap}
 use Rattle.std.specs.Prelude.{Option, Some, None, Result, Ok, Err, OnOk, OnErr, is_some, if◌then◌else◌}
-use Rattle.std.specs.BTreeMap.{BTreeMap, get, is_at, Updates, IsUnchanged, IsEmpty}
+use Rattle.std.specs.BTreeMap.{BTreeMap, get, is_at, Updates, IsUnchanged}
 use Rattle.std.specs.Cmp.{IsTotalOrder, Equal-is}
 use Rattle.std.specs.Map.{lookup}
 use Rattle.std.specs.Ordering.{eq_by_cmp, is_eq}
 use Rattle.std.specs.declared.cmp.Ordering.{Ordering}
 use Rattle.std.specs.declared.cmp.Ordering.TheVariants.{Equal}
 use Rattle.std.proofs.lemmas.Cmp.{eq_by_cmp_equiv}
-use Rattle.std.proofs.lemmas.List.Folds.{list_any-append}
-use Rattle.table_changes.proofs.TableLemmas.{by_test, or_false}
+use Rattle.table_changes.proofs.TableLemmas.{by_test}
 use Rattle.tables_log.specs.Layers.{flat, over, below, has_place, is_made, was_in, rewound, kept_under, HasRoom}
 
 -- ---- by cases
@@ -44,14 +43,6 @@ if_same false value = refl
 pub over_none : {V : Type 0} (was : Option (Option V)) → (is_some was ≡ true → ⊥) → over was None ≡ None
 over_none None never = refl
 over_none (Some place) never = absurd (never refl)
-
-or_true : {V : Type 0} (b : Bool) (found : Option V) → (if b || true then None else found) ≡ None
-or_true true found = refl
-or_true false found = refl
-
-if_or : {V : Type 0} (b c : Bool) (found : Option V) → (if b then None else (if c then None else found)) ≡ (if b || c then None else found)
-if_or true c found = refl
-if_or false c found = refl
 
 -- a call that may fail did not, where what its failure says can't be
 did_not_fail : {A E : Type 0} (result : Result A E) (P Q : Type 0) → OnOk result P → OnErr result Q → (Q → ⊥) → P
@@ -105,9 +96,6 @@ module _ {K : Type 0} (cmp : K → K → Ordering) where
   below_after old new key place updates other =
       ap flat (get_after old new key place updates other) ∙ flat_if (eq_by_cmp cmp key other) place (get cmp old other)
 
-  pub below_empty : {V : Type 0} (map : BTreeMap K (Option V)) → IsEmpty map → (key : K) → below cmp map key ≡ None
-  below_empty map empty key = ap (λ entries. flat (lookup (is_at (cmp key)) entries)) empty
-
   no_place : {V : Type 0} (map : BTreeMap K (Option V)) (key : K) → has_place cmp map key ≡ true → get cmp map key ≡ None → ⊥
   no_place map key has none = let lacks : has_place cmp map key ≡ false = ap is_some none in cc
 
@@ -120,12 +108,6 @@ module _ {K : Type 0} (cmp : K → K → Ordering) where
 
   -- ---- what was kept, where nothing is undone, and after a call that changes nothing
 
-  pub kept_plain : {V : Type 0} (base : BTreeMap K (Option V)) (made : List K) (undo : List (K × Option V)) → made ≡ [] → undo ≡ []
-      → (key : K) → kept_under cmp base made undo key ≡ below cmp base key
-  kept_plain base made undo none nothing key =
-      ap (λ (keys : List K). rewound cmp keys undo key (below cmp base key)) none
-      ∙ ap (λ places. rewound cmp [] places key (below cmp base key)) nothing
-
   pub kept_same : {V : Type 0} (base new_base : BTreeMap K (Option V)) (made new_made : List K) (undo new_undo : List (K × Option V))
       → new_made ≡ made → new_undo ≡ undo → ((other : K) → below cmp new_base other ≡ below cmp base other)
       → (other : K) → kept_under cmp new_base new_made new_undo other ≡ kept_under cmp base made undo other
@@ -133,10 +115,6 @@ module _ {K : Type 0} (cmp : K → K → Ordering) where
       ap (λ (keys : List K). rewound cmp keys new_undo other (below cmp new_base other)) same_made
       ∙ ap (λ places. rewound cmp made places other (below cmp new_base other)) same_undo
       ∙ ap (rewound cmp made undo other) (same other)
-
-  pub room_none : {V : Type 0} (base : BTreeMap K (Option V)) (undo : List (K × Option V)) → undo ≡ [] → HasRoom cmp base undo
-  room_none base undo none = λ key has.
-      absurd (let nothing : is_some (was_in cmp undo key) ≡ false = ap (λ places. is_some (was_in cmp places key)) none in cc)
 
   pub room_same : {V : Type 0} (base new_base : BTreeMap K (Option V)) (undo new_undo : List (K × Option V)) → new_undo ≡ undo
       → ((other : K) → has_place cmp base other ≡ true → has_place cmp new_base other ≡ true)
@@ -177,26 +155,6 @@ module _ {K : Type 0} {cmp : K → K → Ordering} (total : IsTotalOrder cmp) wh
       → has_place cmp new key ≡ true
   there_after old new key place updates = ap is_some (get_at cmp old new key (Some place) updates key ((eq_by_cmp_equiv total).refl key))
 
-  pub same_without_empty : {V : Type 0} (old new : BTreeMap K (Option V)) (key : K) → get cmp old key ≡ Some None
-      → Updates cmp old new key None → (other : K) → below cmp new other ≡ below cmp old other
-  same_without_empty old new key is updates other = by_test (eq_by_cmp cmp key other)
-      (λ same. ap flat (get_at cmp old new key None updates other same) ∙ sym (ap flat (get_same old key other same ∙ is)))
-      (λ apart. ap flat (get_beside cmp old new key None updates other apart))
-
-  -- a place that is there is left empty
-  pub places_same : {V : Type 0} (old new : BTreeMap K (Option V)) (key : K) (was place : Option V) → get cmp old key ≡ Some was
-      → Updates cmp old new key (Some place) → (other : K) → has_place cmp new other ≡ has_place cmp old other
-  places_same old new key was place is updates other = by_test (eq_by_cmp cmp key other)
-      (λ same. ap is_some (get_at cmp old new key (Some place) updates other same) ∙ sym (ap is_some (get_same old key other same ∙ is)))
-      (λ apart. ap is_some (get_beside cmp old new key (Some place) updates other apart))
-
-  -- a key without a place has nothing
-  pub clears_none : {V : Type 0} (map : BTreeMap K (Option V)) (key : K) → get cmp map key ≡ None
-      → (other : K) → below cmp map other ≡ (if eq_by_cmp cmp key other then None else below cmp map other)
-  clears_none map key none other = by_test (eq_by_cmp cmp key other)
-      (λ same. ap flat (get_same map key other same ∙ none) ∙ sym (ap (λ b. if b then None else below cmp map other) same))
-      (λ apart. sym (ap (λ b. if b then None else below cmp map other) apart))
-
   -- ---- a change of a place that was there
 
   pub keeps_undone : {V : Type 0} (base new_base : BTreeMap K (Option V)) (made : List K) (undo : List (K × Option V)) (key : K) (was value : Option V)
@@ -220,44 +178,6 @@ module _ {K : Type 0} {cmp : K → K → Ordering} (total : IsTotalOrder cmp) wh
   room_undone base new_base undo key was stay there room = λ other has. by_test (eq_by_cmp cmp key other)
       (λ same. ap is_some (get_same new_base key other same) ∙ there)
       (λ apart. stay other (room other (some_before (is_at (cmp other)) undo key was (turned key other ∙ apart) has)))
-
-  -- ---- a place that was made
-
-  never_there : {V : Type 0} (base : BTreeMap K (Option V)) (undo : List (K × Option V)) (key other : K) → eq_by_cmp cmp key other ≡ true → get cmp base key ≡ None
-      → HasRoom cmp base undo → is_some (was_in cmp undo other) ≡ true → ⊥
-  never_there base undo key other same none room has = no_place cmp base other (room other has) (get_same base key other same ∙ none)
-
-  -- nothing was kept under a key without a place
-  kept_none : {V : Type 0} (base : BTreeMap K (Option V)) (made : List K) (undo : List (K × Option V)) (key other : K) → eq_by_cmp cmp key other ≡ true
-      → get cmp base key ≡ None → HasRoom cmp base undo → kept_under cmp base made undo other ≡ None
-  kept_none {V} base made undo key other same none room =
-      let found : over (was_in cmp undo other) (below cmp base other) ≡ None =
-      ap (λ (place : Option (Option V)). over (was_in cmp undo other) (flat place)) (get_same base key other same ∙ none)
-      ∙ over_none (was_in cmp undo other) (never_there base undo key other same none room) in
-      ap (λ (x : Option V). if is_made cmp made other then None else x) found ∙ if_same (is_made cmp made other) None
-
-  -- whether a key's place was made, once this one's was
-  made_more : (made : List K) (key other : K) → is_made cmp (made ++ key ∷ []) other ≡ (is_made cmp made other || eq_by_cmp cmp key other)
-  made_more made key other =
-      list_any-append (is_at (cmp other)) made (key ∷ [])
-      ∙ ap (λ (b : Bool). is_made cmp made other || b) (or_false (is_at (cmp other) key) ∙ turned key other)
-
-  pub keeps_made : {V : Type 0} (base new_base : BTreeMap K (Option V)) (made : List K) (undo : List (K × Option V)) (key : K) (value : Option V)
-      → get cmp base key ≡ None → HasRoom cmp base undo
-      → ((other : K) → below cmp new_base other ≡ (if eq_by_cmp cmp key other then value else below cmp base other))
-      → (other : K) → kept_under cmp new_base (made ++ key ∷ []) undo other ≡ kept_under cmp base made undo other
-  keeps_made {V} base new_base made undo key value none room puts other =
-      let now = over (was_in cmp undo other) (below cmp new_base other) in
-      let more : kept_under cmp new_base (made ++ key ∷ []) undo other ≡ (if is_made cmp made other || eq_by_cmp cmp key other then None else now) =
-      ap (λ (b : Bool). if b then None else now) (made_more made key other) in
-      more ∙ by_test (eq_by_cmp cmp key other)
-      (λ same.
-      ap (λ (b : Bool). if is_made cmp made other || b then None else now) same ∙ or_true (is_made cmp made other) now
-      ∙ sym (kept_none base made undo key other same none room))
-      (λ apart.
-      ap (λ (b : Bool). if is_made cmp made other || b then None else now) apart
-      ∙ ap (λ (b : Bool). if b then None else now) (or_false (is_made cmp made other))
-      ∙ ap (λ (x : Option V). rewound cmp made undo other x) (puts other ∙ ap (λ (b : Bool). if b then value else below cmp base other) apart))
 
   -- ---- while the places get what they had
 
@@ -283,13 +203,3 @@ module _ {K : Type 0} {cmp : K → K → Ordering} (total : IsTotalOrder cmp) wh
       → undo ≡ new_undo ++ (key, was) ∷ [] → Rewinds cmp base first_base undo first_undo → has_place cmp base key ≡ true
   last_room base first_base undo new_undo first_undo key was is rewinds = rewinds.room key
       (ap (λ places. is_some (was_in cmp places key)) is ∙ last_found new_undo key was)
-
-  -- ---- while the places that were made are taken away
-
-  pub takes_one : {V : Type 0} (base new_base : BTreeMap K (Option V)) (made new_made : List K) (key : K) → made ≡ new_made ++ key ∷ []
-      → Updates cmp base new_base key None
-      → (other : K) → (if is_made cmp new_made other then None else below cmp new_base other) ≡ (if is_made cmp made other then None else below cmp base other)
-  takes_one {V} base new_base made new_made key is updates other =
-      ap (λ (x : Option V). if is_made cmp new_made other then None else x) (below_after cmp base new_base key None updates other)
-      ∙ if_or (is_made cmp new_made other) (eq_by_cmp cmp key other) (below cmp base other)
-      ∙ sym (ap (λ (b : Bool). if b then None else below cmp base other) (ap (λ (keys : List K). is_made cmp keys other) is ∙ made_more new_made key other))
