@@ -81,7 +81,7 @@ pub commit_sync : IsSync M.the_row
 commit_sync = search all depth 200 fits 3000 parts 0
 
 rows_send : IsSend T.the_row
-rows_send = search all depth 200 fits 3000 parts 0
+rows_send = search all depth 200 fits 30000 parts 0
 
 slot_send : IsSend S.the_row
 slot_send = search all depth 200 fits 3000 parts 0

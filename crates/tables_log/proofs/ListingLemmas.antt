@@ -1,12 +1,13 @@
 -- A map's values are all that is found in it, each once; and the rows of a table in their order are those that are found in it.
 use Rattle.std.proofs.Common.{◌≡◌, ℕ, ℤ, suc, ◌+◌, ◌<◌, Bool, true, false, List, [], ◌∷◌, ◌++◌, length, get_or, map, refl, sym, ◌∙◌, ap, subst, arith}
-use Rattle.std.specs.Prelude.{Option, Some, None, Contains, slice_get}
-use Rattle.std.specs.BTreeMap.{BTreeMap, IsOrdered, is_at, values}
+use Rattle.std.specs.Prelude.{Option, Some, None, is_some, Contains, slice_get, if◌then◌else◌}
+use Rattle.std.specs.BTreeMap.{BTreeMap, get, IsOrdered, is_at}
 use Rattle.std.specs.Cmp.{Equal-is, IsTotalOrder, int_cmp_total}
 use Rattle.std.specs.FinMap.{IsAntisymmetric, int_cmp-IsAntisymmetric}
-use Rattle.std.specs.List.{AllByRecursion, IsDistinct}
+use Rattle.std.specs.List.{AllByRecursion, IsDistinct, list_any}
 use Rattle.std.specs.List.Sorted.{IsStrictlySortedBy, IsSorted}
 use Rattle.std.specs.Map.{lookup, keys_of, values_of}
+use Rattle.std.specs.Option.{option_map}
 use Rattle.std.specs.Ordering.{eq_by_cmp, int_cmp, is_eq, is_lt, ordering_reverse}
 use Rattle.std.specs.declared.cmp.Ordering.{Ordering}
 use Rattle.std.specs.declared.cmp.Ordering.TheVariants.{Less, Equal, Greater}
@@ -21,11 +22,13 @@ use Rattle.filter_tree.specs.Order.{row_cmp}
 use Rattle.filter_tree.specs.Same.{same_row}
 use Rattle.filter_tree.proofs.OrderLemmas.{row_total, row_tie, ties_same_rows}
 use Rattle.filter_tree.proofs.SameLemmas.{equal_from_same_row, same_row_of_equal}
-use Rattle.tables_log.specs.Layers.{flat, filled, below}
+use Rattle.table_changes.proofs.TableLemmas.{by_test}
+use Rattle.tables_log.specs.Layers.{flat, filled, over, is_made, was_in, rewound, kept_under, kept_places, HasRoom}
 use Rattle.tables_log.specs.Listing.{there, ListsFound, AreRowsOf}
 use Rattle.tables_log.specs.NumberKeys.{number_in, number_key, by_number, HasNoNumber}
 use Rattle.tables_log.specs.Places.{IsInOrder, kept_at, kept_in, maps_of, first_values, listed_in}
 use Rattle.tables_log.specs.Staging.{kept, kept_values}
+use Rattle.tables_log.proofs.LayerLemmas.{if_same, over_none, tests_same}
 use Rattle.tables_log.proofs.NumberLemmas.{key_of_number, numbers_tie, not_true, number_apart, found_number, found_row, not_number}
 use Rattle.tables_log.specs.declared.staged.Staged.{Staged}
 use Rattle.tables_log.specs.declared.table_rows.TableRows.{TableRows}
@@ -111,15 +114,72 @@ module _ {K : Type 0} (cmp : K → K → Ordering) (total : IsTotalOrder cmp) (e
   all_filled ((other, place) ∷ entries) key value found =
       all_step key other place entries value (eq_by_cmp cmp key other) refl (all_filled entries key value) found
 
-  lists_map : {V : Type 0} (base : BTreeMap K (Option V)) → IsOrdered cmp base → Lists cmp (below cmp base) (filled (values base))
-  lists_map base ordered =
-      let apart = IsDistinct-from_sorted cmp (keys_of base.entries) ordered in
+  -- ---- in the entries of a map that is changed in place, each with what was kept there
+
+  module _ {V : Type 0} (made : List K) (undo : List (K × Option V)) where
+    abbrev rewound_at : K → Option V → Option V
+    rewound_at key place = rewound cmp made undo key place
+
+    rewound_entries : List (K × Option V) → List (K × Option V)
+    rewound_entries [] = []
+    rewound_entries ((key, place) ∷ entries) = (key, rewound_at key place) ∷ rewound_entries entries
+
+    same_keys : (entries : List (K × Option V)) → keys_of (rewound_entries entries) ≡ keys_of entries
+    unfolding rewound_entries
+    same_keys [] = refl
+    same_keys ((key, place) ∷ entries) = ap (λ (keys : List K). key ∷ keys) (same_keys entries)
+
+    same_places : (entries : List (K × Option V)) → values_of (rewound_entries entries) ≡ map (λ entry. rewound_at entry.0 entry.1) entries
+    unfolding rewound_entries
+    same_places [] = refl
+    same_places ((key, place) ∷ entries) = ap (λ (places : List (Option V)). rewound_at key place ∷ places) (same_places entries)
+
+    rewound_same : (key other : K) (place : Option V) → eq_by_cmp cmp key other ≡ true → rewound_at other place ≡ rewound_at key place
+    rewound_same key other place same =
+        sym (ap (λ (test : K → Bool). if list_any test made then None else over (lookup test undo) place) (tests_same total key other same))
+
+    -- what is found by a key is what was kept of what is found by it
+    looked_up : (entries : List (K × Option V)) (key : K) → lookup (is_at (cmp key)) (rewound_entries entries) ≡ option_map (rewound_at key) (lookup (is_at (cmp key)) entries)
+    unfolding rewound_entries
+    looked_up [] key = refl
+    looked_up ((other, place) ∷ entries) key = by_test (eq_by_cmp cmp key other)
+        (λ same.
+        lookup_head (is_at (cmp key)) (other, rewound_at other place) (rewound_entries entries) same
+        ∙ ap (λ (found : Option V). Some found) (rewound_same key other place same)
+        ∙ sym (ap (option_map (rewound_at key)) (lookup_head (is_at (cmp key)) (other, place) entries same)))
+        (λ apart.
+        lookup_tail (is_at (cmp key)) (other, rewound_at other place) (rewound_entries entries) apart
+        ∙ looked_up entries key
+        ∙ sym (ap (option_map (rewound_at key)) (lookup_tail (is_at (cmp key)) (other, place) entries apart)))
+
+    kept_flat : (key : K) (found : Option (Option V)) → (is_some (was_in cmp undo key) ≡ true → is_some found ≡ true)
+        → flat (option_map (rewound_at key) found) ≡ rewound_at key (flat found)
+    kept_flat key (Some place) room = refl
+    kept_flat key None room =
+        let nothing : over (was_in cmp undo key) None ≡ None = over_none (was_in cmp undo key) (λ has. let never : false ≡ true = room has in cc) in
+        sym (ap (λ (x : Option V). if is_made cmp made key then None else x) nothing ∙ if_same (is_made cmp made key) None)
+
+    found_rewound : (base : BTreeMap K (Option V)) → HasRoom cmp base undo → (key : K) → found_in (rewound_entries base.entries) key ≡ kept_under cmp base made undo key
+    found_rewound base room key =
+        ap flat (looked_up base.entries key) ∙ kept_flat key (get cmp base key) (room key)
+
+  lists_entries : {V : Type 0} (entries : List (K × Option V)) → IsStrictlySortedBy cmp (keys_of entries) → Lists cmp (found_in entries) (filled (values_of entries))
+  lists_entries entries ordered =
+      let apart = IsDistinct-from_sorted cmp (keys_of entries) ordered in
       record {
-        keys = filled_keys base.entries;
-        once = once_filled base.entries apart;
-        each = each_filled base.entries apart;
-        all = all_filled base.entries;
+        keys = filled_keys entries;
+        once = once_filled entries apart;
+        each = each_filled entries apart;
+        all = all_filled entries;
       }
+
+  lists_map : {V : Type 0} (base : BTreeMap K (Option V)) (made : List K) (undo : List (K × Option V)) → IsOrdered cmp base → HasRoom cmp base undo
+      → Lists cmp (kept_under cmp base made undo) (filled (kept_places cmp base made undo))
+  lists_map {V} base made undo ordered room =
+      let entries = rewound_entries made undo base.entries in
+      let ascending = subst (IsStrictlySortedBy cmp) (sym (same_keys made undo base.entries)) ordered in
+      subst (λ (found : K → Option V). Lists cmp found (filled (kept_places cmp base made undo))) (λ i key. found_rewound made undo base room key i)
+      (subst (λ (places : List (Option V)). Lists cmp (found_in entries) (filled places)) (same_places made undo base.entries) (lists_entries entries ascending))
 
 -- ---- in two maps, one of which has the keys that are one number
 
@@ -207,11 +267,17 @@ module _ {V : Type 0} (of_number : ℤ → Option V) (of_row : List Datum → Op
       all = λ key value finds. contains_key key value (number_in key) refl finds;
     }
 
-pub lists_maps : {V : Type 0} (numbers : BTreeMap ℤ (Option V)) (rows : BTreeMap (List Datum) (Option V)) → IsOrdered int_cmp numbers → IsOrdered row_cmp rows
-    → HasNoNumber (below row_cmp rows) → ListsFound (by_number (below int_cmp numbers) (below row_cmp rows)) (filled (values numbers) ++ filled (values rows))
-lists_maps numbers rows numbers_ordered rows_ordered none =
-    lists_two (below int_cmp numbers) (below row_cmp rows) (filled (values numbers)) (filled (values rows))
-    (lists_map int_cmp int_cmp_total int_cmp-IsAntisymmetric numbers numbers_ordered) (lists_map row_cmp row_total row_tie rows rows_ordered) none
+pub lists_maps : {V : Type 0} (numbers : BTreeMap ℤ (Option V)) (numbers_made : List ℤ) (numbers_undo : List (ℤ × Option V))
+    (rows : BTreeMap (List Datum) (Option V)) (rows_made : List (List Datum)) (rows_undo : List (List Datum × Option V))
+    → IsOrdered int_cmp numbers → HasRoom int_cmp numbers numbers_undo → IsOrdered row_cmp rows → HasRoom row_cmp rows rows_undo
+    → HasNoNumber (kept_under row_cmp rows rows_made rows_undo)
+    → ListsFound (by_number (kept_under int_cmp numbers numbers_made numbers_undo) (kept_under row_cmp rows rows_made rows_undo))
+    (filled (kept_places int_cmp numbers numbers_made numbers_undo) ++ filled (kept_places row_cmp rows rows_made rows_undo))
+lists_maps numbers numbers_made numbers_undo rows rows_made rows_undo numbers_ordered numbers_room rows_ordered rows_room none =
+    lists_two (kept_under int_cmp numbers numbers_made numbers_undo) (kept_under row_cmp rows rows_made rows_undo)
+    (filled (kept_places int_cmp numbers numbers_made numbers_undo)) (filled (kept_places row_cmp rows rows_made rows_undo))
+    (lists_map int_cmp int_cmp_total int_cmp-IsAntisymmetric numbers numbers_made numbers_undo numbers_ordered numbers_room)
+    (lists_map row_cmp row_total row_tie rows rows_made rows_undo rows_ordered rows_room) none
 
 -- ---- in the maps of a table, of which the first is that of the primary key
 

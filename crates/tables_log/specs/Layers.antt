@@ -1,6 +1,8 @@
--- Two maps, one of which lies over the other: what is found below, what is found in both, and that each key of the upper one has a place in the lower one.
-use Rattle.std.specs.Prelude.{◌≡◌, Bool, true, false, List, [], ◌∷◌, is_some, Option, Some, None, if◌then◌else◌}
-use Rattle.std.specs.BTreeMap.{BTreeMap, get}
+-- A map that is changed in place, beside what undoes the changes: what is seen in it, what was kept, and that each key that was changed has a place.
+use Rattle.std.specs.Prelude.{◌≡◌, Bool, true, List, [], ◌∷◌, map, is_some, Option, Some, None, if◌then◌else◌}
+use Rattle.std.specs.BTreeMap.{BTreeMap, get, is_at}
+use Rattle.std.specs.List.{list_any}
+use Rattle.std.specs.Map.{lookup}
 use Rattle.std.specs.declared.cmp.Ordering.{Ordering}
 
 -- a place may be empty
@@ -14,7 +16,7 @@ filled [] = []
 filled (None ∷ places) = filled places
 filled (Some value ∷ places) = value ∷ filled places
 
--- where the upper map has no place, what is below it
+-- what was found first, and where nothing was, this
 abbrev pub over : {V : Type 0} → Option (Option V) → Option V → Option V
 over None below = below
 over (Some place) below = place
@@ -22,13 +24,34 @@ over (Some place) below = place
 abbrev pub below : {K V : Type 0} → (K → K → Ordering) → BTreeMap K (Option V) → K → Option V
 below cmp base key = flat (get cmp base key)
 
--- what is found in both; in the lower map nothing, if it is as good as empty
-abbrev pub layered : {K V : Type 0} → (K → K → Ordering) → BTreeMap K (Option V) → BTreeMap K (Option V) → Bool → K → Option V
-layered cmp base overlay emptied key = over (get cmp overlay key) (if emptied then None else below cmp base key)
+-- what is seen: in a new map, once all was taken away
+abbrev pub shown : {K V : Type 0} → (K → K → Ordering) → BTreeMap K (Option V) → BTreeMap K (Option V) → Bool → K → Option V
+shown cmp base fresh emptied key = if emptied then below cmp fresh key else below cmp base key
 
 abbrev pub has_place : {K V : Type 0} → (K → K → Ordering) → BTreeMap K (Option V) → K → Bool
 has_place cmp map key = is_some (get cmp map key)
 
--- each key of the upper map has a place in the lower one, unless that is as good as empty
-abbrev pub HasRoom : {K V : Type 0} → (K → K → Ordering) → BTreeMap K (Option V) → BTreeMap K (Option V) → Bool → Type 0
-HasRoom {K} cmp base overlay emptied = (key : K) → emptied ≡ false → has_place cmp overlay key ≡ true → has_place cmp base key ≡ true
+-- ---- what was kept
+
+-- whether the key's place was made by a change
+abbrev pub is_made : {K : Type 0} → (K → K → Ordering) → List K → K → Bool
+is_made cmp made key = list_any (is_at (cmp key)) made
+
+-- what the first change of a place that was there had found in it
+abbrev pub was_in : {K V : Type 0} → (K → K → Ordering) → List (K × Option V) → K → Option (Option V)
+was_in cmp undo key = lookup (is_at (cmp key)) undo
+
+-- What was kept under a key, where this is found now.
+abbrev pub rewound : {K V : Type 0} → (K → K → Ordering) → List K → List (K × Option V) → K → Option V → Option V
+rewound cmp made undo key found = if is_made cmp made key then None else over (was_in cmp undo key) found
+
+abbrev pub kept_under : {K V : Type 0} → (K → K → Ordering) → BTreeMap K (Option V) → List K → List (K × Option V) → K → Option V
+kept_under cmp base made undo key = rewound cmp made undo key (below cmp base key)
+
+-- what was kept in each place, in the order of the keys
+abbrev pub kept_places : {K V : Type 0} → (K → K → Ordering) → BTreeMap K (Option V) → List K → List (K × Option V) → List (Option V)
+kept_places cmp base made undo = map (λ entry. rewound cmp made undo entry.0 entry.1) base.entries
+
+-- each key whose place was changed has it still
+abbrev pub HasRoom : {K V : Type 0} → (K → K → Ordering) → BTreeMap K (Option V) → List (K × Option V) → Type 0
+HasRoom {K} cmp base undo = (key : K) → is_some (was_in cmp undo key) ≡ true → has_place cmp base key ≡ true

@@ -1,45 +1,85 @@
-//! Maps of two layers: one is what is kept, and in the other changes are staged until they settle, which takes no
-//! memory.
+//! Maps that are changed in place, beside what undoes the changes until they settle, which takes no memory.
 
-ghost use Rattle.std.specs.Prelude.{◌≡◌, true, false, OnOk, OnErr, if◌then◌else◌};
-ghost use Rattle.std.specs.BTreeMap.{IsEmpty};
+ghost use Rattle.std.specs.Prelude.{◌≡◌, true, false, [], None, Some, map, OnOk, OnErr, if◌then◌else◌};
+ghost use Rattle.std.specs.BTreeMap.{get};
+ghost use Rattle.std.specs.Option.{option_map};
 ghost use Rattle.std.specs.Ordering.{eq_by_cmp};
-ghost use Rattle.tables_log.specs.Layers.{below, layered, has_place, HasRoom};
+ghost use Rattle.tables_log.specs.Layers.{over, below, has_place, is_made, was_in, rewound, kept_under, HasRoom};
 
 use std::alloc::{AllocError, Global};
 use std::collections::BTreeMap;
 use std::mem;
 
-/// An ordered map in which changes are staged over what is kept. Each key that is changed has a place among those that
-/// are kept, so that changes settle without memory; and they are discarded without memory.
+/// An ordered map that is changed in place. What was kept comes back without memory: the keys whose places were made
+/// are taken away, and the others' places, which stay, get what they had.
 #[derive(Drop)]
 pub(crate) struct Layers<K: Ord, V> {
     alloc: Global,
     base: BTreeMap<K, Option<V>, Global>,
-    overlay: BTreeMap<K, Option<V>, Global>,
+    /// The keys whose places were made since.
+    made: Vec<K>,
+    /// The other keys that were changed since, each with what its place had.
+    undo: Vec<(K, Option<V>)>,
+    /// What is seen in place of the base, once that was emptied.
+    fresh: BTreeMap<K, Option<V>, Global>,
     emptied: bool,
-    ghost room: { HasRoom K.cmp base overlay emptied },
+    ghost room: { HasRoom K.cmp base undo.items },
 }
 
-/// Makes a place for the key, which is empty if there was none. The only error is want of memory.
-#[tactic(auto, using(crate::proofs::LayerLemmas::same_after_room, crate::proofs::LayerLemmas::stay_after_room, crate::proofs::LayerLemmas::room_after, crate::proofs::LayerLemmas::get_unchanged))]
-fn make_room<K: Ord + Drop, V: Drop>(
-    base: &mut BTreeMap<K, Option<V>, Global>,
-    key: K,
-) -> Result<(), AllocError>
-    ensures same { (other : K) → below K.cmp base.new other ≡ below K.cmp base.old other }
-    ensures stay { (other : K) → has_place K.cmp base.old other ≡ true → has_place K.cmp base.new other ≡ true }
-    ensures room { OnOk result (has_place K.cmp base.new key ≡ true) }
+/// What is under the key.
+fn value_in<'a, K: Ord, V>(map: &'a BTreeMap<K, Option<V>, Global>, key: &K) -> Option<&'a V>
+    ensures { option_map (λ value. value.now) result ≡ below K.cmp map.now key.now }
 {
-    if base.contains_key(&key) {
-        return Ok(());
+    match map.get(key) {
+        None => None,
+        Some(place) => place.as_ref(),
     }
-    let _ = base.insert(key, None)?;
-    Ok(())
 }
 
-/// Puts the value into the key's place, or takes the place away.
-#[tactic(auto, using(crate::proofs::LayerLemmas::below_after, crate::proofs::LayerLemmas::stay_after))]
+/// Whether the key's place was made.
+fn was_made<K: Ord>(made: &[K], key: &K) -> bool
+    ensures { result ≡ is_made K.cmp made.now key.now }
+{
+    for other in made {
+        if key.cmp(other).is_eq() {
+            return true;
+        }
+    }
+    false
+}
+
+/// What the first change of the key's place found in it.
+fn was_found<'a, K: Ord, V>(undo: &'a [(K, Option<V>)], key: &K) -> Option<&'a Option<V>>
+    ensures { option_map (λ place. place.now) result ≡ was_in K.cmp undo.now key.now }
+{
+    for (other, place) in undo {
+        if key.cmp(other).is_eq() {
+            return Some(place);
+        }
+    }
+    None
+}
+
+/// What was kept under the key, where this is found now.
+fn before<'a, K: Ord, V>(
+    made: &[K],
+    undo: &'a [(K, Option<V>)],
+    key: &K,
+    found: Option<&'a V>,
+) -> Option<&'a V>
+    ensures { option_map (λ value. value.now) result
+        ≡ rewound K.cmp made.now undo.now key.now (option_map (λ value. value.now) found.entry) }
+{
+    if was_made(made, key) {
+        return None;
+    }
+    match was_found(undo, key) {
+        None => found,
+        Some(place) => place.as_ref(),
+    }
+}
+
+/// Puts the value into the key's place, or leaves it empty.
 fn write<K: Ord + Drop, V: Drop>(
     base: &mut BTreeMap<K, Option<V>, Global>,
     key: K,
@@ -48,21 +88,28 @@ fn write<K: Ord + Drop, V: Drop>(
     requires { has_place K.cmp base.old key ≡ true }
     ensures puts { (other : K) → below K.cmp base.new other
         ≡ (if eq_by_cmp K.cmp key other then value else below K.cmp base.old other) }
-    ensures stay { (other : K) → eq_by_cmp K.cmp key other ≡ false → has_place K.cmp base.old other ≡ true
-        → has_place K.cmp base.new other ≡ true }
+    ensures stay { (other : K) → has_place K.cmp base.old other ≡ true → has_place K.cmp base.new other ≡ true }
 {
-    match value {
-        None => {
-            let _ = base.remove(&key);
-        }
-        Some(value) => {
-            let _ = base.insert(key, Some(value));
-        }
+    let _ = base.insert(key, value);
+}
+
+/// Leaves the key's place empty, if there is one, and gives what it had.
+fn clear_place<K: Ord + Drop, V: Drop>(
+    base: &mut BTreeMap<K, Option<V>, Global>,
+    key: &K,
+) -> Option<Option<V>>
+    ensures was { result ≡ get K.cmp base.old key.now }
+    ensures clears { (other : K) → below K.cmp base.new other
+        ≡ (if eq_by_cmp K.cmp key.now other then None else below K.cmp base.old other) }
+    ensures stay { (other : K) → has_place K.cmp base.new other ≡ has_place K.cmp base.old other }
+{
+    match base.get_mut(key) {
+        None => None,
+        Some(place) => Some(mem::replace(place, None)),
     }
 }
 
 /// Takes the key's place away, if it is empty.
-#[tactic(auto, using(crate::proofs::LayerLemmas::same_without_empty))]
 fn take_empty<K: Ord + Drop, V: Drop>(base: &mut BTreeMap<K, Option<V>, Global>, key: &K)
     ensures { (other : K) → below K.cmp base.new other ≡ below K.cmp base.old other }
 {
@@ -71,98 +118,166 @@ fn take_empty<K: Ord + Drop, V: Drop>(base: &mut BTreeMap<K, Option<V>, Global>,
     }
 }
 
-/// Moves what the overlay has into the places of its keys.
-#[tactic(auto, using(crate::proofs::LayerLemmas::settles_one, crate::proofs::LayerLemmas::settled_all, crate::proofs::LayerLemmas::empty_of_length))]
-fn settle_into<K: Ord + Drop, V: Drop>(
+/// Forgets what undoes the changes, and takes the places away that they left empty. A place that was made has a value,
+/// unless a later change found it there.
+fn settle_in<K: Ord + Drop, V: Drop>(
     base: &mut BTreeMap<K, Option<V>, Global>,
-    overlay: &mut BTreeMap<K, Option<V>, Global>,
-)
-    requires { HasRoom K.cmp base.old overlay.old false }
-    ensures settled { (key : K) → below K.cmp base.new key ≡ layered K.cmp base.old overlay.old false key }
-    ensures empty { IsEmpty overlay.new }
-{
-    while let Some((key, value)) = overlay.pop_first() {
-        write(base, key, value);
-    }
-}
-
-/// Empties the overlay, and takes the empty places of its keys away.
-#[tactic(auto, using(crate::proofs::LayerLemmas::empty_of_length))]
-fn sweep<K: Ord + Drop, V: Drop>(
-    base: &mut BTreeMap<K, Option<V>, Global>,
-    overlay: &mut BTreeMap<K, Option<V>, Global>,
+    made: &mut Vec<K>,
+    undo: &mut Vec<(K, Option<V>)>,
 )
     ensures same { (key : K) → below K.cmp base.new key ≡ below K.cmp base.old key }
-    ensures empty { IsEmpty overlay.new }
+    ensures made { made.new.items ≡ [] }
+    ensures undo { undo.new.items ≡ [] }
 {
-    while let Some((key, _)) = overlay.pop_first() {
-        take_empty(base, &key);
+    made.clear();
+    while let Some((key, place)) = undo.pop() {
+        if place.is_some() {
+            take_empty(base, &key);
+        }
     }
 }
 
-/// Puts the value under the key into the overlay, and makes a place for the key, which is given twice, below. The only
-/// error is want of memory; then the overlay is as it was.
-#[tactic(auto, using(crate::proofs::LayerLemmas::layered_after, crate::proofs::LayerLemmas::layered_same, crate::proofs::LayerLemmas::room_kept, crate::proofs::LayerLemmas::get_unchanged))]
-fn put_over<K: Ord + Drop, V: Drop>(
+/// Gives the places that were there what they had, the last change first.
+fn write_back<K: Ord + Drop, V: Drop>(
     base: &mut BTreeMap<K, Option<V>, Global>,
-    overlay: &mut BTreeMap<K, Option<V>, Global>,
-    place: K,
-    key: K,
-    value: Option<V>,
-) -> Result<(), AllocError>
-    requires room { HasRoom K.cmp base.old overlay.old false }
-    requires same { place ≡ key }
-    ensures same { (other : K) → below K.cmp base.new other ≡ below K.cmp base.old other }
-    ensures room { HasRoom K.cmp base.new overlay.new false }
-    ensures puts { OnOk result ((other : K) → layered K.cmp base.new overlay.new false other
-        ≡ (if eq_by_cmp K.cmp key other then value else layered K.cmp base.old overlay.old false other)) }
-    ensures err { OnErr result ((other : K) → layered K.cmp base.new overlay.new false other
-        ≡ layered K.cmp base.old overlay.old false other) }
+    undo: &mut Vec<(K, Option<V>)>,
+)
+    requires { HasRoom K.cmp base.old undo.old.items }
+    ensures back { (key : K) → below K.cmp base.new key
+        ≡ over (was_in K.cmp undo.old.items key) (below K.cmp base.old key) }
+    ensures undo { undo.new.items ≡ [] }
 {
-    make_room(base, place)?;
-    let _ = overlay.insert(key, value)?;
-    Ok(())
+    while let Some((key, place)) = undo.pop() {
+        write(base, key, place);
+    }
 }
 
-/// Puts the value under the key into an overlay that has nothing below it. The only error is want of memory; then the
-/// overlay is as it was.
+/// Takes the places away that were made.
+fn take_made<K: Ord + Drop, V: Drop>(base: &mut BTreeMap<K, Option<V>, Global>, made: &mut Vec<K>)
+    ensures gone { (key : K) → below K.cmp base.new key
+        ≡ (if is_made K.cmp made.old.items key then None else below K.cmp base.old key) }
+    ensures made { made.new.items ≡ [] }
+{
+    while let Some(key) = made.pop() {
+        let _ = base.remove(&key);
+    }
+}
+
+/// Makes the map what it was.
+fn rewind<K: Ord + Drop, V: Drop>(
+    base: &mut BTreeMap<K, Option<V>, Global>,
+    made: &mut Vec<K>,
+    undo: &mut Vec<(K, Option<V>)>,
+)
+    requires { HasRoom K.cmp base.old undo.old.items }
+    ensures back { (key : K) → below K.cmp base.new key ≡ kept_under K.cmp base.old made.old.items undo.old.items key }
+    ensures made { made.new.items ≡ [] }
+    ensures undo { undo.new.items ≡ [] }
+{
+    write_back(base, undo);
+    take_made(base, made);
+}
+
+/// Puts the value under the key, which is given twice. The only error is want of memory; then the map is as it was.
+fn put_in<K: Ord + Drop, V: Drop>(
+    base: &mut BTreeMap<K, Option<V>, Global>,
+    made: &mut Vec<K>,
+    undo: &mut Vec<(K, Option<V>)>,
+    key: K,
+    copy: K,
+    value: V,
+) -> Result<(), AllocError>
+    requires room { HasRoom K.cmp base.old undo.old.items }
+    requires same { copy ≡ key }
+    ensures room { HasRoom K.cmp base.new undo.new.items }
+    ensures keeps { (other : K) → kept_under K.cmp base.new made.new.items undo.new.items other
+        ≡ kept_under K.cmp base.old made.old.items undo.old.items other }
+    ensures puts { OnOk result ((other : K) → below K.cmp base.new other
+        ≡ (if eq_by_cmp K.cmp key other then Some value else below K.cmp base.old other)) }
+    ensures err { OnErr result ((other : K) → below K.cmp base.new other ≡ below K.cmp base.old other) }
+{
+    made.reserve(1)?;
+    undo.reserve(1)?;
+    match base.insert(key, Some(value))? {
+        None => {
+            made.push_reserved(copy);
+            Ok(())
+        }
+        Some(was) => {
+            undo.push_reserved((copy, was));
+            Ok(())
+        }
+    }
+}
+
+/// Leaves nothing under the key. The only error is want of memory; then the map is as it was.
+fn take_in<K: Ord + Drop, V: Drop>(
+    base: &mut BTreeMap<K, Option<V>, Global>,
+    made: &[K],
+    undo: &mut Vec<(K, Option<V>)>,
+    key: K,
+) -> Result<(), AllocError>
+    requires { HasRoom K.cmp base.old undo.old.items }
+    ensures room { HasRoom K.cmp base.new undo.new.items }
+    ensures keeps { (other : K) → kept_under K.cmp base.new made.now undo.new.items other
+        ≡ kept_under K.cmp base.old made.now undo.old.items other }
+    ensures puts { OnOk result ((other : K) → below K.cmp base.new other
+        ≡ (if eq_by_cmp K.cmp key other then None else below K.cmp base.old other)) }
+    ensures err { OnErr result ((other : K) → below K.cmp base.new other ≡ below K.cmp base.old other) }
+{
+    undo.reserve(1)?;
+    match clear_place(base, &key) {
+        None => Ok(()),
+        Some(was) => {
+            undo.push_reserved((key, was));
+            Ok(())
+        }
+    }
+}
+
+/// Puts the value under the key of a map that has nothing to undo. The only error is want of memory; then the map is as
+/// it was.
 #[tactic(auto, using(crate::proofs::LayerLemmas::below_after, crate::proofs::LayerLemmas::below_unchanged))]
 fn put_alone<K: Ord + Drop, V: Drop>(
-    overlay: &mut BTreeMap<K, Option<V>, Global>,
+    fresh: &mut BTreeMap<K, Option<V>, Global>,
     key: K,
-    value: Option<V>,
+    value: V,
 ) -> Result<(), AllocError>
-    ensures puts { OnOk result ((other : K) → below K.cmp overlay.new other
-        ≡ (if eq_by_cmp K.cmp key other then value else below K.cmp overlay.old other)) }
-    ensures err { OnErr result ((other : K) → below K.cmp overlay.new other ≡ below K.cmp overlay.old other) }
+    ensures puts { OnOk result ((other : K) → below K.cmp fresh.new other
+        ≡ (if eq_by_cmp K.cmp key other then Some value else below K.cmp fresh.old other)) }
+    ensures err { OnErr result ((other : K) → below K.cmp fresh.new other ≡ below K.cmp fresh.old other) }
 {
-    match value {
-        None => {
-            let _ = overlay.remove(&key);
-        }
-        Some(value) => {
-            let _ = overlay.insert(key, Some(value))?;
-        }
-    }
+    let _ = fresh.insert(key, Some(value))?;
     Ok(())
+}
+
+/// Takes the key of a map away that has nothing to undo.
+#[tactic(auto, using(crate::proofs::LayerLemmas::below_after))]
+fn take_alone<K: Ord + Drop, V: Drop>(fresh: &mut BTreeMap<K, Option<V>, Global>, key: &K)
+    ensures { (other : K) → below K.cmp fresh.new other
+        ≡ (if eq_by_cmp K.cmp key.now other then None else below K.cmp fresh.old other) }
+{
+    let _ = fresh.remove(key);
 }
 
 impl<K: Ord + Drop, V: Drop> Layers<K, V> {
-    ghost use Rattle.std.specs.Prelude.{◌≡◌, None, map, ◌++◌, IfOk, OnOk, OnErr};
-    ghost use Rattle.std.specs.BTreeMap.{IsOrdered, values};
+    ghost use Rattle.std.specs.Prelude.{◌≡◌, None, Some, map, ◌++◌, IfOk, OnOk, OnErr, if◌then◌else◌};
+    ghost use Rattle.std.specs.BTreeMap.{IsOrdered};
     ghost use Rattle.std.specs.Option.{option_map};
     ghost use Rattle.std.specs.Ordering.{eq_by_cmp};
-    ghost use Rattle.tables_log.specs.Layers.{below, layered, filled};
+    ghost use Rattle.tables_log.specs.Layers.{kept_under, kept_places, shown, filled, HasRoom};
 
     /// A map without any key.
     pub(crate) fn new(alloc: Global) -> Layers<K, V>
-        ensures kept { (key : K) → below K.cmp result.base key ≡ None }
-        ensures seen { (key : K) → layered K.cmp result.base result.overlay result.emptied key ≡ None }
+        ensures kept { (key : K) → kept_under K.cmp result.base result.made.items result.undo.items key ≡ None }
+        ensures seen { (key : K) → shown K.cmp result.base result.fresh result.emptied key ≡ None }
     {
         Layers {
             alloc,
             base: BTreeMap::new(alloc),
-            overlay: BTreeMap::new(alloc),
+            made: Vec::new(alloc),
+            undo: Vec::new(alloc),
+            fresh: BTreeMap::new(alloc),
             emptied: false,
         }
     }
@@ -170,89 +285,118 @@ impl<K: Ord + Drop, V: Drop> Layers<K, V> {
     /// What is seen under the key.
     pub(crate) fn find(&self, key: &K) -> Option<&V>
         ensures { option_map (λ value. value.now) result
-            ≡ layered K.cmp self.now.base self.now.overlay self.now.emptied key.now }
+            ≡ shown K.cmp self.now.base self.now.fresh self.now.emptied key.now }
     {
-        match self.overlay.get(key) {
-            Some(value) => value.as_ref(),
-            None if self.emptied => None,
-            None => self.get(key),
+        if self.emptied {
+            value_in(&self.fresh, key)
+        } else {
+            value_in(&self.base, key)
         }
     }
 
     /// What is kept under the key.
     pub(crate) fn get(&self, key: &K) -> Option<&V>
-        ensures { option_map (λ value. value.now) result ≡ below K.cmp self.now.base key.now }
+        ensures { option_map (λ value. value.now) result
+            ≡ kept_under K.cmp self.now.base self.now.made.items self.now.undo.items key.now }
     {
-        match self.base.get(key) {
-            Some(value) => value.as_ref(),
-            None => None,
-        }
+        before(&self.made, &self.undo, key, value_in(&self.base, key))
     }
 
     /// What is listed, and then all that is kept, in the order of the keys. The only error is want of memory.
     pub(crate) fn list<'a>(&'a self, listed: Vec<&'a V>) -> Result<Vec<&'a V>, AllocError>
         ensures shows { IfOk result (λ all. map (λ value. value.now) all.items
-            ≡ map (λ value. value.now) listed.entry.items ++ filled (values self.now.base)) }
+            ≡ map (λ value. value.now) listed.entry.items
+            ++ filled (kept_places K.cmp self.now.base self.now.made.items self.now.undo.items)) }
         ensures ordered { IsOrdered K.cmp self.now.base }
+        ensures room { HasRoom K.cmp self.now.base self.now.undo.items }
     {
         let mut listed = listed;
-        for place in self.base.values() {
-            if let Some(value) = place {
+        for (key, place) in self.base.iter() {
+            if let Some(value) = before(&self.made, &self.undo, key, place.as_ref()) {
                 listed.push(value)?;
             }
         }
         Ok(listed)
     }
 
-    /// Puts the value, or none, under the key, which is given twice. What is kept stays. The only error is want of
-    /// memory; then what is seen stays too.
-    pub(crate) fn stage(&mut self, place: K, key: K, value: Option<V>) -> Result<(), AllocError>
-        requires { place ≡ key }
-        ensures keeps { (other : K) → below K.cmp self.new.base other ≡ below K.cmp self.old.base other }
-        ensures puts { OnOk result ((other : K) → layered K.cmp self.new.base self.new.overlay self.new.emptied other
-            ≡ (if eq_by_cmp K.cmp key other then value
-            else layered K.cmp self.old.base self.old.overlay self.old.emptied other)) }
-        ensures err { OnErr result ((other : K) → layered K.cmp self.new.base self.new.overlay self.new.emptied other
-            ≡ layered K.cmp self.old.base self.old.overlay self.old.emptied other) }
+    /// Puts the value under the key, which is given twice. What is kept stays. The only error is want of memory; then
+    /// what is seen stays too.
+    pub(crate) fn put(&mut self, key: K, copy: K, value: V) -> Result<(), AllocError>
+        requires { copy ≡ key }
+        ensures keeps { (other : K) → kept_under K.cmp self.new.base self.new.made.items self.new.undo.items other
+            ≡ kept_under K.cmp self.old.base self.old.made.items self.old.undo.items other }
+        ensures puts { OnOk result ((other : K) → shown K.cmp self.new.base self.new.fresh self.new.emptied other
+            ≡ (if eq_by_cmp K.cmp key other then Some value
+            else shown K.cmp self.old.base self.old.fresh self.old.emptied other)) }
+        ensures err { OnErr result ((other : K) → shown K.cmp self.new.base self.new.fresh self.new.emptied other
+            ≡ shown K.cmp self.old.base self.old.fresh self.old.emptied other) }
     {
         if self.emptied {
-            put_alone(&mut self.overlay, key, value)
+            put_alone(&mut self.fresh, key, value)
         } else {
-            put_over(&mut self.base, &mut self.overlay, place, key, value)
+            put_in(
+                &mut self.base,
+                &mut self.made,
+                &mut self.undo,
+                key,
+                copy,
+                value,
+            )
+        }
+    }
+
+    /// Leaves nothing under the key. What is kept stays. The only error is want of memory; then what is seen stays too.
+    pub(crate) fn take(&mut self, key: K) -> Result<(), AllocError>
+        ensures keeps { (other : K) → kept_under K.cmp self.new.base self.new.made.items self.new.undo.items other
+            ≡ kept_under K.cmp self.old.base self.old.made.items self.old.undo.items other }
+        ensures puts { OnOk result ((other : K) → shown K.cmp self.new.base self.new.fresh self.new.emptied other
+            ≡ (if eq_by_cmp K.cmp key other then None
+            else shown K.cmp self.old.base self.old.fresh self.old.emptied other)) }
+        ensures err { OnErr result ((other : K) → shown K.cmp self.new.base self.new.fresh self.new.emptied other
+            ≡ shown K.cmp self.old.base self.old.fresh self.old.emptied other) }
+    {
+        if self.emptied {
+            take_alone(&mut self.fresh, &key);
+            Ok(())
+        } else {
+            take_in(&mut self.base, &self.made, &mut self.undo, key)
         }
     }
 
     /// Takes every key away. What is kept stays.
     pub(crate) fn empty(&mut self)
-        ensures keeps { (key : K) → below K.cmp self.new.base key ≡ below K.cmp self.old.base key }
-        ensures empties { (key : K) → layered K.cmp self.new.base self.new.overlay self.new.emptied key ≡ None }
+        ensures keeps { (key : K) → kept_under K.cmp self.new.base self.new.made.items self.new.undo.items key
+            ≡ kept_under K.cmp self.old.base self.old.made.items self.old.undo.items key }
+        ensures empties { (key : K) → shown K.cmp self.new.base self.new.fresh self.new.emptied key ≡ None }
     {
-        sweep(&mut self.base, &mut self.overlay);
+        rewind(&mut self.base, &mut self.made, &mut self.undo);
+        self.fresh.clear();
         self.emptied = true;
     }
 
     /// Keeps what is seen.
     pub(crate) fn settle(&mut self)
-        ensures keeps { (key : K) → below K.cmp self.new.base key
-            ≡ layered K.cmp self.old.base self.old.overlay self.old.emptied key }
-        ensures sees { (key : K) → layered K.cmp self.new.base self.new.overlay self.new.emptied key
-            ≡ layered K.cmp self.old.base self.old.overlay self.old.emptied key }
+        ensures keeps { (key : K) → kept_under K.cmp self.new.base self.new.made.items self.new.undo.items key
+            ≡ shown K.cmp self.old.base self.old.fresh self.old.emptied key }
+        ensures sees { (key : K) → shown K.cmp self.new.base self.new.fresh self.new.emptied key
+            ≡ shown K.cmp self.old.base self.old.fresh self.old.emptied key }
     {
+        settle_in(&mut self.base, &mut self.made, &mut self.undo);
         if self.emptied {
-            self.base = mem::replace(&mut self.overlay, BTreeMap::new(self.alloc));
+            self.base = mem::replace(&mut self.fresh, BTreeMap::new(self.alloc));
             self.emptied = false;
-        } else {
-            settle_into(&mut self.base, &mut self.overlay);
         }
     }
 
     /// Forgets the changes: what is kept is seen.
     pub(crate) fn discard(&mut self)
-        ensures keeps { (key : K) → below K.cmp self.new.base key ≡ below K.cmp self.old.base key }
-        ensures sees { (key : K) → layered K.cmp self.new.base self.new.overlay self.new.emptied key
-            ≡ below K.cmp self.old.base key }
+        ensures keeps { (key : K) → kept_under K.cmp self.new.base self.new.made.items self.new.undo.items key
+            ≡ kept_under K.cmp self.old.base self.old.made.items self.old.undo.items key }
+        ensures sees { (key : K) → shown K.cmp self.new.base self.new.fresh self.new.emptied key
+            ≡ kept_under K.cmp self.old.base self.old.made.items self.old.undo.items key }
     {
-        sweep(&mut self.base, &mut self.overlay);
+        rewind(&mut self.base, &mut self.made, &mut self.undo);
+        self.fresh.clear();
         self.emptied = false;
     }
 }

@@ -2,7 +2,7 @@
 
 ghost use Rattle.std.specs.Prelude.{◌≡◌};
 ghost use Rattle.filter_tree.specs.Order.{row_cmp};
-ghost use Rattle.tables_log.specs.Layers.{below, layered};
+ghost use Rattle.tables_log.specs.Layers.{kept_under, shown};
 ghost use Rattle.tables_log.specs.NumberKeys.{number_in, HasNoNumber};
 
 use crate::layers::Layers;
@@ -19,8 +19,8 @@ pub struct Staged<V> {
     alloc: Global,
     numbers: Layers<i64, V>,
     rows: Layers<Row, V>,
-    ghost kept_apart: { HasNoNumber (below row_cmp rows.base) },
-    ghost seen_apart: { HasNoNumber (layered row_cmp rows.base rows.overlay rows.emptied) },
+    ghost kept_apart: { HasNoNumber (kept_under row_cmp rows.base rows.made.items rows.undo.items) },
+    ghost seen_apart: { HasNoNumber (shown row_cmp rows.base rows.fresh rows.emptied) },
 }
 
 /// The number that the key is, if it is one number.
@@ -35,7 +35,7 @@ fn only_number(key: &Row) -> Option<i64>
 
 #[tactic(auto, unfolding(crate::specs::Staging::kept, crate::specs::Staging::seen))]
 impl<V: Drop> Staged<V> {
-    ghost use Rattle.std.specs.Prelude.{◌≡◌, List, None, map, IfOk, OnOk};
+    ghost use Rattle.std.specs.Prelude.{◌≡◌, List, None, Some, map, IfOk, OnOk};
     ghost use Rattle.std.specs.Option.{option_map};
     ghost use Rattle.filter_tree.specs.Datum.{Datum};
     ghost use Rattle.tables_log.specs.Listing.{ListsFound};
@@ -84,17 +84,39 @@ impl<V: Drop> Staged<V> {
         Ok(self.rows.list(listed)?)
     }
 
+    /// Puts the value under the key.
+    fn put(&mut self, key: Row, value: V) -> Result<(), AllocError>
+        ensures keeps { Keeps self.old self.new }
+        ensures puts { OnOk result (Puts self.old self.new key (Some value)) }
+    {
+        match only_number(&key) {
+            Some(number) => self.numbers.put(number, number, value),
+            None => {
+                let copy = copy_row(self.alloc, &key)?;
+                self.rows.put(key, copy, value)
+            }
+        }
+    }
+
+    /// Leaves nothing under the key.
+    fn take(&mut self, key: Row) -> Result<(), AllocError>
+        ensures keeps { Keeps self.old self.new }
+        ensures puts { OnOk result (Puts self.old self.new key None) }
+    {
+        match only_number(&key) {
+            Some(number) => self.numbers.take(number),
+            None => self.rows.take(key),
+        }
+    }
+
     /// Puts the value under the key, or none. What is kept stays. The only error is want of memory.
     pub fn stage(&mut self, key: Row, value: Option<V>) -> Result<(), AllocError>
         ensures keeps { Keeps self.old self.new }
         ensures puts { OnOk result (Puts self.old self.new key value) }
     {
-        match only_number(&key) {
-            Some(number) => self.numbers.stage(number, number, value),
-            None => {
-                let place = copy_row(self.alloc, &key)?;
-                self.rows.stage(place, key, value)
-            }
+        match value {
+            None => self.take(key),
+            Some(value) => self.put(key, value),
         }
     }
 
