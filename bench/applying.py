@@ -59,7 +59,7 @@ def row(setup, server, load):
     pgshard, plain = counted(setup, load)
     load = sized(load, 100_000 if load.in_a_commit > 1 else 25_000)
     backlog, at_once = timed(setup, load)
-    beside = streaming.apply_worker(*server, served(load)) if server else (None, None)
+    beside = streaming.least(setup, streaming.apply_worker, *server, served(load)) if server else (None, None)
     named = [load.deed, load.identity, f"{load.text:,}", f"{load.in_a_commit:,}", f"{load.there:,}"]
     return [*named, *map(shown, (pgshard, plain, backlog, at_once, *beside))]
 
