@@ -1,8 +1,6 @@
 """What it costs a subscriber to read and apply the bytes that it gets, beside a plain program and the worker of a
 subscription of PostgreSQL 15, which reads them from a socket and writes a table and its log."""
 
-from dataclasses import replace
-
 import counting
 import limits
 import postgres
