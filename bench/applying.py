@@ -1,8 +1,6 @@
 """What it costs a subscriber to read and apply the bytes that it gets, beside a plain program and the worker of a
 subscription of PostgreSQL 15, which reads them from a socket and writes a table and its log."""
 
-from dataclasses import replace
-
 import counting
 import limits
 import postgres
@@ -59,7 +57,7 @@ def row(setup, server, load):
     pgshard, plain = counted(setup, load)
     load = sized(load, 100_000 if load.in_a_commit > 1 else 25_000)
     backlog, at_once = timed(setup, load)
-    beside = streaming.apply_worker(*server, served(load)) if server else (None, None)
+    beside = streaming.least(setup, streaming.apply_worker, *server, served(load)) if server else (None, None)
     named = [load.deed, load.identity, f"{load.text:,}", f"{load.in_a_commit:,}", f"{load.there:,}"]
     return [*named, *map(shown, (pgshard, plain, backlog, at_once, *beside))]
 

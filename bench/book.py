@@ -47,9 +47,9 @@ def row(setup, connection, load):
     pgshard, plain = counted(setup, load)
     load = sized(load, 100_000 if load.in_a_commit > 1 else 40_000)
     taken = timed(setup, load)
-    beside = streaming.changed_by_sql(connection, load) if connection else None
+    beside = streaming.least(setup, streaming.changed_by_sql, connection, load) if connection else [None]
     named = [load.deed, load.identity, f"{load.in_a_commit:,}", f"{load.there:,}", load.tables]
-    return [*named, *map(shown, (pgshard, plain, taken, beside))]
+    return [*named, *map(shown, (pgshard, plain, taken, *beside))]
 
 
 # ---- bytes
@@ -85,7 +85,8 @@ def bytes_row(setup, connection):
 def measure_with(setup, folder, connection):
     print_table(HEADS, (row(setup, connection, load) for load in loads()))
     if connection:
-        print(f"COPY: {shown(streaming.copied(connection, Load(rows=100_000), folder / 'copied'))} µs a row\n")
+        (copied,) = streaming.least(setup, streaming.copied, connection, Load(rows=100_000), folder / "copied")
+        print(f"COPY: {shown(copied)} µs a row\n")
     heads = ["Rows inserted", "bytes a row, table and log", "plain Rust", "table of PostgreSQL", "its WAL"]
     print_table(heads, bytes_row(setup, connection))
 

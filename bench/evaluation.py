@@ -3,7 +3,6 @@ and beside a plain program."""
 
 import os
 import re
-import statistics
 from collections import Counter
 
 import counting
@@ -55,7 +54,7 @@ def database_times(connection, setup, given, path):
     connection.ask(f"DROP TABLE IF EXISTS {rows.TABLE}; CREATE UNLOGGED TABLE {rows.TABLE} ({columns});")
     connection.ask("SET max_parallel_workers_per_gather = 0;")
     with connection.pinned(setup.core):
-        copied = statistics.median(copied_in_and_out(connection, given, path) for _ in range(setup.runs))
+        copied = min(copied_in_and_out(connection, given, path) for _ in range(setup.runs))
         connection.ask(f"ANALYZE {rows.TABLE};")
         alone, lines = connection.milliseconds(given.counting(), setup.runs)
     return copied, alone, [int(it) for it in lines[0].split("|")]

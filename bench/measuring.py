@@ -3,7 +3,6 @@
 import contextlib
 import os
 import pathlib
-import statistics
 import subprocess
 import time
 from dataclasses import dataclass
@@ -34,7 +33,7 @@ class Setup:
             os.sched_setaffinity(0, before)
 
     def milliseconds(self, words, path, runs=None):
-        """The median time of runs of a program whose input is a file, its start and its end included.
+        """The least time of some runs of a program whose input is a file, its start and its end included.
 
         Runs that take little are made up to five times as often, for half a second."""
         wanted, times = runs or self.runs, []
@@ -44,7 +43,7 @@ class Setup:
                     start = time.perf_counter()
                     subprocess.run(words, stdin=text, stdout=subprocess.DEVNULL, stderr=subprocess.DEVNULL)
                     times.append(1000 * (time.perf_counter() - start))
-        return statistics.median(times)
+        return min(times)
 
     def answer(self, words, path):
         """What a program prints on a file."""

@@ -6,7 +6,6 @@ import os
 import pathlib
 import pwd
 import shutil
-import statistics
 import subprocess
 import tempfile
 
@@ -48,14 +47,14 @@ class Connection:
         raise RuntimeError(f"psql ended at {command!r}")
 
     def milliseconds(self, command, runs):
-        """The median time of some runs of a command, as psql tells it, and what the last one printed."""
+        """The least time of some runs of a command, as psql tells it, and what the last one printed."""
         self.ask("\\timing on")
         times = []
         for _ in range(runs):
             *lines, told = self.ask(command)
             times.append(float(told.split()[1]))
         self.ask("\\timing off")
-        return statistics.median(times), lines
+        return min(times), lines
 
     def backend(self):
         """The process that answers here."""

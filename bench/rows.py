@@ -73,10 +73,4 @@ def regions(count):
     return Input("id integer PRIMARY KEY, region text", filters, lambda at: (scattered(at), names[scattered(at) % len(names)]))
 
 
-def unpublished():
-    """Rows of three values that no publication carries: each is read, held against its table, and answered by an empty line."""
-    cells = lambda at: (scattered(at), at % 100, f"r{at % 8}")
-    return Input("id integer PRIMARY KEY, size smallint, region text", [], cells)
-
-
 FAMILIES = {it.__name__: it for it in (ranges, remainders, regions)}

@@ -80,7 +80,7 @@ def row(setup, server, load):
     pgshard, plain = counted(setup, load)
     load = sized(load, 100_000)
     backlog, at_once = timed(setup, load)
-    beside = streaming.walsenders(*server, served(load)) if server else (None, None)
+    beside = streaming.least(setup, streaming.walsenders, *server, served(load)) if server else (None, None)
     named = [load.deed, load.identity, f"{load.text:,}", f"{load.in_a_commit:,}", load.slots]
     return [*named, *map(shown, (pgshard, plain, backlog, at_once, *beside))]
 

@@ -83,7 +83,7 @@ def closed(process):
 def commits_alone(setup, path):
     """The processor time of a run whose client asks for nothing, once it does no more."""
     with serving(setup, path, 1) as (process, port), socket.create_connection(("127.0.0.1", port)) as client:
-        before, now = -1, 0
+        before, now = 0, processor_time(process.pid)
         while now - before > 1_000:
             time.sleep(0.5)
             before, now = now, processor_time(process.pid)
@@ -147,14 +147,18 @@ def cells(taken, load, alone=0.0):
     return [shown(taken.used / load.rows), shown(each), shown(load.rows / taken.seconds / 1_000)]
 
 
+def least(setup, measured, *given):
+    """Of some runs the one that used least."""
+    return min((measured(*given) for _ in range(setup.runs)), key=lambda it: it.used)
+
+
 def row(setup, path, load):
     catalog = load.catalog()
     certificates = simulating.certificates(setup.program, catalog)
     path.write_text(f"{catalog}%%\n{certificates}%%\n{''.join(script(load))}")
-    alone = sorted(commits_alone(setup, path) for _ in range(setup.runs))[setup.runs // 2]
-    runs = sorted((served(setup, path, load.slots) for _ in range(setup.runs)), key=lambda it: it.used)
-    line = [f"{load.in_a_commit:,}", load.slots, *cells(runs[len(runs) // 2], load, alone)]
-    return line + (cells(walsenders(load), load) if postgres.folder_of_programs() else ["", "", ""])
+    alone = min(commits_alone(setup, path) for _ in range(setup.runs))
+    line = [f"{load.in_a_commit:,}", load.slots, *cells(least(setup, served, setup, path, load.slots), load, alone)]
+    return line + (cells(least(setup, walsenders, load), load) if postgres.folder_of_programs() else ["", "", ""])
 
 
 def measure(setup, folder):

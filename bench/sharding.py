@@ -46,7 +46,7 @@ def row(setup, folder, sharding):
         certified.write_text(f"{families.catalog(sharding)}%%\n{answer}\n")
         words = [setup.program, "check"]
         checked, verdict = setup.milliseconds(words, certified), setup.answer(words, certified).strip()
-        said = f"{nodes(answer)} nodes, {verdict}"
+        said = f"{nodes(answer):,} nodes, {verdict}"
     solved, solution = z3_time(setup, folder, sharding)
     agrees = {"sat": not is_certificate, "unsat": not answer.startswith("counter")}.get(solution, True)
     return [said, *map(shown, (made, checked, solved)), solution if agrees else f"{solution}, which differs", shown(each)]

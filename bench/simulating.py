@@ -10,7 +10,6 @@ import fcntl
 import functools
 import os
 import pathlib
-import statistics
 import subprocess
 import tempfile
 from collections import Counter
@@ -108,7 +107,7 @@ def one_run(setup, command, path, ends):
 
 
 def phase_times(setup, load, order, parts):
-    """The median processor time of each list of steps but the first, in µs."""
+    """The least processor time of each list of steps but the first, in µs."""
     with tempfile.TemporaryDirectory(prefix="pgshard_bench_") as folder:
         path = pathlib.Path(folder) / "script"
         ends = write_input(setup, load, parts, path)
@@ -117,7 +116,7 @@ def phase_times(setup, load, order, parts):
             times, answers = one_run(setup, words(setup, load, order), path, ends)
             check_answers(load, order, answers)
             runs.append([after - before for before, after in zip(times, times[1:])])
-    return [statistics.median(it) for it in zip(*runs)]
+    return [min(it) for it in zip(*runs)]
 
 
 @functools.cache

@@ -30,6 +30,12 @@ def waited(found, what):
     return answer
 
 
+def least(setup, measured, *given):
+    """The least of what some runs of a measurement give, three at most: each has a second to fill and more."""
+    runs = [measured(*given) for _ in range(min(setup.runs, 3))]
+    return [min(it) for it in zip(*runs)]
+
+
 def prepare(connection, load):
     """The table with its publications, and a slot for each that is told of all that comes from now on."""
     connection.ask("\n".join([*load.table_lines(), *load.publication_lines()]))
@@ -68,7 +74,7 @@ def changed_by_sql(connection, load):
     connection.ask(load.change_loop(0, load.rows))
     taken = processor_time(backend) - before
     connection.ask("DROP TABLE t;")
-    return taken / load.rows
+    return [taken / load.rows]
 
 
 def copied(connection, load, path):
@@ -81,7 +87,7 @@ def copied(connection, load, path):
     connection.ask(f"COPY t FROM '{path}';")
     taken = processor_time(backend) - before
     connection.ask("DROP TABLE t;")
-    return taken / load.rows
+    return [taken / load.rows]
 
 
 def stored_bytes(connection, load):
