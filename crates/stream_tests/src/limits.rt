@@ -135,10 +135,13 @@ fn the_longest_start_is_heard(rt: HostRuntime) -> Result<(), Fail> {
     Ok(())
 }
 
-/// 1,000 statuses that want a reply.
+/// How many statuses have over 16 MiB together.
+const STATUSES: u32 = 430_186;
+
+/// So many statuses that want a reply.
 fn statuses(alloc: Global) -> Result<Vec<u8>, AllocError> {
     let mut piece = Vec::new(alloc);
-    for _ in 0..1_000 {
+    for _ in 0..STATUSES {
         piece.extend_from_slice(UP_TO_128)?;
     }
     Ok(piece)
@@ -157,9 +160,13 @@ fn many_statuses_come_in_a_piece(rt: HostRuntime) -> Result<(), Fail> {
     same(
         &rt,
         link::hear(&mut link, &piece, &mut book, 4),
-        heard(None, 1_000, None),
+        heard(None, STATUSES, None),
     );
-    same(&rt, link::output(&link).len(), said.saturating_add(23_000));
+    same(
+        &rt,
+        link::output(&link).len(),
+        said.saturating_add(9_894_278),
+    );
     same(&rt, book.confirmed(0), 128);
     same(&rt, first(link::output(&link), 8), COPY_BOTH);
     Ok(())
