@@ -1,8 +1,8 @@
 -- How lines and cuts go on after the first line of a text.
-use Rattle.std.proofs.Common.{◌≡◌, ℕ, suc, ◌+◌, ◌<◌, length, append_assoc, Bool, true, false, List, [], ◌∷◌, ◌++◌, take, drop, Option, Some, None, refl, sym, ap, ◌∙◌, arith}
+use Rattle.std.proofs.Common.{◌≡◌, ℕ, suc, ◌+◌, ◌<◌, ◌==◌, length, append_assoc, Bool, true, false, List, [], ◌∷◌, ◌++◌, take, drop, Option, Some, None, refl, sym, ap, ◌∙◌, arith}
 use Rattle.std.proofs.lemmas.List.{take-append-drop}
 use Rattle.std.specs.Option.{option_map}
-use Rattle.std.specs.List.{position_or_len}
+use Rattle.std.specs.List.{list_any, position_or_len}
 use Rattle.subcommands.specs.Parts.{is_newline, first_line, after_line, onto_line, lines_of, Cut, onto_part, is_separator, cut_from, cut_of}
 
 -- ---- the first newline
@@ -102,3 +102,20 @@ later_next text byte rest other now = record {
 pub later_after_line : (text rest : List ℕ) → 0 < length rest → is_separator (first_line rest) ≡ false → IsCutLater text rest → IsCutLater text (after_line rest)
 later_after_line text [] some other now = absurd (omega arith)
 later_after_line text (byte ∷ rest) some other now = later_next text byte rest other now
+
+-- ---- texts without the byte of a separator
+
+by_test : {P : Type 0} (b : Bool) → (b ≡ true → P) → (b ≡ false → P) → P
+by_test true holds fails = holds refl
+by_test false holds fails = fails refl
+
+no_separator : (byte : ℕ) (text : List ℕ) → byte == 37 ≡ false → is_separator (first_line (byte ∷ text)) ≡ false
+no_separator byte text other = by_test (is_newline byte) (λ e. rw (first_line-newline byte text e) refl) (λ e. rw (first_line-other byte text e, other) refl)
+
+none_from : (starts : Bool) (text : List ℕ) → list_any (λ byte. byte == 37) text ≡ false → cut_from starts text ≡ None
+none_from starts [] none = refl
+none_from false (byte ∷ text) none = by_test (byte == 37) (λ e. let some = rw e at none in cc) (λ e. rw (none_from (is_newline byte) text (rw e at none)) refl)
+none_from true (byte ∷ text) none = by_test (byte == 37) (λ e. let some = rw e at none in cc) (λ e. rw (no_separator byte text e, none_from (is_newline byte) text (rw e at none)) refl)
+
+pub no_percent_no_cut : (text : List ℕ) → list_any (λ byte. byte == 37) text ≡ false → cut_of text ≡ None
+no_percent_no_cut text none = none_from true text none

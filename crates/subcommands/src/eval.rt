@@ -29,6 +29,7 @@ use filter_tree::Row;
 use pub_reader::read_catalog;
 use std::alloc::{AllocError, Global};
 use std::io::Write;
+use std::mem;
 
 /// Writes what is wanted of a row on an empty line.
 fn push_told(
@@ -48,10 +49,12 @@ fn push_told(
     }
 }
 
-/// Writes the line of a row on an empty line, and tells whether the row has an answer.
+/// Writes the line of a row on an empty line, and tells whether the row has an answer. The row is read in the memory of
+/// the one before it.
 #[tactic(auto, using(crate::proofs::BadLines::bad_told))]
 fn push_line(
     alloc: Global,
+    before: &mut Row,
     line: &mut String,
     spelling: &mut Spelling,
     carried: CatalogTable<'_>,
@@ -62,9 +65,11 @@ fn push_line(
     ensures answered { IfOk result (λ answered. answered ≡ is_answered carried.entry.table.now.columns text.now) }
     ensures line { OnOk result (IsLineIn wanted carried.entry text.now (string_bytes line.new)) }
 {
-    match table_row(alloc, carried.table, text) {
+    let used = mem::replace(before, Row::from_values(Vec::new(alloc)));
+    match table_row(alloc, used, carried.table, text) {
         Ok(row) => {
             push_told(line, spelling, carried, wanted, &row)?;
+            *before = row;
             Ok(true)
         }
         Err(bad) => {
@@ -91,9 +96,18 @@ pub fn write_rows<'a, W: Write>(
     let mut status = Status::Done;
     let mut line = String::new(alloc);
     let mut spelling = Spelling::new(alloc);
+    let mut before = Row::from_values(Vec::new(alloc));
     for row in Lines::new(rows) {
         line.clear();
-        if !push_line(alloc, &mut line, &mut spelling, carried, wanted, row)? {
+        if !push_line(
+            alloc,
+            &mut before,
+            &mut line,
+            &mut spelling,
+            carried,
+            wanted,
+            row,
+        )? {
             status = Status::Refused;
         }
         write_line(&mut line, writer)?;

@@ -21,18 +21,18 @@ pub enum Answer {
 }
 
 impl Answer {
-    ghost use Rattle.std.specs.Prelude.{◌≡◌};
+    ghost use Rattle.std.specs.Prelude.{◌≡◌, ◌∷◌};
     ghost use Rattle.subcommands.specs.Eval.Answers.{word_of};
 
-    /// The word that is printed.
-    pub fn word(self) -> &'static str
-        ensures { result.now ≡ word_of self }
+    /// What is printed after the name of the publication.
+    pub fn told(self) -> &'static str
+        ensures { result.now ≡ 61 ∷ word_of self }
     {
         match self {
-            Answer::All => "all",
-            Answer::Filtered(Tri::True) => "true",
-            Answer::Filtered(Tri::False) => "false",
-            Answer::Filtered(Tri::Null) => "null",
+            Answer::All => "=all",
+            Answer::Filtered(Tri::True) => "=true",
+            Answer::Filtered(Tri::False) => "=false",
+            Answer::Filtered(Tri::Null) => "=null",
         }
     }
 }
@@ -56,8 +56,7 @@ fn push_answer(line: &mut String, name: &str, answer: Answer) -> Result<(), Allo
         line.push(' ')?;
     }
     line.push_str(name)?;
-    line.push('=')?;
-    line.push_str(answer.word())
+    line.push_str(answer.told())
 }
 
 /// Writes what a publication says of a row after what is on the line.

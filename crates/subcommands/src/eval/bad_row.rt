@@ -5,7 +5,8 @@ ghost use Rattle.filter_tree.specs.Valid.{IsValid};
 ghost use Rattle.subcommands.specs.Eval.BadRows as spec;
 
 use filter_tree::{Row, RowFault, Table, valid};
-use pub_reader::{ErrorKind, ReadError, read_row};
+use pub_reader::{ErrorKind, ReadError};
+use sql_reader::read_row_in;
 use std::alloc::Global;
 use std::fmt;
 
@@ -65,12 +66,12 @@ impl fmt::Display for BadRow {
     }
 }
 
-/// Reads a row and holds it against its table.
-pub fn table_row(alloc: Global, table: &Table, text: &str) -> Result<Row, BadRow>
+/// Reads a row, in the memory of one that is done with, and holds it against its table.
+pub fn table_row(alloc: Global, used: Row, table: &Table, text: &str) -> Result<Row, BadRow>
     ensures reading { spec.IsReading table.now.columns text.now result }
     ensures fits { IfOk result (λ row. IsValid table.now.columns row) }
 {
-    let row = read_row(alloc, text).map_err(BadRow::Unreadable)?;
+    let row = read_row_in(alloc, used, text).map_err(BadRow::Unreadable)?;
     valid(table, &row).map_err(BadRow::Invalid)?;
     Ok(row)
 }
