@@ -25,6 +25,7 @@ def cases() -> Iterator[Case | Made]:
     yield from longest_row()
     yield Made("make of the largest sharding", largest_catalog())
     yield from largest_certificate()
+    yield from last_nodes()
     yield simulation_of_tables()
     yield simulation_of_columns()
     yield simulation_of_pieces()
@@ -109,14 +110,33 @@ def largest_certificate() -> Iterator[Case]:
         yield Case(f"a tree of {splits} splits", ("check",), text, status, expected, LONG_SECONDS)
 
 
+def last_nodes() -> Iterator[Case]:
+    """The last of 1,000,000 nodes, and the last of 64 splits one below another, has an owner that is not there."""
+    catalog = (
+        "CREATE TABLE t (id integer, region text, PRIMARY KEY (id));\n"
+        "CREATE PUBLICATION pa FOR TABLE t WHERE (id < 0 OR TRUE);\n"
+        "CREATE SUBSCRIPTION s0 CONNECTION '' PUBLICATION pa;\n")
+    large = f"s 0 {tree(166_666, 'o 0 ')}{tree(166_666, 'o 0 ')}"
+    deep = "s 0 o 0 o 0 " * 64
+    for beginning, node in (large, 999_999), (deep, 192):
+        for owner, status, expected in (0, 0, ACCEPTED), (9, 1, f"refused BadIndex public.t {node}\n"):
+            text = two_parts(catalog, f"{beginning}o {owner}\n")
+            yield Case(f"owner {owner} in node {node}", ("check",), text, status, expected)
+
+
 def empty_tree(splits: int) -> str:
     """A tree of so many splits. Each of its leaves says that no row comes to it."""
+    return tree(splits, "e 0 ")
+
+
+def tree(splits: int, leaf: str) -> str:
+    """A tree of so many splits, with this leaf."""
     nodes = []
     left = [splits]
     while left:
         here = left.pop()
         if here == 0:
-            nodes.append("e 0 ")
+            nodes.append(leaf)
             continue
         nodes.append("s 0 ")
         below = here - 1
