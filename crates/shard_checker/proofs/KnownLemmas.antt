@@ -77,7 +77,7 @@ masks_other (atom ∷ atoms) tested value path h =
     ap (λ m. m ∷ atom_masks atoms (path ++ (tested, value) ∷ [])) (mask_other atom tested value path (other_way tested atom both.0))
     ∙ ap (λ ms. atom_mask path atom ∷ ms) (masks_other atoms tested value path both.1)
 
-not_there : (test : AtomOf → Bool) (atoms : List AtomOf) (number : ℕ) (atom : AtomOf) → list_any test atoms ≡ false → slice_get atoms number ≡ Some atom → test atom ≡ false
+pub not_there : (test : AtomOf → Bool) (atoms : List AtomOf) (number : ℕ) (atom : AtomOf) → list_any test atoms ≡ false → slice_get atoms number ≡ Some atom → test atom ≡ false
 not_there test [] number atom h there = absurd cc
 not_there test (first ∷ atoms) zero atom h there =
     let both = none_of (test first) (list_any test atoms) h in

@@ -9,6 +9,7 @@ pub mod LimitFacts
 pub mod MaskLemmas
 pub mod NamingLemmas
 pub mod NodeLemmas
+pub mod NullLemmas
 pub mod OnwardLemmas
 pub mod OwnerLemmas
 pub mod PlaceLemmas

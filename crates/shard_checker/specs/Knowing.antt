@@ -1,12 +1,13 @@
 -- What a path says of each atom of a table: the value that it has first on the path, and else any that it may have.
-use Rattle.std.specs.Prelude.{◌≡◌, ℕ, false, ◌&&◌, if◌then◌else◌, List, [], ◌∷◌, ◌++◌, map, Some, slice_get, slice_set}
+use Rattle.std.specs.Prelude.{◌≡◌, ℕ, ◌==◌, Bool, false, ◌&&◌, if◌then◌else◌, List, [], ◌∷◌, ◌++◌, map, Option, Some, slice_get, slice_set}
 use Rattle.std.specs.List.{list_any}
 use Rattle.filter_tree.specs.Expr.{AtomOf}
-use Rattle.filter_tree.specs.Mask.{single_of}
+use Rattle.filter_tree.specs.Mask.{same_tri, single_of}
 use Rattle.filter_tree.specs.Paths.{Path, first_value, known_or_open}
 use Rattle.filter_tree.specs.Same.{same_atom}
 use Rattle.filter_tree.specs.declared.mask.Mask.{Mask}
 use Rattle.filter_tree.specs.declared.tri.Tri.{Tri}
+use Rattle.filter_tree.specs.declared.tri.Tri.TheVariants.{Null}
 use Rattle.shard_checker.specs.declared.known.Before.{Before}
 use Rattle.shard_checker.specs.declared.known.Known.{Known}
 use Rattle.shard_checker.specs.Steps.{mask_in}
@@ -36,6 +37,11 @@ AreBefore atoms done [] [] = Unit {0}
 AreBefore atoms done (before ∷ befores) (entry ∷ path) =
     ((slice_get atoms before.number ≡ Some entry.0) × (before.mask ≡ atom_mask done entry.0)) × AreBefore atoms (done ++ entry ∷ []) befores path
 AreBefore atoms done befores path = ⊥
+
+-- an entry of the path has the atom of the number, and the value null
+abbrev pub null_at : ℕ → Option Before → Option (AtomOf × Tri) → Bool
+null_at number (Some before) (Some entry) = (before.number == number) && same_tri entry.1 Null
+null_at number before entry = false
 
 -- what is known is what the path says
 pub record IsKnown (atoms : List AtomOf) (known : Known) (path : Path) : Type 0 where

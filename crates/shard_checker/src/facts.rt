@@ -1,12 +1,14 @@
 //! What the atoms on a path tell of the rows there: the path of a node has each atom that was split by on the way to
 //! it, with its value there.
 
-ghost use Rattle.std.specs.Prelude.{◌≡◌};
+ghost use Rattle.std.specs.Prelude.{◌≡◌, ◌||◌};
+ghost use Rattle.filter_tree.specs.Expr.{term_of};
+ghost use Rattle.filter_tree.specs.Lists.{column_of};
 ghost use Rattle.filter_tree.specs.Paths.{path_view};
 ghost use Rattle.filter_tree.specs.Shape.{atom_view};
 ghost use Rattle.shard_checker.specs.Facts as spec;
 
-use filter_tree::{Atom, Column, Tri, same_atom};
+use filter_tree::{Atom, Column, Tri};
 use std::alloc::Allocator;
 
 /// Whether the atom has this value only where its column is null.
@@ -86,24 +88,6 @@ fn is_found_present<A: Allocator>(column: usize, path: &[(&Atom<A>, Tri)]) -> bo
     false
 }
 
-fn is_this_null<A: Allocator>(wanted: &Atom<A>, atom: &Atom<A>, value: Tri) -> bool
-    ensures { result ≡ spec.is_this_null (atom_view wanted.now) (atom_view atom.now) value }
-{
-    same_atom(wanted, atom) && matches!(value, Tri::Null)
-}
-
-/// Whether the path has the atom with the value null.
-fn has_null<A: Allocator>(wanted: &Atom<A>, path: &[(&Atom<A>, Tri)]) -> bool
-    ensures { result ≡ spec.has_null (atom_view wanted.now) (path_view path.now) }
-{
-    for (atom, value) in path {
-        if is_this_null(wanted, *atom, *value) {
-            return true;
-        }
-    }
-    false
-}
-
 /// Whether the atom is true or false of each value, and of null.
 fn is_always_known<A: Allocator>(atom: &Atom<A>) -> bool
     ensures { result ≡ spec.is_always_known (atom_view atom.now) }
@@ -114,14 +98,10 @@ fn is_always_known<A: Allocator>(atom: &Atom<A>) -> bool
     }
 }
 
-/// Whether the path has the atom with the value null, which it can't have: it is an `IS NULL` or an `IS DISTINCT FROM`,
-/// or its column is declared NOT NULL.
-pub fn is_never_null<A: Allocator>(
-    columns: &[Column],
-    atom: &Atom<A>,
-    path: &[(&Atom<A>, Tri)],
-) -> bool
-    ensures { result ≡ spec.is_never_null columns.now (atom_view atom.now) (path_view path.now) }
+/// Whether the atom is never null: it is an `IS NULL` or an `IS DISTINCT FROM`, or its column is declared NOT NULL.
+pub fn cannot_be_null<A: Allocator>(columns: &[Column], atom: &Atom<A>) -> bool
+    ensures { result ≡ (spec.is_always_known (atom_view atom.now)
+        || spec.is_declared columns.now (column_of (term_of (atom_view atom.now)))) }
 {
-    has_null(atom, path) && (is_always_known(atom) || is_declared(columns, atom.term().column()))
+    is_always_known(atom) || is_declared(columns, atom.term().column())
 }

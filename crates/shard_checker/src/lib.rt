@@ -13,6 +13,7 @@ mod laws;
 mod listed;
 mod masks;
 mod nodes;
+mod nulls;
 mod numbering;
 mod one_table;
 mod owners;

@@ -11,10 +11,11 @@ ghost use Rattle.shard_checker.specs.Walking as spec;
 
 use crate::domain::kind_at;
 use crate::error::CheckError;
-use crate::facts::{is_never_null, is_null, is_present};
+use crate::facts::{is_null, is_present};
 use crate::formulas::root_at;
 use crate::listed::has_value;
 use crate::masks::mask_at;
+use crate::nulls::is_never_null;
 use crate::owners::{is_surely_true, second_owner};
 use crate::subject::{Subject, atom_at, term_at};
 use crate::walk::Walk;
@@ -72,18 +73,19 @@ pub fn check_empty<A: Allocator>(
 /// Checks a node that says that no row is there, since the atom is never null.
 pub fn check_never_null<A: Allocator>(
     subject: &Subject<'_, A>,
-    path: &[(&Atom<A>, Tri)],
-    node: usize,
+    walk: &Walk<'_, A>,
     number: u32,
 ) -> Result<(), CheckError>
+    requires { Ready subject.now walk.now }
     ensures { Finds
-        (spec.node_refusal trying.is_empty (subject_view subject.now) (Node.NeverNull number) (path_view path.now) node)
-        result }
+        (spec.node_refusal trying.is_empty (subject_view subject.now) (Node.NeverNull number)
+        (path_view walk.now.path.items) walk.now.node) result }
 {
     let table = subject.table;
+    let node = walk.node;
     match atom_at(subject.atoms, number) {
         None => Err(CheckError::BadIndex { table, node }),
-        Some(atom) if is_never_null(subject.columns, atom, path) => Ok(()),
+        Some(atom) if is_never_null(subject, walk, number as usize, atom) => Ok(()),
         Some(_) => Err(CheckError::MayBeNull { table, node }),
     }
 }

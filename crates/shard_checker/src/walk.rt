@@ -200,7 +200,7 @@ fn check_node<A: Allocator>(
             check_owner(subject, walk, number)
         }
         Node::Empty(number) => check_empty(subject, &walk.path, walk.node, number),
-        Node::NeverNull(number) => check_never_null(subject, &walk.path, walk.node, number),
+        Node::NeverNull(number) => check_never_null(subject, walk, number),
     }
 }
 
