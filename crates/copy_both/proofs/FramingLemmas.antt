@@ -95,6 +95,14 @@ frame_added old new opened written start message head at begins wrote closes tex
   texts = texts;
 }
 
+-- a frame that was added after room was made was added
+pub added_in_room : (old roomy new : Frames) (message : Msg) → roomy.head ≡ old.head → roomy.bytes.items ≡ old.bytes.items → AddsFrame roomy new message → AddsFrame old new message
+added_in_room old roomy new message head bytes adds = record {
+  head = adds.head ∙ head;
+  appended = adds.appended ∙ ap (λ (front : List ℕ). front ++ with_head roomy.head (spelling_of message)) bytes ∙ ap (λ (head : XLogData). old.bytes.items ++ with_head head (spelling_of message)) head;
+  texts = adds.texts;
+}
+
 -- the Delete of what is recorded of a row, where something is
 pub gone_added : (old new : Frames) (opened written : List ℕ) (start table : ℕ) (part : Option r.PartOf) → named_in (r.Delete table part) ≡ table ∷ [] → new.head ≡ old.head
     → start ≡ length old.bytes.items → opened ≡ old.bytes.items ++ opening old.head → written ≡ opened ++ maybe_delete_spelling (oid_of table) (maybe_old_of part)

@@ -22,6 +22,11 @@ pub(crate) struct Frames {
     pub(crate) bytes: Vec<u8>,
 }
 
+/// Room that most commits of so many changes take: for the first and the last frame, and for each change.
+fn room_of(changes: usize) -> usize {
+    changes.saturating_mul(96).saturating_add(160)
+}
+
 /// Appends what a frame begins with: its length is put in when it is closed. The only error is want of memory.
 fn open_frame(head: &XLogData, out: &mut Vec<u8>) -> Result<(), AllocError>
     ensures { OnOk result (out.new.items ≡ out.old.items ++ opening head.now) }
@@ -98,16 +103,19 @@ impl Frames {
         Ok(())
     }
 
-    /// Adds the frame of the Begin message of a commit. The only error is want of memory.
+    /// Adds the frame of the Begin message of a commit, and makes room for the others once. The only error is want of
+    /// memory.
     pub(crate) fn begin(&mut self, commit: &Commit) -> Result<(), AllocError>
         ensures { OnOk result (AddsFrame self.old self.new (begin_of commit.now)) }
     {
+        self.bytes.reserve(room_of(commit.changes().len()))?;
         let message = Msg::Begin {
             final_lsn: 64 * u64::from(commit.number()),
             time: commit.time(),
             xid: commit.number() + 2,
         };
-        self.add(&message)
+        self.add(&message)?;
+        Ok(())
     }
 
     /// Adds the frame of the Commit message of a commit. The only error is want of memory.

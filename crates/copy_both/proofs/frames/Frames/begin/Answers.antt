@@ -1,0 +1,12 @@
+use Rattle.std.proofs.Common.{refl, rules}
+use Rattle.pgoutput_msgs.specs.Telling.{begin_of}
+use Rattle.copy_both.specs.Framing.{AddsFrame}
+use Rattle.copy_both.specs.declared.frames.Frames.{Frames}
+use Rattle.copy_both.proofs.FramingLemmas.{added_in_room}
+use Rattle.copy_both.proofs.frames.Frames.begin.Goals as goal
+
+pub returns : goal.returns
+returns c =
+    let roomy : Frames = record { alloc = c.args.self.now.alloc; head = c.args.self.now.head; bytes = c.reserve.new.self } in
+    let adds : AddsFrame roomy c.add.new.self (begin_of c.args.commit.now) = search rules in
+    added_in_room c.args.self.now roomy c.add.new.self (begin_of c.args.commit.now) refl c.in_ok-reserve.ensures.items adds
