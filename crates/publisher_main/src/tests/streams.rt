@@ -63,6 +63,43 @@ fn a_failing_reader_is_an_input_fault(rt: HostRuntime) -> Result<(), Fail> {
     Ok(())
 }
 
+/// How often a reader is read by so many reads of an input. It gives a byte, fails so many times, gives another byte, and
+/// ends.
+fn reads_by(count: usize, kind: ErrorKind, failures: usize) -> usize {
+    let mut reads = 0;
+    let reader = Failing {
+        text: b"ab",
+        good: 1,
+        kind,
+        failures,
+        reads: &mut reads,
+    };
+    let mut input = Input::new(reader);
+    let mut byte = [0; 1];
+    for _ in 0..count {
+        let _answer = input.read(&mut byte);
+    }
+    drop(input);
+    reads
+}
+
+#[test]
+fn a_read_of_an_input_is_one_of_its_reader(rt: HostRuntime) -> Result<(), Fail> {
+    let kinds = [
+        ErrorKind::Other,
+        ErrorKind::OutOfMemory,
+        ErrorKind::Interrupted,
+    ];
+    for kind in kinds {
+        for failures in 0..3 {
+            for count in 0..8 {
+                assert_eq!(rt; reads_by(count, kind, failures), count);
+            }
+        }
+    }
+    Ok(())
+}
+
 /// A reader that never ends: it gives a byte at a time, or is always interrupted.
 #[derive(Drop)]
 struct Endless<'a> {
