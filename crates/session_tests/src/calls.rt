@@ -7,6 +7,9 @@ use std::sync::Wait;
 use table_changes::Command;
 use tables_log::CommitError;
 
+/// The time of each commit, which has bits past the first 32.
+pub(crate) const TIME: u64 = 0x8000_0100_0000_0001;
+
 /// The key of the row of this number.
 pub(crate) fn key(alloc: Global, number: i64) -> Result<Row, AllocError> {
     Ok(Row::from_values(vec![in alloc; Value::Int(number)]?))
@@ -33,7 +36,7 @@ pub(crate) fn commit<P: Publishing, R: Wait>(
     seat: &mut Seat<P>,
     commands: Vec<Command>,
 ) -> Result<u32, CommitError> {
-    publisher.commit(rt, seat, commands, 1)
+    publisher.commit(rt, seat, commands, TIME)
 }
 
 /// What a reading of the row of this number is answered.

@@ -2,7 +2,7 @@ ghost use Rattle.std.specs.Prelude.{◌≡◌};
 ghost use Rattle.std.specs.Arc.{arc_value};
 ghost use Rattle.shard_checker.specs.CheckedView.{checked_view};
 
-use crate::calls::{commit, key, note_count, put, read};
+use crate::calls::{TIME, commit, key, note_count, put, read};
 use crate::checks::{holds, same};
 use crate::sharding::accepted;
 use crate::threads::{WHOLE, answers};
@@ -144,7 +144,7 @@ fn expect_answers<P: Publishing, R: Wait + Abort>(
     expect_many(rt, alloc, &publisher, &mut seat, 1, full)?;
     expect_readings(rt, alloc, &publisher, &mut seat)?;
     same(rt, note_count(&seat), 4);
-    same(rt, first_receipt(&seat), Some((1, 1_000, 1)));
+    same(rt, first_receipt(&seat), Some((1, 1_000, TIME)));
     Ok(())
 }
 

@@ -11,15 +11,22 @@ use std::process::Abort;
 use std::test::Fail;
 use test_subscriber::{SubFault, Subscriber};
 
-/// What a publisher sends whose first commit inserts the row (7, 'eu') into `public.t`: CopyBothResponse, and then
-/// Begin, Relation, Insert and Commit as XLogData.
+/// What a publisher sends whose first commit for this subscriber inserts the row (7, 'eu') into `public.t`:
+/// CopyBothResponse, and then Begin, Relation, Insert and Commit as XLogData. Positions, clocks and times have bits past
+/// the first 32.
 const STREAM: &[u8] = b"W\0\0\0\x07\0\0\0\
-    d\0\0\0\x32w\0\0\0\0\0\0\0\x40\0\0\0\0\0\0\0\x40\0\0\0\0\0\0\0\x04B\0\0\0\0\0\0\0\x40\0\0\0\0\0\0\0\x01\0\0\0\x03\
-    d\0\0\0\x4aw\0\0\0\0\0\0\0\x40\0\0\0\0\0\0\0\x40\0\0\0\0\0\0\0\x04R\0\0\x40\0public\0t\0f\0\x02\
+    d\0\0\0\x32w\0\0\x01\0\0\0\0\x40\0\0\x01\0\0\0\0\x40\x80\0\x01\0\0\0\0\x04\
+    B\0\0\x01\0\0\0\0\x40\x80\0\x01\0\0\0\0\x01\0\0\0\x03\
+    d\0\0\0\x4aw\0\0\x01\0\0\0\0\x40\0\0\x01\0\0\0\0\x40\x80\0\x01\0\0\0\0\x04\
+    R\0\0\x40\0public\0t\0f\0\x02\
     \x01id\0\0\0\0\x17\xff\xff\xff\xff\x01region\0\0\0\0\x19\xff\xff\xff\xff\
-    d\0\0\0\x32w\0\0\0\0\0\0\0\x40\0\0\0\0\0\0\0\x40\0\0\0\0\0\0\0\x04I\0\0\x40\0N\0\x02t\0\0\0\x017t\0\0\0\x02eu\
-    d\0\0\0\x37w\0\0\0\0\0\0\0\x40\0\0\0\0\0\0\0\x40\0\0\0\0\0\0\0\x04C\0\0\0\0\0\0\0\0\x40\0\0\0\0\0\0\0\x80\
-    \0\0\0\0\0\0\0\x01";
+    d\0\0\0\x32w\0\0\x01\0\0\0\0\x40\0\0\x01\0\0\0\0\x40\x80\0\x01\0\0\0\0\x04\
+    I\0\0\x40\0N\0\x02t\0\0\0\x017t\0\0\0\x02eu\
+    d\0\0\0\x37w\0\0\x01\0\0\0\0\x40\0\0\x01\0\0\0\0\x40\x80\0\x01\0\0\0\0\x04\
+    C\0\0\0\x01\0\0\0\0\x40\0\0\x01\0\0\0\0\x80\x80\0\x01\0\0\0\0\x01";
+
+/// Where that commit ends.
+const END: u64 = 0x0100_0000_0080;
 
 /// The Insert of the row (3, NULL) into `public.t`, as XLogData.
 const SECOND_INSERT: &[u8] = b"d\0\0\0\x2cw\0\0\0\0\0\0\0\x40\0\0\0\0\0\0\0\x40\0\0\0\0\0\0\0\x04\
@@ -52,11 +59,15 @@ fn position(subscriber: &Subscriber) -> u64 {
     subscriber.position()
 }
 
-/// A status that all is flushed up to 128, with the clock 6.
-const STATUS: &[u8] = b"d\0\0\0\x26r\0\0\0\0\0\0\0\x80\0\0\0\0\0\0\0\x80\0\0\0\0\0\0\0\x80\
-    \0\0\0\0\0\0\0\x06\0";
+/// A clock.
+const NOW: u64 = 0x8000_0100_0000_0006;
 
-/// That the position is 0 after the first bytes of the stream, so many of them, unless they are all, and then 128.
+/// A status that all is flushed up to the end, with that clock.
+const STATUS: &[u8] = b"d\0\0\0\x26r\0\0\x01\0\0\0\0\x80\0\0\x01\0\0\0\0\x80\0\0\x01\0\0\0\0\x80\
+    \x80\0\x01\0\0\0\0\x06\0";
+
+/// That the position is 0 after the first bytes of the stream, so many of them, unless they are all, and
+/// then the end.
 fn expect_position(rt: &impl Abort, alloc: Global, at: usize) -> Result<(), Fail> {
     let (first, second) = STREAM.split_at(at.min(STREAM.len()));
     let mut subscriber = subscriber(alloc)?;
@@ -64,10 +75,10 @@ fn expect_position(rt: &impl Abort, alloc: Global, at: usize) -> Result<(), Fail
     same(rt, output(&subscriber), START);
     subscriber.passed(91);
     feed(&mut subscriber, first)?;
-    same(rt, position(&subscriber), if at < 241 { 0 } else { 128 });
+    same(rt, position(&subscriber), if at < 241 { 0 } else { END });
     feed(&mut subscriber, second)?;
-    same(rt, position(&subscriber), 128);
-    subscriber.status(6, false)?;
+    same(rt, position(&subscriber), END);
+    subscriber.status(NOW, false)?;
     same(rt, output(&subscriber), STATUS);
     Ok(())
 }

@@ -38,6 +38,12 @@ pub(crate) const FIRST_COMMIT: &[u8] =
 /// A keepalive at the position 128 with the clock 6, which wants no status.
 const KEEPALIVE: &[u8] = b"d\0\0\0\x16k\0\0\0\0\0\0\0\x80\0\0\0\0\0\0\0\x06\0";
 
+/// A position past the first 32 bits.
+const FAR: u64 = 0x0100_0000_0040;
+
+/// A keepalive at that position with the clock 0x0200000000000003, which wants a status.
+const FAR_KEEPALIVE: &[u8] = b"d\0\0\0\x16k\0\0\x01\0\0\0\0\x40\x02\0\0\0\0\0\0\x03\x01";
+
 pub(crate) fn insert(alloc: Global, text: &str) -> Result<Command, Fail> {
     let row: Row = read_row(alloc, text)?;
     Ok(Command::Insert { table: 0, row })
@@ -171,13 +177,20 @@ fn a_commit_for_others_is_skipped(rt: HostRuntime) -> Result<(), Fail> {
 fn a_stream_that_is_done_says_no_more(rt: HostRuntime) -> Result<(), Fail> {
     let (book, mut voice) = book_and_voice(rt.alloc(), "(7, 'eu')")?;
     let closed = LinkFault::Closed;
-    start(&mut voice, 1, 128)?;
-    same(&rt, next(&voice), Some(2));
-    same(&rt, sent(&voice), Some(128));
+    start(&mut voice, 1, FAR)?;
+    same(&rt, next(&voice), Some(0x0004_0000_0001));
+    same(&rt, sent(&voice), Some(FAR));
+    pass_all(&mut voice);
+    same(
+        &rt,
+        keepalive(&mut voice, 0x0200_0000_0000_0003, true),
+        Ok(true),
+    );
+    same(&rt, output(&voice), FAR_KEEPALIVE);
     pass_all(&mut voice);
     done(&mut voice)?;
     same(&rt, done(&mut voice), Err(closed));
-    same(&rt, start(&mut voice, 1, 128), Err(closed));
+    same(&rt, start(&mut voice, 1, FAR), Err(closed));
     same(&rt, keepalive(&mut voice, 6, true), Err(closed));
     same(&rt, take(&rt, &mut voice, &book, 1, 6), Err(closed));
     same(&rt, output(&voice), b"c\0\0\0\x04".as_slice());

@@ -1,6 +1,6 @@
 //! Bytes that are not a publisher's, or that a connection loses: what was committed stays.
 
-use super::{STREAM, feed, has_rows, position, subscriber};
+use super::{END, STREAM, feed, has_rows, position, subscriber};
 use crate::checks::{holds, same};
 use std::alloc::Global;
 use std::process::Abort;
@@ -72,7 +72,7 @@ fn expect_nothing(rt: &impl Abort, alloc: Global, subscriber: &mut Subscriber) -
 
 /// That it has the row of the whole stream, and its position.
 fn expect_all(rt: &impl Abort, alloc: Global, subscriber: &Subscriber) -> Result<(), Fail> {
-    same(rt, position(subscriber), 128);
+    same(rt, position(subscriber), END);
     holds(rt, has_rows(alloc, subscriber, TABLE, &["(7, 'eu')"])?);
     Ok(())
 }

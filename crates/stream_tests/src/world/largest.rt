@@ -10,6 +10,9 @@ use std::process::Abort;
 use std::test::Fail;
 use table_changes::Command;
 
+/// A clock that has bits past the first 32, and the last one.
+const LATE: u64 = 0x8000_0100_0000_0000;
+
 /// 64 tables.
 fn many_tables(alloc: Global) -> Result<String, AllocError> {
     let mut text = String::new(alloc);
@@ -71,7 +74,10 @@ fn inserts(alloc: Global) -> Result<Event, Fail> {
         let row = row_of(alloc, table)?;
         commands.push(Command::Insert { table, row })?;
     }
-    Ok(Event::Commit { commands, time: 1 })
+    Ok(Event::Commit {
+        commands,
+        time: LATE,
+    })
 }
 
 /// The rows of each of the 64 tables that this subscriber has, or for 32 that the publisher has.
@@ -112,16 +118,16 @@ fn divided(alloc: Global) -> Result<View, Fail> {
 
 /// That the subscriber connects, and gets all that there is.
 fn expect_pump(rt: &impl Abort, world: &mut World, subscriber: usize) {
-    let opened = step(world, 2, on(subscriber, PeerEvent::Open));
+    let opened = step(world, LATE, on(subscriber, PeerEvent::Open));
     same(rt, opened, Answer::Opened);
-    same(rt, pump(world, 3, subscriber), Answer::At(END));
+    same(rt, pump(world, LATE, subscriber), Answer::At(END));
 }
 
 #[test]
 fn thirty_two_subscribers_have_their_tables(rt: HostRuntime) -> Result<(), Fail> {
     let alloc = rt.alloc();
     let mut world = many(alloc)?;
-    let committed = step(&mut world, 1, inserts(alloc)?);
+    let committed = step(&mut world, LATE, inserts(alloc)?);
     same(&rt, committed, Answer::Committed(1));
     for subscriber in 0..32usize {
         expect_pump(&rt, &mut world, subscriber);
@@ -134,7 +140,10 @@ fn thirty_two_subscribers_have_their_tables(rt: HostRuntime) -> Result<(), Fail>
 fn longest_insert(alloc: Global) -> Result<Event, Fail> {
     let row = longest(alloc, "a")?;
     let commands = vec![in alloc; Command::Insert { table: 0, row }]?;
-    Ok(Event::Commit { commands, time: 1 })
+    Ok(Event::Commit {
+        commands,
+        time: LATE,
+    })
 }
 
 /// The only table's rows, which are the longest one.
@@ -159,7 +168,7 @@ fn the_longest_row_comes_to_its_subscriber(rt: HostRuntime) -> Result<(), Fail> 
     let catalog = wide_catalog(alloc)?;
     let checked = accepted(alloc, catalog.as_str(), &["o 0"])?;
     let mut world = World::new(alloc, checked, 10)?;
-    let committed = step(&mut world, 1, longest_insert(alloc)?);
+    let committed = step(&mut world, LATE, longest_insert(alloc)?);
     same(&rt, committed, Answer::Committed(1));
     expect_pump(&rt, &mut world, 0);
     holds(&rt, world.view()? == whole(alloc)?);
