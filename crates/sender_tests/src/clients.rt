@@ -6,8 +6,11 @@ use filter_tree::Row;
 use std::alloc::{AllocError, Global};
 use std::io::{Read, Write};
 use std::net::{Ipv4Addr, Net, TcpListener, TcpStream};
-use std::time::Clock;
+use std::time::{Clock, Duration};
 use test_subscriber::Subscriber;
+
+/// For how many seconds at most a client waits for the next bytes.
+const PATIENCE: u64 = 30;
 
 /// The name of a subscriber's publication.
 fn publication(alloc: Global, work: Work, slot: usize) -> Result<String, AllocError> {
@@ -83,7 +86,7 @@ fn begin<C: Clock>(
     Some(())
 }
 
-/// Connects, in the order of the slots.
+/// Connects, in the order of the slots. A read to which nothing comes for too long fails.
 fn connect<R: Clock + Net<Listener = TcpListener, Stream = TcpStream>>(
     rt: &R,
     board: &Board,
@@ -92,6 +95,8 @@ fn connect<R: Clock + Net<Listener = TcpListener, Stream = TcpStream>>(
     board.await_turn(rt, slot as u64);
     let stream = TcpStream::connect(rt, (Ipv4Addr::LOCALHOST, board.port)).ok()?;
     board.connects();
+    let patience = Some(Duration::from_secs(PATIENCE));
+    stream.set_read_timeout(patience).ok()?;
     Some(stream)
 }
 
@@ -127,14 +132,18 @@ pub(crate) fn client<R: Clock + Net<Listener = TcpListener, Stream = TcpStream>>
     }
 }
 
-/// Whether the subscriber has this row and no other.
+/// Whether the subscriber has this row by now. None where it has another one.
 fn has_only(subscriber: &Subscriber, wanted: &Row) -> Option<bool> {
     let rows = subscriber.rows(16_384).ok()?;
-    Some(rows.len() == 1 && rows[0] == *wanted)
+    match rows.as_slice() {
+        [] => Some(false),
+        [row] if *row == *wanted => Some(true),
+        _ => None,
+    }
 }
 
-/// Follows the stream of the slot, once the program listens, until the subscriber has this row and no other. It closes
-/// then.
+/// Follows the stream of the slot, once the program listens, until the subscriber has a row, which has to be this one and
+/// no other. It closes then.
 pub(crate) fn follow_to<R: Clock + Net<Listener = TcpListener, Stream = TcpStream>>(
     rt: &R,
     board: &Board,

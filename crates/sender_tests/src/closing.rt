@@ -1,7 +1,7 @@
 //! Publishers that are closed, and that can't be.
 
 use crate::checks::same;
-use crate::work::Work;
+use crate::work::{Work, key_of};
 use publisher_desk::Step;
 use senders::{CloseError, End, Publisher, Publishing, Seat, Seats, Served, close};
 use std::alloc::{AllocError, Global};
@@ -19,7 +19,7 @@ pub(crate) enum Lacks {
     Seat,
     /// Two commits, and a finished connection that took the first alone.
     Taken,
-    /// Two commits, and a finished connection that took them.
+    /// Two commits, a finished connection that took them, and 100,000 readings.
     Nothing,
 }
 
@@ -70,6 +70,26 @@ fn commit_twice<P: Publishing, R: Wait>(
     Ok(())
 }
 
+/// How often a row is read.
+const READINGS: u32 = 100_000;
+
+/// Reads a row that is there, again and again. None where a reading is refused, or finds no row.
+fn read_often<P: Publishing, R: Wait>(
+    rt: &R,
+    alloc: Global,
+    publisher: &Publisher<P>,
+    seat: &mut Seat<P>,
+) -> Option<()> {
+    for _ in 0..READINGS {
+        let key = key_of(alloc, 0).ok()?;
+        let reading = publisher.read(rt, seat, 0, key).ok()?;
+        if reading.answer.is_none() {
+            return None;
+        }
+    }
+    Some(())
+}
+
 /// What the closing is answered.
 fn answer<P: Publishing>(
     publisher: Publisher<P>,
@@ -91,6 +111,9 @@ fn expect_two<P: Publishing, R: Wait + Abort>(
         return Err(Fail::from("no seat"));
     };
     commit_twice(rt, alloc, &publisher, &mut seat)?;
+    if lacks == Lacks::Nothing && read_often(rt, alloc, &publisher, &mut seat).is_none() {
+        return Err(Fail::from("no row is read"));
+    }
     let count = if lacks == Lacks::Taken { 1 } else { 2 };
     let served = vec![in alloc; finished(rt, alloc, &publisher, count)?]?;
     let mut list = Vec::new(alloc);
