@@ -1,10 +1,8 @@
 //! Whether an atom was found to be null on a path.
 
-ghost use Rattle.std.specs.Prelude.{◌≡◌, ◌==◌, ◌&&◌, Some, slice_get, map};
-ghost use Rattle.filter_tree.specs.Mask.{same_tri};
+ghost use Rattle.std.specs.Prelude.{◌≡◌, Some, slice_get};
 ghost use Rattle.filter_tree.specs.Paths.{path_view};
 ghost use Rattle.filter_tree.specs.Shape.{atom_view};
-ghost use Rattle.filter_tree.specs.declared.tri.Tri.TheVariants.{Null};
 ghost use Rattle.shard_checker.specs.Facts as spec;
 ghost use Rattle.shard_checker.specs.Knowing.{null_at};
 ghost use Rattle.shard_checker.specs.Ready.{Ready};

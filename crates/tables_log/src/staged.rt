@@ -9,8 +9,8 @@ use crate::layers::Layers;
 use filter_tree::{Row, Value, copy_row};
 use std::alloc::{AllocError, Global};
 
-/// A map from rows, as keys, in which changes are staged over what is kept. Changes settle without memory, and they are
-/// discarded without memory.
+/// A map from rows, as keys, in which changes are staged: they are made in place, and what undoes them is noted, so that
+/// what was kept stays known. Changes settle without memory, and they are discarded without memory.
 ///
 /// Keys that are one number have a map of their own, whose nodes have the numbers themselves, so that a look-up goes to
 /// no other place in memory for each key that it passes.
