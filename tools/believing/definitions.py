@@ -3,6 +3,7 @@
 import re
 from dataclasses import dataclass, field
 from functools import cache
+from itertools import takewhile
 from pathlib import Path
 
 from believing.words import bound_in, names_in, names_of_clause, without_comments
@@ -97,7 +98,12 @@ def read(path: Path) -> File:
         comment = [*comment, line] if is_comment else []
     for definition in definitions.values():
         find_names(definition, parameters)
-    return File(lines[0].removeprefix("-- ") if lines else "", imports, definitions)
+    return File(beginning(lines), imports, definitions)
+
+
+def beginning(lines: list[str]) -> str:
+    """The comment that a file begins with."""
+    return " ".join(line.removeprefix("-- ") for line in takewhile(lambda line: line.startswith("-- "), lines))
 
 
 def find_names(definition: Definition, parameters: set[str]) -> None:
