@@ -1,4 +1,5 @@
--- What an answer of the maker says: of a certificate, that the check of its table accepts it; of a row, that it fits the table and which subscribers get it: none, or several. PostgreSQL 15, "Logical Replication", 31.3 Row Filters.
+-- What an answer of the maker says: of a certificate, that the check of its table accepts it; of a row, that it fits
+-- the table and which subscribers get it: none, or several. PostgreSQL 15, "Logical Replication", 31.3 Row Filters.
 use Rattle.std.specs.Prelude.{◌≡◌, ◌≢◌, ℕ, ◌+◌, List, [], ◌∷◌, length, filter, Some, None, slice_get}
 use Rattle.filter_tree.specs.Datum.{Datum}
 use Rattle.filter_tree.specs.Expr.{Expr}
@@ -32,12 +33,14 @@ IfCounter Unknown Fact = Unit {0}
 IfCounter TooLarge Fact = Unit {0}
 IfCounter OutOfMemory Fact = Unit {0}
 
--- the certificate is within the limits on those that are read, and the check accepts it for the table of this number, with the shares that the plan gives to the subscribers, whatever number it has for the table in its refusals
+-- the certificate is within the limits on those that are read, and the check accepts it for the table of this number,
+-- with the shares that the plan gives to the subscribers, whatever number it has for the table in its refusals
 pub record IsAccepted (catalog : CatalogOf Expr) (plan : PlanOf) (number : ℕ) (tree : Tree) : Type 0 where
   pub table : Table
   pub there : slice_get catalog.tables number ≡ Some table
   pub limits : IsWithinLimits tree
-  pub accepted : (test : Test) → IsEmptiness test → (any : ℕ) → first_refusal test any table (table_shares plan number 0 catalog.subscriptions) tree ≡ None
+  pub accepted : (test : Test) → IsEmptiness test → (any : ℕ)
+      → first_refusal test any table (table_shares plan number 0 catalog.subscriptions) tree ≡ None
 
 -- the numbers of subscribers, who begin at this number
 abbrev pub numbers_from : ℕ → List Subscription → List ℕ
@@ -46,10 +49,13 @@ numbers_from number (subscription ∷ subscriptions) = number ∷ numbers_from (
 
 -- the subscribers that get the row of the table, in ascending order
 abbrev pub owners_of : CatalogOf Expr → ℕ → List Datum → List ℕ
-owners_of catalog number row = filter (λ subscriber. passes catalog subscriber number row) (numbers_from 0 catalog.subscriptions)
+owners_of catalog number row =
+    filter (λ subscriber. passes catalog subscriber number row) (numbers_from 0 catalog.subscriptions)
 
--- the row shows that the table of this number is not sharded well: it fits the table, and not exactly one subscriber takes it
-pub record IsCounter (catalog : CatalogOf Expr) (plan : PlanOf) (number : ℕ) (row : List Datum) (owners : List ℕ) : Type 0 where
+-- the row shows that the table of this number is not sharded well: it fits the table, and not exactly one subscriber
+-- takes it
+pub record IsCounter (catalog : CatalogOf Expr) (plan : PlanOf) (number : ℕ) (row : List Datum) (owners : List ℕ) :
+    Type 0 where
   pub table : Table
   pub there : slice_get catalog.tables number ≡ Some table
   pub valid : IsValid table.columns row

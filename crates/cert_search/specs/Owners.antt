@@ -6,4 +6,5 @@ use Rattle.replica_identity.specs.Shares.{ShareOf, takes}
 -- the numbers of the shares that take the row, where the first share has this number
 abbrev pub owners_from : ℕ → List ShareOf → List Datum → List ℕ
 owners_from number [] row = []
-owners_from number (share ∷ shares) row = if takes share row then number ∷ owners_from (number + 1) shares row else owners_from (number + 1) shares row
+owners_from number (share ∷ shares) row = if takes share row then
+    number ∷ owners_from (number + 1) shares row else owners_from (number + 1) shares row

@@ -17,13 +17,15 @@ pub kept_itself : (known : Option (List ℕ)) → Keeps known known
 kept_itself None = tt
 kept_itself (Some xs) = refl
 
-pub kept_then_taken : (old middle new : Option (List ℕ)) (bytes : List ℕ) → Keeps old middle → Appends middle new bytes → Appends old new bytes
+pub kept_then_taken : (old middle new : Option (List ℕ)) (bytes : List ℕ) → Keeps old middle
+    → Appends middle new bytes → Appends old new bytes
 kept_then_taken None middle new bytes h k = tt
 kept_then_taken (Some xs) None new bytes h k = absurd h
 kept_then_taken (Some xs) (Some ys) None bytes h k = absurd k
 kept_then_taken (Some xs) (Some ys) (Some zs) bytes h k = k ∙ ap (λ (front : List ℕ). front ++ bytes) h
 
-pub kept_then_given : (old middle new : Option (List ℕ)) (bytes : List ℕ) → Keeps old middle → Consumes middle new bytes → Consumes old new bytes
+pub kept_then_given : (old middle new : Option (List ℕ)) (bytes : List ℕ) → Keeps old middle
+    → Consumes middle new bytes → Consumes old new bytes
 kept_then_given None middle new bytes h k = tt
 kept_then_given (Some xs) None new bytes h k = absurd h
 kept_then_given (Some xs) (Some ys) None bytes h k = absurd k

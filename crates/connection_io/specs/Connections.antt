@@ -1,4 +1,5 @@
--- What a source gives, and when it has ended: the bytes of a connection, as it is read piece by piece: PostgreSQL 15, 55.4. Streaming Replication Protocol.
+-- What a source gives, and when it has ended: the bytes of a connection, as it is read piece by piece: PostgreSQL 15,
+-- 55.4. Streaming Replication Protocol.
 use Rattle.std.specs.Prelude.{ℕ, ◌==◌, nat_lt, Bool, ◌||◌, ◌&&◌, List, take, Option}
 use Rattle.std.specs.Io.KnownBytes.{Consumes}
 

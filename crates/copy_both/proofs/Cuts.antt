@@ -15,7 +15,8 @@ use Rattle.copy_both.specs.TokenPlaces.{EndsAscii, IsPiece}
 pub cut_after : (text : List ℕ) (n : ℕ) → IsUtf8 text → EndsAscii text n → IsCharBoundary text n
 cut_after text n utf8 ends =
     let there : n - 1 + 1 ≡ n = omega (arith, ends.some) in
-    subst (IsCharBoundary text) there (IsCharBoundary-after_ascii text (n - 1) utf8 (omega (arith, ends.some, ends.within)) ends.last)
+    subst (IsCharBoundary text) there
+        (IsCharBoundary-after_ascii text (n - 1) utf8 (omega (arith, ends.some, ends.within)) ends.last)
 
 pub after_first : (text : List ℕ) → IsUtf8 text → 0 < length text → slice_index text 0 < 128 → IsCharBoundary text 1
 after_first text utf8 some ascii = cut_after text 1 utf8 (record { some = omega arith; within = some; last = ascii })
@@ -46,7 +47,8 @@ by_test : {P : Type 0} (b : Bool) → (b ≡ true → P) → (b ≡ false → P)
 by_test true holds fails = holds refl
 by_test false holds fails = fails refl
 
-chosen : {X : Type 0} (b : Bool) (x y : X) (P : X → Type 0) → (b ≡ true → P x) → (b ≡ false → P y) → P (if b then x else y)
+chosen : {X : Type 0} (b : Bool) (x y : X) (P : X → Type 0) → (b ≡ true → P x) → (b ≡ false → P y)
+    → P (if b then x else y)
 chosen true x y P holds fails = holds refl
 chosen false x y P holds fails = fails refl
 
@@ -60,13 +62,15 @@ abbrev QuoteEnds : ℕ → List ℕ → Option QuotedText → Type 0
 QuoteEnds quote bytes None = Unit {0}
 QuoteEnds quote bytes (Some found) = EndsAt quote bytes found.length
 
-one_later : (quote b : ℕ) (bytes : List ℕ) (x : Option QuotedText) → QuoteEnds quote bytes x → QuoteEnds quote (b ∷ bytes) (longer 1 b x)
+one_later : (quote b : ℕ) (bytes : List ℕ) (x : Option QuotedText) → QuoteEnds quote bytes x
+    → QuoteEnds quote (b ∷ bytes) (longer 1 b x)
 one_later quote b bytes None ends = tt
 one_later quote b bytes (Some found) ends =
     let there : 1 + found.length - 1 ≡ suc (found.length - 1) = omega (arith, ends.some) in
     record { some = omega arith; within = omega (arith, ends.within); last = rw there ends.last }
 
-two_later : (quote b c : ℕ) (bytes : List ℕ) (x : Option QuotedText) → QuoteEnds quote bytes x → QuoteEnds quote (b ∷ c ∷ bytes) (longer 2 quote x)
+two_later : (quote b c : ℕ) (bytes : List ℕ) (x : Option QuotedText) → QuoteEnds quote bytes x
+    → QuoteEnds quote (b ∷ c ∷ bytes) (longer 2 quote x)
 two_later quote b c bytes None ends = tt
 two_later quote b c bytes (Some found) ends =
     let there : 2 + found.length - 1 ≡ suc (suc (found.length - 1)) = omega (arith, ends.some) in
@@ -91,7 +95,8 @@ whole_quoted : (quote : ℕ) (text : List ℕ) (n : ℕ) → quote < 128 → End
 whole_quoted quote text n small ends =
     let there : 1 + n - 1 ≡ 1 + (n - 1) = omega (arith, ends.some) in
     let last : get_or text (1 + (n - 1)) 0 ≡ quote = sym (get_or-drop 1 text (n - 1) 0) ∙ ends.last in
-    record { some = omega arith; within = omega (arith, ends.within, ends.some, length-drop 1 text); last = rw there (omega (arith, last)) }
+    record { some = omega arith; within = omega (arith, ends.within, ends.some, length-drop 1 text); last =
+        rw there (omega (arith, last)) }
 
 name_ends : (text : List ℕ) (x : Option QuotedText) → QuoteEnds 34 (drop 1 text) x → IsPiece text (name_piece x)
 name_ends text None ends = tt
@@ -101,7 +106,8 @@ value_ends : (text : List ℕ) (x : Option QuotedText) → QuoteEnds 39 (drop 1 
 value_ends text None ends = tt
 value_ends text (Some found) ends = whole_quoted 39 text found.length (omega arith) ends
 
-first_passes : (text : List ℕ) → 0 < length text → is_word_byte (slice_index text 0) ≡ true → 0 < prefix_len is_word_byte text
+first_passes : (text : List ℕ) → 0 < length text → is_word_byte (slice_index text 0) ≡ true
+    → 0 < prefix_len is_word_byte text
 first_passes [] some e = absurd (omega arith)
 first_passes (b ∷ text) some e = rw e (omega arith)
 
@@ -109,7 +115,8 @@ some_digits : (digits : List ℕ) (v : ℕ) → hexadecimal digits ≡ Some v �
 some_digits [] v e = absurd cc
 some_digits (d ∷ digits) v e = omega arith
 
-place_ends : (text : List ℕ) (n : ℕ) (high low : Option ℕ) → ((v : ℕ) → low ≡ Some v → EndsAscii text n) → IsPiece text (place_piece n high low)
+place_ends : (text : List ℕ) (n : ℕ) (high low : Option ℕ) → ((v : ℕ) → low ≡ Some v → EndsAscii text n)
+    → IsPiece text (place_piece n high low)
 place_ends text n (Some high) (Some low) ends = ends low refl
 place_ends text n (Some high) None ends = tt
 place_ends text n None low ends = tt
@@ -119,10 +126,12 @@ no_slash [] none slash = cc
 no_slash (b ∷ rest) none slash = absurd (omega arith)
 
 -- digits, a slash and digits, so many of each
-place_ends_ascii : (text : List ℕ) (n m k : ℕ) → k ≡ n + 1 + m → 0 < length (drop n text) → EndsAscii (drop 1 (drop n text)) m → EndsAscii text k
+place_ends_ascii : (text : List ℕ) (n m k : ℕ) → k ≡ n + 1 + m → 0 < length (drop n text)
+    → EndsAscii (drop 1 (drop n text)) m → EndsAscii text k
 place_ends_ascii text n m k k_is slash low =
     let back : k - 1 ≡ n + (1 + (m - 1)) = omega (arith, low.some) in
-    let last : get_or text (n + (1 + (m - 1))) 0 ≡ get_or (drop 1 (drop n text)) (m - 1) 0 = sym (get_or-drop 1 (drop n text) (m - 1) 0 ∙ get_or-drop n text (1 + (m - 1)) 0) in
+    let last : get_or text (n + (1 + (m - 1))) 0 ≡ get_or (drop 1 (drop n text)) (m - 1) 0 =
+        sym (get_or-drop 1 (drop n text) (m - 1) 0 ∙ get_or-drop n text (1 + (m - 1)) 0) in
     record {
       some = omega arith;
       within = omega (arith, low.within, low.some, length-drop 1 (drop n text), length-drop n text);
@@ -143,8 +152,10 @@ run_piece text some e =
     (λ slash. place_ends text (length (take n text) + 1 + length (take m after)) _ _ (λ v is.
     let m_some : 0 < m = omega (arith, some_digits (take m after) v is, m_is) in
     let low = run_ends_ascii after m_some in
-    let slash_there : 0 < length rest = by_length (length rest) (λ none. absurd (no_slash rest none slash)) (λ more. more) in
-    place_ends_ascii text n m (length (take n text) + 1 + length (take m after)) (omega (arith, n_is, m_is)) slash_there low))
+    let slash_there : 0 < length rest =
+        by_length (length rest) (λ none. absurd (no_slash rest none slash)) (λ more. more) in
+    place_ends_ascii text n m (length (take n text) + 1 + length (take m after)) (omega (arith, n_is, m_is))
+        slash_there low))
     (λ other. chosen (is_letter (slice_index (take n text) 0)) _ _ (IsPiece text)
     (λ letter. subst (EndsAscii text) (sym n_is) (run_ends_ascii text n_some))
     (λ other. tt))
@@ -165,7 +176,10 @@ pub front_piece : (text : List ℕ) → 0 < length text → IsPiece text (front 
 unfolding front
 front_piece text some =
     let b = slice_index text 0 in
-    chosen (is_ascii_whitespace b) _ _ (IsPiece text) (λ e. record { some = omega arith; within = some; last = blank_is_ascii b e })
-    (λ _. chosen (b == 34) _ _ (IsPiece text) (λ e. name_ends text (quoted 34 (drop 1 text)) (quote_ends 34 (drop 1 text)))
-    (λ _. chosen (b == 39) _ _ (IsPiece text) (λ e. value_ends text (quoted 39 (drop 1 text)) (quote_ends 39 (drop 1 text)))
+    chosen (is_ascii_whitespace b) _ _ (IsPiece text)
+        (λ e. record { some = omega arith; within = some; last = blank_is_ascii b e })
+    (λ _. chosen (b == 34) _ _ (IsPiece text)
+        (λ e. name_ends text (quoted 34 (drop 1 text)) (quote_ends 34 (drop 1 text)))
+    (λ _. chosen (b == 39) _ _ (IsPiece text)
+        (λ e. value_ends text (quoted 39 (drop 1 text)) (quote_ends 39 (drop 1 text)))
     (λ _. chosen (is_word_byte b) _ _ (IsPiece text) (λ e. run_piece text some e) (λ _. mark_ends text some))))

@@ -4,6 +4,7 @@ use Rattle.copy_both.specs.CommandText.{command_of}
 use Rattle.copy_both.specs.StartAnswers.{text_in, asked_in, asked_by, asked_of}
 use Rattle.copy_both.specs.StartOrder.{OfferOf}
 
-pub query_asks : (offer : OfferOf) (kind : ℕ) (body text : List ℕ) → kind ≡ 81 → Some text ≡ text_in body → asked_by offer (command_of text) ≡ asked_of offer kind body
+pub query_asks : (offer : OfferOf) (kind : ℕ) (body text : List ℕ) → kind ≡ 81 → Some text ≡ text_in body
+    → asked_by offer (command_of text) ≡ asked_of offer kind body
 unfolding asked_of
 query_asks offer kind body text query found = rw query (ap (asked_in offer) found)

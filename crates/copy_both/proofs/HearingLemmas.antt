@@ -4,22 +4,27 @@ use Rattle.copy_frames.specs.declared.frame.Frame.{Frame}
 use Rattle.copy_both.specs.Hearing.{HearingOf, Served, is_over, unless_over, next_heard, frame_heard, frames_heard}
 
 -- nothing is heard after a fault or an end
-pub over_stays : (served : Served) (h : HearingOf) (frames : List Frame) → is_over h ≡ true → frames_heard served h frames ≡ h
+pub over_stays : (served : Served) (h : HearingOf) (frames : List Frame) → is_over h ≡ true
+    → frames_heard served h frames ≡ h
 unfolding frames_heard
 over_stays served h [] over = refl
 over_stays served h (frame ∷ frames) over =
-    ap (λ b. frames_heard served (unless_over b h (next_heard served frame h.started h)) frames) over ∙ over_stays served h frames over
+    ap (λ b. frames_heard served (unless_over b h (next_heard served frame h.started h)) frames) over
+        ∙ over_stays served h frames over
 
-heard_append : (served : Served) (h : HearingOf) (xs ys : List Frame) → frames_heard served h (xs ++ ys) ≡ frames_heard served (frames_heard served h xs) ys
+heard_append : (served : Served) (h : HearingOf) (xs ys : List Frame)
+    → frames_heard served h (xs ++ ys) ≡ frames_heard served (frames_heard served h xs) ys
 unfolding frames_heard
 heard_append served h [] ys = refl
 heard_append served h (frame ∷ xs) ys = heard_append served (frame_heard served h frame) xs ys
 
-heard_one : (served : Served) (h : HearingOf) (frame : Frame) → frames_heard served h (frame ∷ []) ≡ frame_heard served h frame
+heard_one : (served : Served) (h : HearingOf) (frame : Frame)
+    → frames_heard served h (frame ∷ []) ≡ frame_heard served h frame
 unfolding frames_heard
 heard_one served h frame = refl
 
-heard_first : (served : Served) (h : HearingOf) (frame : Frame) (frames : List Frame) → frames_heard served h (frame ∷ frames) ≡ frames_heard served (frame_heard served h frame) frames
+heard_first : (served : Served) (h : HearingOf) (frame : Frame) (frames : List Frame)
+    → frames_heard served h (frame ∷ frames) ≡ frames_heard served (frame_heard served h frame) frames
 unfolding frames_heard
 heard_first served h frame frames = refl
 
@@ -27,7 +32,8 @@ pub heard_none : (served : Served) (h : HearingOf) → frames_heard served h [] 
 unfolding frames_heard
 heard_none served h = refl
 
-take_next : (n : ℕ) (xs : List Frame) (x : Frame) (ys : List Frame) → drop n xs ≡ x ∷ ys → take (suc n) xs ≡ take n xs ++ x ∷ []
+take_next : (n : ℕ) (xs : List Frame) (x : Frame) (ys : List Frame) → drop n xs ≡ x ∷ ys
+    → take (suc n) xs ≡ take n xs ++ x ∷ []
 take_next zero [] x ys e = absurd cc
 take_next zero (y ∷ xs) x ys e = let same : y ≡ x = cc in ap (λ z. z ∷ []) same
 take_next (suc n) [] x ys e = absurd cc
@@ -48,13 +54,15 @@ abbrev pub HeardSome : Served → HearingOf → HearingOf → List Frame → Lis
 HeardSome served start now frames left = (n : ℕ) × IsHeardTo served start now frames left n
 
 pub heard_on : (served : Served) (start now next : HearingOf) (frames : List Frame) (frame : Frame) (left : List Frame)
-    → HeardSome served start now frames (frame ∷ left) → next ≡ frame_heard served now frame → HeardSome served start next frames left
+    → HeardSome served start now frames (frame ∷ left) → next ≡ frame_heard served now frame
+    → HeardSome served start next frames left
 heard_on served start now next frames frame left some is =
     let n : ℕ = some.0 in
     let so = some.1 in (
       suc n,
       record {
-        now_is = is ∙ ap (λ h. frame_heard served h frame) so.now_is ∙ sym (heard_one served (frames_heard served start (take n frames)) frame)
+        now_is = is ∙ ap (λ h. frame_heard served h frame) so.now_is
+            ∙ sym (heard_one served (frames_heard served start (take n frames)) frame)
             ∙ sym (heard_append served start (take n frames) (frame ∷ []))
             ∙ ap (frames_heard served start) (sym (take_next n frames frame left so.left_is));
         left_is = drop_next n frames frame left so.left_is;
@@ -67,7 +75,8 @@ split_at (suc n) [] = refl
 split_at (suc n) (x ∷ xs) = ap (λ t. x ∷ t) (split_at n xs)
 
 -- what all frames do is what those that are left do
-pub all_heard : (served : Served) (start now : HearingOf) (frames left : List Frame) → HeardSome served start now frames left
+pub all_heard : (served : Served) (start now : HearingOf) (frames left : List Frame)
+    → HeardSome served start now frames left
     → frames_heard served start frames ≡ frames_heard served now left
 all_heard served start now frames left some =
     let n : ℕ = some.0 in
@@ -76,7 +85,8 @@ all_heard served start now frames left some =
     ∙ ap (λ h. frames_heard served h (drop n frames)) (sym so.now_is) ∙ ap (frames_heard served now) so.left_is
 
 -- a fault of the next frame is that of all
-pub fails_all : (served : Served) (start now failed : HearingOf) (frames : List Frame) (frame : Frame) (left : List Frame)
+pub fails_all : (served : Served) (start now failed : HearingOf) (frames : List Frame) (frame : Frame)
+    (left : List Frame)
     → HeardSome served start now frames (frame ∷ left) → frame_heard served now frame ≡ failed → is_over failed ≡ true
     → frames_heard served start frames ≡ failed
 fails_all served start now failed frames frame left some fails over =

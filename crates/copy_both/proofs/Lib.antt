@@ -1,4 +1,4 @@
-pub mod CommandTurns
+pub mod CommandLoops
 pub mod Crossing
 pub mod Cuts
 pub mod FirstFrames
@@ -7,13 +7,13 @@ pub mod FramingLemmas
 pub mod HearingLemmas
 pub mod LinkLemmas
 pub mod LinkStreams
-pub mod ListTurns
+pub mod ListLoops
 pub mod ListeningLemmas
 pub mod Numerals
 pub mod OrderLemmas
 pub mod PiecesHeard
 pub mod QuietLemmas
-pub mod QuotedTurns
+pub mod QuotedLoops
 pub mod RefusalLemmas
 pub mod RefusedStarts
 pub mod RepliesLemmas
@@ -24,6 +24,6 @@ pub mod SlotChanges
 pub mod StartLemmas
 pub mod StartsTold
 pub mod StreamLemmas
-pub mod TokenTurns
+pub mod TokenLoops
 pub mod Utf8Texts
 pub mod VoiceStreams

@@ -20,16 +20,19 @@ use Rattle.copy_both.proofs.StreamLemmas.{starts, takes, keeps, passes, grows}
 
 -- ---- replies
 
-speaks_more : (telling : Telling CommitOf) (log : List CommitOf) (start : Start) (moves : List Move) (passed output : List ℕ) (place : Place) (clock n : ℕ)
+speaks_more : (telling : Telling CommitOf) (log : List CommitOf) (start : Start) (moves : List Move)
+    (passed output : List ℕ) (place : Place) (clock n : ℕ)
     → Speaks telling log start moves passed output place
-    → Speaks telling log start (moves ++ replicate n (Keep clock false)) passed (output ++ concat (replicate n (keep_bytes place clock false))) place
+    → Speaks telling log start (moves ++ replicate n (Keep clock false)) passed
+        (output ++ concat (replicate n (keep_bytes place clock false))) place
 speaks_more telling log start moves passed output place clock zero speaks =
     subst (λ (m : List Move). Speaks telling log start m passed (output ++ []) place) (sym (append-nil moves))
     (subst (λ (o : List ℕ). Speaks telling log start moves passed o place) (sym (append-nil output)) speaks)
 speaks_more telling log start moves passed output place clock (suc n) speaks =
     let keep : Move = Keep clock false in
     let said : List ℕ = keep_bytes place clock false in
-    let on : Speaks telling log start ((moves ++ keep ∷ []) ++ replicate n keep) passed ((output ++ said) ++ concat (replicate n said)) place =
+    let on : Speaks telling log start ((moves ++ keep ∷ []) ++ replicate n keep) passed
+        ((output ++ said) ++ concat (replicate n said)) place =
     speaks_more telling log start (moves ++ keep ∷ []) passed (output ++ said) place clock n
     (keeps telling log start moves passed output place clock false speaks) in
     subst (λ (m : List Move). Speaks telling log start m passed (output ++ (said ++ concat (replicate n said))) place)
@@ -44,7 +47,8 @@ concat_last xss xs = concat-append xss (xs ∷ []) ∙ ap (λ (x : List ℕ). co
 said_on : (checked : CheckedOf) (place : Place) (started : Option (ℕ × ℕ)) (heard : HeardOf) (clock : ℕ)
     → concat (frames_by checked (voices.Started place) started heard clock)
     ≡ concat (replicate heard.replies (keep_bytes place clock false)) ++ closing (voices.Started place) heard.ended
-said_on checked place started heard clock = concat_last (replicate heard.replies (keep_bytes place clock false)) (closing (voices.Started place) heard.ended)
+said_on checked place started heard clock =
+    concat_last (replicate heard.replies (keep_bytes place clock false)) (closing (voices.Started place) heard.ended)
 
 -- ---- what was heard is answered
 
@@ -54,10 +58,12 @@ record IsOpened (old : Link) (h : HearingOf) (clock : ℕ) (run : Run) (place : 
   speaks : Speaks (telling_of run.checked) run.log run.start run.moves run.passed output place
   checked_is : link_checked old ≡ run.checked
   said : link_output old ++ concat (frames_said (link_checked old) (link_stage old) h clock)
-      ≡ output ++ (concat (replicate h.heard.replies (keep_bytes place clock false)) ++ closing (voices.Started place) h.heard.ended)
+      ≡ output ++ (concat (replicate h.heard.replies (keep_bytes place clock false))
+          ++ closing (voices.Started place) h.heard.ended)
   stage_is : stage_said (link_checked old) (link_stage old) h ≡ ended_stage h.heard.ended (voices.Started place)
 
-opened_on : (old : Link) (run : Run) (place : Place) (h : HearingOf) (clock : ℕ) → IsStreaming old run place → IsOpened old h clock run place
+opened_on : (old : Link) (run : Run) (place : Place) (h : HearingOf) (clock : ℕ) → IsStreaming old run place
+    → IsOpened old h clock run place
 opened_on old run place h clock streams = record {
   output = link_output old;
   speaks = streams.says;
@@ -68,9 +74,11 @@ opened_on old run place h clock streams = record {
   stage_is = ap (λ (s : StageOf). stage_said (link_checked old) s h) streams.stage_is;
 }
 
-opened_first : (old : Link) (log : List CommitOf) (h : HearingOf) (clock : ℕ) (started : ℕ × ℕ) → link_stage old ≡ voices.NotStarted
+opened_first : (old : Link) (log : List CommitOf) (h : HearingOf) (clock : ℕ) (started : ℕ × ℕ)
+    → link_stage old ≡ voices.NotStarted
     → link_output old ≡ [] → h.started ≡ Some started
-    → IsOpened old h clock (first_run (link_checked old) log started) (first_place (started_at (link_checked old) started))
+    → IsOpened old h clock (first_run (link_checked old) log started)
+        (first_place (started_at (link_checked old) started))
 opened_first old log h clock started waits silent is =
     let checked : CheckedOf = link_checked old in
     let start : Start = started_at checked started in
@@ -84,13 +92,15 @@ opened_first old log h clock started waits silent is =
           ∙ ap (λ (s : StageOf). concat (frames_by checked s h.started h.heard clock)) waits
           ∙ ap (λ (s : Option (ℕ × ℕ)). concat (frames_by checked voices.NotStarted s h.heard clock)) is
           ∙ ap (λ (x : List ℕ). copy_both_response ++ x)
-          (concat_last (replicate h.heard.replies (keep_bytes place clock false)) (closing (voices.Started place) h.heard.ended));
+          (concat_last (replicate h.heard.replies (keep_bytes place clock false))
+              (closing (voices.Started place) h.heard.ended));
       stage_is =
           ap (λ (s : StageOf). stage_by checked s h.started h.heard) waits
           ∙ ap (λ (s : Option (ℕ × ℕ)). stage_by checked voices.NotStarted s h.heard) is;
     }
 
-opened : (old : Link) (run : Run) (place : Place) (h : HearingOf) (clock : ℕ) → Goes old h run place → IsOpened old h clock run place
+opened : (old : Link) (run : Run) (place : Place) (h : HearingOf) (clock : ℕ) → Goes old h run place
+    → IsOpened old h clock run place
 opened old run place h clock (Goes_on streams) = opened_on old run place h clock streams
 opened old run place h clock (Starts started at) =
     subst (λ (r : Run). IsOpened old h clock r place) (sym at.run_is)
@@ -101,7 +111,8 @@ more_said : (old : Link) (run : Run) (place : Place) (h : HearingOf) (clock : �
     → Speaks (telling_of run.checked) run.log run.start (run.moves ++ replied h clock) run.passed
     (o.output ++ concat (replicate h.heard.replies (keep_bytes place clock false))) place
 more_said old run place h clock o =
-    speaks_more (telling_of run.checked) run.log run.start run.moves run.passed o.output place clock h.heard.replies o.speaks
+    speaks_more (telling_of run.checked) run.log run.start run.moves run.passed o.output place clock h.heard.replies
+        o.speaks
 
 pub hears : LinkHears
 hears old new run place h heard clock goes none says =
@@ -115,7 +126,8 @@ hears old new run place h heard clock goes none says =
       checked_is = says.checked ∙ o.checked_is;
       stage_is = says.stage_is ∙ o.stage_is ∙ ap (λ (e : Option ℕ). ended_stage e (voices.Started place)) none;
       says =
-          subst (λ (x : List ℕ). Speaks (telling_of run.checked) run.log run.start (run.moves ++ replied h clock) run.passed x place) (sym output_is)
+          subst (λ (x : List ℕ). Speaks (telling_of run.checked) run.log run.start (run.moves ++ replied h clock)
+              run.passed x place) (sym output_is)
           (more_said old run place h clock o);
     }
 
@@ -137,7 +149,8 @@ ends old new run place h heard clock kind goes some says =
       stage_is = says.stage_is ∙ o.stage_is ∙ ap (λ (e : Option ℕ). ended_stage e (voices.Started place)) some;
       bytes =
           ap (λ (x : List ℕ). run.passed ++ x) says.output ∙ said_last old run place h clock o
-          ∙ ap (λ (e : Option ℕ). stream_of (with_moves run (replied h clock)) ++ closing (voices.Started place) e) some;
+          ∙ ap (λ (e : Option ℕ). stream_of (with_moves run (replied h clock)) ++ closing (voices.Started place) e)
+              some;
     }
 
 pub breaks : LinkBreaks
@@ -164,13 +177,17 @@ stops old new run place streams closes = record {
 
 -- ---- moves
 
-takes_by : (found : Option CommitOf) (run : Run) (output : List ℕ) (place : Place) (clock : ℕ) → slice_get run.log place.done ≡ found
+takes_by : (found : Option CommitOf) (run : Run) (output : List ℕ) (place : Place) (clock : ℕ)
+    → slice_get run.log place.done ≡ found
     → Speaks (telling_of run.checked) run.log run.start run.moves run.passed output place
     → Speaks (telling_of run.checked) run.log run.start (run.moves ++ took found clock) run.passed
-    (output ++ taken_bytes (telling_of run.checked) place found clock) (taken_place (telling_of run.checked) place found)
+    (output ++ taken_bytes (telling_of run.checked) place found clock)
+        (taken_place (telling_of run.checked) place found)
 takes_by None run output place clock is speaks =
-    subst (λ (m : List Move). Speaks (telling_of run.checked) run.log run.start m run.passed (output ++ []) place) (sym (append-nil run.moves))
-    (subst (λ (o : List ℕ). Speaks (telling_of run.checked) run.log run.start run.moves run.passed o place) (sym (append-nil output)) speaks)
+    subst (λ (m : List Move). Speaks (telling_of run.checked) run.log run.start m run.passed (output ++ []) place)
+        (sym (append-nil run.moves))
+    (subst (λ (o : List ℕ). Speaks (telling_of run.checked) run.log run.start run.moves run.passed o place)
+        (sym (append-nil output)) speaks)
 takes_by (Some commit) run output place clock is speaks =
     takes (telling_of run.checked) run.log run.start run.moves run.passed output place commit clock speaks is
 
@@ -180,7 +197,8 @@ takes_on old new run place clock streams says =
     let output_is : link_output new ≡ link_output old ++ move_bytes telling run.log place (Take clock) =
     says.voice.output
     ∙ ap (λ (s : StageOf). link_output old ++ next_bytes (link_checked old) s run.log clock) streams.stage_is
-    ∙ ap (λ (k : CheckedOf). link_output old ++ move_bytes (telling_of k) run.log place (Take clock)) streams.checked_is in
+    ∙ ap (λ (k : CheckedOf). link_output old ++ move_bytes (telling_of k) run.log place (Take clock))
+        streams.checked_is in
     record {
       checked_is = says.voice.checked ∙ streams.checked_is;
       stage_is =
@@ -189,7 +207,8 @@ takes_on old new run place clock streams says =
           ∙ ap (λ (k : CheckedOf). voices.Started (moved (telling_of k) run.log place (Take clock))) streams.checked_is;
       says =
           subst (λ (o : List ℕ).
-          Speaks telling run.log run.start (run.moves ++ took (slice_get run.log place.done) clock) run.passed o (moved telling run.log place (Take clock)))
+          Speaks telling run.log run.start (run.moves ++ took (slice_get run.log place.done) clock) run.passed o
+              (moved telling run.log place (Take clock)))
           (sym output_is) (takes_by (slice_get run.log place.done) run (link_output old) place clock refl streams.says);
     }
 
@@ -202,7 +221,8 @@ keeps_on old new run place clock want streams says =
       checked_is = says.voice.checked ∙ streams.checked_is;
       stage_is = says.voice.stage_is ∙ streams.stage_is;
       says =
-          subst (λ (o : List ℕ). Speaks telling run.log run.start (run.moves ++ Keep clock want ∷ []) run.passed o place) (sym output_is)
+          subst (λ (o : List ℕ). Speaks telling run.log run.start (run.moves ++ Keep clock want ∷ []) run.passed o
+              place) (sym output_is)
           (keeps telling run.log run.start run.moves run.passed (link_output old) place clock want streams.says);
     }
 
@@ -213,12 +233,14 @@ passes_on old new run place count streams says =
       checked_is = says.voice.checked ∙ streams.checked_is;
       stage_is = says.voice.stage_is ∙ streams.stage_is;
       says =
-          subst (λ (o : List ℕ). Speaks telling run.log run.start run.moves (run.passed ++ take count (link_output old)) o place) (sym says.voice.output)
+          subst (λ (o : List ℕ). Speaks telling run.log run.start run.moves
+              (run.passed ++ take count (link_output old)) o place) (sym says.voice.output)
           (passes telling run.log run.start run.moves run.passed (link_output old) place count streams.says);
     }
 
 -- what was passed on and what waits stay together
-passed_more : (passed output rest : List ℕ) (count : ℕ) → rest ≡ drop count output → (passed ++ take count output) ++ rest ≡ passed ++ output
+passed_more : (passed output rest : List ℕ) (count : ℕ) → rest ≡ drop count output
+    → (passed ++ take count output) ++ rest ≡ passed ++ output
 passed_more passed output rest count is =
     append_assoc passed (take count output) rest ∙ ap (λ (x : List ℕ). passed ++ (take count output ++ x)) is
     ∙ ap (λ (x : List ℕ). passed ++ x) (take-append-drop count output)
@@ -233,12 +255,14 @@ pub front_passes_on : LinkFrontPassesOn
 front_passes_on old new run last count begun says = record {
   stage_is = says.voice.stage_is ∙ begun.stage_is;
   others = begun.others;
-  bytes = ap (λ (x : List ℕ). x ++ begun.others) (passed_more run.passed (link_output old) (link_output new) count says.voice.output) ∙ begun.bytes;
+  bytes = ap (λ (x : List ℕ). x ++ begun.others)
+      (passed_more run.passed (link_output old) (link_output new) count says.voice.output) ∙ begun.bytes;
 }
 
 pub log_grows : LogGrows
 log_grows link run place more streams = record {
   checked_is = streams.checked_is;
   stage_is = streams.stage_is;
-  says = grows (telling_of run.checked) run.log more run.start run.moves run.passed (link_output link) place streams.says;
+  says = grows (telling_of run.checked) run.log more run.start run.moves run.passed (link_output link) place
+      streams.says;
 }

@@ -26,7 +26,8 @@ no_frames (Rest bytes) none = refl
 no_frames (Bad fault bytes) none = refl
 no_frames (Then frame more) none = absurd (let clash : true ≡ false = none in cc)
 
-first_cut : (old new : Inbox) (frame : Frame) → GivesFrame old frame new → cut old.limit old.bytes ≡ Then frame (cut new.limit new.bytes)
+first_cut : (old new : Inbox) (frame : Frame) → GivesFrame old frame new
+    → cut old.limit old.bytes ≡ Then frame (cut new.limit new.bytes)
 first_cut old new frame gives =
     ap (cut old.limit) (sym (append-nil old.bytes)) ∙ gives.cuts []
     ∙ ap (λ (bytes : List ℕ). Then frame (cut old.limit bytes)) (append-nil new.bytes)
@@ -34,12 +35,14 @@ first_cut old new frame gives =
 
 -- ---- what stays
 
-pub same_served : (old new : Session) (before after : Book) → KeepsRest old new before after → served_by new after ≡ served_by old before
+pub same_served : (old new : Session) (before after : Book) → KeepsRest old new before after
+    → served_by new after ≡ served_by old before
 same_served old new before after kept =
     ap (λ (x : CheckedOf). record { checked = x; commits = length (book_log after) }) kept.checked
     ∙ ap (λ (x : List CommitOf). record { checked = session_checked old; commits = length x }) kept.book.log
 
-pub keeps_on : (first old new : Session) (one before after : Book) → KeepsRest first old one before → KeepsRest old new before after
+pub keeps_on : (first old new : Session) (one before after : Book) → KeepsRest first old one before
+    → KeepsRest old new before after
     → KeepsRest first new one after
 keeps_on first old new one before after early late = record {
   checked = late.checked ∙ early.checked;
@@ -75,8 +78,10 @@ listens_first served start inbox = record {
   fault = refl;
 }
 
-pub listens_on : (served : Served) (start now new : HearingOf) (first held next : Inbox) (frame : Frame) → IsListening served start now first held
-    → is_over now ≡ false → GivesFrame held frame next → new ≡ next_heard served frame now.started now → IsListening served start new first next
+pub listens_on : (served : Served) (start now new : HearingOf) (first held next : Inbox) (frame : Frame)
+    → IsListening served start now first held
+    → is_over now ≡ false → GivesFrame held frame next → new ≡ next_heard served frame now.started now
+    → IsListening served start new first next
 listens_on served start now new first held next frame listens going gives is =
     let front_is : held_frames held ≡ frame ∷ held_frames next = ap frames_of (first_cut held next frame gives) in
     record {
@@ -90,7 +95,8 @@ listens_on served start now new first held next frame listens going gives is =
     }
 
 -- no further frame is whole
-pub heard_whole : (served : Served) (start now : HearingOf) (first held : Inbox) → IsListening served start now first held
+pub heard_whole : (served : Served) (start now : HearingOf) (first held : Inbox)
+    → IsListening served start now first held
     → has_frame (cut held.limit held.bytes) ≡ false → now ≡ frames_heard served start (held_frames first)
 heard_whole served start now first held listens none =
     sym (all_heard served start now (held_frames first) (held_frames held) listens.some
@@ -99,25 +105,32 @@ heard_whole served start now first held listens none =
 pub rests : (served : Served) (start now : HearingOf) (first held : Inbox) → IsListening served start now first held
     → has_frame (cut held.limit held.bytes) ≡ false → held ≡ resting first
 rests served start now first held listens none =
-    let bytes_are : held.bytes ≡ rest_of (cut first.limit first.bytes) = sym (rest_left held.limit held.bytes none) ∙ listens.rest in
+    let bytes_are : held.bytes ≡ rest_of (cut first.limit first.bytes) = sym (rest_left held.limit held.bytes none)
+        ∙ listens.rest in
     ap (λ (bytes : List ℕ). record { limit = held.limit; bytes = bytes; fault = held.fault }) bytes_are
-    ∙ ap (λ (limit : ℕ). record { limit = limit; bytes = rest_of (cut first.limit first.bytes); fault = held.fault }) listens.limit
-    ∙ ap (λ (fault : Option FrameFault). record { limit = first.limit; bytes = rest_of (cut first.limit first.bytes); fault = fault }) listens.fault
+    ∙ ap (λ (limit : ℕ). record { limit = limit; bytes = rest_of (cut first.limit first.bytes); fault = held.fault })
+        listens.limit
+    ∙ ap (λ (fault : Option FrameFault). record
+        { limit = first.limit; bytes = rest_of (cut first.limit first.bytes); fault = fault }) listens.fault
 
 -- an end came
-pub heard_over : (served : Served) (start now : HearingOf) (first held : Inbox) → IsListening served start now first held
+pub heard_over : (served : Served) (start now : HearingOf) (first held : Inbox)
+    → IsListening served start now first held
     → is_over now ≡ true → now ≡ frames_heard served start (held_frames first)
 heard_over served start now first held listens over =
-    sym (all_heard served start now (held_frames first) (held_frames held) listens.some ∙ over_stays served now (held_frames held) over)
+    sym (all_heard served start now (held_frames first) (held_frames held) listens.some
+        ∙ over_stays served now (held_frames held) over)
 
 -- memory was refused
-pub heard_part : (served : Served) (start now : HearingOf) (first held : Inbox) → IsListening served start now first held
+pub heard_part : (served : Served) (start now : HearingOf) (first held : Inbox)
+    → IsListening served start now first held
     → FramesHeard served start now (held_frames first) (Err fault.OutOfMemory)
 heard_part served start now first held listens = (listens.some.0, listens.some.1.now_is)
 
 failed_by : (served : Served) (start now new : HearingOf) (first held next : Inbox) (frame : Frame) (f : LinkFault)
     → IsListening served start now first held → is_over now ≡ false → GivesFrame held frame next
-    → next_heard served frame now.started now ≡ with_fault f new → frames_heard served start (held_frames first) ≡ with_fault f new
+    → next_heard served frame now.started now ≡ with_fault f new
+    → frames_heard served start (held_frames first) ≡ with_fault f new
 failed_by served start now new first held next frame f listens going gives is =
     let front_is : held_frames held ≡ frame ∷ held_frames next = ap frames_of (first_cut held next frame gives) in
     fails_all served start now (with_fault f new) (held_frames first) frame (held_frames next)
@@ -125,10 +138,13 @@ failed_by served start now new first held next frame f listens going gives is =
     (ap (λ b. unless_over b now (next_heard served frame now.started now)) going ∙ is) refl
 
 -- the next frame has a fault, or memory was refused
-pub heard_fault : (f : LinkFault) (served : Served) (start now new : HearingOf) (first held next : Inbox) (frame : Frame)
+pub heard_fault : (f : LinkFault) (served : Served) (start now new : HearingOf) (first held next : Inbox)
+    (frame : Frame)
     → IsListening served start now first held → is_over now ≡ false → GivesFrame held frame next
-    → FailsBy f (next_heard served frame now.started now) now new → FramesHeard served start new (held_frames first) (Err f)
-heard_fault fault.OutOfMemory served start now new first held next frame listens going gives is = (listens.some.0, is ∙ listens.some.1.now_is)
+    → FailsBy f (next_heard served frame now.started now) now new
+    → FramesHeard served start new (held_frames first) (Err f)
+heard_fault fault.OutOfMemory served start now new first held next frame listens going gives is =
+    (listens.some.0, is ∙ listens.some.1.now_is)
 heard_fault fault.FrameTooLong served start now new first held next frame listens going gives is =
     failed_by served start now new first held next frame fault.FrameTooLong listens going gives is
 heard_fault fault.BadLength served start now new first held next frame listens going gives is =
@@ -144,36 +160,48 @@ heard_fault fault.Closed served start now new first held next frame listens goin
 
 -- ---- what next gives
 
-pub no_more : (served : Served) (start now : HearingOf) (first held : Inbox) (found : Option Frame) (next : Inbox) → IsListening served start now first held
-    → ((frame : Frame) → found ≡ Some frame → ⊥) → Gives held found next → now ≡ frames_heard served start (held_frames first)
+pub no_more : (served : Served) (start now : HearingOf) (first held : Inbox) (found : Option Frame) (next : Inbox)
+    → IsListening served start now first held
+    → ((frame : Frame) → found ≡ Some frame → ⊥) → Gives held found next
+    → now ≡ frames_heard served start (held_frames first)
 no_more served start now first held found next listens never gives =
     heard_whole served start now first held listens (gives_none held found next never gives).1
 
-pub no_more_rests : (served : Served) (start now : HearingOf) (first held : Inbox) (found : Option Frame) (next : Inbox) → IsListening served start now first held
+pub no_more_rests : (served : Served) (start now : HearingOf) (first held : Inbox) (found : Option Frame)
+    (next : Inbox) → IsListening served start now first held
     → ((frame : Frame) → found ≡ Some frame → ⊥) → Gives held found next → next ≡ resting first
 no_more_rests served start now first held found next listens never gives =
-    (gives_none held found next never gives).0 ∙ rests served start now first held listens (gives_none held found next never gives).1
+    (gives_none held found next never gives).0
+        ∙ rests served start now first held listens (gives_none held found next never gives).1
 
-gives_some : (found : Option Frame) (frame : Frame) (old new : Inbox) → found ≡ Some frame → Gives old found new → GivesFrame old frame new
+gives_some : (found : Option Frame) (frame : Frame) (old new : Inbox) → found ≡ Some frame → Gives old found new
+    → GivesFrame old frame new
 gives_some found frame old new is gives = subst (λ (x : Option Frame). Gives old x new) is gives
 
 -- a frame was heard, and what was agreed before it is what was agreed at first
-pub goes_on : (served other : Served) (start now new : HearingOf) (first held next : Inbox) (found : Option Frame) (frame : Frame)
-    → IsListening served start now first held → other ≡ served → is_over now ≡ false → found ≡ Some frame → Gives held found next
+pub goes_on : (served other : Served) (start now new : HearingOf) (first held next : Inbox) (found : Option Frame)
+    (frame : Frame)
+    → IsListening served start now first held → other ≡ served → is_over now ≡ false → found ≡ Some frame
+    → Gives held found next
     → new ≡ next_heard other frame now.started now → IsListening served start new first next
 goes_on served other start now new first held next found frame listens same going is gives heard =
     listens_on served start now new first held next frame listens going (gives_some found frame held next is gives)
     (heard ∙ ap (λ (s : Served). next_heard s frame now.started now) same)
 
-pub stops_at : (f : LinkFault) (served other : Served) (start now new : HearingOf) (first held next : Inbox) (found : Option Frame) (frame : Frame)
-    → IsListening served start now first held → other ≡ served → is_over now ≡ false → found ≡ Some frame → Gives held found next
-    → FailsBy f (next_heard other frame now.started now) now new → FramesHeard served start new (held_frames first) (Err f)
+pub stops_at : (f : LinkFault) (served other : Served) (start now new : HearingOf) (first held next : Inbox)
+    (found : Option Frame) (frame : Frame)
+    → IsListening served start now first held → other ≡ served → is_over now ≡ false → found ≡ Some frame
+    → Gives held found next
+    → FailsBy f (next_heard other frame now.started now) now new
+    → FramesHeard served start new (held_frames first) (Err f)
 stops_at f served other start now new first held next found frame listens same going is gives fails =
     heard_fault f served start now new first held next frame listens going (gives_some found frame held next is gives)
     (subst (λ (s : Served). FailsBy f (next_heard s frame now.started now) now new) same fails)
 
--- each reply that is wanted was in a frame of its own, so that with the bytes that are held they are no more than were held at first
-pub still_counted : (old new : Inbox) (found : Option Frame) (frame : Frame) (before after : ℕ) → found ≡ Some frame → Gives old found new
+-- each reply that is wanted was in a frame of its own, so that with the bytes that are held they are no more than
+-- were held at first
+pub still_counted : (old new : Inbox) (found : Option Frame) (frame : Frame) (before after : ℕ) → found ≡ Some frame
+    → Gives old found new
     → before + length old.bytes < 2 ^ 63 → after ≤ before + 1 → after + length new.bytes < 2 ^ 63
 still_counted old new found frame before after is gives few more =
     let given : GivesFrame old frame new = gives_some found frame old new is gives in
@@ -197,7 +225,8 @@ pub nothing_heard : (session : Session) (book : Book) (inbox : Inbox) (piece : L
     → (count : ℕ) × Leaves session session book book (part_heard count session book inbox piece sent)
 nothing_heard session book inbox piece sent =
     let start : HearingOf = hearing_view session (silence sent) book in
-    let none : start ≡ frames_heard (served_by session book) start [] = sym (heard_none (served_by session book) start) in
+    let none : start ≡ frames_heard (served_by session book) start [] =
+        sym (heard_none (served_by session book) start) in
     let same : ChangesSlots book book (book_slots book) =
     record { checked = refl; limit = refl; rows = λ table number value. refl; log = refl; slots_are = refl } in (
       0,

@@ -20,7 +20,8 @@ all_digits (d ∷ digits) e =
     let both = and_parts (is_ascii_hexdigit d) (list_all is_ascii_hexdigit digits) e in
     (digit_is_small d both.0, all_digits digits both.1)
 
-pub no_plus : (digits : List ℕ) → 0 < length digits → list_all is_ascii_hexdigit digits ≡ true → without_leading_plus digits ≡ digits
+pub no_plus : (digits : List ℕ) → 0 < length digits → list_all is_ascii_hexdigit digits ≡ true
+    → without_leading_plus digits ≡ digits
 no_plus [] some e = absurd (omega arith)
 no_plus (d ∷ digits) some e =
     let both = and_parts (is_ascii_hexdigit d) (list_all is_ascii_hexdigit digits) e in

@@ -49,13 +49,15 @@ err_faulty None heard g is = absurd cc
 err_faulty (Some f) heard g is = let same : f ≡ g = cc in ap Some same
 
 -- a fault stays, and so does an end
-fault_stays : (f : Option FrameFault) (last : HearingOf) (g : LinkFault) → last.fault ≡ Some g → (then_fault f last).fault ≡ Some g
+fault_stays : (f : Option FrameFault) (last : HearingOf) (g : LinkFault) → last.fault ≡ Some g
+    → (then_fault f last).fault ≡ Some g
 fault_stays None last g is = is
 fault_stays (Some f) last g is =
     let over : is_over last ≡ true = ap (λ (x : Option LinkFault). is_over_by x last.heard.ended) is in
     ap (λ (b : Bool). (unless_over b last (with_fault (link_fault f) last)).fault) over ∙ is
 
-end_stays : (f : Option FrameFault) (last : HearingOf) (kind : ℕ) → last.fault ≡ None → last.heard.ended ≡ Some kind → then_fault f last ≡ last
+end_stays : (f : Option FrameFault) (last : HearingOf) (kind : ℕ) → last.fault ≡ None → last.heard.ended ≡ Some kind
+    → then_fault f last ≡ last
 end_stays None last kind none is = refl
 end_stays (Some f) last kind none is =
     let over : is_over last ≡ true =
@@ -63,11 +65,13 @@ end_stays (Some f) last kind none is =
     ap (λ (b : Bool). unless_over b last (with_fault (link_fault f) last)) over
 
 -- the fault of a length comes last
-length_fault : (f : FrameFault) (last : HearingOf) → is_over last ≡ false → (then_fault (Some f) last).fault ≡ Some (link_fault f)
+length_fault : (f : FrameFault) (last : HearingOf) → is_over last ≡ false
+    → (then_fault (Some f) last).fault ≡ Some (link_fault f)
 length_fault f last going = ap (λ (b : Bool). (unless_over b last (with_fault (link_fault f) last)).fault) going
 
 -- what is answered where nothing went wrong
-data Answered (checked : CheckedOf) (frames : List Frame) (f : Option FrameFault) (last : HearingOf) (ended : Option ℕ) : Type 0 where
+data Answered (checked : CheckedOf) (frames : List Frame) (f : Option FrameFault) (last : HearingOf)
+    (ended : Option ℕ) : Type 0 where
   Answered_on : f ≡ None → IsStartedBy checked frames last.started → ended ≡ None → Answered checked frames f last ended
   Answered_end : (kind : ℕ) → HasEnd frames kind → ended ≡ Some kind → Answered checked frames f last ended
 
@@ -75,7 +79,8 @@ some_is : (f : Option LinkFault) (g : LinkFault) → f ≡ Some g → f ≡ None
 some_is f g some none = let clash : Some g ≡ None = sym some ∙ none in cc
 
 module _ (checked : CheckedOf) (frames : List Frame) (reach : ℕ) (last : HearingOf) where
-  ok_on : (f : Option FrameFault) (told : Heard) → is_over last ≡ false → IsStartedBy checked frames last.started → answer_of (then_fault f last) ≡ Ok told
+  ok_on : (f : Option FrameFault) (told : Heard) → is_over last ≡ false → IsStartedBy checked frames last.started
+      → answer_of (then_fault f last) ≡ Ok told
       → Answered checked frames f last told.ended
   ok_on None told going started is =
       let same = (ok_faultless last.fault (heard_told last.heard) told is).1 in
@@ -84,10 +89,14 @@ module _ (checked : CheckedOf) (frames : List Frame) (reach : ℕ) (last : Heari
       absurd (some_is (then_fault (Some f) last).fault (link_fault f) (length_fault f last going)
       (ok_faultless (then_fault (Some f) last).fault (heard_told (then_fault (Some f) last).heard) told is).0)
 
-  wrong : (f : Option FrameFault) (told : Heard) (g : LinkFault) → last.fault ≡ Some g → answer_of (then_fault f last) ≡ Ok told → ⊥
-  wrong f told g some is = some_is (then_fault f last).fault g (fault_stays f last g some) (ok_faultless (then_fault f last).fault (heard_told (then_fault f last).heard) told is).0
+  wrong : (f : Option FrameFault) (told : Heard) (g : LinkFault) → last.fault ≡ Some g
+      → answer_of (then_fault f last) ≡ Ok told → ⊥
+  wrong f told g some is =
+      some_is (then_fault f last).fault g (fault_stays f last g some)
+      (ok_faultless (then_fault f last).fault (heard_told (then_fault f last).heard) told is).0
 
-  ok_comes : (f : Option FrameFault) (told : Heard) → Comes checked frames reach last → answer_of (then_fault f last) ≡ Ok told → Answered checked frames f last told.ended
+  ok_comes : (f : Option FrameFault) (told : Heard) → Comes checked frames reach last
+      → answer_of (then_fault f last) ≡ Ok told → Answered checked frames f last told.ended
   ok_comes f told (Comes_on going started) is = ok_on f told going started is
   ok_comes f told (Comes_bad g bad some) is = absurd (wrong f told g some is)
   ok_comes f told (Comes_refused state refused some) is = absurd (wrong f told (fault.BadStart state) some is)
@@ -115,27 +124,37 @@ module _ (checked : CheckedOf) (bytes : List ℕ) (reach : ℕ) (last : HearingO
   same_fault : (f : Option LinkFault) (one other : LinkFault) → f ≡ Some one → f ≡ Some other → one ≡ other
   same_fault f one other first second = let both : Some one ≡ Some other = sym first ∙ second in cc
 
-  err_on : (f : Option FrameFault) (g : LinkFault) → fault_in 65536 bytes ≡ f → is_over last ≡ false → (then_fault f last).fault ≡ Some g → HasFault checked bytes reach g
+  err_on : (f : Option FrameFault) (g : LinkFault) → fault_in 65536 bytes ≡ f → is_over last ≡ false
+      → (then_fault f last).fault ≡ Some g → HasFault checked bytes reach g
   err_on None g is going some = absurd (some_is last.fault g some (fault_over last.fault last.heard.ended going))
   err_on (Some f) g is going some =
-      subst (HasFault checked bytes reach) (same_fault (then_fault (Some f) last).fault (link_fault f) g (length_fault f last going) some) (by_length f is)
+      subst (HasFault checked bytes reach)
+          (same_fault (then_fault (Some f) last).fault (link_fault f) g (length_fault f last going) some)
+          (by_length f is)
 
-  err_comes : (f : Option FrameFault) (g : LinkFault) → fault_in 65536 bytes ≡ f → Comes checked (frames_in bytes) reach last → (then_fault f last).fault ≡ Some g
+  err_comes : (f : Option FrameFault) (g : LinkFault) → fault_in 65536 bytes ≡ f
+      → Comes checked (frames_in bytes) reach last → (then_fault f last).fault ≡ Some g
       → HasFault checked bytes reach g
   err_comes f g is (Comes_on going started) some = err_on f g is going some
   err_comes f g is (Comes_bad other bad fails) some =
-      subst (HasFault checked bytes reach) (same_fault (then_fault f last).fault other g (fault_stays f last other fails) some)
+      subst (HasFault checked bytes reach)
+          (same_fault (then_fault f last).fault other g (fault_stays f last other fails) some)
       (by_frame other (event_fault bad.frame other bad.fails) bad)
   err_comes f g is (Comes_refused state refused fails) some =
-      subst (HasFault checked bytes reach) (same_fault (then_fault f last).fault (fault.BadStart state) g (fault_stays f last (fault.BadStart state) fails) some) refused
+      subst (HasFault checked bytes reach)
+          (same_fault (then_fault f last).fault (fault.BadStart state) g
+          (fault_stays f last (fault.BadStart state) fails) some) refused
   err_comes f g is (Comes_ahead says fails) some =
-      subst (HasFault checked bytes reach) (same_fault (then_fault f last).fault fault.StatusAhead g (fault_stays f last fault.StatusAhead fails) some) says
+      subst (HasFault checked bytes reach)
+          (same_fault (then_fault f last).fault fault.StatusAhead g (fault_stays f last fault.StatusAhead fails) some)
+          says
   err_comes f g is (Comes_ended kind ends none so) some =
       absurd (some_is last.fault g (sym (ap (λ (x : HearingOf). x.fault) (end_stays f last kind none so)) ∙ some) none)
 
 -- ---- a piece
 
-module _ (bytes piece : List ℕ) (old new : Ear) (before after : Book) (sent : ℕ) (has : HasHeard (ear_checked old) bytes old) where
+module _ (bytes piece : List ℕ) (old new : Ear) (before after : Book) (sent : ℕ)
+    (has : HasHeard (ear_checked old) bytes old) where
   abbrev all : List ℕ
   all = bytes ++ piece
 
@@ -179,7 +198,8 @@ module _ (bytes piece : List ℕ) (old new : Ear) (before after : Book) (sent : 
   total_started : (ear_heard old before piece sent).started ≡ last.started
   total_started = fault_started (fault_of whole) last
 
-  hears_on : (heard : Heard) → HearsPiece old new before after piece sent (Ok heard) → heard.ended ≡ None → fault_of whole ≡ None
+  hears_on : (heard : Heard) → HearsPiece old new before after piece sent (Ok heard) → heard.ended ≡ None
+      → fault_of whole ≡ None
       → IsStartedBy (ear_checked old) (frames_in all) last.started → HasHeard (ear_checked old) all new
   hears_on heard left none good started =
       let opens : phase_after (Ok heard) ≡ phase.Open = ap phase_by none in
@@ -189,18 +209,22 @@ module _ (bytes piece : List ℕ) (old new : Ear) (before after : Book) (sent : 
         phase_is = left.phase_is ∙ opens;
         held = ap (λ i. i.bytes) rests ∙ sym (ap rest_of cut_is ∙ rest_after (frames_in bytes) whole);
         good = all_fault ∙ good;
-        started = subst (IsStartedBy (ear_checked old) (frames_in all)) (sym (left.leaves.started ∙ total_started)) started;
+        started = subst (IsStartedBy (ear_checked old) (frames_in all)) (sym (left.leaves.started ∙ total_started))
+            started;
       }
 
-  ok_explained : (heard : Heard) → HearsPiece old new before after piece sent (Ok heard) → Answered (ear_checked old) (frames_in all) (fault_of whole) last heard.ended
+  ok_explained : (heard : Heard) → HearsPiece old new before after piece sent (Ok heard)
+      → Answered (ear_checked old) (frames_in all) (fault_of whole) last heard.ended
       → GoesOnOrEnds (ear_checked old) all new heard.ended
   ok_explained heard left (Answered_on good started none) =
       subst (GoesOnOrEnds (ear_checked old) all new) (sym none) (hears_on heard left none good started)
   ok_explained heard left (Answered_end kind ends some) = subst (GoesOnOrEnds (ear_checked old) all new) (sym some) ends
 
   -- all of the piece was heard
-  by_whole : ear_started new ≡ last.started → (result : Result Heard LinkFault) → TellsStart (ear_started old) (ear_started new) result
-      → Explains (ear_checked old) all new (reach_of old new before sent) result → HasHeardOn (ear_checked old) all old new before sent result
+  by_whole : ear_started new ≡ last.started → (result : Result Heard LinkFault)
+      → TellsStart (ear_started old) (ear_started new) result
+      → Explains (ear_checked old) all new (reach_of old new before sent) result
+      → HasHeardOn (ear_checked old) all old new before sent result
   by_whole is result tells explains = record {
     stays = λ s so. is ∙ frames_started served start (frames_of whole) s so;
     asks = subst (AsksIfStarted (ear_checked old) (frames_in all)) (sym is) ran.asks;
@@ -219,7 +243,8 @@ module _ (bytes piece : List ℕ) (old new : Ear) (before after : Book) (sent : 
   reach_is : ear_started new ≡ last.started → reached last.started ≡ reach_of old new before sent
   reach_is is = ap reached (sym is)
 
-  err_whole : (g : LinkFault) → Leaves old.session new.session before after (ear_heard old before piece sent) → answer_of (ear_heard old before piece sent) ≡ Err g
+  err_whole : (g : LinkFault) → Leaves old.session new.session before after (ear_heard old before piece sent)
+      → answer_of (ear_heard old before piece sent) ≡ Err g
       → HasHeardOn (ear_checked old) all old new before sent (Err g)
   err_whole g leaves is =
       let same : ear_started new ≡ last.started = leaves.started ∙ total_started in
@@ -230,15 +255,19 @@ module _ (bytes piece : List ℕ) (old new : Ear) (before after : Book) (sent : 
       (err_comes (ear_checked old) all (reached last.started) last (fault_of whole) g all_fault ran.comes some))
 
   -- memory was refused after some first frames
-  err_memory : (count : ℕ) × Leaves old.session new.session before after (part_heard count old.session before old.frames piece sent)
+  err_memory : (count : ℕ)
+      × Leaves old.session new.session before after (part_heard count old.session before old.frames piece sent)
       → HasHeardOn (ear_checked old) all old new before sent (Err fault.OutOfMemory)
   err_memory (count, leaves) =
       let some : List Frame = take count (frames_of whole) in
-      let part : Ran (ear_checked old) (frames_in bytes ++ some) (reached (frames_heard served start some).started) (frames_heard served start some) =
+      let part : Ran (ear_checked old) (frames_in bytes ++ some) (reached (frames_heard served start some).started)
+          (frames_heard served start some) =
       runs_on served (frames_in bytes) some start refl has.started in
       let left : List Frame = drop count (frames_of whole) in
       let split : (frames_in bytes ++ some) ++ left ≡ frames_in all =
-      append_assoc (frames_in bytes) some left ∙ ap (λ (x : List Frame). frames_in bytes ++ x) (take-append-drop count (frames_of whole)) ∙ sym all_frames in
+      append_assoc (frames_in bytes) some left
+          ∙ ap (λ (x : List Frame). frames_in bytes ++ x) (take-append-drop count (frames_of whole))
+          ∙ sym all_frames in
       record {
         stays = λ s so. leaves.started ∙ frames_started served start some s so;
         asks =
@@ -249,11 +278,15 @@ module _ (bytes piece : List ℕ) (old new : Ear) (before after : Book) (sent : 
         explains = tt;
       }
 
-  by_result : (result : Result Heard LinkFault) → Answers (λ heard. heard) told_fault (answer_of (ear_heard old before piece sent)) result
+  by_result : (result : Result Heard LinkFault)
+      → Answers (λ heard. heard) told_fault (answer_of (ear_heard old before piece sent)) result
       → HearsPiece old new before after piece sent result → HasHeardOn (ear_checked old) all old new before sent result
   by_result (Ok heard) is left =
-      by_whole (left.leaves.started ∙ total_started) (Ok heard) (ok_tells heard (left.leaves.started ∙ total_started) is)
-      (ok_explained heard left (ok_comes (ear_checked old) (frames_in all) (reached last.started) last (fault_of whole) heard ran.comes is))
+      by_whole (left.leaves.started ∙ total_started) (Ok heard)
+          (ok_tells heard (left.leaves.started ∙ total_started) is)
+      (ok_explained heard left
+          (ok_comes (ear_checked old) (frames_in all) (reached last.started) last (fault_of whole) heard ran.comes
+          is))
   by_result (Err fault.OutOfMemory) is left = err_memory left.leaves
   by_result (Err fault.FrameTooLong) is left = err_whole fault.FrameTooLong left.leaves is
   by_result (Err fault.BadLength) is left = err_whole fault.BadLength left.leaves is
@@ -264,10 +297,12 @@ module _ (bytes piece : List ℕ) (old new : Ear) (before after : Book) (sent : 
 
 pub pieces_are_heard : PiecesAreHeard
 pieces_are_heard checked bytes piece old new before after sent result has answer left =
-    let Goal : CheckedOf → Type 0 = λ k. HasHeard k bytes old → HasHeardOn k (bytes ++ piece) old new before sent result in
+    let Goal : CheckedOf → Type 0 = λ k. HasHeard k bytes old
+        → HasHeardOn k (bytes ++ piece) old new before sent result in
     let own : Goal (ear_checked old) = λ known.
     by_result bytes piece old new before after sent known result
-    (subst (λ p. Answers (λ heard. heard) told_fault (answer_in p (ear_heard old before piece sent)) result) known.phase_is answer)
+    (subst (λ p. Answers (λ heard. heard) told_fault (answer_in p (ear_heard old before piece sent)) result)
+        known.phase_is answer)
     (subst (λ p. HearLeaves p old new before after piece sent result) known.phase_is left) in
     subst Goal has.checked_is own has
 

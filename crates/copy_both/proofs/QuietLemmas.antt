@@ -23,16 +23,20 @@ quiet_if : (b : Bool) (h one other : HearingOf) → IsQuiet h one → IsQuiet h 
 quiet_if true h one other first second none = first none
 quiet_if false h one other first second none = second none
 
-quiet_confirmed : (b : Bool) (slot : ℕ) (status : Status) (h : HearingOf) → (confirmed_by b slot status h).response ≡ h.response
+quiet_confirmed : (b : Bool) (slot : ℕ) (status : Status) (h : HearingOf)
+    → (confirmed_by b slot status h).response ≡ h.response
 quiet_confirmed true slot status h = refl
 quiet_confirmed false slot status h = refl
 
-quiet_event : (served : Served) (slot : ℕ) (e : Result Event LinkFault) (h : HearingOf) → (event_heard served slot e h).response ≡ h.response
+quiet_event : (served : Served) (slot : ℕ) (e : Result Event LinkFault) (h : HearingOf)
+    → (event_heard served slot e h).response ≡ h.response
 quiet_event served slot (Err fault) h = refl
 quiet_event served slot (Ok (event.End kind)) h = refl
-quiet_event served slot (Ok (event.Status status)) h = quiet_confirmed (nat_lt (min h.sent (end_after served.commits)) status.flushed) slot status h
+quiet_event served slot (Ok (event.Status status)) h =
+    quiet_confirmed (nat_lt (min h.sent (end_after served.commits)) status.flushed) slot status h
 
-quiet_next : (served : Served) (frame : Frame) (started : Option (ℕ × ℕ)) (h : HearingOf) → IsQuiet h (next_heard served frame started h)
+quiet_next : (served : Served) (frame : Frame) (started : Option (ℕ × ℕ)) (h : HearingOf)
+    → IsQuiet h (next_heard served frame started h)
 quiet_next served frame None h =
     quiet_if (frame.kind == 88) h (ended_by 88 h) (begun (begin_of served h.slots frame.kind frame.body) h)
     (λ none. refl) (quiet_begun (begin_of served h.slots frame.kind frame.body) h)
@@ -43,10 +47,12 @@ quiet_over true h next quiet none = refl
 quiet_over false h next quiet none = quiet none
 
 pub quiet_frame : (served : Served) (h : HearingOf) (frame : Frame) → IsQuiet h (frame_heard served h frame)
-quiet_frame served h frame = quiet_over (is_over h) h (next_heard served frame h.started h) (quiet_next served frame h.started h)
+quiet_frame served h frame =
+    quiet_over (is_over h) h (next_heard served frame h.started h) (quiet_next served frame h.started h)
 
 -- a fault stays
-before_by : (f : Option LinkFault) (served : Served) (h : HearingOf) (frames : List Frame) → h.fault ≡ f → (frames_heard served h frames).fault ≡ None → h.fault ≡ None
+before_by : (f : Option LinkFault) (served : Served) (h : HearingOf) (frames : List Frame) → h.fault ≡ f
+    → (frames_heard served h frames).fault ≡ None → h.fault ≡ None
 before_by None served h frames is none = is
 before_by (Some f) served h frames is none =
     let over : is_over h ≡ true = ap (λ (x : Option LinkFault). is_over_by x h.heard.ended) is in
@@ -57,9 +63,11 @@ unfolding frames_heard
 quiet_frames served h [] none = refl
 quiet_frames served h (frame ∷ frames) none =
     quiet_frames served (frame_heard served h frame) frames none
-    ∙ quiet_frame served h frame (before_by (frame_heard served h frame).fault served (frame_heard served h frame) frames refl none)
+    ∙ quiet_frame served h frame
+        (before_by (frame_heard served h frame).fault served (frame_heard served h frame) frames refl none)
 
-pub quiet_after : (served : Served) (start now : HearingOf) (frames : List Frame) → now ≡ frames_heard served start frames → now.fault ≡ None → now.response ≡ start.response
+pub quiet_after : (served : Served) (start now : HearingOf) (frames : List Frame)
+    → now ≡ frames_heard served start frames → now.fault ≡ None → now.response ≡ start.response
 quiet_after served start now frames is none =
     ap (λ (h : HearingOf). h.response) is
     ∙ quiet_frames served start frames (sym (ap (λ (h : HearingOf). h.fault) is) ∙ none)

@@ -14,15 +14,18 @@ concat_one xs = append-nil xs
 
 concat_more : (n : ℕ) (k : List ℕ) → concat (replicate (n + 1) k) ≡ concat (replicate n k) ++ k
 concat_more n k =
-    ap concat (sym (replicate_more n k)) ∙ concat-append (replicate n k) (k ∷ []) ∙ ap (λ (x : List ℕ). concat (replicate n k) ++ x) (concat_one k)
+    ap concat (sym (replicate_more n k)) ∙ concat-append (replicate n k) (k ∷ [])
+        ∙ ap (λ (x : List ℕ). concat (replicate n k) ++ x) (concat_one k)
 
 -- ---- keepalives
 
 pub no_replies : (voice : Voice) (k : List ℕ) → Says voice voice (concat (replicate 0 k)) (voice_stage voice)
 no_replies voice k = record { checked = refl; stage_is = refl; output = sym (append-nil (voice_output voice)) }
 
-pub one_reply : (first now next : Voice) (stage : StageOf) (clock n : ℕ) → Says first now (concat (replies stage n clock)) stage
-    → Says now next (kept_bytes (voice_stage now) clock false) (voice_stage now) → Says first next (concat (replies stage (n + 1) clock)) stage
+pub one_reply : (first now next : Voice) (stage : StageOf) (clock n : ℕ)
+    → Says first now (concat (replies stage n clock)) stage
+    → Says now next (kept_bytes (voice_stage now) clock false) (voice_stage now)
+    → Says first next (concat (replies stage (n + 1) clock)) stage
 one_reply first now next stage clock n so_far says =
     let k : List ℕ = kept_bytes stage clock false in
     record {
@@ -36,7 +39,8 @@ one_reply first now next stage clock n so_far says =
           ∙ ap (λ (x : List ℕ). voice_output first ++ x) (sym (concat_more n k));
     }
 
-pub reply_fails : (first now next : Voice) (stage : StageOf) (clock n count : ℕ) → Says first now (concat (replies stage n clock)) stage
+pub reply_fails : (first now next : Voice) (stage : StageOf) (clock n count : ℕ)
+    → Says first now (concat (replies stage n clock)) stage
     → Closes now next → n ≤ count → SaysFirst first next (replies stage count clock)
 reply_fails first now next stage clock n count so_far closes few =
     let k : List ℕ = kept_bytes stage clock false in
@@ -66,7 +70,8 @@ joined first opening closing between =
     ∙ ap (λ (x : List ℕ). first ++ (opening ++ x)) (sym (concat-append between (closing ∷ [])))
 
 pub all_said : (first opened replied last : Voice) (started : Option (ℕ × ℕ)) (heard : HeardOf) (clock : ℕ)
-    → Says first opened (opening (voice_stage first) started) (begun_stage (voice_checked first) (voice_stage first) started)
+    → Says first opened (opening (voice_stage first) started)
+        (begun_stage (voice_checked first) (voice_stage first) started)
     → Says opened replied (concat (replies (voice_stage opened) heard.replies clock)) (voice_stage opened)
     → Says replied last (closing (voice_stage replied) heard.ended) (ended_stage heard.ended (voice_stage replied))
     → Says first last (concat (frames_by (voice_checked first) (voice_stage first) started heard clock))
@@ -81,9 +86,12 @@ all_said first opened replied last started heard clock opens answers ends =
           ends.output
           ∙ ap (λ (s : StageOf). voice_output replied ++ closing s heard.ended) after
           ∙ ap (λ (x : List ℕ). x ++ closing begun heard.ended) answers.output
-          ∙ ap (λ (s : StageOf). (voice_output opened ++ concat (replies s heard.replies clock)) ++ closing begun heard.ended) opens.stage_is
-          ∙ ap (λ (x : List ℕ). (x ++ concat (replies begun heard.replies clock)) ++ closing begun heard.ended) opens.output
-          ∙ joined (voice_output first) (opening (voice_stage first) started) (closing begun heard.ended) (replies begun heard.replies clock);
+          ∙ ap (λ (s : StageOf). (voice_output opened ++ concat (replies s heard.replies clock))
+              ++ closing begun heard.ended) opens.stage_is
+          ∙ ap (λ (x : List ℕ). (x ++ concat (replies begun heard.replies clock)) ++ closing begun heard.ended)
+              opens.output
+          ∙ joined (voice_output first) (opening (voice_stage first) started) (closing begun heard.ended)
+              (replies begun heard.replies clock);
     }
 
 pub not_opened : (first opened : Voice) (frames : List (List ℕ)) → Closes first opened → SaysFirst first opened frames
@@ -91,11 +99,13 @@ not_opened first opened frames closes = record {
   said = [];
   others = frames;
   all = refl;
-  says = record { checked = closes.checked; stage_is = closes.stage_is; output = closes.output ∙ sym (append-nil (voice_output first)) };
+  says = record { checked = closes.checked; stage_is = closes.stage_is; output = closes.output
+      ∙ sym (append-nil (voice_output first)) };
 }
 
 pub not_replied : (first opened replied : Voice) (started : Option (ℕ × ℕ)) (heard : HeardOf) (clock : ℕ)
-    → Says first opened (opening (voice_stage first) started) (begun_stage (voice_checked first) (voice_stage first) started)
+    → Says first opened (opening (voice_stage first) started)
+        (begun_stage (voice_checked first) (voice_stage first) started)
     → SaysFirst opened replied (replies (voice_stage opened) heard.replies clock)
     → SaysFirst first replied (frames_by (voice_checked first) (voice_stage first) started heard clock)
 not_replied first opened replied started heard clock opens some =
@@ -119,8 +129,10 @@ not_replied first opened replied started heard clock opens some =
     }
 
 pub not_ended : (first opened replied last : Voice) (started : Option (ℕ × ℕ)) (heard : HeardOf) (clock : ℕ)
-    → Says first opened (opening (voice_stage first) started) (begun_stage (voice_checked first) (voice_stage first) started)
-    → Says opened replied (concat (replies (voice_stage opened) heard.replies clock)) (voice_stage opened) → Closes replied last
+    → Says first opened (opening (voice_stage first) started)
+        (begun_stage (voice_checked first) (voice_stage first) started)
+    → Says opened replied (concat (replies (voice_stage opened) heard.replies clock)) (voice_stage opened)
+    → Closes replied last
     → SaysFirst first last (frames_by (voice_checked first) (voice_stage first) started heard clock)
 not_ended first opened replied last started heard clock opens answers closes =
     let begun : StageOf = begun_stage (voice_checked first) (voice_stage first) started in

@@ -22,7 +22,8 @@ use Rattle.copy_both.specs.Tellings.{telling_of}
 -- ---- entries of a log
 
 entry_of : Setting → Tables → ℕ → Transaction → CommitOf
-entry_of setting tables number transaction = commit_of number transaction.time (record_of setting tables transaction.commands)
+entry_of setting tables number transaction =
+    commit_of number transaction.time (record_of setting tables transaction.commands)
 
 at_first : (number : ℕ) → number ≡ number + 0
 at_first number = omega arith
@@ -36,23 +37,28 @@ numbered setting tables found one other same = ap (λ number. option_map (entry_
 
 entry_there : (setting : Setting) (tables : Tables) (number : ℕ) (transactions : List Transaction) (place : ℕ)
     → slice_get (entries_from setting tables number transactions) place
-    ≡ option_map (entry_of setting (fold (left_by setting) tables (take place transactions)) (number + place)) (slice_get transactions place)
+    ≡ option_map (entry_of setting (fold (left_by setting) tables (take place transactions)) (number + place))
+        (slice_get transactions place)
 unfolding entry_of
 entry_there setting tables number [] place = refl
-entry_there setting tables number (transaction ∷ transactions) zero = numbered setting tables (Some transaction) number (number + 0) (at_first number)
+entry_there setting tables number (transaction ∷ transactions) zero =
+    numbered setting tables (Some transaction) number (number + 0) (at_first number)
 entry_there setting tables number (transaction ∷ transactions) (suc place) =
     entry_there setting (left_by setting tables transaction) (number + 1) transactions place
-    ∙ numbered setting (fold (left_by setting) (left_by setting tables transaction) (take place transactions)) (slice_get transactions place) (number + 1 + place) (number + suc place)
+    ∙ numbered setting (fold (left_by setting) (left_by setting tables transaction) (take place transactions))
+        (slice_get transactions place) (number + 1 + place) (number + suc place)
     (at_later number place)
 
 first_is : (one other : Transaction) → Some one ≡ Some other → one ≡ other
 first_is one other h = cc
 
-accepted_there : (setting : Setting) (tables : Tables) (transactions : List Transaction) (place : ℕ) (transaction : Transaction)
+accepted_there : (setting : Setting) (tables : Tables) (transactions : List Transaction) (place : ℕ)
+    (transaction : Transaction)
     → AreAccepted setting tables transactions → slice_get transactions place ≡ Some transaction
     → IsAccepted setting (fold (left_by setting) tables (take place transactions)) transaction
 accepted_there setting tables [] place transaction accepted h = absurd cc
-accepted_there setting tables (first ∷ transactions) zero transaction accepted h = subst (IsAccepted setting tables) (first_is first transaction h) accepted.0
+accepted_there setting tables (first ∷ transactions) zero transaction accepted h =
+    subst (IsAccepted setting tables) (first_is first transaction h) accepted.0
 accepted_there setting tables (first ∷ transactions) (suc place) transaction accepted h =
     accepted_there setting (left_by setting tables first) transactions place transaction accepted.1 h
 
@@ -63,12 +69,14 @@ none_named zero number = refl
 none_named (suc tables) zero = refl
 none_named (suc tables) (suc number) = none_named tables number
 
-module _ (checked : CheckedOf) (covered : Covered (setting_in checked)) (transactions : List Transaction) (accepted : AreAccepted (setting_in checked) no_rows transactions) (subscriber : ℕ) where
+module _ (checked : CheckedOf) (covered : Covered (setting_in checked)) (transactions : List Transaction)
+    (accepted : AreAccepted (setting_in checked) no_rows transactions) (subscriber : ℕ) where
   abbrev log : List CommitOf
   log = entries_from (setting_in checked) no_rows 1 transactions
 
   abbrev entry : ℕ → Transaction → CommitOf
-  entry done transaction = entry_of (setting_in checked) (after (setting_in checked) (take done transactions)) (done + 1) transaction
+  entry done transaction =
+      entry_of (setting_in checked) (after (setting_in checked) (take done transactions)) (done + 1) transaction
 
   -- the same place, where these flags say which tables were told of
   abbrev place_by : Reached → List Bool → Place
@@ -77,13 +85,17 @@ module _ (checked : CheckedOf) (covered : Covered (setting_in checked)) (transac
   entry_after : (done : ℕ) → slice_get log done ≡ option_map (entry done) (slice_get transactions done)
   entry_after done =
       entry_there (setting_in checked) no_rows 1 transactions done
-      ∙ numbered (setting_in checked) (after (setting_in checked) (take done transactions)) (slice_get transactions done) (1 + done) (done + 1) (omega arith)
+      ∙ numbered (setting_in checked) (after (setting_in checked) (take done transactions))
+          (slice_get transactions done) (1 + done) (done + 1) (omega arith)
 
-  tells : (at : Reached) (told : List Bool) (transaction : Transaction) → AreNamed checked.catalog.tables told at.named → slice_get transactions at.done ≡ Some transaction
-      → TellsTransaction checked subscriber told at.named (entry at.done transaction) (seen_next checked transactions subscriber at.done transaction)
+  tells : (at : Reached) (told : List Bool) (transaction : Transaction)
+      → AreNamed checked.catalog.tables told at.named → slice_get transactions at.done ≡ Some transaction
+      → TellsTransaction checked subscriber told at.named (entry at.done transaction)
+          (seen_next checked transactions subscriber at.done transaction)
   unfolding entry_of
   tells at told transaction named there =
-      commits_tell_transactions checked covered subscriber told at.named named (entry at.done transaction) (after (setting_in checked) (take at.done transactions)) 1 transaction.commands
+      commits_tell_transactions checked covered subscriber told at.named named (entry at.done transaction)
+          (after (setting_in checked) (take at.done transactions)) 1 transaction.commands
       (accepted_there (setting_in checked) no_rows transactions at.done transaction accepted there).no_fault refl
 
   -- the flags after the next transaction
@@ -91,12 +103,15 @@ module _ (checked : CheckedOf) (covered : Covered (setting_in checked)) (transac
   told_next told at None = told
   told_next told at (Some transaction) = told_after checked subscriber told (entry at.done transaction)
 
-  bytes_next : (at : Reached) (told : List Bool) (found : Option Transaction) (clock : ℕ) → AreNamed checked.catalog.tables told at.named → slice_get transactions at.done ≡ found
-      → taken_bytes (telling_of checked) (place_by at told) (option_map (entry at.done) found) clock ≡ next_told checked transactions subscriber at found clock
+  bytes_next : (at : Reached) (told : List Bool) (found : Option Transaction) (clock : ℕ)
+      → AreNamed checked.catalog.tables told at.named → slice_get transactions at.done ≡ found
+      → taken_bytes (telling_of checked) (place_by at told) (option_map (entry at.done) found) clock
+          ≡ next_told checked transactions subscriber at found clock
   unfolding entry_of
   bytes_next at told None clock named there = refl
   bytes_next at told (Some transaction) clock named there =
-      ap (λ (messages : List Msg). flat_map (sent_at (lsn_of (at.done + 1)) clock) (map spelling_of messages)) (tells at told transaction named there).messages
+      ap (λ (messages : List Msg). flat_map (sent_at (lsn_of (at.done + 1)) clock) (map spelling_of messages))
+          (tells at told transaction named there).messages
 
   place_next : (at : Reached) (told : List Bool) (found : Option Transaction)
       → taken_place (telling_of checked) (place_by at told) (option_map (entry at.done) found)
@@ -105,26 +120,35 @@ module _ (checked : CheckedOf) (covered : Covered (setting_in checked)) (transac
   place_next at told None = refl
   place_next at told (Some transaction) = refl
 
-  named_next : (at : Reached) (told : List Bool) (found : Option Transaction) → AreNamed checked.catalog.tables told at.named → slice_get transactions at.done ≡ found
-      → AreNamed checked.catalog.tables (told_next told at found) (reached_next checked transactions subscriber at found).named
+  named_next : (at : Reached) (told : List Bool) (found : Option Transaction)
+      → AreNamed checked.catalog.tables told at.named → slice_get transactions at.done ≡ found
+      → AreNamed checked.catalog.tables (told_next told at found)
+          (reached_next checked transactions subscriber at found).named
   unfolding told_next
   named_next at told None named there = named
   named_next at told (Some transaction) named there = (tells at told transaction named there).named_after
 
   moves_as : (at : Reached) (told : List Bool) → AreNamed checked.catalog.tables told at.named → (moves : List Move)
-      → all_bytes (telling_of checked) log (place_by at told) moves ≡ moves_told checked transactions subscriber at moves
+      → all_bytes (telling_of checked) log (place_by at told) moves
+          ≡ moves_told checked transactions subscriber at moves
   moves_as at told named [] = refl
   moves_as at told named (Take clock ∷ moves) =
       let found = slice_get transactions at.done in
       let next = reached_next checked transactions subscriber at found in
-      ap (λ (one : Option CommitOf). taken_bytes (telling_of checked) (place_by at told) one clock ++ all_bytes (telling_of checked) log (taken_place (telling_of checked) (place_by at told) one) moves)
+      ap (λ (one : Option CommitOf). taken_bytes (telling_of checked) (place_by at told) one clock
+          ++ all_bytes (telling_of checked) log (taken_place (telling_of checked) (place_by at told) one) moves)
       (entry_after at.done)
-      ∙ ap (λ (place : Place). taken_bytes (telling_of checked) (place_by at told) (option_map (entry at.done) found) clock ++ all_bytes (telling_of checked) log place moves)
+      ∙ ap (λ (place : Place). taken_bytes (telling_of checked) (place_by at told) (option_map (entry at.done) found)
+          clock ++ all_bytes (telling_of checked) log place moves)
       (place_next at told found)
-      ∙ ap (λ (bytes : List ℕ). bytes ++ all_bytes (telling_of checked) log (place_by next (told_next told at found)) moves) (bytes_next at told found clock named refl)
-      ∙ ap (λ (bytes : List ℕ). next_told checked transactions subscriber at found clock ++ bytes) (moves_as next (told_next told at found) (named_next at told found named refl) moves)
+      ∙ ap (λ (bytes : List ℕ). bytes
+          ++ all_bytes (telling_of checked) log (place_by next (told_next told at found)) moves)
+          (bytes_next at told found clock named refl)
+      ∙ ap (λ (bytes : List ℕ). next_told checked transactions subscriber at found clock ++ bytes)
+          (moves_as next (told_next told at found) (named_next at told found named refl) moves)
   moves_as at told named (Keep clock want ∷ moves) =
-      ap (λ (bytes : List ℕ). move_told checked transactions subscriber at (Keep clock want) ++ bytes) (moves_as at told named moves)
+      ap (λ (bytes : List ℕ). move_told checked transactions subscriber at (Keep clock want) ++ bytes)
+          (moves_as at told named moves)
 
 -- ---- the law
 

@@ -12,4 +12,5 @@ pub is_text : (bytes : List ℕ) → IsUtf8 bytes → utf8_text bytes ≡ Some b
 is_text bytes utf8 = rw (is_utf8-from_IsUtf8 bytes utf8) refl
 
 pub is_no_text : (bytes : List ℕ) → ¬ IsUtf8 bytes → utf8_text bytes ≡ None
-is_no_text bytes not_utf8 = by_test (is_utf8 bytes) (λ e. absurd (not_utf8 (IsUtf8-from_is_utf8 bytes e))) (λ e. rw e refl)
+is_no_text bytes not_utf8 =
+    by_test (is_utf8 bytes) (λ e. absurd (not_utf8 (IsUtf8-from_is_utf8 bytes e))) (λ e. rw e refl)

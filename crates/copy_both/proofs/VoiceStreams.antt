@@ -16,18 +16,21 @@ use Rattle.copy_both.proofs.StreamLemmas.{starts, takes, keeps, passes}
 
 -- ---- one commit more
 
-first_ones : (log : List CommitOf) (place : ℕ) (commits : List CommitOf) (commit : CommitOf) → AreAt log place (commits ++ commit ∷ []) → AreAt log place commits
+first_ones : (log : List CommitOf) (place : ℕ) (commits : List CommitOf) (commit : CommitOf)
+    → AreAt log place (commits ++ commit ∷ []) → AreAt log place commits
 first_ones log place [] commit are = tt
 first_ones log place (first ∷ commits) commit are = (are.0, first_ones log (suc place) commits commit are.1)
 
-last_one : (log : List CommitOf) (place : ℕ) (commits : List CommitOf) (commit : CommitOf) → AreAt log place (commits ++ commit ∷ [])
+last_one : (log : List CommitOf) (place : ℕ) (commits : List CommitOf) (commit : CommitOf)
+    → AreAt log place (commits ++ commit ∷ [])
     → slice_get log (place + length commits) ≡ Some commit
 last_one log place [] commit are = let same : place + 0 ≡ place = omega arith in ap (slice_get log) same ∙ are.0
 last_one log place (first ∷ commits) commit are =
     let same : place + suc (length commits) ≡ suc place + length commits = omega arith in
     ap (slice_get log) same ∙ last_one log (suc place) commits commit are.1
 
-follow_on : (count : ℕ) (commits : List CommitOf) (commit : CommitOf) → Follow count commits → commit.number ≡ suc (count + length commits)
+follow_on : (count : ℕ) (commits : List CommitOf) (commit : CommitOf) → Follow count commits
+    → commit.number ≡ suc (count + length commits)
     → Follow count (commits ++ commit ∷ [])
 follow_on count [] commit follow is = let same : suc (count + 0) ≡ suc count = omega arith in (is ∙ same, tt)
 follow_on count (first ∷ commits) commit follow is =
@@ -60,7 +63,8 @@ voice_starts old new slot position waits silent says = record {
   speaks = λ log are.
       let start : Start = started_at (voice_checked old) (slot, position) in
       subst (λ (o : List ℕ). Speaks (telling_of (voice_checked old)) log start [] [] o (first_place start))
-      (sym (says.output ∙ ap (λ (o : List ℕ). o ++ copy_both_response) silent)) (starts (telling_of (voice_checked old)) log start);
+      (sym (says.output ∙ ap (λ (o : List ℕ). o ++ copy_both_response) silent))
+          (starts (telling_of (voice_checked old)) log start);
 }
 
 pub voice_takes : VoiceTakes
@@ -71,7 +75,8 @@ voice_takes old new told commit clock telling number says =
     says.stage_is ∙ ap (λ (s : StageOf). entry_stage (voice_checked old) s commit) telling.stage_is
     ∙ ap (λ (k : CheckedOf). voices.Started (place_after (telling_of k) place commit)) telling.checked_is in
     let output_is : voice_output new ≡ voice_output old ++ take_bytes telling_is place commit clock =
-    says.output ∙ ap (λ (s : StageOf). voice_output old ++ entry_bytes (voice_checked old) s commit clock) telling.stage_is
+    says.output ∙ ap (λ (s : StageOf). voice_output old ++ entry_bytes (voice_checked old) s commit clock)
+        telling.stage_is
     ∙ ap (λ (k : CheckedOf). voice_output old ++ take_bytes (telling_of k) place commit clock) telling.checked_is in
     record {
       checked_is = says.checked ∙ telling.checked_is;
@@ -81,8 +86,10 @@ voice_takes old new told commit clock telling number says =
       follow = follow_on (first_of told) told.taken commit telling.follow number;
       takes = takes_more told.moves clock ∙ ap suc telling.takes ∙ sym (length-push told.taken commit);
       speaks = λ log are.
-          let found : slice_get log place.done ≡ Some commit = ap (slice_get log) telling.done ∙ last_one log (first_of told) told.taken commit are in
-          subst (λ (o : List ℕ). Speaks telling_is log told.start (told.moves ++ Take clock ∷ []) told.passed o (place_after telling_is place commit)) (sym output_is)
+          let found : slice_get log place.done ≡ Some commit = ap (slice_get log) telling.done
+              ∙ last_one log (first_of told) told.taken commit are in
+          subst (λ (o : List ℕ). Speaks telling_is log told.start (told.moves ++ Take clock ∷ []) told.passed o
+              (place_after telling_is place commit)) (sym output_is)
           (takes telling_is log told.start told.moves told.passed (voice_output old) place commit clock
           (telling.speaks log (first_ones log (first_of told) told.taken commit are)) found);
     }
@@ -100,8 +107,10 @@ voice_keeps old new told clock want telling says =
       follow = telling.follow;
       takes = takes_kept told.moves clock want ∙ telling.takes;
       speaks = λ log are.
-          subst (λ (o : List ℕ). Speaks (telling_of told.checked) log told.start (told.moves ++ Keep clock want ∷ []) told.passed o place) (sym output_is)
-          (keeps (telling_of told.checked) log told.start told.moves told.passed (voice_output old) place clock want (telling.speaks log are));
+          subst (λ (o : List ℕ). Speaks (telling_of told.checked) log told.start (told.moves ++ Keep clock want ∷ [])
+              told.passed o place) (sym output_is)
+          (keeps (telling_of told.checked) log told.start told.moves told.passed (voice_output old) place clock want
+              (telling.speaks log are));
     }
 
 pub voice_passes_on : VoicePassesOn
@@ -113,9 +122,11 @@ voice_passes_on old new told count telling passed = record {
   follow = telling.follow;
   takes = telling.takes;
   speaks = λ log are.
-      subst (λ (o : List ℕ). Speaks (telling_of told.checked) log told.start told.moves (told.passed ++ take count (voice_output old)) o telling.place)
+      subst (λ (o : List ℕ). Speaks (telling_of told.checked) log told.start told.moves
+          (told.passed ++ take count (voice_output old)) o telling.place)
       (sym passed.output)
-      (passes (telling_of told.checked) log told.start told.moves told.passed (voice_output old) telling.place count (telling.speaks log are));
+      (passes (telling_of told.checked) log told.start told.moves told.passed (voice_output old) telling.place count
+          (telling.speaks log are));
 }
 
 -- ---- the end
@@ -138,7 +149,8 @@ voice_stops old new told telling closes = record {
   takes = telling.takes;
   bytes = λ log are.
       ap (λ (x : List ℕ). told.passed ++ x) closes.output ∙ (telling.speaks log are).bytes
-      ∙ sym (append-nil (stream (telling_of told.checked) log told.start.slot told.start.tables told.start.position told.moves));
+      ∙ sym (append-nil (stream (telling_of told.checked) log told.start.slot told.start.tables told.start.position
+          told.moves));
 }
 
 pub rest_passes_on : RestPassesOn

@@ -1,4 +1,5 @@
--- The text of a command that starts a stream from a logical slot: `START_REPLICATION SLOT name LOGICAL X/X [( option [value] , .. )] [;]` ("55.4. Streaming Replication Protocol"), with keywords in any case.
+-- The text of a command that starts a stream from a logical slot: `START_REPLICATION SLOT name LOGICAL X/X [( option
+-- [value] , .. )] [;]` ("55.4. Streaming Replication Protocol"), with keywords in any case.
 use Rattle.std.specs.Prelude.{ℕ, ◌+◌, ◌&&◌, Bool, true, false, if◌then◌else◌, List, [], ◌∷◌, take, drop, position, Option, Some, None, codes}
 use Rattle.copy_both.specs.declared.start_command.StartCommand.{StartCommand}
 use Rattle.copy_both.specs.declared.start_command.StartOption.{StartOption}
@@ -39,19 +40,22 @@ options_in (Open ∷ tokens) = listed_options tokens
 options_in tokens = no_options tokens
 
 abbrev pub command_with : Option (List ℕ) → Option ℕ → Option (List StartOption) → Option StartCommand
-command_with (Some slot) (Some position) (Some options) = Some (record { slot = slot; position = position; options = options })
+command_with (Some slot) (Some position) (Some options) =
+    Some (record { slot = slot; position = position; options = options })
 command_with (Some slot) (Some position) None = None
 command_with (Some slot) None options = None
 command_with None position options = None
 
 abbrev pub has_keywords : Token → Token → Token → Bool
 has_keywords start slot logical =
-    is_keyword (codes "start_replication") start && is_keyword (codes "slot") slot && is_keyword (codes "logical") logical
+    is_keyword (codes "start_replication") start && is_keyword (codes "slot") slot
+        && is_keyword (codes "logical") logical
 
 -- the command that these tokens are
 abbrev pub command_in : List Token → Option StartCommand
 command_in (start ∷ slot ∷ name ∷ logical ∷ place ∷ options) =
-    if has_keywords start slot logical then command_with (name_in name) (position_in place) (options_in options) else None
+    if has_keywords start slot logical then
+        command_with (name_in name) (position_in place) (options_in options) else None
 command_in _ = None
 
 abbrev pub command_with_tokens : Option (List Token) → Option StartCommand

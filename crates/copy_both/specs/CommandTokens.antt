@@ -1,4 +1,6 @@
--- The tokens of a replication command, and of a list of names: words and quoted names ("4.1.1. Identifiers and Key Words"), strings between single quotes ("4.1.2.1. String Constants"), places in the log ("8.20. pg_lsn Type") and marks. There are no comments.
+-- The tokens of a replication command, and of a list of names: words and quoted names ("4.1.1. Identifiers and Key
+-- Words"), strings between single quotes ("4.1.2.1. String Constants"), places in the log ("8.20. pg_lsn Type") and
+-- marks. There are no comments.
 use Rattle.std.specs.Prelude.{ℕ, zero, suc, ◌+◌, ◌-◌, ◌*◌, ◌^◌, ◌||◌, ◌==◌, Bool, true, false, nat_lt, not, if◌then◌else◌, List, [], ◌∷◌, map, length, take, drop, slice_index, Option, Some, None}
 use Rattle.std.specs.Char.{is_ascii_alphabetic, is_ascii_alphanumeric, is_ascii_hexdigit, is_ascii_whitespace}
 use Rattle.std.specs.List.{list_all, prefix_len, slice_split}
@@ -18,10 +20,12 @@ abbrev pub longer : ℕ → ℕ → Option QuotedText → Option QuotedText
 longer n byte None = None
 longer n byte (Some found) = Some (record { meant = byte ∷ found.meant; length = n + found.length })
 
--- What is between quotes, after the first one: what it means, where each two quotes side by side are one, and how many bytes it takes with the last quote.
+-- What is between quotes, after the first one: what it means, where each two quotes side by side are one, and how
+-- many bytes it takes with the last quote.
 unfoldable pub quoted : ℕ → List ℕ → Option QuotedText
 quoted quote (b ∷ c ∷ bytes) =
-    if b == quote then (if c == quote then longer 2 quote (quoted quote bytes) else Some (record { meant = []; length = 1 }))
+    if b == quote then (if c == quote then
+        longer 2 quote (quoted quote bytes) else Some (record { meant = []; length = 1 }))
     else longer 1 b (quoted quote (c ∷ bytes))
 quoted quote (b ∷ []) = if b == quote then Some (record { meant = []; length = 1 }) else None
 quoted quote [] = None
@@ -46,7 +50,8 @@ is_word_byte b = is_ascii_alphanumeric b || b == 95 || b == 36
 -- the number that 1 to 8 hexadecimal digits write
 abbrev pub hexadecimal : List ℕ → Option ℕ
 hexadecimal digits =
-    if length digits == 0 || nat_lt 8 (length digits) || not (list_all is_ascii_hexdigit digits) then None else Some (digits_value 16 digits)
+    if length digits == 0 || nat_lt 8 (length digits) || not (list_all is_ascii_hexdigit digits) then
+        None else Some (digits_value 16 digits)
 
 -- the place of these high and low 32 bits, written in `n` bytes
 abbrev pub place_piece : ℕ → Option ℕ → Option ℕ → Piece
@@ -62,7 +67,8 @@ place high after =
 
 -- a word is meant in lower case
 abbrev pub word : List ℕ → Piece
-word written = if is_letter (slice_index written 0) then Whole (Word (str_to_ascii_lowercase written)) (length written) else Bad
+word written = if is_letter (slice_index written 0) then
+    Whole (Word (str_to_ascii_lowercase written)) (length written) else Bad
 
 -- the longest run of a word's bytes is a word, or it begins a place
 unfoldable pub run : List ℕ → Piece
@@ -74,7 +80,9 @@ run bytes =
 -- ---- all tokens
 
 abbrev pub mark : ℕ → Piece
-mark b = if b == 40 then Whole Open 1 else (if b == 41 then Whole Close 1 else (if b == 44 then Whole Comma 1 else (if b == 59 then Whole Semicolon 1 else Bad)))
+mark b = if b == 40 then
+    Whole Open 1 else (if b == 41 then
+    Whole Close 1 else (if b == 44 then Whole Comma 1 else (if b == 59 then Whole Semicolon 1 else Bad)))
 
 -- what is at the front of a text: a blank, a token of so many bytes, or neither
 unfoldable pub front : List ℕ → Piece

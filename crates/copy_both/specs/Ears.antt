@@ -1,4 +1,5 @@
--- What an ear is, the half of a connection's end that hears, and what its calls answer and leave ("55.4. Streaming Replication Protocol").
+-- What an ear is, the half of a connection's end that hears, and what its calls answer and leave ("55.4. Streaming
+-- Replication Protocol").
 use Rattle.std.specs.Prelude.{◌≡◌, ℕ, List, ◌++◌, Option, Some, None, Result, Err}
 use Rattle.shard_checker.specs.CheckedView.{CheckedOf}
 use Rattle.tables_log.specs.BookView.{book_slots}
@@ -73,7 +74,8 @@ Holds phase.Open old new piece = new.frames ≡ resting (fed old.frames piece)
 Holds phase.Closed old new piece = Unit {0}
 Holds phase.Lost old new piece = Unit {0}
 
-pub record HearsPiece (old new : Ear) (before after : Book) (piece : List ℕ) (sent : ℕ) (result : Result Heard LinkFault) : Type 0 where
+pub record HearsPiece (old new : Ear) (before after : Book) (piece : List ℕ) (sent : ℕ)
+    (result : Result Heard LinkFault) : Type 0 where
   pub leaves : PieceLeaves result old.frames piece sent old.session new.session before after
   pub phase_is : ear_phase new ≡ phase_after result
   pub holds : Holds (phase_after result) old new piece
@@ -125,8 +127,10 @@ pub record Loses (old new : Ear) (before after : Book) : Type 0 where
 
 -- whatever was heard
 abbrev pub HearingChangesSlots : Type 0
-HearingChangesSlots = (old new : Ear) (before after : Book) (piece : List ℕ) (sent : ℕ) (result : Result Heard LinkFault)
+HearingChangesSlots =
+    (old new : Ear) (before after : Book) (piece : List ℕ) (sent : ℕ) (result : Result Heard LinkFault)
     → HearLeaves (ear_phase old) old new before after piece sent result → ChangesSlots before after (book_slots after)
 
 abbrev pub LosingChangesSlots : Type 0
-LosingChangesSlots = (old new : Ear) (before after : Book) → Loses old new before after → ChangesSlots before after (book_slots after)
+LosingChangesSlots = (old new : Ear) (before after : Book) → Loses old new before after
+    → ChangesSlots before after (book_slots after)

@@ -1,4 +1,5 @@
--- What a client says while a stream runs: a status in CopyData, or the end by CopyDone, CopyFail or Terminate ("55.4. Streaming Replication Protocol", "55.7. Message Formats").
+-- What a client says while a stream runs: a status in CopyData, or the end by CopyDone, CopyFail or Terminate ("55.4.
+-- Streaming Replication Protocol", "55.7. Message Formats").
 use Rattle.std.specs.Prelude.{ℕ, Bool, ◌==◌, ◌||◌, if◌then◌else◌, List, slice_get, Option, Some, None, Result, Ok, Err}
 use Rattle.copy_frames.specs.Contents.{status_in}
 use Rattle.copy_frames.specs.declared.status.Status.{Status}

@@ -1,4 +1,6 @@
--- What an ear has heard of all bytes since its first, in whatever pieces they came: which frame started the stream, which has a fault, and which ended the connection ("55.4. Streaming Replication Protocol", "55.7. Message Formats").
+-- What an ear has heard of all bytes since its first, in whatever pieces they came: which frame started the stream,
+-- which has a fault, and which ended the connection ("55.4. Streaming Replication Protocol", "55.7. Message
+-- Formats").
 use Rattle.std.specs.Prelude.{◌≡◌, ◌<◌, ◌≤◌, ◌⊎◌, ℕ, ◌==◌, min, true, false, List, [], ◌∷◌, ◌++◌, length, slice_get, Option, Some, None, Result, Ok, Err}
 use Rattle.filter_tree.specs.Memory.{Answers}
 use Rattle.shard_checker.specs.CheckedView.{CheckedOf}
@@ -46,14 +48,16 @@ pub record IsLater (frame : Frame) (frames : List Frame) : Type 0 where
 
 -- ---- the start
 
--- the first frame is a Query that asks for the stream of this slot, from a position that is not after where the stream starts
+-- the first frame is a Query that asks for the stream of this slot, from a position that is not after where the
+-- stream starts
 pub record AsksFor (checked : CheckedOf) (frames : List Frame) (slot start : ℕ) : Type 0 where
   pub frame : Frame
   pub first : IsFirst frame frames
   pub query : frame.kind ≡ 81
   pub commits : ℕ
   pub position : ℕ
-  pub asks : asked_of (offer_in (record { checked = checked; commits = commits })) frame.kind frame.body ≡ Stream slot position
+  pub asks : asked_of (offer_in (record { checked = checked; commits = commits })) frame.kind frame.body
+      ≡ Stream slot position
   pub reached : position ≤ start
 
 abbrev pub AsksIfStarted : CheckedOf → List Frame → Option (ℕ × ℕ) → Type 0
@@ -88,7 +92,8 @@ pub record HasBadFrame (frames : List Frame) (f : LinkFault) : Type 0 where
   pub later : IsLater frame frames
   pub fails : event_of frame.kind frame.body ≡ Err f
 
--- the first frame is not Terminate, `X`, and its start is refused so, where the log had so many commits and the book these slots
+-- the first frame is not Terminate, `X`, and its start is refused so, where the log had so many commits and the book
+-- these slots
 pub record IsRefusedStart (checked : CheckedOf) (frames : List Frame) (state : SqlState) : Type 0 where
   pub frame : Frame
   pub first : IsFirst frame frames
@@ -116,7 +121,8 @@ pub record HasStatusAhead (frames : List Frame) (reach : ℕ) : Type 0 where
 -- what a fault says of the bytes, where statuses may confirm so much
 abbrev pub HasFault : CheckedOf → List ℕ → ℕ → LinkFault → Type 0
 HasFault checked bytes reach fault.FrameTooLong = fault_in 65536 bytes ≡ Some frame.FrameTooLong
-HasFault checked bytes reach fault.BadLength = (fault_in 65536 bytes ≡ Some frame.BadLength) ⊎ HasBadFrame (frames_in bytes) fault.BadLength
+HasFault checked bytes reach fault.BadLength =
+    (fault_in 65536 bytes ≡ Some frame.BadLength) ⊎ HasBadFrame (frames_in bytes) fault.BadLength
 HasFault checked bytes reach (fault.Unexpected byte) = HasBadFrame (frames_in bytes) (fault.Unexpected byte)
 HasFault checked bytes reach (fault.BadStart state) = IsRefusedStart checked (frames_in bytes) state
 HasFault checked bytes reach fault.StatusAhead = HasStatusAhead (frames_in bytes) reach
@@ -130,7 +136,8 @@ sent_then None sent None = sent
 sent_then None sent (Some started) = first_sent started.1
 
 abbrev pub reach_of : Ear → Ear → Book → ℕ → ℕ
-reach_of old new book sent = min (sent_then (ear_started old) sent (ear_started new)) (end_after (length (book_log book)))
+reach_of old new book sent =
+    min (sent_then (ear_started old) sent (ear_started new)) (end_after (length (book_log book)))
 
 -- ---- a piece
 
@@ -152,8 +159,10 @@ abbrev pub TellsStart : Option (ℕ × ℕ) → Option (ℕ × ℕ) → Result H
 TellsStart was now (Ok heard) = heard.started ≡ start_told was now
 TellsStart was now (Err f) = Unit {0}
 
--- with the piece the ear has heard these bytes: a stream that started stays so, one is started as its command asks and told, and the answer is explained by the bytes
-pub record HasHeardOn (checked : CheckedOf) (bytes : List ℕ) (old new : Ear) (before : Book) (sent : ℕ) (result : Result Heard LinkFault) : Type 0 where
+-- with the piece the ear has heard these bytes: a stream that started stays so, one is started as its command asks
+-- and told, and the answer is explained by the bytes
+pub record HasHeardOn (checked : CheckedOf) (bytes : List ℕ) (old new : Ear) (before : Book) (sent : ℕ)
+    (result : Result Heard LinkFault) : Type 0 where
   pub stays : (started : ℕ × ℕ) → ear_started old ≡ Some started → ear_started new ≡ Some started
   pub asks : AsksIfStarted checked (frames_in bytes) (ear_started new)
   pub tells : TellsStart (ear_started old) (ear_started new) result
@@ -162,9 +171,12 @@ pub record HasHeardOn (checked : CheckedOf) (bytes : List ℕ) (old new : Ear) (
 -- ---- laws
 
 abbrev pub NothingIsHeard : Type 0
-NothingIsHeard = (ear : Ear) → ear_phase ear ≡ phase.Open → ear_started ear ≡ None → ear_held ear ≡ [] → HasHeard (ear_checked ear) [] ear
+NothingIsHeard = (ear : Ear) → ear_phase ear ≡ phase.Open → ear_started ear ≡ None → ear_held ear ≡ []
+    → HasHeard (ear_checked ear) [] ear
 
 abbrev pub PiecesAreHeard : Type 0
-PiecesAreHeard = (checked : CheckedOf) (bytes piece : List ℕ) (old new : Ear) (before after : Book) (sent : ℕ) (result : Result Heard LinkFault)
+PiecesAreHeard = (checked : CheckedOf) (bytes piece : List ℕ) (old new : Ear) (before after : Book) (sent : ℕ)
+    (result : Result Heard LinkFault)
     → HasHeard checked bytes old → Answers (λ heard. heard) told_fault (hear_answer old before piece sent) result
-    → HearLeaves (ear_phase old) old new before after piece sent result → HasHeardOn checked (bytes ++ piece) old new before sent result
+    → HearLeaves (ear_phase old) old new before after piece sent result
+    → HasHeardOn checked (bytes ++ piece) old new before sent result

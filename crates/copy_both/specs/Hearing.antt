@@ -1,4 +1,6 @@
--- What becomes of the frames that a client sends, one after another: the first one starts a stream or ends the connection; then statuses confirm the log, until another frame ends the stream ("55.4. Streaming Replication Protocol").
+-- What becomes of the frames that a client sends, one after another: the first one starts a stream or ends the
+-- connection; then statuses confirm the log, until another frame ends the stream ("55.4. Streaming Replication
+-- Protocol").
 use Rattle.std.specs.Prelude.{ℕ, ◌+◌, ◌^◌, ◌-◌, ◌==◌, min, max, nat_lt, Bool, true, false, if◌then◌else◌, List, [], ◌∷◌, ◌++◌, map, Option, Some, None, Result, Ok, Err}
 use Rattle.shard_checker.specs.CheckedView.{CheckedOf}
 use Rattle.tables_log.specs.Slots as slots
@@ -12,7 +14,7 @@ use Rattle.copy_frames.specs.declared.status.Status.{Status}
 use Rattle.copy_frames.specs.Frames.{cut, frames_of, fault_in}
 use Rattle.copy_both.specs.Events.{event_of}
 use Rattle.copy_both.specs.Refusals.{RefusalOf, state_of, error_response}
-use Rattle.copy_both.specs.StartAnswers.{AskedOf, Stream, Refused, asked_of}
+use Rattle.copy_both.specs.StartAnswers.{StartAnswerOf, Stream, Refused, asked_of}
 use Rattle.copy_both.specs.StartOrder.{OfferOf, slot_name, book_refusal}
 use Rattle.copy_both.specs.declared.event.Event.{Event}
 use Rattle.copy_both.specs.declared.event.Event.TheVariants as event
@@ -25,13 +27,15 @@ pub record Served : Type 0 where
   pub checked : CheckedOf
   pub commits : ℕ
 
--- what is to be answered: where the stream starts, if it does; how many statuses want a reply; and the kind of the frame that ended the connection
+-- what is to be answered: where the stream starts, if it does; how many statuses want a reply; and the kind of the
+-- frame that ended the connection
 pub record HeardOf : Type 0 where
   pub started : Option ℕ
   pub replies : ℕ
   pub ended : Option ℕ
 
--- what came of the frames so far: the slot that streams and where the stream starts, what is to be answered, the sent position, the slots of the book, the response to a start that is refused, and the fault
+-- what came of the frames so far: the slot that streams and where the stream starts, what is to be answered, the sent
+-- position, the slots of the book, the response to a start that is refused, and the fault
 pub record HearingOf : Type 0 where
   pub started : Option (ℕ × ℕ)
   pub heard : HeardOf
@@ -66,10 +70,11 @@ abbrev pub unless_fault : Option StartError → ℕ → ℕ → List ℕ → Beg
 unless_fault None slot start name = Begins slot start
 unless_fault (Some error) slot start name = Refuses (book_refusal name error)
 
-abbrev pub begin_by : Served → List Slot → AskedOf → BeginOf
+abbrev pub begin_by : Served → List Slot → StartAnswerOf → BeginOf
 begin_by served slots (Refused refusal) = Refuses refusal
 begin_by served slots (Stream slot position) =
-    unless_fault (start_fault slots (end_after served.commits) slot position) slot (max position (confirmed_at slots slot))
+    unless_fault (start_fault slots (end_after served.commits) slot position) slot
+        (max position (confirmed_at slots slot))
     (slot_name served.checked.catalog.subscriptions slot)
 
 unfoldable pub begin_of : Served → List Slot → ℕ → List ℕ → BeginOf
@@ -86,11 +91,13 @@ begun (Begins slot start) h = record h {
   sent = first_sent start;
   slots = slots.started h.slots slot;
 }
-begun (Refuses refusal) h = record h { response = h.response ++ error_response refusal; fault = Some (fault.BadStart (state_of refusal)) }
+begun (Refuses refusal) h =
+    record h { response = h.response ++ error_response refusal; fault = Some (fault.BadStart (state_of refusal)) }
 
 -- Terminate, `X`, ends the connection
 abbrev pub first_heard : Served → Frame → HearingOf → HearingOf
-first_heard served frame h = if frame.kind == 88 then ended_by 88 h else begun (begin_of served h.slots frame.kind frame.body) h
+first_heard served frame h = if frame.kind == 88 then
+    ended_by 88 h else begun (begin_of served h.slots frame.kind frame.body) h
 
 -- ---- the next ones
 
@@ -107,7 +114,8 @@ confirmed_by false slot status h = record h {
 }
 
 abbrev pub status_heard : Served → ℕ → Status → HearingOf → HearingOf
-status_heard served slot status h = confirmed_by (nat_lt (min h.sent (end_after served.commits)) status.flushed) slot status h
+status_heard served slot status h =
+    confirmed_by (nat_lt (min h.sent (end_after served.commits)) status.flushed) slot status h
 
 abbrev pub event_heard : Served → ℕ → Result Event LinkFault → HearingOf → HearingOf
 event_heard served slot (Err fault) h = with_fault fault h
@@ -151,7 +159,8 @@ then_fault (Some fault) h = unless_over (is_over h) h (with_fault (link_fault fa
 
 -- all bytes that are there
 abbrev pub bytes_heard : Served → ℕ → List ℕ → HearingOf → HearingOf
-bytes_heard served limit bytes h = then_fault (fault_in limit bytes) (frames_heard served h (frames_of (cut limit bytes)))
+bytes_heard served limit bytes h =
+    then_fault (fault_in limit bytes) (frames_heard served h (frames_of (cut limit bytes)))
 
 -- ---- what is answered
 

@@ -3,7 +3,7 @@ pub mod CommandTokens
 pub mod Ears
 pub mod Events
 pub mod Framing
-pub mod Halves
+pub mod ConnectionStates
 pub mod HeardFrames
 pub mod Hearing
 pub mod LinkLaws

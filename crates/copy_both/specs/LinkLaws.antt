@@ -1,4 +1,5 @@
--- What a link says is its stream: what was passed on and what waits are together the stream of what it started, took and kept alive ("55.4. Streaming Replication Protocol").
+-- What a link says is its stream: what was passed on and what waits are together the stream of what it started, took
+-- and kept alive ("55.4. Streaming Replication Protocol").
 use Rattle.std.specs.Prelude.{◌≡◌, ℕ, Bool, false, List, [], ◌∷◌, ◌++◌, length, take, replicate, slice_get, Option, Some, None, Ok}
 use Rattle.shard_checker.specs.CheckedView.{CheckedOf}
 use Rattle.tables_log.specs.Commits.{CommitOf}
@@ -53,7 +54,8 @@ abbrev pub started_at : CheckedOf → ℕ × ℕ → Start
 started_at checked started = record { slot = started.0; tables = length checked.catalog.tables; position = started.1 }
 
 abbrev pub first_run : CheckedOf → List CommitOf → ℕ × ℕ → Run
-first_run checked log started = record { checked = checked; log = log; start = started_at checked started; moves = []; passed = [] }
+first_run checked log started =
+    record { checked = checked; log = log; start = started_at checked started; moves = []; passed = [] }
 
 -- the piece starts the stream of a link that has said nothing
 pub record IsStarting (link : Link) (h : HearingOf) (started : ℕ × ℕ) (run : Run) (place : Place) : Type 0 where
@@ -71,7 +73,8 @@ pub data Goes (link : Link) (h : HearingOf) (run : Run) (place : Place) : Type 0
 -- a piece is answered, and the stream goes on
 abbrev pub LinkHears : Type 0
 LinkHears = (old new : Link) (run : Run) (place : Place) (h : HearingOf) (heard : Heard) (clock : ℕ)
-    → Goes old h run place → h.heard.ended ≡ None → HearSays old new h clock (Ok heard) → IsStreaming new (with_moves run (replied h clock)) place
+    → Goes old h run place → h.heard.ended ≡ None → HearSays old new h clock (Ok heard)
+    → IsStreaming new (with_moves run (replied h clock)) place
 
 -- CopyDone is answered by CopyDone, which comes last
 abbrev pub LinkEnds : Type 0
@@ -87,7 +90,8 @@ LinkBreaks = (old new : Link) (run : Run) (place : Place) (h : HearingOf) (clock
 
 -- a call that closes it says nothing
 abbrev pub LinkStops : Type 0
-LinkStops = (old new : Link) (run : Run) (place : Place) → IsStreaming old run place → Closes (link_voice old) (link_voice new) → HasStreamed new run []
+LinkStops = (old new : Link) (run : Run) (place : Place) → IsStreaming old run place
+    → Closes (link_voice old) (link_voice new) → HasStreamed new run []
 
 -- a take at the end of the log is no move
 abbrev pub took : Option CommitOf → ℕ → List Move
@@ -96,25 +100,31 @@ took (Some commit) clock = Take clock ∷ []
 
 abbrev pub LinkTakes : Type 0
 LinkTakes = (old new : Link) (run : Run) (place : Place) (clock : ℕ) → IsStreaming old run place
-    → LinkSays old new (next_bytes (link_checked old) (link_stage old) run.log clock) (next_stage (link_checked old) (link_stage old) run.log clock)
-    → IsStreaming new (with_moves run (took (slice_get run.log place.done) clock)) (moved (telling_of run.checked) run.log place (Take clock))
+    → LinkSays old new (next_bytes (link_checked old) (link_stage old) run.log clock)
+        (next_stage (link_checked old) (link_stage old) run.log clock)
+    → IsStreaming new (with_moves run (took (slice_get run.log place.done) clock))
+        (moved (telling_of run.checked) run.log place (Take clock))
 
 abbrev pub LinkKeeps : Type 0
 LinkKeeps = (old new : Link) (run : Run) (place : Place) (clock : ℕ) (want : Bool) → IsStreaming old run place
-    → LinkSays old new (kept_bytes (link_stage old) clock want) (link_stage old) → IsStreaming new (with_moves run (Keep clock want ∷ [])) place
+    → LinkSays old new (kept_bytes (link_stage old) clock want) (link_stage old)
+    → IsStreaming new (with_moves run (Keep clock want ∷ [])) place
 
 abbrev pub LinkPassesOn : Type 0
-LinkPassesOn = (old new : Link) (run : Run) (place : Place) (count : ℕ) → IsStreaming old run place → LinkPasses old new count
+LinkPassesOn = (old new : Link) (run : Run) (place : Place) (count : ℕ) → IsStreaming old run place
+    → LinkPasses old new count
     → IsStreaming new (record run { passed = run.passed ++ take count (link_output old) }) place
 
 -- after the end the rest of what waits may be passed on
 abbrev pub LinkRestPassesOn : Type 0
-LinkRestPassesOn = (old new : Link) (run : Run) (last : List ℕ) (count : ℕ) → HasStreamed old run last → LinkPasses old new count
+LinkRestPassesOn = (old new : Link) (run : Run) (last : List ℕ) (count : ℕ) → HasStreamed old run last
+    → LinkPasses old new count
     → HasStreamed new (record run { passed = run.passed ++ take count (link_output old) }) last
 
 -- and so it may where memory was refused
 abbrev pub LinkFrontPassesOn : Type 0
-LinkFrontPassesOn = (old new : Link) (run : Run) (last : List ℕ) (count : ℕ) → HasBegun old run last → LinkPasses old new count
+LinkFrontPassesOn = (old new : Link) (run : Run) (last : List ℕ) (count : ℕ) → HasBegun old run last
+    → LinkPasses old new count
     → HasBegun new (record run { passed = run.passed ++ take count (link_output old) }) last
 
 -- a log that grows changes nothing of it

@@ -1,4 +1,5 @@
--- What a link is, the publisher's end of a connection, and what its calls answer, say and leave: each is the halves' calls, and what is heard is answered at once ("55.4. Streaming Replication Protocol").
+-- What a link is, the publisher's end of a connection, and what its calls answer, say and leave: each is the halves'
+-- calls, and what is heard is answered at once ("55.4. Streaming Replication Protocol").
 use Rattle.std.specs.Prelude.{◌≡◌, ℕ, ◌==◌, if◌then◌else◌, unwrap_or, false, List, [], ◌∷◌, ◌++◌, replicate, slice_get, Option, Some, None, IsSome, Result, Ok, Err}
 use Rattle.std.specs.List.{concat}
 use Rattle.shard_checker.specs.CheckedView.{CheckedOf}
@@ -130,7 +131,8 @@ pub record SaysFirst (old new : Voice) (frames : List (List ℕ)) : Type 0 where
   pub all : said ++ others ≡ frames
   pub says : Says old new (concat said) voices.Closed
 
--- a start that is refused is answered by its response, and another fault by nothing; where memory is refused, some first frames are said
+-- a start that is refused is answered by its response, and another fault by nothing; where memory is refused, some
+-- first frames are said
 abbrev pub HearSays : Link → Link → HearingOf → ℕ → Result Heard LinkFault → Type 0
 HearSays old new h clock (Ok heard) =
     Says (link_voice old) (link_voice new) (concat (frames_said (link_checked old) (link_stage old) h clock))
@@ -152,7 +154,8 @@ link_heard link book piece = ear_heard (link_ear link) book piece (link_sent lin
 
 abbrev pub found_answer : CheckedOf → streams.Place → Option CommitOf → Result Taken LinkFault
 found_answer checked place None = Ok taken.Idle
-found_answer checked place (Some commit) = Ok (taken_of commit.number (spelled_for checked place.slot place.told commit))
+found_answer checked place (Some commit) =
+    Ok (taken_of commit.number (spelled_for checked place.slot place.told commit))
 
 abbrev pub next_answer : CheckedOf → StageOf → List CommitOf → Result Taken LinkFault
 next_answer checked voices.NotStarted log = Ok taken.NotStarted

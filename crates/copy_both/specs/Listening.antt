@@ -1,4 +1,5 @@
--- What becomes of a piece of what a client sends: the bytes that were held and the piece are cut into frames, and these are heard ("55.4. Streaming Replication Protocol", "55.7. Message Formats").
+-- What becomes of a piece of what a client sends: the bytes that were held and the piece are cut into frames, and
+-- these are heard ("55.4. Streaming Replication Protocol", "55.7. Message Formats").
 use Rattle.std.specs.Prelude.{◌≡◌, ℕ, List, ◌++◌, take, None, Result, Ok, Err}
 use Rattle.tables_log.specs.Committing.{ChangesSlots}
 use Rattle.tables_log.specs.declared.book.Book.{Book}
@@ -25,7 +26,8 @@ held_frames inbox = frames_of (cut inbox.limit inbox.bytes)
 -- all of the frames were heard, or one of them has this fault; or memory was refused after some first ones
 abbrev pub FramesHeard : Served → HearingOf → HearingOf → List Frame → Result (Unit {0}) LinkFault → Type 0
 FramesHeard served start now frames (Ok done) = now ≡ frames_heard served start frames
-FramesHeard served start now frames (Err fault.OutOfMemory) = (count : ℕ) × (now ≡ frames_heard served start (take count frames))
+FramesHeard served start now frames (Err fault.OutOfMemory) = (count : ℕ)
+    × (now ≡ frames_heard served start (take count frames))
 FramesHeard served start now frames (Err other) = frames_heard served start frames ≡ with_fault other now
 
 -- what comes after the last whole frame is held
@@ -46,7 +48,8 @@ piece_heard session book inbox piece sent =
 -- what comes of the first frames, so many of them
 abbrev pub part_heard : ℕ → Session → Book → Inbox → List ℕ → ℕ → HearingOf
 part_heard count session book inbox piece sent =
-    frames_heard (served_by session book) (hearing_view session (silence sent) book) (take count (held_frames (fed inbox piece)))
+    frames_heard (served_by session book) (hearing_view session (silence sent) book)
+        (take count (held_frames (fed inbox piece)))
 
 -- what was agreed and the book are as what was heard says
 pub record Leaves (old new : Session) (before after : Book) (h : HearingOf) : Type 0 where
@@ -59,4 +62,5 @@ pub record Leaves (old new : Session) (before after : Book) (h : HearingOf) : Ty
 abbrev pub PieceLeaves : Result Heard LinkFault → Inbox → List ℕ → ℕ → Session → Session → Book → Book → Type 0
 PieceLeaves (Err fault.OutOfMemory) inbox piece sent old new before after =
     (count : ℕ) × Leaves old new before after (part_heard count old before inbox piece sent)
-PieceLeaves other inbox piece sent old new before after = Leaves old new before after (piece_heard old before inbox piece sent)
+PieceLeaves other inbox piece sent old new before after =
+    Leaves old new before after (piece_heard old before inbox piece sent)

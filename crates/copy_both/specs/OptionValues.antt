@@ -1,4 +1,5 @@
--- What the value of an option says ("55.5.1. Logical Streaming Replication Parameters"). Only version 1 of the protocol is there, and what is left out is accepted where it is off.
+-- What the value of an option says ("55.5.1. Logical Streaming Replication Parameters"). Only version 1 of the
+-- protocol is there, and what is left out is accepted where it is off.
 use Rattle.std.specs.Prelude.{ℕ, ◌||◌, ◌==◌, Bool, nat_lt, not, if◌then◌else◌, List, length, drop, Option, Some, None, codes}
 use Rattle.std.specs.Char.{is_ascii_digit}
 use Rattle.std.specs.List.{list_all, prefix_len}
@@ -33,7 +34,8 @@ publications text = publications_in (tokens_of text)
 -- what is left out
 abbrev pub is_left_out : List ℕ → Bool
 is_left_out name =
-    bytes_eq name (codes "binary") || bytes_eq name (codes "messages") || bytes_eq name (codes "streaming") || bytes_eq name (codes "two_phase")
+    bytes_eq name (codes "binary") || bytes_eq name (codes "messages") || bytes_eq name (codes "streaming")
+        || bytes_eq name (codes "two_phase")
 
 abbrev pub is_off : List ℕ → Bool
 is_off text = bytes_eq text (codes "false") || bytes_eq text (codes "off") || bytes_eq text (codes "0")

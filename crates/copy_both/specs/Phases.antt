@@ -1,4 +1,5 @@
--- How far an ear is, the half of a connection's end that hears, and what one that hears is like ("55.4. Streaming Replication Protocol").
+-- How far an ear is, the half of a connection's end that hears, and what one that hears is like ("55.4. Streaming
+-- Replication Protocol").
 use Rattle.std.specs.Prelude.{◌≡◌, ℕ, List, [], Option, Some, None, Result, Ok, Err}
 use Rattle.copy_frames.specs.Inboxes.{Inbox}
 use Rattle.copy_both.specs.declared.heard.Heard.{Heard}

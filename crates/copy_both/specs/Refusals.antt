@@ -1,4 +1,5 @@
--- Why a stream is not started, and the ErrorResponse that says so ("55.7. Message Formats", "55.8. Error and Notice Message Fields", "Appendix A. PostgreSQL Error Codes"). The texts are this project's own.
+-- Why a stream is not started, and the ErrorResponse that says so ("55.7. Message Formats", "55.8. Error and Notice
+-- Message Fields", "Appendix A. PostgreSQL Error Codes"). The texts are this project's own.
 use Rattle.std.specs.Prelude.{ℕ, ◌<◌, ◌+◌, ◌^◌, List, [], ◌∷◌, ◌++◌, length, codes}
 use Rattle.copy_both.specs.declared.refusal.Refusal.{Refusal}
 use Rattle.copy_both.specs.declared.refusal.Refusal.TheVariants as code
@@ -76,7 +77,8 @@ field letter value = letter ∷ (value ++ (0 ∷ []))
 
 -- severity, severity that is never translated, code and text
 abbrev pub error_fields : List ℕ → List ℕ → List ℕ
-error_fields code text = field 83 (codes "ERROR") ++ (field 86 (codes "ERROR") ++ (field 67 code ++ (field 77 text ++ (0 ∷ []))))
+error_fields code text =
+    field 83 (codes "ERROR") ++ (field 86 (codes "ERROR") ++ (field 67 code ++ (field 77 text ++ (0 ∷ []))))
 
 abbrev pub error_response : RefusalOf → List ℕ
 error_response refusal = framed (record { kind = 69; body = error_fields (code_of refusal) (text_of refusal) })

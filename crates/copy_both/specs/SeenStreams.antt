@@ -1,4 +1,8 @@
--- What a connection sends, said of the transactions and of what the subscriber sees of them alone: CopyBothResponse, and then by each move the messages of the next transaction, each in an XLogData at the transaction's LSN, or a keepalive at the sent position: PostgreSQL 15, 55.4. Streaming Replication Protocol, 55.5.3. Logical Replication Protocol Message Flow, and "Logical Replication", 31.3.3 UPDATE Transformations. Positions in the log are this project's own.
+-- What a connection sends, said of the transactions and of what the subscriber sees of them alone: CopyBothResponse,
+-- and then by each move the messages of the next transaction, each in an XLogData at the transaction's LSN, or a
+-- keepalive at the sent position: PostgreSQL 15, 55.4. Streaming Replication Protocol, 55.5.3. Logical Replication
+-- Protocol Message Flow, and "Logical Replication", 31.3.3 UPDATE Transformations. Positions in the log are this
+-- project's own.
 use Rattle.std.specs.Prelude.{◌≡◌, ℕ, ◌+◌, ◌==◌, if◌then◌else◌, List, [], ◌∷◌, ◌++◌, length, map, slice_get, take, Option, Some, None}
 use Rattle.std.specs.List.{flat_map}
 use Rattle.table_changes.specs.Seen.{Seen, seen}
@@ -34,7 +38,8 @@ abbrev pub next_told : CheckedOf → List Transaction → ℕ → Reached → Op
 next_told checked transactions subscriber at None clock = []
 next_told checked transactions subscriber at (Some transaction) clock =
     flat_map (sent_at (lsn_of (at.done + 1)) clock)
-    (map spelling_of (transaction_told checked at.named (at.done + 1) transaction.time (seen_next checked transactions subscriber at.done transaction)))
+    (map spelling_of (transaction_told checked at.named (at.done + 1) transaction.time
+        (seen_next checked transactions subscriber at.done transaction)))
 
 abbrev pub reached_next : CheckedOf → List Transaction → ℕ → Reached → Option Transaction → Reached
 reached_next checked transactions subscriber at None = at
@@ -46,17 +51,21 @@ reached_next checked transactions subscriber at (Some transaction) = record {
 
 -- a keepalive carries the sent position
 abbrev pub move_told : CheckedOf → List Transaction → ℕ → Reached → Move → List ℕ
-move_told checked transactions subscriber at (Take clock) = next_told checked transactions subscriber at (slice_get transactions at.done) clock
-move_told checked transactions subscriber at (Keep clock want) = copy_data (keepalive_body (record { position = at.sent; clock = clock; wants_reply = want }))
+move_told checked transactions subscriber at (Take clock) =
+    next_told checked transactions subscriber at (slice_get transactions at.done) clock
+move_told checked transactions subscriber at (Keep clock want) =
+    copy_data (keepalive_body (record { position = at.sent; clock = clock; wants_reply = want }))
 
 abbrev pub reached_by : CheckedOf → List Transaction → ℕ → Reached → Move → Reached
-reached_by checked transactions subscriber at (Take clock) = reached_next checked transactions subscriber at (slice_get transactions at.done)
+reached_by checked transactions subscriber at (Take clock) =
+    reached_next checked transactions subscriber at (slice_get transactions at.done)
 reached_by checked transactions subscriber at (Keep clock want) = at
 
 abbrev pub moves_told : CheckedOf → List Transaction → ℕ → Reached → List Move → List ℕ
 moves_told checked transactions subscriber at [] = []
 moves_told checked transactions subscriber at (move ∷ moves) =
-    move_told checked transactions subscriber at move ++ moves_told checked transactions subscriber (reached_by checked transactions subscriber at move) moves
+    move_told checked transactions subscriber at move
+        ++ moves_told checked transactions subscriber (reached_by checked transactions subscriber at move) moves
 
 -- the bytes of a connection of the subscriber of this number that starts at this position and makes these moves
 abbrev pub stream_told : CheckedOf → List Transaction → ℕ → ℕ → List Move → List ℕ
@@ -68,6 +77,8 @@ stream_told checked transactions subscriber position moves =
 -- The stream of the log of transactions that were accepted tells the transactions.
 abbrev pub StreamsTellTransactions : Type 0
 StreamsTellTransactions = (checked : CheckedOf) → Covered (setting_in checked)
-    → (transactions : List Transaction) → AreAccepted (setting_in checked) no_rows transactions → (subscriber position : ℕ) (moves : List Move)
-    → stream (telling_of checked) (entries_from (setting_in checked) no_rows 1 transactions) subscriber (length checked.catalog.tables) position moves
+    → (transactions : List Transaction) → AreAccepted (setting_in checked) no_rows transactions
+    → (subscriber position : ℕ) (moves : List Move)
+    → stream (telling_of checked) (entries_from (setting_in checked) no_rows 1 transactions) subscriber
+        (length checked.catalog.tables) position moves
     ≡ stream_told checked transactions subscriber position moves

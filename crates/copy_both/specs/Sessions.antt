@@ -12,7 +12,7 @@ use Rattle.copy_frames.specs.declared.frame.Frame.{Frame}
 use Rattle.copy_both.specs.Hearing as h
 use Rattle.copy_both.specs.Hearing.{Served, HeardOf, HearingOf, heard_told, with_fault, BeginOf, begin_of, offer_in}
 use Rattle.copy_both.specs.Refusals.{RefusalOf, state_of, error_response}
-use Rattle.copy_both.specs.StartAnswers.{AskedOf, asked_of}
+use Rattle.copy_both.specs.StartAnswers.{StartAnswerOf, asked_of}
 use Rattle.copy_both.specs.StartOrder.{slot_name, book_refusal}
 use Rattle.copy_both.specs.declared.heard.Heard.{Heard}
 use Rattle.copy_both.specs.declared.hearing.Hearing.{Hearing}
@@ -75,7 +75,7 @@ Hears expected old new (Err fault) = FailsBy fault expected old new
 
 -- ---- the start of a stream
 
-abbrev pub asked_in : Session → Book → Frame → AskedOf
+abbrev pub asked_in : Session → Book → Frame → StartAnswerOf
 asked_in session book frame = asked_of (offer_in (served_by session book)) frame.kind frame.body
 
 abbrev pub begin_in : Session → Book → Frame → BeginOf
@@ -100,7 +100,8 @@ pub record TakesSlot (expected : BeginOf) (before after : List Slot) (old new : 
   pub response : new ≡ old
 
 -- the start is refused by this fault, and its response is added
-pub record IsRefused (expected : BeginOf) (before after : List Slot) (old new : List ℕ) (fault : LinkFault) : Type 0 where
+pub record IsRefused (expected : BeginOf) (before after : List Slot) (old new : List ℕ) (fault : LinkFault) : Type 0
+    where
   pub fault_is : refusal_fault expected ≡ Some fault
   pub slots : after ≡ before
   pub response : new ≡ response_after old expected

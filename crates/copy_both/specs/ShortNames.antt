@@ -1,4 +1,5 @@
--- Names of slots, options and publications have at most 63 bytes ("4.1.1. Identifiers and Key Words"), so that the texts of refusals are short.
+-- Names of slots, options and publications have at most 63 bytes ("4.1.1. Identifiers and Key Words"), so that the
+-- texts of refusals are short.
 use Rattle.std.specs.Prelude.{ℕ, ◌≤◌, List, [], ◌∷◌, length}
 use Rattle.copy_both.specs.declared.start_command.OptionValue.{OptionValue}
 use Rattle.copy_both.specs.declared.start_command.OptionValue.TheVariants.{Wrong, Unsupported, Version, Publications, Off}

@@ -1,17 +1,18 @@
--- What the first frame of a client is answered: a stream is started from a slot, or the start is refused by an ErrorResponse ("55.4. Streaming Replication Protocol", "55.7. Message Formats").
+-- What the first frame of a client is answered: a stream is started from a slot, or the start is refused by an
+-- ErrorResponse ("55.4. Streaming Replication Protocol", "55.7. Message Formats").
 use Rattle.std.specs.Prelude.{ℕ, ◌+◌, ◌==◌, if◌then◌else◌, List, ◌++◌, length, take, position, Option, Some, None}
 use Rattle.std.specs.Str.{is_utf8}
-use Rattle.copy_both.specs.declared.answer.Asked.{Asked}
-use Rattle.copy_both.specs.declared.answer.Asked.TheVariants as code
+use Rattle.copy_both.specs.declared.answer.StartAnswer.{StartAnswer}
+use Rattle.copy_both.specs.declared.answer.StartAnswer.TheVariants as code
 use Rattle.copy_both.specs.declared.start_command.StartCommand.{StartCommand}
 use Rattle.copy_both.specs.CommandText.{command_of}
 use Rattle.copy_both.specs.Refusals.{RefusalOf, ExpectedQuery, Unreadable, NoSlot, state_of, error_response}
 use Rattle.copy_both.specs.StartOrder.{OfferOf, find_slot, publications_at, slot_refusal}
 
 -- the stream of a slot is asked for from a position on, or a refusal
-pub data AskedOf : Type 0 where
-  Stream : ℕ → ℕ → AskedOf
-  Refused : RefusalOf → AskedOf
+pub data StartAnswerOf : Type 0 where
+  Stream : ℕ → ℕ → StartAnswerOf
+  Refused : RefusalOf → StartAnswerOf
 
 -- bytes that are UTF-8
 abbrev pub utf8_text : List ℕ → Option (List ℕ)
@@ -26,33 +27,33 @@ text_until (Some n) body = if n + 1 == length body then utf8_text (take n body) 
 abbrev pub text_in : List ℕ → Option (List ℕ)
 text_in body = text_until (position (λ b. b == 0) body) body
 
-abbrev pub unless_refused : Option RefusalOf → ℕ → ℕ → AskedOf
+abbrev pub unless_refused : Option RefusalOf → ℕ → ℕ → StartAnswerOf
 unless_refused (Some refusal) slot position = Refused refusal
 unless_refused None slot position = Stream slot position
 
-abbrev pub asked_at : OfferOf → StartCommand → Option ℕ → AskedOf
+abbrev pub asked_at : OfferOf → StartCommand → Option ℕ → StartAnswerOf
 asked_at offer command None = Refused (NoSlot command.slot)
 asked_at offer command (Some slot) =
     unless_refused (slot_refusal offer command slot (publications_at offer.subscriptions slot)) slot command.position
 
-abbrev pub asked_by : OfferOf → Option StartCommand → AskedOf
+abbrev pub asked_by : OfferOf → Option StartCommand → StartAnswerOf
 asked_by offer None = Refused Unreadable
 asked_by offer (Some command) = asked_at offer command (find_slot command.slot offer.subscriptions)
 
-abbrev pub asked_in : OfferOf → Option (List ℕ) → AskedOf
+abbrev pub asked_in : OfferOf → Option (List ℕ) → StartAnswerOf
 asked_in offer None = Refused ExpectedQuery
 asked_in offer (Some text) = asked_by offer (command_of text)
 
 -- what a frame of this kind and body asks for; `Q` is a Query
-unfoldable pub asked_of : OfferOf → ℕ → List ℕ → AskedOf
+unfoldable pub asked_of : OfferOf → ℕ → List ℕ → StartAnswerOf
 asked_of offer kind body = if kind == 81 then asked_in offer (text_in body) else Refused ExpectedQuery
 
 -- what a caller is told of it
-abbrev pub told : AskedOf → Asked
+abbrev pub told : StartAnswerOf → StartAnswer
 told (Stream slot position) = code.Stream slot position
 told (Refused refusal) = code.Refused (state_of refusal)
 
 -- what is to be sent, after what was to be sent before
-abbrev pub sent_after : List ℕ → AskedOf → List ℕ
+abbrev pub sent_after : List ℕ → StartAnswerOf → List ℕ
 sent_after before (Stream slot position) = before
 sent_after before (Refused refusal) = before ++ error_response refusal

@@ -1,4 +1,6 @@
--- Whether a stream is started from a slot: the first refusal, in their order, of what a start command asks for ("55.4. Streaming Replication Protocol", "55.5. Logical Streaming Replication Protocol"). The order is this project's own.
+-- Whether a stream is started from a slot: the first refusal, in their order, of what a start command asks for
+-- ("55.4. Streaming Replication Protocol", "55.5. Logical Streaming Replication Protocol"). The order is this
+-- project's own.
 use Rattle.std.specs.Prelude.{ℕ, Bool, true, false, not, ◌&&◌, ◌||◌, if◌then◌else◌, nat_lt, List, [], ◌∷◌, ◌++◌, map, position, Option, Some, None, codes, slice_get, unwrap_or}
 use Rattle.std.specs.List.{list_any, list_all}
 use Rattle.std.specs.Str.{bytes_eq}
@@ -12,7 +14,8 @@ use Rattle.tables_log.specs.declared.error.StartError.{StartError}
 use Rattle.tables_log.specs.declared.error.StartError.TheVariants as error
 use Rattle.copy_both.specs.Refusals.{RefusalOf, NoSlot, WrongOption, UnsupportedOption, MissingOption, NoPublication, OtherPublications, Ahead, InUse}
 
--- what a start is held against: the names of the publications, the subscriptions, each with the slot of its name, where the log ends, and which slots are in use
+-- what a start is held against: the names of the publications, the subscriptions, each with the slot of its name,
+-- where the log ends, and which slots are in use
 pub record OfferOf : Type 0 where
   pub publications : List (List ℕ)
   pub subscriptions : List Subscription
@@ -21,7 +24,8 @@ pub record OfferOf : Type 0 where
 
 abbrev pub offer_view : Offer → OfferOf
 offer_view offer =
-    record { publications = map (λ p. p.name) offer.publications.now; subscriptions = offer.subscriptions.now; log_end = offer.log_end; in_use = offer.in_use.now }
+    record { publications = map (λ p. p.name) offer.publications.now; subscriptions =
+        offer.subscriptions.now; log_end = offer.log_end; in_use = offer.in_use.now }
 
 -- the first refusal, or the next ones
 abbrev pub or_else : Option RefusalOf → Option RefusalOf → Option RefusalOf
@@ -75,13 +79,16 @@ option_refusal earlier option =
 -- the first of the options that come after these
 abbrev pub options_refusal : List StartOption → List StartOption → Option RefusalOf
 options_refusal earlier [] = None
-options_refusal earlier (option ∷ later) = or_else (option_refusal earlier option) (options_refusal (earlier ++ option ∷ []) later)
+options_refusal earlier (option ∷ later) =
+    or_else (option_refusal earlier option) (options_refusal (earlier ++ option ∷ []) later)
 
 -- both are required
 abbrev pub missing_refusal : List StartOption → Option RefusalOf
 missing_refusal options =
-    or_else (refused (not (list_any (λ option. is_version option.value) options)) (MissingOption (codes "proto_version")))
-    (refused (not (list_any (λ option. has_publications option.value) options)) (MissingOption (codes "publication_names")))
+    or_else (refused (not (list_any (λ option. is_version option.value) options))
+        (MissingOption (codes "proto_version")))
+    (refused (not (list_any (λ option. has_publications option.value) options))
+        (MissingOption (codes "publication_names")))
 
 -- ---- publications
 
@@ -99,7 +106,8 @@ names_in (option ∷ options) = if has_publications option.value then names_of o
 
 abbrev pub unknown_refusal : List (List ℕ) → List (List ℕ) → Option RefusalOf
 unknown_refusal known [] = None
-unknown_refusal known (name ∷ names) = or_else (refused (not (list_any (bytes_eq name) known)) (NoPublication name)) (unknown_refusal known names)
+unknown_refusal known (name ∷ names) =
+    or_else (refused (not (list_any (bytes_eq name) known)) (NoPublication name)) (unknown_refusal known names)
 
 abbrev pub is_this : List ℕ → Option (List ℕ) → Bool
 is_this name None = false
@@ -126,7 +134,8 @@ slot_refusal offer command slot taken =
     or_else (options_refusal [] command.options)
     (or_else (missing_refusal command.options)
     (or_else (unknown_refusal offer.publications (names_in command.options))
-    (or_else (refused (not (same_publications offer.publications (names_in command.options) taken)) (OtherPublications command.slot))
+    (or_else (refused (not (same_publications offer.publications (names_in command.options) taken))
+        (OtherPublications command.slot))
     (or_else (refused (nat_lt offer.log_end command.position) Ahead)
     (refused (is_taken offer.in_use slot) (InUse command.slot))))))
 

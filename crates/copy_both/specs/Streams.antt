@@ -1,9 +1,12 @@
--- What a connection sends: CopyBothResponse, and then what is taken of the log, commit by commit, and keepalives ("55.4. Streaming Replication Protocol", "55.5. Logical Streaming Replication Protocol"). Positions in the log are this project's own.
+-- What a connection sends: CopyBothResponse, and then what is taken of the log, commit by commit, and keepalives
+-- ("55.4. Streaming Replication Protocol", "55.5. Logical Streaming Replication Protocol"). Positions in the log are
+-- this project's own.
 use Rattle.std.specs.Prelude.{ℕ, ◌+◌, ◌-◌, ◌*◌, ◌/◌, ◌==◌, if◌then◌else◌, Bool, false, List, [], ◌∷◌, ◌++◌, replicate, slice_get, Option, Some, None}
 use Rattle.std.specs.List.{flat_map}
 use Rattle.copy_frames.specs.Contents.{copy_both_response, copy_data, xlog_data_body, keepalive_body}
 
--- what a subscriber is told of commits: the number of a commit, from 1; the messages of it for the subscriber of a slot, spelled, where these tables were told of; and which tables were told of after it
+-- what a subscriber is told of commits: the number of a commit, from 1; the messages of it for the subscriber of a
+-- slot, spelled, where these tables were told of; and which tables were told of after it
 pub record Telling (C : Type 0) : Type 0 where
   pub number : C → ℕ
   pub messages : ℕ → List Bool → C → List (List ℕ)
@@ -31,7 +34,8 @@ count_before position = (position - 1) / 64
 -- where a connection is that starts at this position and has told of none of the tables
 abbrev pub place_at : ℕ → ℕ → ℕ → Place
 place_at slot tables position =
-    record { slot = slot; done = count_before position; told = replicate tables false; sent = if position == 0 then 64 else position }
+    record { slot = slot; done = count_before position; told = replicate tables false; sent = if position == 0 then
+        64 else position }
 
 -- ---- a commit is taken
 
@@ -45,12 +49,14 @@ take_bytes telling place commit clock =
 
 abbrev pub place_after : {C : Type 0} → Telling C → Place → C → Place
 place_after telling place commit =
-    record { slot = place.slot; done = place.done + 1; told = telling.told_after place.slot place.told commit; sent = end_of (telling.number commit) }
+    record { slot = place.slot; done = place.done + 1; told = telling.told_after place.slot place.told commit; sent =
+        end_of (telling.number commit) }
 
 -- ---- a keepalive carries the sent position
 
 abbrev pub keep_bytes : Place → ℕ → Bool → List ℕ
-keep_bytes place clock want = copy_data (keepalive_body (record { position = place.sent; clock = clock; wants_reply = want }))
+keep_bytes place clock want =
+    copy_data (keepalive_body (record { position = place.sent; clock = clock; wants_reply = want }))
 
 -- ---- moves
 
@@ -78,7 +84,8 @@ moved telling log place (Keep clock want) = place
 
 abbrev pub all_bytes : {C : Type 0} → Telling C → List C → Place → List Move → List ℕ
 all_bytes telling log place [] = []
-all_bytes telling log place (move ∷ moves) = move_bytes telling log place move ++ all_bytes telling log (moved telling log place move) moves
+all_bytes telling log place (move ∷ moves) =
+    move_bytes telling log place move ++ all_bytes telling log (moved telling log place move) moves
 
 abbrev pub all_moved : {C : Type 0} → Telling C → List C → Place → List Move → Place
 all_moved telling log place [] = place
@@ -86,4 +93,5 @@ all_moved telling log place (move ∷ moves) = all_moved telling log (moved tell
 
 -- the bytes of a connection that starts at this position and makes these moves
 abbrev pub stream : {C : Type 0} → Telling C → List C → ℕ → ℕ → ℕ → List Move → List ℕ
-stream telling log slot tables position moves = copy_both_response ++ all_bytes telling log (place_at slot tables position) moves
+stream telling log slot tables position moves =
+    copy_both_response ++ all_bytes telling log (place_at slot tables position) moves

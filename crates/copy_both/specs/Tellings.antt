@@ -1,4 +1,5 @@
--- What tells a subscriber of the commits of a catalog: the messages of each, as the bytes that spell them ("55.5. Logical Streaming Replication Protocol", "55.9. Logical Replication Message Formats").
+-- What tells a subscriber of the commits of a catalog: the messages of each, as the bytes that spell them ("55.5.
+-- Logical Streaming Replication Protocol", "55.9. Logical Replication Message Formats").
 use Rattle.std.specs.Prelude.{ℕ, Bool, List, map}
 use Rattle.shard_checker.specs.CheckedView.{CheckedOf}
 use Rattle.tables_log.specs.Commits.{CommitOf}

@@ -1,4 +1,5 @@
--- What a voice says is its stream: what was passed on and what waits are together the stream of what it took and kept alive, in each log that has the commits that it took ("55.4. Streaming Replication Protocol").
+-- What a voice says is its stream: what was passed on and what waits are together the stream of what it took and kept
+-- alive, in each log that has the commits that it took ("55.4. Streaming Replication Protocol").
 use Rattle.std.specs.Prelude.{◌≡◌, ℕ, suc, ◌+◌, Bool, List, [], ◌∷◌, ◌++◌, length, take, slice_get, Some}
 use Rattle.shard_checker.specs.CheckedView.{CheckedOf}
 use Rattle.tables_log.specs.Commits.{CommitOf}
@@ -50,7 +51,8 @@ pub record IsTelling (voice : Voice) (told : Told) : Type 0 where
   pub done : place.done ≡ first_of told + length told.taken
   pub follow : Follow (first_of told) told.taken
   pub takes : takes_in told.moves ≡ length told.taken
-  pub speaks : (log : List CommitOf) → AreAt log (first_of told) told.taken → Speaks (telling_of told.checked) log told.start told.moves told.passed (voice_output voice) place
+  pub speaks : (log : List CommitOf) → AreAt log (first_of told) told.taken
+      → Speaks (telling_of told.checked) log told.start told.moves told.passed (voice_output voice) place
 
 -- it is closed, and these bytes came after the stream
 pub record HasTold (voice : Voice) (told : Told) (last : List ℕ) : Type 0 where
@@ -58,23 +60,30 @@ pub record HasTold (voice : Voice) (told : Told) (last : List ℕ) : Type 0 wher
   pub follow : Follow (first_of told) told.taken
   pub takes : takes_in told.moves ≡ length told.taken
   pub bytes : (log : List CommitOf) → AreAt log (first_of told) told.taken
-      → told.passed ++ voice_output voice ≡ stream (telling_of told.checked) log told.start.slot told.start.tables told.start.position told.moves ++ last
+      → told.passed ++ voice_output voice
+          ≡ stream (telling_of told.checked) log told.start.slot told.start.tables told.start.position told.moves
+          ++ last
 
 -- ---- laws: what each call does
 
 abbrev pub VoiceStarts : Type 0
 VoiceStarts = (old new : Voice) (slot position : ℕ) → voice_stage old ≡ voices.NotStarted → voice_output old ≡ []
     → Says old new copy_both_response (first_stage (voice_checked old) slot position)
-    → IsTelling new (record { checked = voice_checked old; start = started_at (voice_checked old) (slot, position); taken = []; moves = []; passed = [] })
+    → IsTelling new (record
+        { checked = voice_checked old; start = started_at (voice_checked old) (slot, position); taken = []; moves =
+        []; passed = [] })
 
 abbrev pub VoiceTakes : Type 0
-VoiceTakes = (old new : Voice) (told : Told) (commit : CommitOf) (clock : ℕ) → IsTelling old told → commit.number ≡ suc (first_of told + length told.taken)
-    → Says old new (entry_bytes (voice_checked old) (voice_stage old) commit clock) (entry_stage (voice_checked old) (voice_stage old) commit)
+VoiceTakes = (old new : Voice) (told : Told) (commit : CommitOf) (clock : ℕ) → IsTelling old told
+    → commit.number ≡ suc (first_of told + length told.taken)
+    → Says old new (entry_bytes (voice_checked old) (voice_stage old) commit clock)
+        (entry_stage (voice_checked old) (voice_stage old) commit)
     → IsTelling new (record told { taken = told.taken ++ commit ∷ []; moves = told.moves ++ Take clock ∷ [] })
 
 abbrev pub VoiceKeeps : Type 0
 VoiceKeeps = (old new : Voice) (told : Told) (clock : ℕ) (want : Bool) → IsTelling old told
-    → Says old new (kept_bytes (voice_stage old) clock want) (voice_stage old) → IsTelling new (record told { moves = told.moves ++ Keep clock want ∷ [] })
+    → Says old new (kept_bytes (voice_stage old) clock want) (voice_stage old)
+    → IsTelling new (record told { moves = told.moves ++ Keep clock want ∷ [] })
 
 abbrev pub VoicePassesOn : Type 0
 VoicePassesOn = (old new : Voice) (told : Told) (count : ℕ) → IsTelling old told → Passes old new count
@@ -82,7 +91,8 @@ VoicePassesOn = (old new : Voice) (told : Told) (count : ℕ) → IsTelling old 
 
 -- CopyDone follows the stream
 abbrev pub VoiceIsDone : Type 0
-VoiceIsDone = (old new : Voice) (told : Told) → IsTelling old told → Says old new (done_bytes (voice_stage old)) voices.Closed
+VoiceIsDone = (old new : Voice) (told : Told) → IsTelling old told
+    → Says old new (done_bytes (voice_stage old)) voices.Closed
     → HasTold new told (done_bytes (voice_stage old))
 
 -- a call that closes it says nothing
@@ -91,5 +101,6 @@ VoiceStops = (old new : Voice) (told : Told) → IsTelling old told → Closes o
 
 -- after the end the rest of what waits may be passed on
 abbrev pub RestPassesOn : Type 0
-RestPassesOn = (old new : Voice) (told : Told) (last : List ℕ) (count : ℕ) → HasTold old told last → Passes old new count
+RestPassesOn = (old new : Voice) (told : Told) (last : List ℕ) (count : ℕ) → HasTold old told last
+    → Passes old new count
     → HasTold new (record told { passed = told.passed ++ take count (voice_output old) }) last

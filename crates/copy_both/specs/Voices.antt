@@ -1,4 +1,5 @@
--- What a voice is, the half of a connection's end that sends, and what its calls answer, send and leave ("55.4. Streaming Replication Protocol"). A voice that is closed says no more.
+-- What a voice is, the half of a connection's end that sends, and what its calls answer, send and leave ("55.4.
+-- Streaming Replication Protocol"). A voice that is closed says no more.
 use Rattle.std.specs.Prelude.{◌≡◌, ℕ, ◌+◌, Bool, true, false, List, [], ◌∷◌, ◌++◌, All, length, drop, Option, Some, None, Result, Ok, Err}
 use Rattle.std.specs.Arc.{arc_value}
 use Rattle.shard_checker.specs.CheckedView.{CheckedOf, checked_view}
@@ -97,7 +98,8 @@ taken_of number (first ∷ others) = taken.Sent number
 
 abbrev pub entry_answer : CheckedOf → StageOf → CommitOf → Result Taken LinkFault
 entry_answer checked NotStarted commit = Ok taken.NotStarted
-entry_answer checked (Started place) commit = Ok (taken_of commit.number (spelled_for checked place.slot place.told commit))
+entry_answer checked (Started place) commit =
+    Ok (taken_of commit.number (spelled_for checked place.slot place.told commit))
 entry_answer checked Closed commit = Err fault.Closed
 
 abbrev pub entry_bytes : CheckedOf → StageOf → CommitOf → ℕ → List ℕ

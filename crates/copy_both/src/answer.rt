@@ -20,7 +20,7 @@ use std::alloc::{AllocError, Global};
 
 /// What a client asks for by its first frame.
 #[derive(Clone, Copy, Debug, PartialEq, Eq)]
-pub enum Asked {
+pub enum StartAnswer {
     /// A stream from the slot of the subscription with this number, from this position on, in bytes.
     Stream { slot: usize, position: u64 },
     /// A start that is refused by an error of this kind.
@@ -56,7 +56,7 @@ fn text_in(body: &[u8]) -> Option<&str>
     utf8_text(body.split_at(end).0)
 }
 
-fn refuse(response: &mut BytesMut, refusal: &Refusal<'_>) -> Result<Asked, AllocError>
+fn refuse(response: &mut BytesMut, refusal: &Refusal<'_>) -> Result<StartAnswer, AllocError>
     requires { CanBeSent (refusal_view refusal.now) }
     ensures asked { IfOk result (λ asked. asked ≡ told (Refused (refusal_view refusal.now))) }
     ensures ok { OnOk result
@@ -64,7 +64,7 @@ fn refuse(response: &mut BytesMut, refusal: &Refusal<'_>) -> Result<Asked, Alloc
     ensures err { OnErr result (response.new.items ≡ response.old.items) }
 {
     append_error_response(response, refusal)?;
-    Ok(Asked::Refused(refusal.state()))
+    Ok(StartAnswer::Refused(refusal.state()))
 }
 
 /// Answers a command for the slot of the subscription with this number.
@@ -73,7 +73,7 @@ fn answer_slot(
     command: &StartCommand,
     slot: usize,
     response: &mut BytesMut,
-) -> Result<Asked, AllocError>
+) -> Result<StartAnswer, AllocError>
     requires { IsShortCommand command.now }
     ensures asked { IfOk result
         (λ asked. asked ≡ told (asked_at (offer_view offer.now) command.now (Some slot))) }
@@ -86,14 +86,14 @@ fn answer_slot(
         return Ok(refuse(response, &refusal)?);
     }
     let position = command.position;
-    Ok(Asked::Stream { slot, position })
+    Ok(StartAnswer::Stream { slot, position })
 }
 
 fn answer_command(
     offer: &Offer<'_>,
     command: &StartCommand,
     response: &mut BytesMut,
-) -> Result<Asked, AllocError>
+) -> Result<StartAnswer, AllocError>
     requires { IsShortCommand command.now }
     ensures asked { IfOk result (λ asked. asked ≡ told (asked_by (offer_view offer.now) (Some command.now))) }
     ensures ok { OnOk result
@@ -112,7 +112,7 @@ fn answer_text(
     offer: &Offer<'_>,
     text: &str,
     response: &mut BytesMut,
-) -> Result<Asked, AllocError>
+) -> Result<StartAnswer, AllocError>
     ensures asked { IfOk result (λ asked. asked ≡ told (asked_by (offer_view offer.now) (command_of text.now))) }
     ensures ok { OnOk result
         (response.new.items ≡ sent_after response.old.items (asked_by (offer_view offer.now) (command_of text.now))) }
@@ -134,7 +134,7 @@ pub fn answer_start(
     kind: u8,
     body: &[u8],
     response: &mut BytesMut,
-) -> Result<Asked, AllocError>
+) -> Result<StartAnswer, AllocError>
     ensures asked { IfOk result (λ asked. asked ≡ told (asked_of (offer_view offer.now) kind body.now)) }
     ensures ok { OnOk result
         (response.new.items ≡ sent_after response.old.items (asked_of (offer_view offer.now) kind body.now)) }

@@ -31,7 +31,7 @@ mod token;
 mod tokens;
 mod voice;
 
-pub use answer::{Asked, answer_start};
+pub use answer::{StartAnswer, answer_start};
 pub use copy_frames::{Deframer, Frame, FrameFault};
 pub use ear::Ear;
 pub use error_response::append_error_response;

@@ -3,7 +3,7 @@
 ghost use Rattle.std.specs.Prelude.{◌≡◌, ◌+◌, slice_get, IfSome};
 ghost use Rattle.std.specs.Option.{option_map};
 ghost use Rattle.copy_both.specs.Ears.{ear_phase, ear_started};
-ghost use Rattle.copy_both.specs.Halves.{heard_state, said_state};
+ghost use Rattle.copy_both.specs.ConnectionStates.{heard_state, said_state};
 ghost use Rattle.copy_both.specs.Voices.{voice_stage};
 ghost use Rattle.tables_log.specs.BookView.{book_log};
 
@@ -51,7 +51,8 @@ impl Link {
     ghost use Rattle.tables_log.specs.BookView.{book_log};
     ghost use Rattle.copy_both.specs.Ears.{HearLeaves, IsAnsweredBy, ear_phase, ear_started, hear_answer};
     ghost use Rattle.copy_both.specs.Links as spec;
-    ghost use Rattle.copy_both.specs.Links.{HasNext, HearSays, IsNewLink, LinkCloses, LinkLoses, LinkPasses, LinkSays, NextIsReadBack, link_checked, link_ear, link_heard, link_output, link_sent, link_stage};
+    ghost use Rattle.copy_both.specs.Links.{HasNext, HearSays, IsNewLink, LinkCloses, LinkLoses, LinkPasses, LinkSays, NextIsReadBack};
+    ghost use Rattle.copy_both.specs.Links.{link_checked, link_ear, link_heard, link_output, link_sent, link_stage};
     ghost use Rattle.copy_both.specs.Voices.{IsStarted, keep_answer, kept_bytes, sent_of, told_fault};
     ghost use Rattle.copy_both.specs.declared.link_fault.LinkFault.TheVariants.{OutOfMemory};
     ghost use Rattle.copy_both.specs.declared.phase.Phase.TheVariants.{Open};

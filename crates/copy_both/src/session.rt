@@ -9,7 +9,7 @@ ghost use Rattle.copy_both.specs.Refusals.{error_response, state_of};
 ghost use Rattle.copy_both.specs.Sessions.{served_by, hearing_view, asked_in, begin_in, refused_by_book, Hears, Begins, KeepsRest, IsSameBook, IsSameSession};
 ghost use Rattle.copy_both.specs.StartAnswers.{told, sent_after};
 
-use crate::answer::{Asked, answer_start};
+use crate::answer::{StartAnswer, answer_start};
 use crate::error_response::append_error_response;
 use crate::event::{Event, event_of};
 use crate::hearing::Hearing;
@@ -87,8 +87,8 @@ impl Session {
             self.old.response.items self.new.response.items result }
     {
         match self.ask(frame, book)? {
-            Asked::Refused(state) => Err(LinkFault::BadStart(state)),
-            Asked::Stream { slot, position } => match book.start(slot, position) {
+            StartAnswer::Refused(state) => Err(LinkFault::BadStart(state)),
+            StartAnswer::Stream { slot, position } => match book.start(slot, position) {
                 Ok(start) => Ok((slot, start)),
                 Err(error) => Err(LinkFault::BadStart(self.refuse(slot, error)?)),
             },
@@ -110,7 +110,7 @@ impl Session {
     }
 
     /// What the frame asks for, if no slot is in use.
-    fn ask(&mut self, frame: &Frame, book: &Book) -> Result<Asked, AllocError>
+    fn ask(&mut self, frame: &Frame, book: &Book) -> Result<StartAnswer, AllocError>
         ensures kept { IsSameSession self.old self.new }
         ensures asked { IfOk result (λ asked. asked ≡ told (asked_in self.old book.now frame.now)) }
         ensures ok { OnOk result (self.new.response.items

@@ -119,14 +119,14 @@ impl Voice {
             (EntryIsReadBack (voice_checked self.old) (voice_stage self.old) commit.now) }
         ensures err { OnErr result (Closes self.old self.new) }
     {
-        let taken = self.tell(commit, now);
+        let taken = self.take(commit, now);
         if taken.is_err() {
             self.close();
         }
         taken
     }
 
-    fn tell(&mut self, commit: &Commit, now: u64) -> Result<Taken, LinkFault>
+    fn take(&mut self, commit: &Commit, now: u64) -> Result<Taken, LinkFault>
         requires { IfSome (spec.next_of (voice_stage self.old)) (λ next. commit.now.number ≡ next) }
         ensures answer { Answers (λ taken. taken) told_fault
             (spec.entry_answer (voice_checked self.old) (voice_stage self.old) commit.now) result }

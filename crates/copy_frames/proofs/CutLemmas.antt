@@ -21,19 +21,23 @@ unfolding front
 nothing_is_part limit = refl
 
 -- how many frames are allowed doesn't matter, where there are as many as bytes
-enough : (limit a b : ℕ) (bytes : List ℕ) → length bytes ≤ a → length bytes ≤ b → cut_some limit a bytes ≡ cut_some limit b bytes
+enough : (limit a b : ℕ) (bytes : List ℕ) → length bytes ≤ a → length bytes ≤ b
+    → cut_some limit a bytes ≡ cut_some limit b bytes
 enough limit zero zero bytes below above = refl
 enough limit zero (suc b) [] below above = rw (nothing_is_part limit) refl
 enough limit zero (suc b) (byte ∷ bytes) below above = absurd (omega arith)
 enough limit (suc a) zero [] below above = rw (nothing_is_part limit) refl
 enough limit (suc a) zero (byte ∷ bytes) below above = absurd (omega arith)
 enough limit (suc a) (suc b) bytes below above =
-    elim (front limit bytes) as (λ f. front limit bytes ≡ f → cut_after f bytes (cut_some limit a) ≡ cut_after f bytes (cut_some limit b)) [
+    elim (front limit bytes) as
+        (λ f. front limit bytes ≡ f → cut_after f bytes (cut_some limit a) ≡ cut_after f bytes (cut_some limit b)) [
       | Part ↦ (λ e. refl)
       | Faulty fault ↦ (λ e. refl)
       | Whole size ↦ (λ e.
           let w : IsWhole limit bytes size = whole_front limit bytes size e in
-          ap (Then (frame_of size bytes)) (enough limit a b (drop size bytes) (omega (arith, length-drop size bytes, w.least)) (omega (arith, length-drop size bytes, w.least))))
+          ap (Then (frame_of size bytes))
+              (enough limit a b (drop size bytes) (omega (arith, length-drop size bytes, w.least))
+              (omega (arith, length-drop size bytes, w.least))))
     ] refl
 
 pub cut_by_front : (limit : ℕ) (bytes : List ℕ) → cut limit bytes ≡ cut_after (front limit bytes) bytes (cut limit)
@@ -41,24 +45,32 @@ unfolding cut
 cut_by_front limit [] = rw (nothing_is_part limit) refl
 cut_by_front limit (byte ∷ bytes) =
     let all : List ℕ = byte ∷ bytes in
-    elim (front limit (byte ∷ bytes)) as (λ f. front limit (byte ∷ bytes) ≡ f → cut_after f (byte ∷ bytes) (cut_some limit (length bytes)) ≡ cut_after f (byte ∷ bytes) (cut limit)) [
+    elim (front limit (byte ∷ bytes)) as
+        (λ f. front limit (byte ∷ bytes) ≡ f
+        → cut_after f (byte ∷ bytes) (cut_some limit (length bytes)) ≡ cut_after f (byte ∷ bytes) (cut limit)) [
       | Part ↦ (λ e. refl)
       | Faulty fault ↦ (λ e. refl)
       | Whole size ↦ (λ e.
           let w : IsWhole limit (byte ∷ bytes) size = whole_front limit (byte ∷ bytes) size e in
-          ap (Then (frame_of size (byte ∷ bytes))) (enough limit (length bytes) (length (drop size (byte ∷ bytes))) (drop size (byte ∷ bytes)) (omega (arith, length-drop size (byte ∷ bytes), w.least)) (omega arith)))
+          ap (Then (frame_of size (byte ∷ bytes)))
+              (enough limit (length bytes) (length (drop size (byte ∷ bytes))) (drop size (byte ∷ bytes))
+              (omega (arith, length-drop size (byte ∷ bytes), w.least)) (omega arith)))
     ] refl
 
-pub cut_whole : (limit : ℕ) (bytes : List ℕ) (size : ℕ) → IsWhole limit bytes size → cut limit bytes ≡ Then (frame_of size bytes) (cut limit (drop size bytes))
-cut_whole limit bytes size w = cut_by_front limit bytes ∙ ap (λ f. cut_after f bytes (cut limit)) (front_whole limit bytes size w)
+pub cut_whole : (limit : ℕ) (bytes : List ℕ) (size : ℕ) → IsWhole limit bytes size
+    → cut limit bytes ≡ Then (frame_of size bytes) (cut limit (drop size bytes))
+cut_whole limit bytes size w = cut_by_front limit bytes
+    ∙ ap (λ f. cut_after f bytes (cut limit)) (front_whole limit bytes size w)
 
 frame : ℕ → List ℕ → Frame
 frame kind body = record { kind = kind; body = body }
 
-frame_of-more : (limit : ℕ) (bytes : List ℕ) (size : ℕ) (more : List ℕ) → IsWhole limit bytes size → frame_of size (bytes ++ more) ≡ frame_of size bytes
+frame_of-more : (limit : ℕ) (bytes : List ℕ) (size : ℕ) (more : List ℕ) → IsWhole limit bytes size
+    → frame_of size (bytes ++ more) ≡ frame_of size bytes
 unfolding frame
 frame_of-more limit bytes size more w =
-    ap (λ kind. frame kind (drop 5 (take size (bytes ++ more)))) (get_or_append_left bytes more 0 0 (omega (arith, w.least, w.within)))
+    ap (λ kind. frame kind (drop 5 (take size (bytes ++ more))))
+        (get_or_append_left bytes more 0 0 (omega (arith, w.least, w.within)))
     ∙ ap (λ front. frame (slice_index bytes 0) (drop 5 front)) (take-append-le size bytes more w.within)
 
 pub cut_whole_more : (limit : ℕ) (bytes : List ℕ) (size : ℕ) → IsWhole limit bytes size → (more : List ℕ)
@@ -69,9 +81,11 @@ cut_whole_more limit bytes size w more =
     ∙ ap (λ rest. Then (frame_of size bytes) (cut limit rest)) (drop-append-le size bytes more w.within)
 
 -- what the front says of all the bytes
-pub front_tells : (limit : ℕ) (bytes : List ℕ) (found : Front) → AreBytes bytes → found ≡ front limit bytes → Tells limit bytes found
+pub front_tells : (limit : ℕ) (bytes : List ℕ) (found : Front) → AreBytes bytes → found ≡ front limit bytes
+    → Tells limit bytes found
 front_tells limit bytes Part small e = cut_by_front limit bytes ∙ ap (λ f. cut_after f bytes (cut limit)) (sym e)
-front_tells limit bytes (Faulty fault) small e = cut_by_front limit bytes ∙ ap (λ f. cut_after f bytes (cut limit)) (sym e)
+front_tells limit bytes (Faulty fault) small e = cut_by_front limit bytes
+    ∙ ap (λ f. cut_after f bytes (cut limit)) (sym e)
 front_tells limit bytes (Whole size) small e =
     let w : IsWhole limit bytes size = whole_front limit bytes size (sym e) in
     record {
@@ -87,36 +101,46 @@ front_tells limit bytes (Whole size) small e =
 pub reaches_start : (limit : ℕ) (bytes : List ℕ) → Reaches limit bytes 0
 reaches_start limit bytes = record { within = omega arith; same = λ more. refl }
 
-pub reaches_on : (limit : ℕ) (bytes : List ℕ) (at size : ℕ) → Reaches limit bytes at → SpellsFrame limit (drop at bytes) size → Reaches limit bytes (at + size)
+pub reaches_on : (limit : ℕ) (bytes : List ℕ) (at size : ℕ) → Reaches limit bytes at
+    → SpellsFrame limit (drop at bytes) size → Reaches limit bytes (at + size)
 reaches_on limit bytes at size reached here = record {
   within = omega (arith, here.within, reached.within, length-drop at bytes);
-  same = λ more. reached.same more ∙ ap fault_of (here.cuts more) ∙ ap (λ rest. fault_in limit (rest ++ more)) (drop-drop size at bytes);
+  same = λ more. reached.same more ∙ ap fault_of (here.cuts more)
+      ∙ ap (λ rest. fault_in limit (rest ++ more)) (drop-drop size at bytes);
 }
 
 scan_ends : (limit : ℕ) (bytes : List ℕ) (at : ℕ) (fault : Option FrameFault) → Reaches limit bytes at
     → fault ≡ fault_in limit (drop at bytes) → Scans limit bytes (at, fault)
 scan_ends limit bytes at fault reached e = record {
   reaches = reached;
-  fault = e ∙ sym (ap (fault_in limit) (sym (append-nil bytes)) ∙ reached.same [] ∙ ap (fault_in limit) (append-nil (drop at bytes)));
+  fault = e ∙ sym (ap (fault_in limit) (sym (append-nil bytes)) ∙ reached.same []
+      ∙ ap (fault_in limit) (append-nil (drop at bytes)));
 }
 
-pub scan_ends_part : (limit : ℕ) (bytes : List ℕ) (at : ℕ) (rest : List ℕ) → Reaches limit bytes at → rest ≡ drop at bytes
+pub scan_ends_part : (limit : ℕ) (bytes : List ℕ) (at : ℕ) (rest : List ℕ) → Reaches limit bytes at
+    → rest ≡ drop at bytes
     → cut limit rest ≡ Rest rest → Scans limit bytes (at, None)
-scan_ends_part limit bytes at rest reached is e = scan_ends limit bytes at None reached (sym (ap fault_of e) ∙ ap (fault_in limit) is)
+scan_ends_part limit bytes at rest reached is e =
+    scan_ends limit bytes at None reached (sym (ap fault_of e) ∙ ap (fault_in limit) is)
 
-pub scan_ends_fault : (limit : ℕ) (bytes : List ℕ) (at : ℕ) (rest : List ℕ) (fault : FrameFault) → Reaches limit bytes at → rest ≡ drop at bytes
+pub scan_ends_fault : (limit : ℕ) (bytes : List ℕ) (at : ℕ) (rest : List ℕ) (fault : FrameFault)
+    → Reaches limit bytes at → rest ≡ drop at bytes
     → cut limit rest ≡ Bad fault rest → Scans limit bytes (at, Some fault)
-scan_ends_fault limit bytes at rest fault reached is e = scan_ends limit bytes at (Some fault) reached (sym (ap fault_of e) ∙ ap (fault_in limit) is)
+scan_ends_fault limit bytes at rest fault reached is e =
+    scan_ends limit bytes at (Some fault) reached (sym (ap fault_of e) ∙ ap (fault_in limit) is)
 
-pub reaches_more : (limit : ℕ) (bytes piece : List ℕ) (at : ℕ) → Reaches limit bytes at → Reaches limit (bytes ++ piece) at
+pub reaches_more : (limit : ℕ) (bytes piece : List ℕ) (at : ℕ) → Reaches limit bytes at
+    → Reaches limit (bytes ++ piece) at
 reaches_more limit bytes piece at reached = record {
   within = omega (arith, reached.within, length-append bytes piece);
   same = λ more. ap (fault_in limit) (append_assoc bytes piece more) ∙ reached.same (piece ++ more)
-      ∙ ap (fault_in limit) (sym (append_assoc (drop at bytes) piece more)) ∙ ap (λ xs. fault_in limit (xs ++ more)) (sym (drop-append-le at bytes piece reached.within));
+      ∙ ap (fault_in limit) (sym (append_assoc (drop at bytes) piece more))
+      ∙ ap (λ xs. fault_in limit (xs ++ more)) (sym (drop-append-le at bytes piece reached.within));
 }
 
 -- after the first frame was given
-pub reaches_rest : (limit : ℕ) (bytes : List ℕ) (size whole : ℕ) → SpellsFrame limit bytes size → Reaches limit bytes whole → Reaches limit (drop size bytes) (whole - size)
+pub reaches_rest : (limit : ℕ) (bytes : List ℕ) (size whole : ℕ) → SpellsFrame limit bytes size
+    → Reaches limit bytes whole → Reaches limit (drop size bytes) (whole - size)
 reaches_rest limit bytes size whole here reached = elim (cases_lt whole size) [
   | inl less ↦ (let none : whole - size ≡ 0 = omega arith in rw none (reaches_start limit (drop size bytes)))
   | inr more ↦ record {
@@ -124,7 +148,8 @@ reaches_rest limit bytes size whole here reached = elim (cases_lt whole size) [
     same = λ later.
         let place : size + (whole - size) ≡ whole = omega arith in
         sym (ap fault_of (here.cuts later)) ∙ reached.same later
-        ∙ ap (λ rest. fault_in limit (rest ++ later)) (ap (λ n. drop n bytes) (sym place) ∙ sym (drop-drop (whole - size) size bytes));
+        ∙ ap (λ rest. fault_in limit (rest ++ later))
+            (ap (λ n. drop n bytes) (sym place) ∙ sym (drop-drop (whole - size) size bytes));
   }
 ]
 
@@ -138,7 +163,8 @@ spelled_some limit (suc n) bytes small =
       | Faulty fault ↦ (λ e. refl)
       | Whole size ↦ (λ e.
           let w : IsWhole limit bytes size = whole_front limit bytes size e in
-          ap (λ rest. framed (frame_of size bytes) ++ rest) (spelled_some limit n (drop size bytes) (λ i. rw (get_or-drop size bytes i 0) (small (size + i))))
+          ap (λ rest. framed (frame_of size bytes) ++ rest)
+              (spelled_some limit n (drop size bytes) (λ i. rw (get_or-drop size bytes i 0) (small (size + i))))
           ∙ sym (spelled_whole limit bytes size small w))
     ] refl
 
@@ -152,7 +178,8 @@ spelled_are_cut limit (frame ∷ frames) rest allowed =
     let later : List ℕ = flat_map framed frames ++ rest in
     ap (cut limit) (append_assoc (framed frame) (flat_map framed frames) rest)
     ∙ cut_whole limit (framed frame ++ later) (length frame.body + 5) (framed_whole limit frame later allowed.0)
-    ∙ ap (λ first. Then first (cut limit (drop (length frame.body + 5) (framed frame ++ later)))) (frame_of-framed frame later)
+    ∙ ap (λ first. Then first (cut limit (drop (length frame.body + 5) (framed frame ++ later))))
+        (frame_of-framed frame later)
     ∙ ap (λ bytes. Then frame (cut limit bytes)) (drop-framed frame later)
     ∙ ap (Then frame) (spelled_are_cut limit frames rest allowed.1)
 
@@ -165,7 +192,8 @@ whole_some limit (suc n) bytes few =
       | Faulty fault ↦ (λ e. e)
       | Whole size ↦ (λ e.
           let w : IsWhole limit bytes size = whole_front limit bytes size e in
-          (allowed_whole limit bytes size w, whole_some limit n (drop size bytes) (omega (arith, length-drop size bytes, w.least))))
+          (allowed_whole limit bytes size w,
+              whole_some limit n (drop size bytes) (omega (arith, length-drop size bytes, w.least))))
     ] refl
 
 pub cuts_are_whole : CutsAreWhole
@@ -175,7 +203,9 @@ cuts_are_whole limit bytes = whole_some limit (length bytes) bytes (omega arith)
 -- ---- a length is never told as want of memory
 
 length_faults : (small signed long part : Bool) (size : ℕ)
-    → cond small (Faulty BadLength) (cond signed (cond long (Faulty FrameTooLong) (cond part Part (Whole size))) (Faulty BadLength)) ≡ Faulty OutOfMemory → ⊥
+    → cond small (Faulty BadLength)
+        (cond signed (cond long (Faulty FrameTooLong) (cond part Part (Whole size))) (Faulty BadLength))
+        ≡ Faulty OutOfMemory → ⊥
 length_faults true signed long part size h = cc
 length_faults false false long part size h = cc
 length_faults false true true part size h = cc
@@ -183,12 +213,15 @@ length_faults false true false true size h = cc
 length_faults false true false false size h = cc
 
 number_faults : (limit size there : ℕ) → sized limit size there ≡ Faulty OutOfMemory → ⊥
-number_faults limit size there h = length_faults (nat_lt size 4) (nat_lt size (2 ^ 31)) (nat_lt limit size) (nat_lt there (size + 1)) (size + 1) h
+number_faults limit size there h =
+    length_faults (nat_lt size 4) (nat_lt size (2 ^ 31)) (nat_lt limit size) (nat_lt there (size + 1)) (size + 1) h
 
 front_faults : (limit : ℕ) (bytes : List ℕ) → front limit bytes ≡ Faulty OutOfMemory → ⊥
 unfolding front
 front_faults limit bytes h =
-    elim (nat_lt (length bytes) 5) as (λ b. cond b Part (sized limit (from_be_bytes w32 (take 4 (drop 1 bytes))) (length bytes)) ≡ Faulty OutOfMemory → ⊥) [
+    elim (nat_lt (length bytes) 5) as
+        (λ b. cond b Part (sized limit (from_be_bytes w32 (take 4 (drop 1 bytes))) (length bytes))
+        ≡ Faulty OutOfMemory → ⊥) [
       | true ↦ (λ h. cc)
       | false ↦ (λ h. number_faults limit (from_be_bytes w32 (take 4 (drop 1 bytes))) (length bytes) h)
     ] h
@@ -196,7 +229,8 @@ front_faults limit bytes h =
 some_faults : (limit n : ℕ) (bytes : List ℕ) → fault_of (cut_some limit n bytes) ≡ Some OutOfMemory → ⊥
 some_faults limit zero bytes h = cc
 some_faults limit (suc n) bytes h =
-    elim (front limit bytes) as (λ f. front limit bytes ≡ f → fault_of (cut_after f bytes (cut_some limit n)) ≡ Some OutOfMemory → ⊥) [
+    elim (front limit bytes) as
+        (λ f. front limit bytes ≡ f → fault_of (cut_after f bytes (cut_some limit n)) ≡ Some OutOfMemory → ⊥) [
       | Part ↦ (λ e h. cc)
       | Faulty fault ↦ (λ e h. let same : fault ≡ OutOfMemory = cc in front_faults limit bytes (e ∙ ap Faulty same))
       | Whole size ↦ (λ e h. some_faults limit n (drop size bytes) h)
@@ -209,7 +243,8 @@ faults limit bytes h = some_faults limit (length bytes) bytes h
 inbox : Inbox → List ℕ → Option FrameFault → Inbox
 inbox old piece fault = record { limit = old.limit; bytes = old.bytes ++ piece; fault = fault }
 
-pub piece_is_kept : (old : Inbox) (piece : List ℕ) (fault : Option FrameFault) → fault ≡ fault_in old.limit (old.bytes ++ piece)
+pub piece_is_kept : (old : Inbox) (piece : List ℕ) (fault : Option FrameFault)
+    → fault ≡ fault_in old.limit (old.bytes ++ piece)
     → TakesPiece None fault old piece (record { limit = old.limit; bytes = old.bytes ++ piece; fault = fault })
 unfolding inbox
 piece_is_kept old piece None e = ap (inbox old piece) e

@@ -6,7 +6,8 @@ use Rattle.copy_frames.specs.declared.frame.Frame.{Frame}
 use Rattle.copy_frames.specs.Frames.{framed, Cut, Then, cut, after_frames, fault_of, fault_in}
 use Rattle.copy_frames.specs.FrameLaws.{FrameIsGiven, FaultIsFirst}
 
-after_frames-append : (given : List Frame) (frame : Frame) (last : Cut) → after_frames (given ++ frame ∷ []) last ≡ after_frames given (Then frame last)
+after_frames-append : (given : List Frame) (frame : Frame) (last : Cut)
+    → after_frames (given ++ frame ∷ []) last ≡ after_frames given (Then frame last)
 after_frames-append [] frame last = refl
 after_frames-append (first ∷ given) frame last = ap (Then first) (after_frames-append given frame last)
 
@@ -28,4 +29,5 @@ frame_is_given fed given old frame new has gives = record {
 pub fault_is_first : FaultIsFirst
 fault_is_first fed given inbox has =
     ap (fault_in inbox.limit) (sym (append-nil fed)) ∙ ap fault_of (has.cuts [])
-    ∙ fault_of-after_frames given (cut inbox.limit (inbox.bytes ++ [])) ∙ ap (fault_in inbox.limit) (append-nil inbox.bytes)
+    ∙ fault_of-after_frames given (cut inbox.limit (inbox.bytes ++ []))
+    ∙ ap (fault_in inbox.limit) (append-nil inbox.bytes)

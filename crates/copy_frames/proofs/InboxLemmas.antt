@@ -21,7 +21,8 @@ rest_left limit bytes none =
     ∙ rest_by_front limit bytes (front limit bytes) (sym (ap has_frame (cut_by_front limit bytes)) ∙ none)
 
 -- nothing was given, so that no frame is whole
-pub gives_none : (before : Inbox) (found : Option Frame) (after : Inbox) → ((frame : Frame) → found ≡ Some frame → ⊥) → Gives before found after
+pub gives_none : (before : Inbox) (found : Option Frame) (after : Inbox) → ((frame : Frame) → found ≡ Some frame → ⊥)
+    → Gives before found after
     → (after ≡ before) × (has_frame (cut before.limit before.bytes) ≡ false)
 gives_none before None after never gives = gives
 gives_none before (Some frame) after never gives = absurd (never frame refl)

@@ -18,9 +18,11 @@ with_more limit more (Then frame others) = Then frame (with_more limit more othe
 
 module _ (limit : ℕ) where
   abbrev pub CutsMore : List ℕ → List ℕ → Type 0
-  CutsMore more bytes = fault_of (cut limit bytes) ≡ None → cut limit (bytes ++ more) ≡ with_more limit more (cut limit bytes)
+  CutsMore more bytes = fault_of (cut limit bytes) ≡ None
+      → cut limit (bytes ++ more) ≡ with_more limit more (cut limit bytes)
 
-  cut_with : (bytes : List ℕ) (found : Front) → front limit bytes ≡ found → cut limit bytes ≡ cut_after found bytes (cut limit)
+  cut_with : (bytes : List ℕ) (found : Front) → front limit bytes ≡ found
+      → cut limit bytes ≡ cut_after found bytes (cut limit)
   cut_with bytes found is = cut_by_front limit bytes ∙ ap (λ f. cut_after f bytes (cut limit)) is
 
   front_more : (bytes more : List ℕ) (found : Front) → front limit bytes ≡ found
@@ -30,13 +32,16 @@ module _ (limit : ℕ) where
       let wrong : fault_of (cut limit bytes) ≡ Some fault = ap fault_of (cut_with bytes (Faulty fault) is) in absurd cc
   front_more bytes more (Whole size) is later good =
       let whole : IsWhole limit bytes size = whole_front limit bytes size is in
-      let all : cut limit bytes ≡ Then (frame_of size bytes) (cut limit (drop size bytes)) = cut_with bytes (Whole size) is in
+      let all : cut limit bytes ≡ Then (frame_of size bytes) (cut limit (drop size bytes)) =
+          cut_with bytes (Whole size) is in
       cut_whole_more limit bytes size whole more
       ∙ ap (Then (frame_of size bytes)) (later size whole (sym (ap fault_of all) ∙ good))
       ∙ sym (ap (with_more limit more) all)
 
   cut_some_more : (n : ℕ) (bytes more : List ℕ) → length bytes ≤ n → CutsMore more bytes
-  cut_some_more zero bytes more few = front_more bytes more (front limit bytes) refl (λ size whole. absurd (omega (arith, few, whole.least, whole.within)))
+  cut_some_more zero bytes more few =
+      front_more bytes more (front limit bytes) refl
+      (λ size whole. absurd (omega (arith, few, whole.least, whole.within)))
   cut_some_more (suc n) bytes more few =
       front_more bytes more (front limit bytes) refl
       (λ size whole. cut_some_more n (drop size bytes) more (omega (arith, few, length-drop size bytes, whole.least)))
@@ -44,19 +49,22 @@ module _ (limit : ℕ) where
   pub cut_more : (bytes more : List ℕ) → CutsMore more bytes
   cut_more bytes more = cut_some_more (length bytes) bytes more (omega arith)
 
-  pub rest_with_more : (more : List ℕ) (whole : Cut) → fault_of whole ≡ None → rest_of (with_more limit more whole) ≡ rest_of (cut limit (rest_of whole ++ more))
+  pub rest_with_more : (more : List ℕ) (whole : Cut) → fault_of whole ≡ None
+      → rest_of (with_more limit more whole) ≡ rest_of (cut limit (rest_of whole ++ more))
   rest_with_more more (Rest bytes) good = refl
   rest_with_more more (Bad fault bytes) good = absurd cc
   rest_with_more more (Then frame others) good = rest_with_more more others good
 
-  pub more_after : (more : List ℕ) (whole : Cut) → fault_of whole ≡ None → with_more limit more whole ≡ after_frames (frames_of whole) (cut limit (rest_of whole ++ more))
+  pub more_after : (more : List ℕ) (whole : Cut) → fault_of whole ≡ None
+      → with_more limit more whole ≡ after_frames (frames_of whole) (cut limit (rest_of whole ++ more))
   more_after more (Rest bytes) good = refl
   more_after more (Bad fault bytes) good = absurd cc
   more_after more (Then frame others) good = ap (Then frame) (more_after more others good)
 
 -- ---- frames before a cut
 
-pub after_append : (first second : List Frame) (rest : Cut) → after_frames (first ++ second) rest ≡ after_frames first (after_frames second rest)
+pub after_append : (first second : List Frame) (rest : Cut)
+    → after_frames (first ++ second) rest ≡ after_frames first (after_frames second rest)
 after_append [] second rest = refl
 after_append (frame ∷ first) second rest = ap (Then frame) (after_append first second rest)
 
@@ -77,6 +85,7 @@ after_both (Rest bytes) = Rest bytes
 after_both (Bad fault bytes) = Bad fault bytes
 after_both (Then frame more) = more
 
-pub same_after : (frames : List Frame) (one other : Cut) → after_frames frames one ≡ after_frames frames other → one ≡ other
+pub same_after : (frames : List Frame) (one other : Cut) → after_frames frames one ≡ after_frames frames other
+    → one ≡ other
 same_after [] one other same = same
 same_after (frame ∷ frames) one other same = same_after frames one other (ap after_both same)

@@ -14,5 +14,6 @@ KeepaliveIsRead = (keepalive : Keepalive) → keepalive.position < 2 ^ 64 → ke
     → keepalive_in (keepalive_body keepalive) ≡ Some keepalive
 
 abbrev pub StatusIsRead : Type 0
-StatusIsRead = (status : Status) → status.written < 2 ^ 64 → status.flushed < 2 ^ 64 → status.applied < 2 ^ 64 → status.clock < 2 ^ 64
+StatusIsRead = (status : Status) → status.written < 2 ^ 64 → status.flushed < 2 ^ 64 → status.applied < 2 ^ 64
+    → status.clock < 2 ^ 64
     → status_in (status_body status) ≡ Some status

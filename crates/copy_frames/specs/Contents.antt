@@ -1,4 +1,5 @@
--- What CopyData carries while a stream runs, and the frames that begin and end it ("55.4. Streaming Replication Protocol", "55.7. Message Formats").
+-- What CopyData carries while a stream runs, and the frames that begin and end it ("55.4. Streaming Replication
+-- Protocol", "55.7. Message Formats").
 use Rattle.std.specs.Prelude.{ℕ, ◌==◌, Bool, true, false, not, if◌then◌else◌, nat_le, List, [], ◌∷◌, ◌++◌, length, take, drop, slice_index, Option, Some, None}
 use Rattle.std.specs.Int.{to_be_bytes, from_be_bytes, w64}
 use Rattle.copy_frames.specs.declared.keepalive.Keepalive.{Keepalive}
@@ -31,12 +32,14 @@ xlog_data_body head message = 119 ∷ (int64 head.start ++ (int64 head.end ++ (i
 
 -- `k`
 abbrev pub keepalive_body : Keepalive → List ℕ
-keepalive_body keepalive = 107 ∷ (int64 keepalive.position ++ (int64 keepalive.clock ++ (flag keepalive.wants_reply ∷ [])))
+keepalive_body keepalive =
+    107 ∷ (int64 keepalive.position ++ (int64 keepalive.clock ++ (flag keepalive.wants_reply ∷ [])))
 
 -- `r`
 abbrev pub status_body : Status → List ℕ
 status_body status =
-    114 ∷ (int64 status.written ++ (int64 status.flushed ++ (int64 status.applied ++ (int64 status.clock ++ (flag status.wants_reply ∷ [])))))
+    114 ∷ (int64 status.written
+        ++ (int64 status.flushed ++ (int64 status.applied ++ (int64 status.clock ++ (flag status.wants_reply ∷ [])))))
 
 -- ---- what is read of it: the byte that says what it is was looked at before
 
@@ -50,14 +53,19 @@ flag_at place bytes = not (slice_index bytes place == 0)
 -- the head, of 25 bytes, and the message
 abbrev pub xlog_data_in : List ℕ → Option (XLogData × List ℕ)
 xlog_data_in body =
-    if nat_le 25 (length body) then Some (record { start = number_at 1 body; end = number_at 9 body; clock = number_at 17 body }, drop 25 body) else None
+    if nat_le 25 (length body) then
+        Some (record { start = number_at 1 body; end = number_at 9 body; clock = number_at 17 body }, drop 25 body)
+        else None
 
 abbrev pub keepalive_in : List ℕ → Option Keepalive
 keepalive_in body =
-    if length body == 18 then Some (record { position = number_at 1 body; clock = number_at 9 body; wants_reply = flag_at 17 body }) else None
+    if length body == 18 then
+        Some (record { position = number_at 1 body; clock = number_at 9 body; wants_reply = flag_at 17 body })
+        else None
 
 abbrev pub status_in : List ℕ → Option Status
 status_in body =
     if length body == 34 then
-    Some (record { written = number_at 1 body; flushed = number_at 9 body; applied = number_at 17 body; clock = number_at 25 body; wants_reply = flag_at 33 body })
+    Some (record { written = number_at 1 body; flushed = number_at 9 body; applied = number_at 17 body; clock =
+        number_at 25 body; wants_reply = flag_at 33 body })
     else None

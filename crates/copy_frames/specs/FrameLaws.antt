@@ -1,4 +1,5 @@
--- How the frames that bytes are cut into give the bytes again, and what a deframer gives over many calls ("55.7. Message Formats").
+-- How the frames that bytes are cut into give the bytes again, and what a deframer gives over many calls ("55.7.
+-- Message Formats").
 use Rattle.std.specs.Prelude.{◌≡◌, ℕ, ◌<◌, List, [], ◌∷◌, ◌++◌, slice_index}
 use Rattle.std.specs.List.{flat_map}
 use Rattle.copy_frames.specs.declared.frame.Frame.{Frame}
@@ -22,7 +23,8 @@ abbrev pub SpelledAreCut : Type 0
 SpelledAreCut = (limit : ℕ) (frames : List Frame) (rest : List ℕ) → AreFrames limit frames
     → cut limit (flat_map framed frames ++ rest) ≡ after_frames frames (cut limit rest)
 
--- the frames are within the limit, and neither is there a whole frame at the end nor, without a fault, a length that no frame may have
+-- the frames are within the limit, and neither is there a whole frame at the end nor, without a fault, a length that
+-- no frame may have
 abbrev pub IsCut : ℕ → Cut → Type 0
 IsCut limit (Rest bytes) = front limit bytes ≡ Part
 IsCut limit (Bad fault bytes) = front limit bytes ≡ Faulty fault
@@ -36,7 +38,8 @@ CutsAreWhole = (limit : ℕ) (bytes : List ℕ) → IsCut limit (cut limit bytes
 -- of the bytes that were fed these frames were given, and the rest is held, however the stream goes on
 pub record HasGiven (fed : List ℕ) (given : List Frame) (inbox : Inbox) : Type 0 where
   pub bytes : fed ≡ flat_map framed given ++ inbox.bytes
-  pub cuts : (more : List ℕ) → cut inbox.limit (fed ++ more) ≡ after_frames given (cut inbox.limit (inbox.bytes ++ more))
+  pub cuts : (more : List ℕ)
+      → cut inbox.limit (fed ++ more) ≡ after_frames given (cut inbox.limit (inbox.bytes ++ more))
 
 abbrev pub StartsGiven : Type 0
 StartsGiven = (limit : ℕ) → HasGiven [] [] (empty_inbox limit)

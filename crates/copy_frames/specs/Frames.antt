@@ -1,4 +1,5 @@
--- Frames of a connection, and how bytes are cut into them. A frame is one byte that says its kind, a number of 32 bits that counts itself and the body, and the body ("55.7. Message Formats").
+-- Frames of a connection, and how bytes are cut into them. A frame is one byte that says its kind, a number of 32
+-- bits that counts itself and the body, and the body ("55.7. Message Formats").
 use Rattle.std.specs.Prelude.{ℕ, zero, suc, ◌+◌, ◌^◌, ◌<◌, ◌≤◌, nat_lt, if◌then◌else◌, List, [], ◌∷◌, ◌++◌, length, take, drop, slice_index, Option, Some, None}
 use Rattle.std.specs.Int.{to_be_bytes, from_be_bytes, w32}
 use Rattle.copy_frames.specs.declared.fault.FrameFault.{FrameFault}
@@ -16,22 +17,27 @@ pub record IsFrame (limit : ℕ) (frame : Frame) : Type 0 where
   pub within : length frame.body + 4 ≤ limit
   pub signed : length frame.body + 4 < 2 ^ 31
 
--- what is at the front of so many bytes where the first frame's length is `size`: a length is a signed number, so that one of 2^31 or more is less than 4
+-- what is at the front of so many bytes where the first frame's length is `size`: a length is a signed number, so
+-- that one of 2^31 or more is less than 4
 abbrev pub sized : ℕ → ℕ → ℕ → Front
 sized limit size there =
     if nat_lt size 4 then Faulty BadLength else
-    if nat_lt size (2 ^ 31) then (if nat_lt limit size then Faulty FrameTooLong else if nat_lt there (size + 1) then Part else Whole (size + 1)) else
+    if nat_lt size (2 ^ 31) then
+        (if nat_lt limit size then Faulty FrameTooLong else if nat_lt there (size + 1) then
+        Part else Whole (size + 1)) else
     Faulty BadLength
 
 -- what is at the front of some bytes, where the length of a frame is at most `limit`
 unfoldable pub front : ℕ → List ℕ → Front
-front limit bytes = if nat_lt (length bytes) 5 then Part else sized limit (from_be_bytes w32 (take 4 (drop 1 bytes))) (length bytes)
+front limit bytes = if nat_lt (length bytes) 5 then
+    Part else sized limit (from_be_bytes w32 (take 4 (drop 1 bytes))) (length bytes)
 
 -- the frame that so many bytes at the front are
 abbrev pub frame_of : ℕ → List ℕ → Frame
 frame_of size bytes = record { kind = slice_index bytes 0; body = drop 5 (take size bytes) }
 
--- bytes as frames: a rest that is no whole frame, a length that no frame may have with what follows it, or a frame and what comes after it
+-- bytes as frames: a rest that is no whole frame, a length that no frame may have with what follows it, or a frame
+-- and what comes after it
 pub data Cut : Type 0 where
   Rest : List ℕ → Cut
   Bad : FrameFault → List ℕ → Cut

@@ -1,4 +1,5 @@
--- What a deframer keeps of the bytes that it was fed, and what it answers. The frames are those of "55.7. Message Formats".
+-- What a deframer keeps of the bytes that it was fed, and what it answers. The frames are those of "55.7. Message
+-- Formats".
 use Rattle.std.specs.Prelude.{◌≡◌, ℕ, Bool, true, false, List, [], ◌++◌, Option, Some, None, Result, Ok, Err}
 use Rattle.copy_frames.specs.declared.fault.FrameFault.{FrameFault}
 use Rattle.copy_frames.specs.declared.fault.FrameFault.TheVariants.{BadLength, FrameTooLong, OutOfMemory}
@@ -17,7 +18,8 @@ empty_inbox limit = record { limit = limit; bytes = []; fault = None }
 
 -- an inbox without a fault after it was fed: the fault is that of the first length that no frame may have
 abbrev pub with_piece : Inbox → List ℕ → Inbox
-with_piece inbox piece = record { limit = inbox.limit; bytes = inbox.bytes ++ piece; fault = fault_in inbox.limit (inbox.bytes ++ piece) }
+with_piece inbox piece =
+    record { limit = inbox.limit; bytes = inbox.bytes ++ piece; fault = fault_in inbox.limit (inbox.bytes ++ piece) }
 
 -- where memory was refused nothing is kept of the piece
 abbrev pub without_memory : Inbox → Inbox
@@ -28,7 +30,8 @@ abbrev pub answer_of : Option FrameFault → Result (Unit {0}) FrameFault
 answer_of None = Ok tt
 answer_of (Some fault) = Err fault
 
--- what feeding leaves, by the faults before and after it: after a fault nothing changes; before one the piece is kept, or memory was refused
+-- what feeding leaves, by the faults before and after it: after a fault nothing changes; before one the piece is
+-- kept, or memory was refused
 abbrev pub TakesPiece : Option FrameFault → Option FrameFault → Inbox → List ℕ → Inbox → Type 0
 TakesPiece (Some fault) after old piece new = new ≡ old
 TakesPiece None (Some OutOfMemory) old piece new = new ≡ without_memory old

@@ -11,7 +11,8 @@ pub record SpellsFrame (limit : ℕ) (bytes : List ℕ) (size : ℕ) : Type 0 wh
   pub within : size ≤ length bytes
   pub allowed : IsFrame limit (frame_of size bytes)
   pub spelled : bytes ≡ framed (frame_of size bytes) ++ drop size bytes
-  pub cuts : (more : List ℕ) → cut limit (bytes ++ more) ≡ Then (frame_of size bytes) (cut limit (drop size bytes ++ more))
+  pub cuts : (more : List ℕ)
+      → cut limit (bytes ++ more) ≡ Then (frame_of size bytes) (cut limit (drop size bytes ++ more))
 
 -- what the front says of all the bytes
 abbrev pub Tells : ℕ → List ℕ → Front → Type 0
@@ -19,7 +20,8 @@ Tells limit bytes Part = cut limit bytes ≡ Rest bytes
 Tells limit bytes (Faulty fault) = cut limit bytes ≡ Bad fault bytes
 Tells limit bytes (Whole size) = SpellsFrame limit bytes size
 
--- up to this place there are whole frames, so that a fault is to be looked for from there on, however the stream goes on
+-- up to this place there are whole frames, so that a fault is to be looked for from there on, however the stream goes
+-- on
 pub record Reaches (limit : ℕ) (bytes : List ℕ) (at : ℕ) : Type 0 where
   pub within : at ≤ length bytes
   pub same : (more : List ℕ) → fault_in limit (bytes ++ more) ≡ fault_in limit (drop at bytes ++ more)

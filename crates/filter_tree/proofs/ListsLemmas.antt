@@ -31,16 +31,19 @@ agrees_on one other column (c ∷ columns) h found = by_test (nat_eq column c)
     (λ later. let rest : list_any (nat_eq column) columns ≡ true = rw later at found in
     agrees_on one other column columns h.1 rest)
 
-agrees_with_item : (one other : List Datum) (columns : List ℕ) (column : ℕ) → AgreesOn (with_item nat_eq columns column) one other
+agrees_with_item : (one other : List Datum) (columns : List ℕ) (column : ℕ)
+    → AgreesOn (with_item nat_eq columns column) one other
     → AgreesOn columns one other × (value_at one column ≡ value_at other column)
 agrees_with_item one other columns column h = by_test (list_any (nat_eq column) columns)
-    (λ found. let kept : AgreesOn columns one other = rw found at h in (kept, agrees_on one other column columns kept found))
+    (λ found. let kept : AgreesOn columns one other = rw found at h in
+        (kept, agrees_on one other column columns kept found))
     (λ new. let added : AgreesOn (columns ++ column ∷ []) one other = rw new at h in
     let both = agrees_append one other columns (column ∷ []) added in
     (both.0, both.1.0))
 
 -- rows that agree on the distinct columns of a list agree on the list
-agrees_distinct : (one other : List Datum) (held columns : List ℕ) → AgreesOn (fold (with_item nat_eq) held columns) one other
+agrees_distinct : (one other : List Datum) (held columns : List ℕ)
+    → AgreesOn (fold (with_item nat_eq) held columns) one other
     → AgreesOn held one other × AgreesOn columns one other
 agrees_distinct one other held [] h = (h, tt)
 agrees_distinct one other held (c ∷ columns) h =
@@ -60,7 +63,8 @@ term_agrees : (one other : List Datum) (term : Term) → value_at one (column_of
 term_agrees one other (Col c) h = h
 term_agrees one other (Mod c m) h = ap (λ v. remainder_of v m) h
 
-atom_agrees : (one other : List Datum) (atom : AtomOf) → value_at one (column_of (term_of atom)) ≡ value_at other (column_of (term_of atom))
+atom_agrees : (one other : List Datum) (atom : AtomOf)
+    → value_at one (column_of (term_of atom)) ≡ value_at other (column_of (term_of atom))
     → atom_meaning atom one ≡ atom_meaning atom other
 atom_agrees one other atom h = ap (said_of atom) (term_agrees one other (term_of atom) h)
 

@@ -16,7 +16,8 @@ by_test false at_true at_false = at_false refl
 
 -- ---- tests that hold of equal items, and of no others
 
-module _ {X : Type 0} (same : X → X → Bool) (is : (x y : X) → same x y ≡ true → x ≡ y) (self : (x y : X) → x ≡ y → same x y ≡ true) where
+module _ {X : Type 0} (same : X → X → Bool) (is : (x y : X) → same x y ≡ true → x ≡ y)
+    (self : (x y : X) → x ≡ y → same x y ≡ true) where
   same_by : (x y : X) → same x y ≡ same y x
   same_by x y = by_test (same x y)
       (λ h. h ∙ sym (self y x (sym (is x y h))))
@@ -35,23 +36,28 @@ or_false false = refl
 
 -- ---- where an item first stands
 
-position-found : {X : Type 0} (p : X → Bool) (xs ys : List X) → list_any p xs ≡ true → position_or_len p (xs ++ ys) ≡ position_or_len p xs
+position-found : {X : Type 0} (p : X → Bool) (xs ys : List X) → list_any p xs ≡ true
+    → position_or_len p (xs ++ ys) ≡ position_or_len p xs
 position-found p [] ys h = absurd cc
 position-found p (x ∷ xs) ys h = by_test (p x)
     (λ here. rw here refl)
-    (λ later. let rest : list_any p xs ≡ true = rw later at h in rw later (ap (λ n. 1 + n) (position-found p xs ys rest)))
+    (λ later. let rest : list_any p xs ≡ true = rw later at h in
+        rw later (ap (λ n. 1 + n) (position-found p xs ys rest)))
 
-position-after : {X : Type 0} (p : X → Bool) (xs ys : List X) → list_any p xs ≡ false → position_or_len p (xs ++ ys) ≡ length xs + position_or_len p ys
+position-after : {X : Type 0} (p : X → Bool) (xs ys : List X) → list_any p xs ≡ false
+    → position_or_len p (xs ++ ys) ≡ length xs + position_or_len p ys
 position-after p [] ys h = omega arith
 position-after p (x ∷ xs) ys h = by_test (p x)
     (λ here. absurd (let found : true ≡ false = rw here at h in cc))
-    (λ later. let rest : list_any p xs ≡ false = rw later at h in let past = position-after p xs ys rest in rw later (omega (arith, past)))
+    (λ later. let rest : list_any p xs ≡ false = rw later at h in let past = position-after p xs ys rest in
+        rw later (omega (arith, past)))
 
 position-within : {X : Type 0} (p : X → Bool) (xs : List X) → list_any p xs ≡ true → position_or_len p xs < length xs
 position-within p [] h = absurd cc
 position-within p (x ∷ xs) h = by_test (p x)
     (λ here. rw here (omega arith))
-    (λ later. let rest : list_any p xs ≡ true = rw later at h in let within = position-within p xs rest in rw later (omega arith))
+    (λ later. let rest : list_any p xs ≡ true = rw later at h in let within = position-within p xs rest in
+        rw later (omega arith))
 
 position-last : {X : Type 0} (p : X → Bool) (x : X) → p x ≡ true → position_or_len p (x ∷ []) ≡ 0
 position-last p x h = rw h refl
@@ -63,7 +69,8 @@ position-missing : {X : Type 0} (p : X → Bool) (xs : List X) → list_any p xs
 position-missing p [] h = refl
 position-missing p (x ∷ xs) h = by_test (p x)
     (λ here. absurd (let found : true ≡ false = rw here at h in cc))
-    (λ later. let rest : list_any p xs ≡ false = rw later at h in let past = position-missing p xs rest in rw later (omega (arith, past)))
+    (λ later. let rest : list_any p xs ≡ false = rw later at h in let past = position-missing p xs rest in
+        rw later (omega (arith, past)))
 
 -- ---- one more item
 
@@ -86,10 +93,12 @@ module _ {X : Type 0} (same : X → X → Bool) (laws : IsEquivalence same) wher
       let there : list_any (same x) items ≡ true = sym (held x) ∙ any_alike x z once alike ∙ found in
       there ∙ sym (list_any-append (same x) items (z ∷ []) ∙ rw there refl))
       (λ other. sym (list_any-append (same x) items (z ∷ []) ∙ rw other (or_false (list_any (same x) items))))))
-      (λ new. rw new (list_any-append (same x) once (z ∷ []) ∙ ap (λ b. b || list_any (same x) (z ∷ [])) (held x) ∙ sym (list_any-append (same x) items (z ∷ []))))
+      (λ new. rw new (list_any-append (same x) once (z ∷ []) ∙ ap (λ b. b || list_any (same x) (z ∷ [])) (held x)
+          ∙ sym (list_any-append (same x) items (z ∷ []))))
 
   -- an item that the list lacks stands before no other but where it is added
-  ordered_at_new : (once items : List X) (z x y : X) → ((w : X) → list_any (same w) once ≡ list_any (same w) items) → list_any (same x) items ≡ false
+  ordered_at_new : (once items : List X) (z x y : X) → ((w : X) → list_any (same w) once ≡ list_any (same w) items)
+      → list_any (same x) items ≡ false
       → position_or_len (same x) (items ++ z ∷ []) < position_or_len (same y) (items ++ z ∷ [])
       → position_or_len (same x) (with_item same once z) < position_or_len (same y) (with_item same once z)
   ordered_at_new once items z x y held lacks before =
@@ -117,8 +126,10 @@ module _ {X : Type 0} (same : X → X → Bool) (laws : IsEquivalence same) wher
       (λ different.
       let first = position-past (same x) z different in
       by_test (same y z)
-      (λ also. let other = position-last (same y) z also in let none : ⊥ = omega (arith, at_x, at_y, first, other, before) in absurd none)
-      (λ also. let other = position-past (same y) z also in let none : ⊥ = omega (arith, at_x, at_y, first, other, before) in absurd none)))
+      (λ also. let other = position-last (same y) z also in let none : ⊥ =
+          omega (arith, at_x, at_y, first, other, before) in absurd none)
+      (λ also. let other = position-past (same y) z also in let none : ⊥ =
+          omega (arith, at_x, at_y, first, other, before) in absurd none)))
 
   -- an item that the list has stays before what comes later
   ordered_at_old : (once items : List X) (z x y : X) → HasEachOnce same once items → list_any (same x) items ≡ true
@@ -129,7 +140,8 @@ module _ {X : Type 0} (same : X → X → Bool) (laws : IsEquivalence same) wher
       (λ also.
       let at_x = position-found (same x) items (z ∷ []) found in
       let at_y = position-found (same y) items (z ∷ []) also in
-      let earlier : position_or_len (same x) items < position_or_len (same y) items = omega (arith, at_x, at_y, before) in
+      let earlier : position_or_len (same x) items < position_or_len (same y) items =
+          omega (arith, at_x, at_y, before) in
       rw old (has.ordered x y earlier))
       (λ missing.
       let within = position-within (same x) once (has.held x ∙ found) in
@@ -149,7 +161,8 @@ module _ {X : Type 0} (same : X → X → Bool) (laws : IsEquivalence same) wher
       let other = position-after (same y) once (z ∷ []) (has.held y ∙ missing) in
       rw new (omega (arith, one, within, other))))
 
-  once_with : (once items : List X) (z : X) → HasEachOnce same once items → HasEachOnce same (with_item same once z) (items ++ z ∷ [])
+  once_with : (once items : List X) (z : X) → HasEachOnce same once items
+      → HasEachOnce same (with_item same once z) (items ++ z ∷ [])
   once_with once items z has = record {
     apart = apart_with once z has.apart;
     held = λ x. held_with once items z x has.held;
@@ -158,7 +171,8 @@ module _ {X : Type 0} (same : X → X → Bool) (laws : IsEquivalence same) wher
         (λ lacks. ordered_at_new once items z x y has.held lacks before);
   }
 
-  once_fold : (once items more : List X) → HasEachOnce same once items → HasEachOnce same (fold (with_item same) once more) (items ++ more)
+  once_fold : (once items more : List X) → HasEachOnce same once items
+      → HasEachOnce same (fold (with_item same) once more) (items ++ more)
   once_fold once items [] has = subst (HasEachOnce same once) (sym (append-nil items)) has
   once_fold once items (z ∷ more) has =
       subst (HasEachOnce same (fold (with_item same) (with_item same once z) more)) (append_assoc items (z ∷ []) more)

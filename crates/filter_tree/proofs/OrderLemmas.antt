@@ -39,7 +39,8 @@ nulls_first (Truth truth) = refl
 nulls_first (Bytes bytes) = refl
 
 pub orders_values : OrdersValues
-orders_values = record { nulls = nulls_first; numbers = numbers_by_size; truths = truths_by_value; texts = λ one other. refl }
+orders_values = record
+    { nulls = nulls_first; numbers = numbers_by_size; truths = truths_by_value; texts = λ one other. refl }
 
 -- ---- ties
 

@@ -53,10 +53,13 @@ one_has f mask a h =
 two_has : (f : Tri → Tri → Tri) (left right : Mask) (a b : Tri) → member left a ≡ true → member right b ≡ true
     → member (lift_two f left right) (f a b) ≡ true
 two_has f left right a b h k =
-    let inner : (member left a && (member right b && same_tri (f a b) (f a b))) ≡ true = rw (h, k, same_tri_self (f a b)) refl in
+    let inner : (member left a && (member right b && same_tri (f a b) (f a b))) ≡ true =
+        rw (h, k, same_tri_self (f a b)) refl in
     let outer = any_of_three (λ y. member left a && (member right y && same_tri (f a y) (f a b))) b inner in
-    member_where (λ t. list_any (λ x. list_any (λ y. member left x && (member right y && same_tri (f x y) t)) all_three) all_three) (f a b)
-    ∙ any_of_three (λ x. list_any (λ y. member left x && (member right y && same_tri (f x y) (f a b))) all_three) a outer
+    member_where (λ t. list_any
+        (λ x. list_any (λ y. member left x && (member right y && same_tri (f x y) t)) all_three) all_three) (f a b)
+    ∙ any_of_three (λ x. list_any (λ y. member left x && (member right y && same_tri (f x y) (f a b))) all_three) a
+        outer
 
 -- any truth value but null
 abbrev not_null : Mask
@@ -104,12 +107,16 @@ pub possible_holds : (filter : Expr) (path : Path) (row : List Datum) → Agrees
 possible_holds (Const known) path row h = single_has (tri_of known)
 possible_holds (Atom atom) path row h =
     known_has row atom (first_value atom path) (λ value. first_value_is row atom path value h)
-possible_holds (Not part) path row h = one_has not_of (possible_of part path) (meaning part row) (possible_holds part path row h)
+possible_holds (Not part) path row h =
+    one_has not_of (possible_of part path) (meaning part row) (possible_holds part path row h)
 possible_holds (And left right) path row h =
-    two_has and_of (possible_of left path) (possible_of right path) (meaning left row) (meaning right row) (possible_holds left path row h) (possible_holds right path row h)
+    two_has and_of (possible_of left path) (possible_of right path) (meaning left row) (meaning right row)
+        (possible_holds left path row h) (possible_holds right path row h)
 possible_holds (Or left right) path row h =
-    two_has or_of (possible_of left path) (possible_of right path) (meaning left row) (meaning right row) (possible_holds left path row h) (possible_holds right path row h)
-possible_holds (Is test part) path row h = one_has (is_of test) (possible_of part path) (meaning part row) (possible_holds part path row h)
+    two_has or_of (possible_of left path) (possible_of right path) (meaning left row) (meaning right row)
+        (possible_holds left path row h) (possible_holds right path row h)
+possible_holds (Is test part) path row h =
+    one_has (is_of test) (possible_of part path) (meaning part row) (possible_holds part path row h)
 
 open_has_true : (atom : AtomOf) → member (open_mask atom) True ≡ true
 open_has_true (Cmp term op constant) = refl
@@ -141,7 +148,8 @@ some_possible (Is test part) path =
     let some = some_possible part path in
     (is_of test some.0, one_has (is_of test) (possible_of part path) some.0 some.1)
 
-false_absorbs : (truth falsity null : Bool) (t : Tri) → member (record { truth = truth; falsity = falsity; null = null }) t ≡ true
+false_absorbs : (truth falsity null : Bool) (t : Tri)
+    → member (record { truth = truth; falsity = falsity; null = null }) t ≡ true
     → lift_two and_of (single_of False) (record { truth = truth; falsity = falsity; null = null }) ≡ single_of False
 false_absorbs true true true t h = refl
 false_absorbs true true false t h = refl
@@ -154,7 +162,8 @@ false_absorbs false false false True h = absurd cc
 false_absorbs false false false False h = absurd cc
 false_absorbs false false false Null h = absurd cc
 
-true_absorbs : (truth falsity null : Bool) (t : Tri) → member (record { truth = truth; falsity = falsity; null = null }) t ≡ true
+true_absorbs : (truth falsity null : Bool) (t : Tri)
+    → member (record { truth = truth; falsity = falsity; null = null }) t ≡ true
     → lift_two or_of (single_of True) (record { truth = truth; falsity = falsity; null = null }) ≡ single_of True
 true_absorbs true true true t h = refl
 true_absorbs true true false t h = refl
@@ -168,14 +177,16 @@ true_absorbs false false false False h = absurd cc
 true_absorbs false false false Null h = absurd cc
 
 -- AND with what is surely false is false, whatever the other part
-pub both_false : (filter : Expr) (path : Path) → lift_two and_of (single_of False) (possible_of filter path) ≡ single_of False
+pub both_false : (filter : Expr) (path : Path)
+    → lift_two and_of (single_of False) (possible_of filter path) ≡ single_of False
 both_false filter path =
     let some = some_possible filter path in
     let mask = possible_of filter path in
     false_absorbs mask.truth mask.falsity mask.null some.0 some.1
 
 -- OR with what is surely true is true, whatever the other part
-pub either_true : (filter : Expr) (path : Path) → lift_two or_of (single_of True) (possible_of filter path) ≡ single_of True
+pub either_true : (filter : Expr) (path : Path)
+    → lift_two or_of (single_of True) (possible_of filter path) ≡ single_of True
 either_true filter path =
     let some = some_possible filter path in
     let mask = possible_of filter path in

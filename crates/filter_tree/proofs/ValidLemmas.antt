@@ -77,7 +77,8 @@ fits_text k bytes h = by_test (list_any (λ byte. byte == 0) bytes)
     (λ missed. let short = at_most (length bytes) 65535 h.short in rw (missed, short) refl)
 
 -- a test that decides whether there is another fault
-unless_fault : (b : Bool) (later : Option RowFault) (fault : RowFault) → (if b then later else Some fault) ≡ None → (b ≡ true) × (later ≡ None)
+unless_fault : (b : Bool) (later : Option RowFault) (fault : RowFault) → (if b then later else Some fault) ≡ None
+    → (b ≡ true) × (later ≡ None)
 unless_fault true later fault h = (refl, h)
 unless_fault false later fault h = absurd cc
 
@@ -93,7 +94,8 @@ bytes_fit k bytes h =
 fits_bytes : (k : ℕ) (bytes : List ℕ) → IsUtf8 bytes × IsText bytes → bytes_fault k bytes ≡ None
 fits_bytes k bytes h = utf8_fault k bytes h.0 ∙ fits_text k bytes h.1
 
-constant_fits : (k : ℕ) (kind : ColType) (constant : Constant) → constant_fault k kind constant ≡ None → IsOf kind constant
+constant_fits : (k : ℕ) (kind : ColType) (constant : Constant) → constant_fault k kind constant ≡ None
+    → IsOf kind constant
 constant_fits k SmallInt (Number n) h = number_fits k SmallInt n h
 constant_fits k Integer (Number n) h = number_fits k Integer n h
 constant_fits k BigInt (Number n) h = number_fits k BigInt n h
@@ -110,7 +112,8 @@ constant_fits k Integer (Bytes s) h = cc
 constant_fits k BigInt (Bytes s) h = cc
 constant_fits k Boolean (Bytes s) h = cc
 
-fits_constant : (k : ℕ) (kind : ColType) (constant : Constant) → IsOf kind constant → constant_fault k kind constant ≡ None
+fits_constant : (k : ℕ) (kind : ColType) (constant : Constant) → IsOf kind constant
+    → constant_fault k kind constant ≡ None
 fits_constant k SmallInt (Number n) h = fits_number k SmallInt n h
 fits_constant k Integer (Number n) h = fits_number k Integer n h
 fits_constant k BigInt (Number n) h = fits_number k BigInt n h
@@ -155,10 +158,12 @@ columns_fit row number (column ∷ columns) h (suc k) =
     let fault = value_fault number column (value_at row number) in
     let both : (fault ≡ None) × (columns_fault (number + 1) columns row ≡ None) = first_of_none _ _ h in
     let e : number + 1 + k ≡ number + suc k = omega arith in
-    subst (λ i. IfSome (slice_get columns k) (λ column. Fits column (value_at row i))) e (columns_fit row (number + 1) columns both.1 k)
+    subst (λ i. IfSome (slice_get columns k) (λ column. Fits column (value_at row i))) e
+        (columns_fit row (number + 1) columns both.1 k)
 
 fit_columns : (row : List Datum) (number : ℕ) (columns : List Column)
-    → ((k : ℕ) → IfSome (slice_get columns k) (λ column. Fits column (value_at row (number + k)))) → columns_fault number columns row ≡ None
+    → ((k : ℕ) → IfSome (slice_get columns k) (λ column. Fits column (value_at row (number + k))))
+    → columns_fault number columns row ≡ None
 fit_columns row number [] fits = refl
 fit_columns row number (column ∷ columns) fits =
     let e : number + 0 ≡ number = omega arith in
@@ -168,20 +173,24 @@ fit_columns row number (column ∷ columns) fits =
     cc
 
 -- a test of the width that goes before another fault
-width_passed : (b : Bool) (later : Option RowFault) → (if b then later else Some Width) ≡ None → (b ≡ true) × (later ≡ None)
+width_passed : (b : Bool) (later : Option RowFault) → (if b then later else Some Width) ≡ None → (b ≡ true)
+    × (later ≡ None)
 width_passed true later h = (refl, h)
 width_passed false later h = absurd cc
 
-pub valid_from_no_fault : (columns : List Column) (row : List Datum) → row_fault columns row ≡ None → IsValid columns row
+pub valid_from_no_fault : (columns : List Column) (row : List Datum) → row_fault columns row ≡ None
+    → IsValid columns row
 valid_from_no_fault columns row h =
     let both = width_passed (length row == length columns) (columns_fault 0 columns row) h in
     record {
       wide = eqb-true _ _ both.0;
       fits = λ k. let e : 0 + k ≡ k = omega arith in
-          subst (λ i. IfSome (slice_get columns k) (λ column. Fits column (value_at row i))) e (columns_fit row 0 columns both.1 k);
+          subst (λ i. IfSome (slice_get columns k) (λ column. Fits column (value_at row i))) e
+              (columns_fit row 0 columns both.1 k);
     }
 
-pub no_fault_from_valid : (columns : List Column) (row : List Datum) → IsValid columns row → row_fault columns row ≡ None
+pub no_fault_from_valid : (columns : List Column) (row : List Datum) → IsValid columns row
+    → row_fault columns row ≡ None
 no_fault_from_valid columns row h =
     let wide : (length row == length columns) ≡ true = (unsigned_Decides _ _).1 h.wide in
     let fits = fit_columns row 0 columns (λ k. let e : k ≡ 0 + k = omega arith in

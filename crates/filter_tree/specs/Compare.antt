@@ -1,4 +1,5 @@
--- Comparisons of a value with constants: the operators and predicates of "9.2 Comparison Functions and Operators", and IN of "9.24 Row and Array Comparisons". All but IS DISTINCT FROM are null where the value is null.
+-- Comparisons of a value with constants: the operators and predicates of "9.2 Comparison Functions and Operators",
+-- and IN of "9.24 Row and Array Comparisons". All but IS DISTINCT FROM are null where the value is null.
 use Rattle.std.specs.Prelude.{ℕ, ℤ, Bool, false, not, List, int_lt, int_le}
 use Rattle.std.specs.List.{list_any}
 use Rattle.std.specs.Ordering.{int_eq}

@@ -1,4 +1,5 @@
--- The values of rows and the constants of filters as plain data: a number, a truth value or a text's bytes ("Chapter 8. Data Types"), and in a row also null.
+-- The values of rows and the constants of filters as plain data: a number, a truth value or a text's bytes ("Chapter
+-- 8. Data Types"), and in a row also null.
 use Rattle.std.specs.Prelude.{ℕ, ℤ, Bool, List, slice_get, unwrap_or}
 
 -- a value that is not null

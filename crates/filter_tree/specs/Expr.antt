@@ -1,4 +1,6 @@
--- Row filters ("31.3 Row Filters") as plain data, and their meaning on a row: "4.2 Value Expressions" with the operators of "9.1 Logical Operators", "9.2 Comparison Functions and Operators", "9.3 Mathematical Functions and Operators" and "9.24 Row and Array Comparisons".
+-- Row filters ("31.3 Row Filters") as plain data, and their meaning on a row: "4.2 Value Expressions" with the
+-- operators of "9.1 Logical Operators", "9.2 Comparison Functions and Operators", "9.3 Mathematical Functions and
+-- Operators" and "9.24 Row and Array Comparisons".
 use Rattle.std.specs.Prelude.{ℕ, ℤ, Bool, List, int_rem}
 use Rattle.filter_tree.specs.Datum.{Constant, Number, Datum, Missing, Known, value_at}
 use Rattle.filter_tree.specs.Logic.{and_of, or_of, not_of, is_of, tri_of}
@@ -10,7 +12,8 @@ use Rattle.filter_tree.specs.declared.filter.Term.TheVariants.{Col, Mod}
 use Rattle.filter_tree.specs.declared.filter.Op.{Op}
 use Rattle.filter_tree.specs.declared.filter.Test.{Test}
 
--- a test of one column: a comparison of a term with a constant, `IS NULL`, IN a list of constants, BETWEEN two numbers, or `IS DISTINCT FROM` a constant
+-- a test of one column: a comparison of a term with a constant, `IS NULL`, IN a list of constants, BETWEEN two
+-- numbers, or `IS DISTINCT FROM` a constant
 pub data AtomOf : Type 0 where
   Cmp : Term → Op → Constant → AtomOf
   IsNull : ℕ → AtomOf
@@ -27,7 +30,8 @@ pub data Expr : Type 0 where
   Or : Expr → Expr → Expr
   Is : Test → Expr → Expr
 
--- the remainder of a number, which truncates towards zero, and by 0 is the number itself; any other value stays as it is
+-- the remainder of a number, which truncates towards zero, and by 0 is the number itself; any other value stays as it
+-- is
 abbrev pub remainder_of : Datum → ℤ → Datum
 remainder_of (Known (Number n)) divisor = Known (Number (int_rem n divisor))
 remainder_of value divisor = value

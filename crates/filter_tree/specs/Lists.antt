@@ -1,4 +1,5 @@
--- What a row filter ("31.3 Row Filters") is made of: its atoms, the terms that they look at, and their columns, each once, in the order of first appearance.
+-- What a row filter ("31.3 Row Filters") is made of: its atoms, the terms that they look at, and their columns, each
+-- once, in the order of first appearance.
 use Rattle.std.specs.Prelude.{ℕ, ◌<◌, Bool, nat_eq, List, [], ◌∷◌, ◌++◌, ◌≡◌, if◌then◌else◌, map, fold, All}
 use Rattle.std.specs.List.{list_any}
 use Rattle.filter_tree.specs.Datum.{Datum, value_at}

@@ -1,4 +1,5 @@
--- SQL's three truth values and their connectives: the truth tables of "9.1 Logical Operators" and the boolean tests of "9.2 Comparison Functions and Operators".
+-- SQL's three truth values and their connectives: the truth tables of "9.1 Logical Operators" and the boolean tests
+-- of "9.2 Comparison Functions and Operators".
 use Rattle.std.specs.Prelude.{Bool, true, false}
 use Rattle.filter_tree.specs.declared.tri.Tri.{Tri}
 use Rattle.filter_tree.specs.declared.tri.Tri.TheVariants.{True, False, Null}

@@ -1,4 +1,5 @@
--- Sets of SQL's truth values, and the connectives on them member by member: what a connective may give when each side may be any member of its set.
+-- Sets of SQL's truth values, and the connectives on them member by member: what a connective may give when each side
+-- may be any member of its set.
 use Rattle.std.specs.Prelude.{Bool, true, false, ◌&&◌, List, [], ◌∷◌}
 use Rattle.std.specs.List.{list_any}
 use Rattle.filter_tree.specs.declared.mask.Mask.{Mask}
@@ -35,4 +36,5 @@ lift_one f mask = mask_where (λ t. list_any (λ a. member mask a && same_tri (f
 -- what the connective gives of a member of one set and a member of the other
 abbrev pub lift_two : (Tri → Tri → Tri) → Mask → Mask → Mask
 lift_two f left right =
-    mask_where (λ t. list_any (λ a. list_any (λ b. member left a && (member right b && same_tri (f a b) t)) all_three) all_three)
+    mask_where (λ t. list_any (λ a. list_any (λ b. member left a && (member right b && same_tri (f a b) t)) all_three)
+        all_three)

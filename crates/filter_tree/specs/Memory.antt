@@ -1,4 +1,5 @@
--- What a call that takes memory may answer: what its definition says, or that memory was refused, which may come in place of any other answer.
+-- What a call that takes memory may answer: what its definition says, or that memory was refused, which may come in
+-- place of any other answer.
 use Rattle.std.specs.Prelude.{◌≡◌, Option, Some, None, Result, Ok, Err, IfErr}
 
 -- An error that tells a fault tells that of the answer. One that tells none says that memory was refused.
@@ -6,7 +7,8 @@ abbrev pub TellsFault : {A F : Type 0} → Option F → Result A F → Type 0
 TellsFault None answer = Unit {0}
 TellsFault (Some fault) answer = answer ≡ Err fault
 
--- The result is this answer, or want of memory. `view` gives a value as plain data, and `told` the fault that an error tells, if it tells one.
+-- The result is this answer, or want of memory. `view` gives a value as plain data, and `told` the fault that an
+-- error tells, if it tells one.
 abbrev pub Answers : {V E A F : Type 0} → (V → A) → (E → Option F) → Result A F → Result V E → Type 0
 Answers view told answer (Ok value) = answer ≡ Ok (view value)
 Answers view told answer (Err error) = TellsFault (told error) answer

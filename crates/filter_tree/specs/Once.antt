@@ -1,4 +1,5 @@
--- What it is that a list has each item once, in the order of first appearance: the atoms and terms of row filters ("31.3 Row Filters"), by whose places certificates name them, and their columns.
+-- What it is that a list has each item once, in the order of first appearance: the atoms and terms of row filters
+-- ("31.3 Row Filters"), by whose places certificates name them, and their columns.
 use Rattle.std.specs.Prelude.{ℕ, Bool, nat_eq, List, ◌≡◌, ◌<◌}
 use Rattle.std.specs.List.{IsDistinct, list_any, position_or_len}
 use Rattle.filter_tree.specs.Expr.{AtomOf}
@@ -6,7 +7,8 @@ use Rattle.filter_tree.specs.Lists.{distinct}
 use Rattle.filter_tree.specs.Same.{same_atom, same_term}
 use Rattle.filter_tree.specs.declared.filter.Term.{Term}
 
--- the first list has each item of the second once: no two are the same (`apart`), none is lost and none is new (`held`), and what first appears before another comes before it (`ordered`)
+-- the first list has each item of the second once: no two are the same (`apart`), none is lost and none is new
+-- (`held`), and what first appears before another comes before it (`ordered`)
 pub record HasEachOnce {X : Type 0} (same : X → X → Bool) (once items : List X) : Type 0 where
   pub apart : IsDistinct same once
   pub held : (x : X) → list_any (same x) once ≡ list_any (same x) items

@@ -1,4 +1,6 @@
--- The order of values and of rows, as ORDER BY .. NULLS FIRST sorts them: PostgreSQL 15, 7.5 Sorting Rows, 9.2 Comparison Functions and Operators, and for texts 24.2.2.1 Standard Collations (collation "C", which compares their bytes).
+-- The order of values and of rows, as ORDER BY .. NULLS FIRST sorts them: PostgreSQL 15, 7.5 Sorting Rows, 9.2
+-- Comparison Functions and Operators, and for texts 24.2.2.1 Standard Collations (collation "C", which compares their
+-- bytes).
 use Rattle.std.specs.Prelude.{◌≡◌, ℕ, ℤ, pos, Bool, false, List, []}
 use Rattle.std.specs.Ordering.{nat_cmp, int_cmp, bool_cmp, eq_by_cmp, on, then_cmp}
 use Rattle.std.specs.Cmp.Lexicographic.{slice_cmp}
@@ -7,7 +9,8 @@ use Rattle.std.specs.declared.cmp.Ordering.TheVariants.{Less}
 use Rattle.filter_tree.specs.Datum.{Constant, Number, Truth, Bytes, Datum, Missing, Known}
 use Rattle.filter_tree.specs.Same.{same_row}
 
--- Null comes before all else. No column has values of two kinds; between them the order is numbers, truth values, texts.
+-- Null comes before all else. No column has values of two kinds; between them the order is numbers, truth values,
+-- texts.
 abbrev pub rank_of : Datum → ℕ
 rank_of Missing = 0
 rank_of (Known (Number number)) = 1

@@ -1,4 +1,6 @@
--- Which rows fit a table, and the first fault of one that doesn't: the columns' types and NOT NULL of "CREATE TABLE", the ranges of "8.1 Numeric Types", texts in UTF-8 of "24.3. Character Set Support", and the longest text that is taken.
+-- Which rows fit a table, and the first fault of one that doesn't: the columns' types and NOT NULL of "CREATE TABLE",
+-- the ranges of "8.1 Numeric Types", texts in UTF-8 of "24.3. Character Set Support", and the longest text that is
+-- taken.
 use Rattle.std.specs.Prelude.{◌≡◌, ℕ, ◌+◌, ◌≤◌, ℤ, ◌≤ℤ◌, int_le, false, ◌&&◌, List, [], ◌∷◌, length, Contains, if◌then◌else◌, ◌==◌, nat_le, Option, Some, None, Result, Ok, Err, IfSome, slice_get}
 use Rattle.std.specs.List.{list_any}
 use Rattle.std.specs.Str.{IsUtf8, is_utf8}

@@ -30,7 +30,8 @@ IsBytes-take n bytes h i =
 
 -- ---- a byte
 
-byte_takes : (bytes : List ℕ) (b : ℕ) (rest : List ℕ) → IsBytes bytes → byte bytes ≡ Ok (b, rest) → Takes int8 (λ n. n < 256) bytes b rest
+byte_takes : (bytes : List ℕ) (b : ℕ) (rest : List ℕ) → IsBytes bytes → byte bytes ≡ Ok (b, rest)
+    → Takes int8 (λ n. n < 256) bytes b rest
 unfolding byte
 byte_takes [] b rest is_bytes e = absurd (never Short b rest e)
 byte_takes (first ∷ later) b rest is_bytes e =
@@ -47,11 +48,13 @@ exact_byte = record { takes = byte_takes; again = λ b rest fits. refl }
 
 -- ---- so many bytes
 
-chosen : {A : Type 0} (test : Bool) (fault : MsgError) (a b : A) (x rest : List ℕ) → (if test then Err fault else done a x) ≡ done b rest → (test ≡ false) × ((a ≡ b) × (x ≡ rest))
+chosen : {A : Type 0} (test : Bool) (fault : MsgError) (a b : A) (x rest : List ℕ)
+    → (if test then Err fault else done a x) ≡ done b rest → (test ≡ false) × ((a ≡ b) × (x ≡ rest))
 chosen true fault a b x rest e = absurd (never fault b rest e)
 chosen false fault a b x rest e = (refl, same_read a b x rest e)
 
-some_takes : (n : ℕ) (bytes x rest : List ℕ) → some n bytes ≡ Ok (x, rest) → (n ≤ length bytes) × ((take n bytes ≡ x) × (drop n bytes ≡ rest))
+some_takes : (n : ℕ) (bytes x rest : List ℕ) → some n bytes ≡ Ok (x, rest) → (n ≤ length bytes)
+    × ((take n bytes ≡ x) × (drop n bytes ≡ rest))
 unfolding some
 some_takes n bytes x rest e =
     let found = chosen (nat_lt (length bytes) n) Short (take n bytes) x (drop n bytes) rest e in
@@ -68,7 +71,8 @@ exact_some n = record {
   takes = λ bytes x rest is_bytes e.
       let found = some_takes n bytes x rest e in
       record {
-        spelled = sym (take-append-drop n bytes) ∙ ap (λ (y : List ℕ). y ++ drop n bytes) found.1.0 ∙ ap (λ (y : List ℕ). x ++ y) found.1.1;
+        spelled = sym (take-append-drop n bytes) ∙ ap (λ (y : List ℕ). y ++ drop n bytes) found.1.0
+            ∙ ap (λ (y : List ℕ). x ++ y) found.1.1;
         fits = (sym (ap length found.1.0) ∙ omega (arith, length-take n bytes, found.0), tt);
         left = subst IsBytes found.1.1 (IsBytes-drop n bytes is_bytes);
       };
@@ -79,7 +83,8 @@ exact_some n = record {
 
 pub record IsWide (w : Width) (limit : ℕ) : Type 0 where
   pub long : (n : ℕ) → length (to_be_bytes w n) ≡ byte_len w
-  pub back : (bytes : List ℕ) → length bytes ≡ byte_len w → IsBytes bytes → to_be_bytes w (from_be_bytes w bytes) ≡ bytes
+  pub back : (bytes : List ℕ) → length bytes ≡ byte_len w → IsBytes bytes
+      → to_be_bytes w (from_be_bytes w bytes) ≡ bytes
   pub again : (n : ℕ) → n < limit → from_be_bytes w (to_be_bytes w n) ≡ n
   pub below : (bytes : List ℕ) → IsBytes bytes → from_be_bytes w bytes < limit
 
@@ -107,7 +112,8 @@ wide64 = record {
   below = λ bytes fits. omega (arith, fits 0, fits 1, fits 2, fits 3, fits 4, fits 5, fits 6, fits 7);
 }
 
-number_takes : (w : Width) (limit : ℕ) (wide : IsWide w limit) (bytes : List ℕ) (n : ℕ) (rest : List ℕ) → IsBytes bytes → number w bytes ≡ Ok (n, rest)
+number_takes : (w : Width) (limit : ℕ) (wide : IsWide w limit) (bytes : List ℕ) (n : ℕ) (rest : List ℕ)
+    → IsBytes bytes → number w bytes ≡ Ok (n, rest)
     → Takes (to_be_bytes w) (λ m. m < limit) bytes n rest
 unfolding number
 number_takes w limit wide bytes n rest is_bytes e =
@@ -116,18 +122,23 @@ number_takes w limit wide bytes n rest is_bytes e =
     let same = same_read (from_be_bytes w parts.value) n parts.middle rest parts.second in
     let is : take (byte_len w) bytes ≡ parts.value = found.1.0 in
     let value_bytes : IsBytes parts.value = subst IsBytes is (IsBytes-take (byte_len w) bytes is_bytes) in
-    let long : length parts.value ≡ byte_len w = sym (ap length is) ∙ omega (arith, length-take (byte_len w) bytes, found.0) in
-    let front : parts.value ≡ to_be_bytes w n = sym (wide.back parts.value long value_bytes) ∙ ap (to_be_bytes w) same.0 in
+    let long : length parts.value ≡ byte_len w = sym (ap length is)
+        ∙ omega (arith, length-take (byte_len w) bytes, found.0) in
+    let front : parts.value ≡ to_be_bytes w n = sym (wide.back parts.value long value_bytes)
+        ∙ ap (to_be_bytes w) same.0 in
     record {
-      spelled = sym (take-append-drop (byte_len w) bytes) ∙ ap (λ (x : List ℕ). x ++ drop (byte_len w) bytes) (is ∙ front)
+      spelled = sym (take-append-drop (byte_len w) bytes)
+          ∙ ap (λ (x : List ℕ). x ++ drop (byte_len w) bytes) (is ∙ front)
           ∙ ap (λ (x : List ℕ). to_be_bytes w n ++ x) (found.1.1 ∙ same.1);
       fits = subst (λ (m : ℕ). m < limit) same.0 (wide.below parts.value value_bytes);
       left = subst IsBytes (found.1.1 ∙ same.1) (IsBytes-drop (byte_len w) bytes is_bytes);
     }
 
-number_again : (w : Width) (limit : ℕ) (wide : IsWide w limit) (n : ℕ) (rest : List ℕ) → n < limit → number w (to_be_bytes w n ++ rest) ≡ Ok (n, rest)
+number_again : (w : Width) (limit : ℕ) (wide : IsWide w limit) (n : ℕ) (rest : List ℕ) → n < limit
+    → number w (to_be_bytes w n ++ rest) ≡ Ok (n, rest)
 unfolding number
-number_again w limit wide n rest fits = rw (some_again (byte_len w) (to_be_bytes w n) rest (wide.long n), wide.again n fits) refl
+number_again w limit wide n rest fits =
+    rw (some_again (byte_len w) (to_be_bytes w n) rest (wide.long n), wide.again n fits) refl
 
 exact_wide : (w : Width) (limit : ℕ) → IsWide w limit → Exact (number w) (to_be_bytes w) (λ n. n < limit)
 exact_wide w limit wide = record { takes = number_takes w limit wide; again = number_again w limit wide }
@@ -143,12 +154,14 @@ exact_int64 = exact_wide w64 (2 ^ 64) wide64
 
 pub exact_count16 : Exact count16 int16 (λ n. n < 2 ^ 15)
 unfolding count16
-exact_count16 = exact_passed (λ n. nat_lt n (2 ^ 15)) BadCount (number w16) int16 (λ n. n < 2 ^ 16) (λ n. n < 2 ^ 15) exact_int16
+exact_count16 = exact_passed (λ n. nat_lt n (2 ^ 15)) BadCount (number w16) int16 (λ n. n < 2 ^ 16) (λ n. n < 2 ^ 15)
+    exact_int16
     (λ n fits e. ltb-true _ _ e) (λ n fits. (lt-ltb _ _ fits, omega (arith, fits)))
 
 pub exact_count32 : Exact count32 int32 (λ n. n < 2 ^ 31)
 unfolding count32
-exact_count32 = exact_passed (λ n. nat_lt n (2 ^ 31)) BadCount (number w32) int32 (λ n. n < 2 ^ 32) (λ n. n < 2 ^ 31) exact_int32
+exact_count32 = exact_passed (λ n. nat_lt n (2 ^ 31)) BadCount (number w32) int32 (λ n. n < 2 ^ 32) (λ n. n < 2 ^ 31)
+    exact_int32
     (λ n fits e. ltb-true _ _ e) (λ n fits. (lt-ltb _ _ fits, omega (arith, fits)))
 
 -- ---- texts
@@ -167,7 +180,8 @@ before_zero (n ∷ bytes) = cond (is_zero n) 0 (1 + before_zero bytes)
 no_zero : (n : ℕ) → n ≡ 0 → is_zero n ≡ false → ⊥
 no_zero n e h = eqb-false n 0 h e
 
-cut_takes : (found : Option ℕ) (bytes x rest : List ℕ) → IsBytes bytes → position is_zero bytes ≡ found → cut_at found bytes ≡ Ok (x, rest) → Takes string NoZero bytes x rest
+cut_takes : (found : Option ℕ) (bytes x rest : List ℕ) → IsBytes bytes → position is_zero bytes ≡ found
+    → cut_at found bytes ≡ Ok (x, rest) → Takes string NoZero bytes x rest
 cut_takes None bytes x rest is_bytes at e = absurd (never Short x rest e)
 cut_takes (Some i) bytes x rest is_bytes at e =
     let same = same_read (take i bytes) x (drop (i + 1) bytes) rest e in
@@ -176,12 +190,14 @@ cut_takes (Some i) bytes x rest is_bytes at e =
     let after : drop i bytes ≡ 0 ∷ drop (i + 1) bytes =
     at_drop_more (λ (y : List ℕ). y) bytes i 0 there.0 ∙ ap (λ (n : ℕ). n ∷ drop (i + 1) bytes) zero_there in
     record {
-      spelled = sym (take-append-drop i bytes) ∙ ap (λ (y : List ℕ). take i bytes ++ y) after ∙ ap (λ (y : List ℕ). y ++ (0 ∷ drop (i + 1) bytes)) same.0
+      spelled = sym (take-append-drop i bytes) ∙ ap (λ (y : List ℕ). take i bytes ++ y) after
+          ∙ ap (λ (y : List ℕ). y ++ (0 ∷ drop (i + 1) bytes)) same.0
           ∙ ap (λ (y : List ℕ). x ++ (0 ∷ y)) same.1 ∙ sym (append_assoc x (0 ∷ []) rest);
       fits = λ contains.
           let k = contains.0 in
           let within : k < i = omega (arith, contains.1, ap length same.0, length-take i bytes) in
-          let is : get_or bytes k 0 ≡ 0 = sym (get_or-take i bytes k 0 within) ∙ ap (λ (y : List ℕ). get_or y k 0) same.0 ∙ contains.2 in
+          let is : get_or bytes k 0 ≡ 0 = sym (get_or-take i bytes k 0 within)
+              ∙ ap (λ (y : List ℕ). get_or y k 0) same.0 ∙ contains.2 in
           no_zero (get_or bytes k 0) is (there.2 k within);
       left = subst IsBytes same.1 (IsBytes-drop (i + 1) bytes is_bytes);
     }
@@ -202,7 +218,8 @@ before_zero_is (n ∷ x) rest none =
 position_is : (x rest : List ℕ) → NoZero x → position is_zero (x ++ (0 ∷ rest)) ≡ Some (length x)
 position_is x rest none =
     let place : position_or_len is_zero (x ++ (0 ∷ rest)) ≡ length x =
-    sym (is_position_or_len before_zero is_zero refl (λ n bytes. refl) (x ++ (0 ∷ rest))) ∙ before_zero_is x rest none in
+    sym (is_position_or_len before_zero is_zero refl (λ n bytes. refl) (x ++ (0 ∷ rest)))
+        ∙ before_zero_is x rest none in
     let within : length x < length (x ++ (0 ∷ rest)) = omega (arith, length-append x (0 ∷ rest)) in
     rw (place, lt-ltb _ _ within) refl
 
@@ -212,7 +229,8 @@ zero_again x rest none =
     let grouped : string x ++ rest ≡ x ++ (0 ∷ rest) = append_assoc x (0 ∷ []) rest in
     let front : take (length x) (x ++ (0 ∷ rest)) ≡ x = take_at x (0 ∷ rest) (length x) refl in
     let behind : drop (length x + 1) (x ++ (0 ∷ rest)) ≡ rest =
-    ap (λ (y : List ℕ). drop (length x + 1) y) (sym grouped) ∙ drop_at (string x) rest (length x + 1) (length-append x (0 ∷ [])) in
+    ap (λ (y : List ℕ). drop (length x + 1) y) (sym grouped)
+        ∙ drop_at (string x) rest (length x + 1) (length-append x (0 ∷ [])) in
     ap (λ (y : List ℕ). cut_at (position is_zero y) y) grouped
     ∙ ap (λ (found : Option ℕ). cut_at found (x ++ (0 ∷ rest))) (position_is x rest none)
     ∙ ap (λ (y : List ℕ). done y (drop (length x + 1) (x ++ (0 ∷ rest)))) front ∙ ap (λ (y : List ℕ). done x y) behind
@@ -236,8 +254,10 @@ sized text = int32 (length text) ++ text
 
 pub exact_text : Exact text_at sized (λ text. IsUtf8 text × (length text < 2 ^ 31))
 unfolding text_at utf8_text
-exact_text = exact_passed is_utf8 BadText (count32 >>= some) sized (λ text. (length text < 2 ^ 31) × Unit {0}) (λ text. IsUtf8 text × (length text < 2 ^ 31))
-    (exact_then count32 some int32 (λ text. text) (λ n. n < 2 ^ 31) (λ text. Unit {0}) length exact_count32 (λ n _. exact_some n))
+exact_text = exact_passed is_utf8 BadText (count32 >>= some) sized (λ text. (length text < 2 ^ 31) × Unit {0})
+    (λ text. IsUtf8 text × (length text < 2 ^ 31))
+    (exact_then count32 some int32 (λ text. text) (λ n. n < 2 ^ 31) (λ text. Unit {0}) length exact_count32
+        (λ n _. exact_some n))
     (λ x fits e. (IsUtf8-from_is_utf8 x e, fits.0))
     (λ x fits. (is_utf8-from_IsUtf8 x fits.0, (fits.1, tt)))
 

@@ -22,17 +22,21 @@ is_told told number = slice_index_or told number false
 
 -- ---- messages one after the other
 
-introduced_both : (known : List ℕ) (one other : List Msg) → AreIntroduced known one → AreIntroduced (fold known_after known one) other → AreIntroduced known (one ++ other)
+introduced_both : (known : List ℕ) (one other : List Msg) → AreIntroduced known one
+    → AreIntroduced (fold known_after known one) other → AreIntroduced known (one ++ other)
 introduced_both known [] other h k = k
 introduced_both known (message ∷ one) other h k = (h.0, introduced_both (known_after known message) one other h.1 k)
 
 nothing : (told : List Bool) → Introduces told told []
 nothing told = record { introduced = λ known h. tt; known = λ known h. h }
 
-both : (told between after : List Bool) (one other : List Msg) → Introduces told between one → Introduces between after other → Introduces told after (one ++ other)
+both : (told between after : List Bool) (one other : List Msg) → Introduces told between one
+    → Introduces between after other → Introduces told after (one ++ other)
 both told between after one other h k = record {
-  introduced = λ known is. introduced_both known one other (h.introduced known is) (k.introduced (fold known_after known one) (h.known known is));
-  known = λ known is. subst (AreTold after) (sym (fold-append known_after known one other)) (k.known (fold known_after known one) (h.known known is));
+  introduced = λ known is. introduced_both known one other (h.introduced known is)
+      (k.introduced (fold known_after known one) (h.known known is));
+  known = λ known is. subst (AreTold after) (sym (fold-append known_after known one other))
+      (k.known (fold known_after known one) (h.known known is));
 }
 
 -- ---- Relations
@@ -43,7 +47,8 @@ first_known oid known = (0, omega arith, refl)
 still_known : (oid other : ℕ) (known : List ℕ) → Contains known other → Contains (oid ∷ known) other
 still_known oid other known h = (suc h.0, omega (arith, h.1), h.2)
 
-first_or_later : (oid other : ℕ) (known : List ℕ) (P : Type 0) → (oid ≡ other → P) → (Contains known other → P) → Contains (oid ∷ known) other → P
+first_or_later : (oid other : ℕ) (known : List ℕ) (P : Type 0) → (oid ≡ other → P) → (Contains known other → P)
+    → Contains (oid ∷ known) other → P
 first_or_later oid other known P first later (zero, within, is) = first is
 first_or_later oid other known P first later (suc k, within, is) = later (k, omega (arith, within), is)
 
@@ -54,15 +59,18 @@ is_same : (n number : ℕ) (P : Type 0) → (n ≡ number → P) → (n ≢ numb
 is_same zero zero P same other = same refl
 is_same zero (suc number) P same other = other (λ e. omega (arith, e))
 is_same (suc n) zero P same other = other (λ e. omega (arith, e))
-is_same (suc n) (suc number) P same other = is_same n number P (λ e. same (ap suc e)) (λ differs. other (λ e. differs (omega (arith, e))))
+is_same (suc n) (suc number) P same other =
+    is_same n number P (λ e. same (ap suc e)) (λ differs. other (λ e. differs (omega (arith, e))))
 
-still_told : (told : List Bool) (number n : ℕ) → number < length told → is_told told n ≡ true → is_told (told_one told number) n ≡ true
+still_told : (told : List Bool) (number n : ℕ) → number < length told → is_told told n ≡ true
+    → is_told (told_one told number) n ≡ true
 still_told told number n within h =
     is_same n number (is_told (told_one told number) n ≡ true)
     (λ e. subst (λ k. is_told (told_one told number) k ≡ true) (sym e) (told_itself told number within))
     (λ differs. get_or-set_other told number n true false differs ∙ h)
 
-told_before : (told : List Bool) (number n : ℕ) → n ≢ number → is_told (told_one told number) n ≡ true → is_told told n ≡ true
+told_before : (told : List Bool) (number n : ℕ) → n ≢ number → is_told (told_one told number) n ≡ true
+    → is_told told n ≡ true
 told_before told number n differs h = sym (get_or-set_other told number n true false differs) ∙ h
 
 -- the Relation of a table that is there and was not told
@@ -75,12 +83,14 @@ new_relation told number table within is_new = record {
         (λ e. subst (λ k. Contains (oid_of number ∷ known) (oid_of k)) (sym e) (first_known (oid_of number) known))
         (λ differs. still_known (oid_of number) (oid_of n) known (is.each n (told_before told number n differs h)));
     only = λ n. first_or_later (oid_of number) (oid_of n) known (is_told (told_one told number) n ≡ true)
-        (λ e. let same : number ≡ n = omega (arith, e) in subst (λ k. is_told (told_one told number) k ≡ true) same (told_itself told number within))
+        (λ e. let same : number ≡ n = omega (arith, e) in
+            subst (λ k. is_told (told_one told number) k ≡ true) same (told_itself told number within))
         (λ found. still_told told number n within (is.only n found));
   };
 }
 
-one_by : (tables : List Table) (told : List Bool) (number : ℕ) (found : Option Table) → slice_get tables number ≡ found → number < length tables → number < length told → is_told told number ≡ false
+one_by : (tables : List Table) (told : List Bool) (number : ℕ) (found : Option Table)
+    → slice_get tables number ≡ found → number < length tables → number < length told → is_told told number ≡ false
     → Introduces told (told_one told number) (relation_at number found)
 one_by tables told number None e there within is_new = absurd (missing tables number there e)
   where
@@ -90,26 +100,31 @@ one_by tables told number None e there within is_new = absurd (missing tables nu
     missing (x ∷ xs) (suc i) low none = missing xs i (omega (arith, low)) none
 one_by tables told number (Some table) e there within is_new = new_relation told number table within is_new
 
-once_by : (tables : List Table) (told : List Bool) (number : ℕ) (b : Bool) → is_told told number ≡ b → number < length tables → number < length told
+once_by : (tables : List Table) (told : List Bool) (number : ℕ) (b : Bool) → is_told told number ≡ b
+    → number < length tables → number < length told
     → Introduces told (told_one told number) (introduced tables b number)
 once_by tables told number true e there within =
     let same : told_one told number ≡ told = ap (set told number) (sym e) ∙ set-get_or told number false in
     subst (λ after. Introduces told after []) (sym same) (nothing told)
-once_by tables told number false e there within = one_by tables told number (slice_get tables number) refl there within e
+once_by tables told number false e there within =
+    one_by tables told number (slice_get tables number) refl there within e
 
 abbrev AreOf : List Table → List ℕ → Type 0
 AreOf tables numbers = All (λ table. table < length tables) numbers
 
-all_relations : (tables : List Table) (told : List Bool) (numbers : List ℕ) → length tables ≤ length told → AreOf tables numbers
+all_relations : (tables : List Table) (told : List Bool) (numbers : List ℕ) → length tables ≤ length told
+    → AreOf tables numbers
     → Introduces told (told_all told numbers) (relations_of tables told numbers)
 unfolding relations_of told_all relation_once
 all_relations tables told [] long of = nothing told
 all_relations tables told (number ∷ numbers) long of =
     let there = All-head (λ table. table < length tables) number numbers of in
     let longer : length tables ≤ length (told_one told number) = omega (arith, long, length-set told number true) in
-    both told (told_one told number) (told_all (told_one told number) numbers) (relation_once tables told number) (relations_of tables (told_one told number) numbers)
+    both told (told_one told number) (told_all (told_one told number) numbers) (relation_once tables told number)
+        (relations_of tables (told_one told number) numbers)
     (once_by tables told number (is_told told number) refl there (omega (arith, there, long)))
-    (all_relations tables (told_one told number) numbers longer (All-tail (λ table. table < length tables) number numbers of))
+    (all_relations tables (told_one told number) numbers longer
+        (All-tail (λ table. table < length tables) number numbers of))
 
 length-told_all : (told : List Bool) (numbers : List ℕ) → length (told_all told numbers) ≡ length told
 unfolding told_all
@@ -118,15 +133,18 @@ length-told_all told (number ∷ numbers) = length-told_all (told_one told numbe
 
 -- ---- changes
 
-stays_told : (told : List Bool) (numbers : List ℕ) (most : ℕ) → most ≤ length told → All (λ table. table < most) numbers → (n : ℕ) → is_told told n ≡ true → is_told (told_all told numbers) n ≡ true
+stays_told : (told : List Bool) (numbers : List ℕ) (most : ℕ) → most ≤ length told
+    → All (λ table. table < most) numbers → (n : ℕ) → is_told told n ≡ true → is_told (told_all told numbers) n ≡ true
 unfolding told_all
 stays_told told [] most long of n h = h
 stays_told told (number ∷ numbers) most long of n h =
     let there = All-head (λ table. table < most) number numbers of in
-    stays_told (told_one told number) numbers most (omega (arith, long, length-set told number true)) (All-tail (λ table. table < most) number numbers of) n
+    stays_told (told_one told number) numbers most (omega (arith, long, length-set told number true))
+        (All-tail (λ table. table < most) number numbers of) n
     (still_told told number n (omega (arith, there, long)) h)
 
-each_told : (told : List Bool) (numbers : List ℕ) (most : ℕ) → most ≤ length told → All (λ table. table < most) numbers → All (λ n. is_told (told_all told numbers) n ≡ true) numbers
+each_told : (told : List Bool) (numbers : List ℕ) (most : ℕ) → most ≤ length told
+    → All (λ table. table < most) numbers → All (λ n. is_told (told_all told numbers) n ≡ true) numbers
 unfolding told_all
 each_told told [] most long of = All-nil (λ n. is_told told n ≡ true)
 each_told told (number ∷ numbers) most long of =
@@ -134,48 +152,59 @@ each_told told (number ∷ numbers) most long of =
     let later = All-tail (λ table. table < most) number numbers of in
     let longer : most ≤ length (told_one told number) = omega (arith, long, length-set told number true) in
     All-cons (λ n. is_told (told_all (told_one told number) numbers) n ≡ true) number numbers
-    (stays_told (told_one told number) numbers most longer later number (told_itself told number (omega (arith, there, long))))
+    (stays_told (told_one told number) numbers most longer later number
+        (told_itself told number (omega (arith, there, long))))
     (each_told (told_one told number) numbers most longer later)
 
-all_known : (told : List Bool) (known : List ℕ) → AreTold told known → (numbers : List ℕ) → All (λ n. is_told told n ≡ true) numbers → All (Contains known) (map oid_of numbers)
+all_known : (told : List Bool) (known : List ℕ) → AreTold told known → (numbers : List ℕ)
+    → All (λ n. is_told told n ≡ true) numbers → All (Contains known) (map oid_of numbers)
 all_known told known is [] all = All-nil (Contains known)
 all_known told known is (number ∷ numbers) all =
-    All-cons (Contains known) (oid_of number) (map oid_of numbers) (is.each number (All-head (λ n. is_told told n ≡ true) number numbers all))
+    All-cons (Contains known) (oid_of number) (map oid_of numbers)
+        (is.each number (All-head (λ n. is_told told n ≡ true) number numbers all))
     (all_known told known is numbers (All-tail (λ n. is_told told n ≡ true) number numbers all))
 
-one_message : (told : List Bool) (message : Msg) → ((known : List ℕ) → AreTold told known → IsIntroduced known message) → ((known : List ℕ) → known_after known message ≡ known)
+one_message : (told : List Bool) (message : Msg)
+    → ((known : List ℕ) → AreTold told known → IsIntroduced known message)
+    → ((known : List ℕ) → known_after known message ≡ known)
     → Introduces told told (message ∷ [])
 one_message told message h same = record {
   introduced = λ known is. (h known is, tt);
   known = λ known is. subst (AreTold told) (sym (same known)) is;
 }
 
-of_table : (told : List Bool) (table : ℕ) → All (λ n. is_told told n ≡ true) (table ∷ []) → (known : List ℕ) → AreTold told known → Contains known (oid_of table)
+of_table : (told : List Bool) (table : ℕ) → All (λ n. is_told told n ≡ true) (table ∷ []) → (known : List ℕ)
+    → AreTold told known → Contains known (oid_of table)
 of_table told table all known is = is.each table (All-head (λ n. is_told told n ≡ true) table [] all)
 
-change_message : (told : List Bool) (change : r.ChangeOf) → All (λ n. is_told told n ≡ true) (named_in change) → Introduces told told (message_of change)
+change_message : (told : List Bool) (change : r.ChangeOf) → All (λ n. is_told told n ≡ true) (named_in change)
+    → Introduces told told (message_of change)
 change_message told (r.Insert table new) all = one_message told _ (of_table told table all) (λ known. refl)
 change_message told (r.Update table part new) all = one_message told _ (of_table told table all) (λ known. refl)
 change_message told (r.Delete table None) all = nothing told
 change_message told (r.Delete table (Some part)) all = one_message told _ (of_table told table all) (λ known. refl)
-change_message told (r.Truncate numbers) all = one_message told _ (λ known is. all_known told known is numbers all) (λ known. refl)
+change_message told (r.Truncate numbers) all =
+    one_message told _ (λ known is. all_known told known is numbers all) (λ known. refl)
 
 -- ---- what a subscriber gets of a change is of the tables of the change
 
 unfoldable IfOf : List Table → Option r.ChangeOf → Type 0
 IfOf tables change = IfSome change (λ one. AreOf tables (named_in one))
 
-one_of : (tables : List Table) (table : ℕ) → AreOf tables (table ∷ []) → (passes : Bool) (carries : ℕ → Bool) (new : List Datum)
+one_of : (tables : List Table) (table : ℕ) → AreOf tables (table ∷ [])
+    → (passes : Bool) (carries : ℕ → Bool) (new : List Datum)
     → IfOf tables (option_map (o.stands_for table carries) (if passes then Some (o.Insert new) else None))
 unfolding IfOf
 one_of tables table h true carries new = h
 one_of tables table h false carries new = tt
 
-deleted_of : (tables : List Table) (table : ℕ) → AreOf tables (table ∷ []) → (part : Option r.PartOf) → AreOf tables (named_in (r.Delete table part))
+deleted_of : (tables : List Table) (table : ℕ) → AreOf tables (table ∷ []) → (part : Option r.PartOf)
+    → AreOf tables (named_in (r.Delete table part))
 deleted_of tables table h None = All-nil (λ n. n < length tables)
 deleted_of tables table h (Some part) = h
 
-updated_of : (tables : List Table) (table : ℕ) → AreOf tables (table ∷ []) → (old_passes new_passes : Bool) (carries : ℕ → Bool) (part : Option r.PartOf) (new : List Datum)
+updated_of : (tables : List Table) (table : ℕ) → AreOf tables (table ∷ [])
+    → (old_passes new_passes : Bool) (carries : ℕ → Bool) (part : Option r.PartOf) (new : List Datum)
     → IfOf tables (option_map (o.stands_for table carries) (o.out_by old_passes new_passes part new))
 unfolding IfOf
 updated_of tables table h false false carries part new = tt
@@ -183,18 +212,22 @@ updated_of tables table h false true carries part new = h
 updated_of tables table h true false carries part new = deleted_of tables table h part
 updated_of tables table h true true carries part new = h
 
-gone_if : (tables : List Table) (table : ℕ) → AreOf tables (table ∷ []) → (passes : Bool) (carries : ℕ → Bool) (part : Option r.PartOf)
+gone_if : (tables : List Table) (table : ℕ) → AreOf tables (table ∷ [])
+    → (passes : Bool) (carries : ℕ → Bool) (part : Option r.PartOf)
     → IfOf tables (option_map (o.stands_for table carries) (if passes then Some (o.Delete part) else None))
 unfolding IfOf
 gone_if tables table h true carries part = deleted_of tables table h part
 gone_if tables table h false carries part = tt
 
-gone_of : (tables : List Table) (table : ℕ) → AreOf tables (table ∷ []) → (passes : List Datum → Bool) (carries : ℕ → Bool) (part : Option r.PartOf)
+gone_of : (tables : List Table) (table : ℕ) → AreOf tables (table ∷ [])
+    → (passes : List Datum → Bool) (carries : ℕ → Bool) (part : Option r.PartOf)
     → IfOf tables (option_map (o.stands_for table carries) (o.out_gone passes part))
 unfolding IfOf
 gone_of tables table h passes carries None = tt
-gone_of tables table h passes carries (Some (r.Key row)) = gone_if tables table h (passes row) carries (Some (r.Key row))
-gone_of tables table h passes carries (Some (r.Full row)) = gone_if tables table h (passes row) carries (Some (r.Full row))
+gone_of tables table h passes carries (Some (r.Key row)) =
+    gone_if tables table h (passes row) carries (Some (r.Key row))
+gone_of tables table h passes carries (Some (r.Full row)) =
+    gone_if tables table h (passes row) carries (Some (r.Full row))
 
 emptied_of : (tables : List Table) (numbers : List ℕ) → AreOf tables numbers → (any : Bool) (carries : ℕ → Bool)
     → IfOf tables (option_map (o.stands_for 0 carries) (if any then Some (o.Truncate numbers) else None))
@@ -209,22 +242,26 @@ got_of checked subscriber (r.Insert table new) h =
     one_of checked.catalog.tables table h (setting.passes subscriber table new) (setting.carries subscriber) new
 got_of checked subscriber (r.Update table part new) h =
     let setting = setting_in checked in
-    updated_of checked.catalog.tables table h (setting.passes subscriber table (o.asked part new)) (setting.passes subscriber table new) (setting.carries subscriber) part new
+    updated_of checked.catalog.tables table h (setting.passes subscriber table (o.asked part new))
+        (setting.passes subscriber table new) (setting.carries subscriber) part new
 got_of checked subscriber (r.Delete table part) h =
     let setting = setting_in checked in
     gone_of checked.catalog.tables table h (setting.passes subscriber table) (setting.carries subscriber) part
 got_of checked subscriber (r.Truncate numbers) h =
     let setting = setting_in checked in
-    emptied_of checked.catalog.tables numbers h (list_any (setting.carries subscriber) numbers) (setting.carries subscriber)
+    emptied_of checked.catalog.tables numbers h (list_any (setting.carries subscriber) numbers)
+        (setting.carries subscriber)
 
 -- ---- what is said of changes
 
-one_said : (tables : List Table) (told : List Bool) (change : Option r.ChangeOf) → length tables ≤ length told → IfOf tables change
+one_said : (tables : List Table) (told : List Bool) (change : Option r.ChangeOf) → length tables ≤ length told
+    → IfOf tables change
     → Introduces told (told_by told change) (said tables told change)
 unfolding said told_by IfOf
 one_said tables told None long h = nothing told
 one_said tables told (Some change) long h =
-    both told (told_all told (named_in change)) (told_all told (named_in change)) (relations_of tables told (named_in change)) (message_of change)
+    both told (told_all told (named_in change)) (told_all told (named_in change))
+        (relations_of tables told (named_in change)) (message_of change)
     (all_relations tables told (named_in change) long h)
     (change_message (told_all told (named_in change)) change (each_told told (named_in change) (length tables) long h))
 
@@ -233,7 +270,8 @@ unfolding told_by
 length-told_by told None = refl
 length-told_by told (Some change) = length-told_all told (named_in change)
 
-all_said : (checked : CheckedOf) (subscriber : ℕ) (told : List Bool) (changes : List r.ChangeOf) → length checked.catalog.tables ≤ length told
+all_said : (checked : CheckedOf) (subscriber : ℕ) (told : List Bool) (changes : List r.ChangeOf)
+    → length checked.catalog.tables ≤ length told
     → All (IsChangeOf checked.catalog.tables) changes
     → Introduces told (told_each checked subscriber told changes) (said_each checked subscriber told changes)
 unfolding said_each told_each
@@ -242,11 +280,13 @@ all_said checked subscriber told (change ∷ changes) long of =
     let tables = checked.catalog.tables in
     let mine = got (setting_in checked) subscriber change in
     let longer : length tables ≤ length (told_by told mine) = omega (arith, long, length-told_by told mine) in
-    both told (told_by told mine) (told_each checked subscriber (told_by told mine) changes) (said tables told mine) (said_each checked subscriber (told_by told mine) changes)
+    both told (told_by told mine) (told_each checked subscriber (told_by told mine) changes) (said tables told mine)
+        (said_each checked subscriber (told_by told mine) changes)
     (one_said tables told mine long (got_of checked subscriber change (All-head (IsChangeOf tables) change changes of)))
     (all_said checked subscriber (told_by told mine) changes longer (All-tail (IsChangeOf tables) change changes of))
 
-length-told_each : (checked : CheckedOf) (subscriber : ℕ) (told : List Bool) (changes : List r.ChangeOf) → length (told_each checked subscriber told changes) ≡ length told
+length-told_each : (checked : CheckedOf) (subscriber : ℕ) (told : List Bool) (changes : List r.ChangeOf)
+    → length (told_each checked subscriber told changes) ≡ length told
 unfolding told_each
 length-told_each checked subscriber told [] = refl
 length-told_each checked subscriber told (change ∷ changes) =
@@ -255,15 +295,19 @@ length-told_each checked subscriber told (change ∷ changes) =
 
 -- ---- commits
 
-between : (told after : List Bool) (commit : CommitOf) (messages : List Msg) → Introduces told after messages → Introduces told after (enclosed commit messages)
+between : (told after : List Bool) (commit : CommitOf) (messages : List Msg) → Introduces told after messages
+    → Introduces told after (enclosed commit messages)
 between told after commit [] h = h
 between told after commit (first ∷ others) h =
-    both told told after (begin_of commit ∷ []) ((first ∷ others) ++ commit_of commit ∷ []) (one_message told (begin_of commit) (λ known is. tt) (λ known. refl))
-    (both told after after (first ∷ others) (commit_of commit ∷ []) h (one_message after (commit_of commit) (λ known is. tt) (λ known. refl)))
+    both told told after (begin_of commit ∷ []) ((first ∷ others) ++ commit_of commit ∷ [])
+        (one_message told (begin_of commit) (λ known is. tt) (λ known. refl))
+    (both told after after (first ∷ others) (commit_of commit ∷ []) h
+        (one_message after (commit_of commit) (λ known is. tt) (λ known. refl)))
 
 pub commits_introduce : CommitsIntroduce
 commits_introduce checked subscriber told commit long of =
-    between told (told_each checked subscriber told commit.changes) commit (said_each checked subscriber told commit.changes)
+    between told (told_each checked subscriber told commit.changes) commit
+        (said_each checked subscriber told commit.changes)
     (all_said checked subscriber told commit.changes long of)
 
 pub in_turn_introduce : CommitsInTurnIntroduce
@@ -271,7 +315,9 @@ in_turn_introduce checked subscriber told [] long of = nothing told
 in_turn_introduce checked subscriber told (commit ∷ commits) long of =
     let tables = checked.catalog.tables in
     let after = told_after checked subscriber told commit in
-    let longer : length tables ≤ length after = omega (arith, long, length-told_each checked subscriber told commit.changes) in
-    both told after (told_in_turn checked subscriber after commits) (messages_for checked subscriber told commit) (messages_in_turn checked subscriber after commits)
+    let longer : length tables ≤ length after =
+        omega (arith, long, length-told_each checked subscriber told commit.changes) in
+    both told after (told_in_turn checked subscriber after commits) (messages_for checked subscriber told commit)
+        (messages_in_turn checked subscriber after commits)
     (commits_introduce checked subscriber told commit long (All-head (IsOf tables) commit commits of))
     (in_turn_introduce checked subscriber after commits longer (All-tail (IsOf tables) commit commits of))

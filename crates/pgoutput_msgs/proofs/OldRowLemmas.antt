@@ -16,32 +16,39 @@ use Rattle.pgoutput_msgs.specs.Telling.{old_of}
 use Rattle.pgoutput_msgs.specs.ValueText.{row_in}
 use Rattle.pgoutput_msgs.proofs.ReadBackLemmas.{rows_back, are_of}
 
-cell_of_either : (kind : ColType) (covered : Bool) (cell : Datum) → IsNullOrOf kind cell → IsNullOrOf kind (if covered then cell else Missing)
+cell_of_either : (kind : ColType) (covered : Bool) (cell : Datum) → IsNullOrOf kind cell
+    → IsNullOrOf kind (if covered then cell else Missing)
 cell_of_either kind true cell h = h
 cell_of_either kind false cell h = tt
 
 -- a row with nulls in some columns has values of the same types
-blanked_of : (kinds : List ColType) (columns : List ℕ) (number : ℕ) (row : List Datum) → AreOf kinds row → AreOf kinds (blanked_from columns number row)
+blanked_of : (kinds : List ColType) (columns : List ℕ) (number : ℕ) (row : List Datum) → AreOf kinds row
+    → AreOf kinds (blanked_from columns number row)
 blanked_of [] columns number [] h = tt
 blanked_of [] columns number (cell ∷ row) h = absurd h
 blanked_of (kind ∷ kinds) columns number [] h = absurd h
 blanked_of (kind ∷ kinds) columns number (cell ∷ row) h =
-    (cell_of_either kind (list_any (λ column. column == number) columns) cell h.0, blanked_of kinds columns (number + 1) row h.1)
+    (cell_of_either kind (list_any (λ column. column == number) columns) cell h.0,
+        blanked_of kinds columns (number + 1) row h.1)
 
-key_back : (kinds : List ColType) (blanked : List Datum) → AreOf kinds blanked → (kept : Bool) (part : r.PartOf) → (if kept then None else Some (r.Key blanked)) ≡ Some part
+key_back : (kinds : List ColType) (blanked : List Datum) → AreOf kinds blanked → (kept : Bool) (part : r.PartOf)
+    → (if kept then None else Some (r.Key blanked)) ≡ Some part
     → row_in kinds (old_cells (old_of part)) ≡ Some blanked
 key_back kinds blanked h true part is = absurd cc
 key_back kinds blanked h false part is =
     let same : r.Key blanked ≡ part = cc in
     subst (λ one. row_in kinds (old_cells (old_of one)) ≡ Some blanked) same (rows_back kinds blanked h)
 
-full_back : (kinds : List ColType) (old : List Datum) → AreOf kinds old → (part : r.PartOf) → Some (r.Full old) ≡ Some part → row_in kinds (old_cells (old_of part)) ≡ Some old
+full_back : (kinds : List ColType) (old : List Datum) → AreOf kinds old → (part : r.PartOf)
+    → Some (r.Full old) ≡ Some part → row_in kinds (old_cells (old_of part)) ≡ Some old
 full_back kinds old h part is =
     let same : r.Full old ≡ part = cc in
     subst (λ one. row_in kinds (old_cells (old_of one)) ≡ Some old) same (rows_back kinds old h)
 
-by_recorded : (as_it : Recorded) (identity : List Datum → List Datum) (table : Table) (kinds : List ColType) (old : List Datum) → AreOf kinds old
-    → (new : Option (List Datum)) (part : r.PartOf) → part_by as_it identity (blanked_by as_it table) old new ≡ Some part
+by_recorded : (as_it : Recorded) (identity : List Datum → List Datum) (table : Table) (kinds : List ColType)
+    (old : List Datum) → AreOf kinds old
+    → (new : Option (List Datum)) (part : r.PartOf)
+    → part_by as_it identity (blanked_by as_it table) old new ≡ Some part
     → row_in kinds (old_cells (old_of part)) ≡ Some (blanked_by as_it table old)
 by_recorded Columns identity table kinds old h new part is =
     let columns = identity_columns table in
@@ -51,4 +58,5 @@ by_recorded Nowhere identity table kinds old h new part is = absurd cc
 
 pub recorded_back : RecordedRowsReadBack
 recorded_back table old valid new part is =
-    by_recorded (recorded_as table.identity) (identity_in (Some table)) table (kinds_of table.columns) old (are_of table.columns old valid.wide valid.fits) new part is
+    by_recorded (recorded_as table.identity) (identity_in (Some table)) table (kinds_of table.columns) old
+        (are_of table.columns old valid.wide valid.fits) new part is

@@ -52,7 +52,8 @@ number_back kind z h =
     let low : int_le (least_of kind) z ≡ true = test_true _ h.above_least.le in
     let high : int_le z (greatest_of kind) ≡ true = test_true _ h.below_greatest.le in
     ap (number_if kind (signed_decimal z)) (own_value z (within_mag kind z low high))
-    ∙ if_some (bytes_eq (signed_decimal z) (signed_decimal z)) (int_le (least_of kind) z) (int_le z (greatest_of kind)) z
+    ∙ if_some (bytes_eq (signed_decimal z) (signed_decimal z)) (int_le (least_of kind) z)
+        (int_le z (greatest_of kind)) z
     ((bytes_eq-Decides (signed_decimal z) (signed_decimal z)).1 refl) low high
 
 -- ---- texts
@@ -60,7 +61,8 @@ number_back kind z h =
 no_zero_any : (bytes : List ℕ) → ¬ Contains bytes 0 → list_any (λ byte. byte == 0) bytes ≡ false
 no_zero_any [] none = refl
 no_zero_any (n ∷ bytes) none =
-    rw (is_not_zero n (λ e. none (0, omega arith, e)), no_zero_any bytes (λ contains. none (suc contains.0, omega (arith, contains.1), contains.2))) refl
+    rw (is_not_zero n (λ e. none (0, omega arith, e)),
+        no_zero_any bytes (λ contains. none (suc contains.0, omega (arith, contains.1), contains.2))) refl
 
 text_back : (bytes : List ℕ) → IsText bytes → text_in bytes ≡ Some (Bytes bytes)
 unfolding text_in
@@ -71,9 +73,12 @@ text_back bytes h = rw (no_zero_any bytes h.no_zero, le-leb _ _ h.short) refl
 datum_back : (kind : ColType) (datum : Datum) → IsNullOrOf kind datum → datum_in kind (cell_of datum) ≡ Some datum
 unfolding truth_in
 datum_back kind Missing h = refl
-datum_back k.SmallInt (Known (Number z)) h = ap (λ (x : Option ℤ). option_map Known (option_map Number x)) (number_back k.SmallInt z h)
-datum_back k.Integer (Known (Number z)) h = ap (λ (x : Option ℤ). option_map Known (option_map Number x)) (number_back k.Integer z h)
-datum_back k.BigInt (Known (Number z)) h = ap (λ (x : Option ℤ). option_map Known (option_map Number x)) (number_back k.BigInt z h)
+datum_back k.SmallInt (Known (Number z)) h =
+    ap (λ (x : Option ℤ). option_map Known (option_map Number x)) (number_back k.SmallInt z h)
+datum_back k.Integer (Known (Number z)) h =
+    ap (λ (x : Option ℤ). option_map Known (option_map Number x)) (number_back k.Integer z h)
+datum_back k.BigInt (Known (Number z)) h =
+    ap (λ (x : Option ℤ). option_map Known (option_map Number x)) (number_back k.BigInt z h)
 datum_back k.Boolean (Known (Truth true)) h = refl
 datum_back k.Boolean (Known (Truth false)) h = refl
 datum_back k.Text (Known (Bytes bytes)) h = ap (option_map Known) (text_back bytes h.1)
@@ -92,7 +97,8 @@ pub rows_back : RowsReadBack
 unfolding row_in
 rows_back [] [] h = refl
 rows_back (kind ∷ kinds) (datum ∷ row) h =
-    ap (λ (x : Option Datum). row_with x (row_in kinds (cells_of row))) (datum_back kind datum h.0) ∙ ap (row_with (Some datum)) (rows_back kinds row h.1)
+    ap (λ (x : Option Datum). row_with x (row_in kinds (cells_of row))) (datum_back kind datum h.0)
+        ∙ ap (row_with (Some datum)) (rows_back kinds row h.1)
 rows_back [] (datum ∷ row) h = absurd h
 rows_back (kind ∷ kinds) [] h = absurd h
 
@@ -105,7 +111,8 @@ pub are_of : (columns : List Column) (row : List Datum) → length row ≡ lengt
 are_of [] [] long fits = tt
 are_of [] (datum ∷ row) long fits = absurd (omega (arith, long))
 are_of (column ∷ columns) [] long fits = absurd (omega (arith, long))
-are_of (column ∷ columns) (datum ∷ row) long fits = (null_or_of column datum (fits 0), are_of columns row (omega (arith, long)) (λ j. fits (suc j)))
+are_of (column ∷ columns) (datum ∷ row) long fits =
+    (null_or_of column datum (fits 0), are_of columns row (omega (arith, long)) (λ j. fits (suc j)))
 
 pub valid_rows_back : ValidRowsReadBack
 valid_rows_back columns row valid = rows_back (kinds_of columns) row (are_of columns row valid.wide valid.fits)

@@ -18,15 +18,18 @@ use Rattle.pgoutput_msgs.specs.Introducing.{IsChangeOf, IsOf, RecordsAreOfTables
 
 -- ---- numbers, each once
 
-with_one_if : (P : ℕ → Type 0) (has : Bool) (numbers : List ℕ) (number : ℕ) → All P numbers → P number → All P (if has then numbers else numbers ++ number ∷ [])
+with_one_if : (P : ℕ → Type 0) (has : Bool) (numbers : List ℕ) (number : ℕ) → All P numbers → P number
+    → All P (if has then numbers else numbers ++ number ∷ [])
 with_one_if P true numbers number all one = all
 with_one_if P false numbers number all one = All-push P numbers number all one
 
-all_of_fold : (P : ℕ → Type 0) (numbers more : List ℕ) → All P numbers → All P more → All P (fold (with_item nat_eq) numbers more)
+all_of_fold : (P : ℕ → Type 0) (numbers more : List ℕ) → All P numbers → All P more
+    → All P (fold (with_item nat_eq) numbers more)
 all_of_fold P numbers [] all later = all
 all_of_fold P numbers (number ∷ more) all later =
     all_of_fold P (with_item nat_eq numbers number) more
-    (with_one_if P (list_any (nat_eq number) numbers) numbers number all (All-head P number more later)) (All-tail P number more later)
+    (with_one_if P (list_any (nat_eq number) numbers) numbers number all (All-head P number more later))
+        (All-tail P number more later)
 
 all_distinct : (P : ℕ → Type 0) (numbers : List ℕ) → All P numbers → All P (distinct nat_eq numbers)
 all_distinct P numbers all = all_of_fold P [] numbers (All-nil P) all
@@ -34,7 +37,8 @@ all_distinct P numbers all = all_of_fold P [] numbers (All-nil P) all
 -- ---- tables that there are
 
 -- where there is no fault, the test for it holds
-no_fault : (test : Bool) (fault : CommandFault) (next : Option CommandFault) → unless test fault next ≡ None → test ≡ true
+no_fault : (test : Bool) (fault : CommandFault) (next : Option CommandFault) → unless test fault next ≡ None
+    → test ≡ true
 no_fault true fault next h = refl
 no_fault false fault next h = absurd cc
 
@@ -45,8 +49,11 @@ module _ (checked : CheckedOf) where
   known_table : (table : ℕ) → (setting_in checked).known table ≡ true → IsTable table
   known_table table h = ltb-true table (length checked.catalog.tables) h
 
-  one_table : (table : ℕ) (next : Option CommandFault) → unless ((setting_in checked).known table) NoTable next ≡ None → All IsTable (table ∷ [])
-  one_table table next h = All-cons IsTable table [] (known_table table (no_fault ((setting_in checked).known table) NoTable next h)) (All-nil IsTable)
+  one_table : (table : ℕ) (next : Option CommandFault) → unless ((setting_in checked).known table) NoTable next ≡ None
+      → All IsTable (table ∷ [])
+  one_table table next h =
+      All-cons IsTable table [] (known_table table (no_fault ((setting_in checked).known table) NoTable next h))
+      (All-nil IsTable)
 
   each_table : (numbers : List ℕ) → list_all (setting_in checked).known numbers ≡ true → All IsTable numbers
   each_table [] h = All-nil IsTable
@@ -64,25 +71,33 @@ module _ (checked : CheckedOf) where
   change_of_tables tables (c.Update table key row) h = one_table table _ h
   change_of_tables tables (c.Delete table key) h = one_table table _ h
   change_of_tables tables (c.Truncate numbers) h =
-      all_distinct IsTable numbers (known_tables numbers (no_fault (all_known (setting_in checked) numbers) NoTable None h))
+      all_distinct IsTable numbers
+          (known_tables numbers (no_fault (all_known (setting_in checked) numbers) NoTable None h))
 
 pub records_of_tables : RecordsAreOfTables
 records_of_tables checked tables number [] h = All-nil (IsChangeOf checked.catalog.tables)
 records_of_tables checked tables number (command ∷ commands) h =
     let setting = setting_in checked in
-    let parts = not_numbered number (fault_of setting tables command) (first_fault setting (applied setting tables command) (number + 1) commands) h in
-    All-cons (IsChangeOf checked.catalog.tables) (change_of setting tables command) (record_of setting (applied setting tables command) commands)
-    (change_of_tables checked tables command parts.0) (records_of_tables checked (applied setting tables command) (number + 1) commands parts.1)
+    let parts = not_numbered number (fault_of setting tables command)
+        (first_fault setting (applied setting tables command) (number + 1) commands) h in
+    All-cons (IsChangeOf checked.catalog.tables) (change_of setting tables command)
+        (record_of setting (applied setting tables command) commands)
+    (change_of_tables checked tables command parts.0)
+        (records_of_tables checked (applied setting tables command) (number + 1) commands parts.1)
 
-entries_of_tables : (checked : CheckedOf) (tables : Tables) (number : ℕ) (transactions : List Transaction) → AreAccepted (setting_in checked) tables transactions
+entries_of_tables : (checked : CheckedOf) (tables : Tables) (number : ℕ) (transactions : List Transaction)
+    → AreAccepted (setting_in checked) tables transactions
     → All (IsOf checked.catalog.tables) (entries_from (setting_in checked) tables number transactions)
 entries_of_tables checked tables number [] h = All-nil (IsOf checked.catalog.tables)
 entries_of_tables checked tables number (transaction ∷ transactions) h =
     let setting = setting_in checked in
-    All-cons (IsOf checked.catalog.tables) (commit_of number transaction.time (record_of setting tables transaction.commands))
+    All-cons (IsOf checked.catalog.tables)
+        (commit_of number transaction.time (record_of setting tables transaction.commands))
     (entries_from setting (left_by setting tables transaction) (number + 1) transactions)
-    (records_of_tables checked tables 1 transaction.commands h.0.no_fault) (entries_of_tables checked (left_by setting tables transaction) (number + 1) transactions h.1)
+    (records_of_tables checked tables 1 transaction.commands h.0.no_fault)
+        (entries_of_tables checked (left_by setting tables transaction) (number + 1) transactions h.1)
 
 pub logs_of_tables : LogsAreOfTables
 logs_of_tables book transactions stands =
-    subst (All (IsOf (book_checked book).catalog.tables)) (sym stands.log) (entries_of_tables (book_checked book) no_rows 1 transactions stands.accepted)
+    subst (All (IsOf (book_checked book).catalog.tables)) (sym stands.log)
+        (entries_of_tables (book_checked book) no_rows 1 transactions stands.accepted)

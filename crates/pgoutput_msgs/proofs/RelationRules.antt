@@ -43,7 +43,8 @@ index_alone i.Nothing e = absurd (omega (arith, e))
 index_alone i.Full e = absurd (omega (arith, e))
 index_alone i.Index e = refl
 
-no_identity : (kind : ℕ) → (kind ≡ 100 → ⊥) → (kind ≡ 110 → ⊥) → (kind ≡ 102 → ⊥) → (kind ≡ 105 → ⊥) → (x : ReplicaIdentity) → (identity_letter x ≡ kind) × Unit {0} → ⊥
+no_identity : (kind : ℕ) → (kind ≡ 100 → ⊥) → (kind ≡ 110 → ⊥) → (kind ≡ 102 → ⊥) → (kind ≡ 105 → ⊥)
+    → (x : ReplicaIdentity) → (identity_letter x ≡ kind) × Unit {0} → ⊥
 no_identity kind p q r s i.Default h = p (sym h.0)
 no_identity kind p q r s i.Nothing h = q (sym h.0)
 no_identity kind p q r s i.Full h = r (sym h.0)
@@ -57,11 +58,16 @@ Always a = Unit {0}
 
 exact_identity_by : (kind : ℕ) → Exact (identity_by kind) nothing_more (λ x. (identity_letter x ≡ kind) × Unit {0})
 exact_identity_by kind =
-    exact_if kind 100 (pure i.Default) _ nothing_more Always identity_letter (exact_value i.Default nothing_more Always identity_letter 100 refl refl tt default_alone) (λ p.
-    exact_if kind 110 (pure i.Nothing) _ nothing_more Always identity_letter (exact_value i.Nothing nothing_more Always identity_letter 110 refl refl tt nothing_alone) (λ q.
-    exact_if kind 102 (pure i.Full) _ nothing_more Always identity_letter (exact_value i.Full nothing_more Always identity_letter 102 refl refl tt full_alone) (λ r.
-    exact_if kind 105 (pure i.Index) (fail (Unknown kind)) nothing_more Always identity_letter (exact_value i.Index nothing_more Always identity_letter 105 refl refl tt index_alone)
-    (λ s. exact_fail (Unknown kind) nothing_more (λ x. (identity_letter x ≡ kind) × Unit {0}) (no_identity kind p q r s)))))
+    exact_if kind 100 (pure i.Default) _ nothing_more Always identity_letter
+        (exact_value i.Default nothing_more Always identity_letter 100 refl refl tt default_alone) (λ p.
+    exact_if kind 110 (pure i.Nothing) _ nothing_more Always identity_letter
+        (exact_value i.Nothing nothing_more Always identity_letter 110 refl refl tt nothing_alone) (λ q.
+    exact_if kind 102 (pure i.Full) _ nothing_more Always identity_letter
+        (exact_value i.Full nothing_more Always identity_letter 102 refl refl tt full_alone) (λ r.
+    exact_if kind 105 (pure i.Index) (fail (Unknown kind)) nothing_more Always identity_letter
+        (exact_value i.Index nothing_more Always identity_letter 105 refl refl tt index_alone)
+    (λ s. exact_fail (Unknown kind) nothing_more (λ x. (identity_letter x ≡ kind) × Unit {0})
+        (no_identity kind p q r s)))))
 
 byte_of_identity : (x : ReplicaIdentity) → identity_letter x < 256
 byte_of_identity i.Default = omega arith
@@ -74,8 +80,10 @@ letter_of x = int8 (identity_letter x)
 
 exact_identity : Exact identity_at letter_of Always
 unfolding identity_at
-exact_identity = exact_as (byte >>= identity_by) (λ x. (identity_letter x ∷ []) ++ []) (λ x. (identity_letter x < 256) × Unit {0}) letter_of Always
-    (exact_then byte identity_by int8 nothing_more (λ n. n < 256) Always identity_letter exact_byte (λ kind _. exact_identity_by kind))
+exact_identity = exact_as (byte >>= identity_by) (λ x. (identity_letter x ∷ []) ++ [])
+    (λ x. (identity_letter x < 256) × Unit {0}) letter_of Always
+    (exact_then byte identity_by int8 nothing_more (λ n. n < 256) Always identity_letter exact_byte
+        (λ kind _. exact_identity_by kind))
     (λ x fits. (refl, tt)) (λ x fits. (byte_of_identity x, tt))
 
 false_alone : (x : Bool) → key_flag x ≡ 0 → x ≡ false
@@ -92,8 +100,10 @@ no_flag kind p q true h = q (sym h.0)
 
 exact_flag_by : (kind : ℕ) → Exact (flag_by kind) nothing_more (λ x. (key_flag x ≡ kind) × Unit {0})
 exact_flag_by kind =
-    exact_if kind 0 (pure false) _ nothing_more Always key_flag (exact_value false nothing_more Always key_flag 0 refl refl tt false_alone) (λ p.
-    exact_if kind 1 (pure true) (fail (Unknown kind)) nothing_more Always key_flag (exact_value true nothing_more Always key_flag 1 refl refl tt true_alone)
+    exact_if kind 0 (pure false) _ nothing_more Always key_flag
+        (exact_value false nothing_more Always key_flag 0 refl refl tt false_alone) (λ p.
+    exact_if kind 1 (pure true) (fail (Unknown kind)) nothing_more Always key_flag
+        (exact_value true nothing_more Always key_flag 1 refl refl tt true_alone)
     (λ q. exact_fail (Unknown kind) nothing_more (λ x. (key_flag x ≡ kind) × Unit {0}) (no_flag kind p q)))
 
 byte_of_flag : (x : Bool) → key_flag x < 256
@@ -105,7 +115,8 @@ flag_of x = int8 (key_flag x)
 
 exact_flag : Exact flag_at flag_of Always
 unfolding flag_at
-exact_flag = exact_as (byte >>= flag_by) (λ x. (key_flag x ∷ []) ++ []) (λ x. (key_flag x < 256) × Unit {0}) flag_of Always
+exact_flag = exact_as (byte >>= flag_by) (λ x. (key_flag x ∷ []) ++ []) (λ x. (key_flag x < 256) × Unit {0}) flag_of
+    Always
     (exact_then byte flag_by int8 nothing_more (λ n. n < 256) Always key_flag exact_byte (λ kind _. exact_flag_by kind))
     (λ x fits. (refl, tt)) (λ x fits. (byte_of_flag x, tt))
 
@@ -132,8 +143,11 @@ fields_of f = flag_of f.0 ++ (string f.1.0 ++ (int32 f.1.1.0 ++ int32 f.1.1.1))
 
 exact_column_fields : Exact (flag_at & string_at & number w32 & number w32) fields_of FieldsFit
 exact_column_fields =
-    exact_both flag_at flag_of Always (string_at & number w32 & number w32) (λ f. string f.0 ++ (int32 f.1.0 ++ int32 f.1.1)) (λ f. IsName f.0 × ((f.1.0 < 2 ^ 32) × (f.1.1 < 2 ^ 32))) exact_flag
-    (exact_both string_at string IsName (number w32 & number w32) (λ f. int32 f.0 ++ int32 f.1) (λ f. (f.0 < 2 ^ 32) × (f.1 < 2 ^ 32)) exact_string
+    exact_both flag_at flag_of Always (string_at & number w32 & number w32)
+        (λ f. string f.0 ++ (int32 f.1.0 ++ int32 f.1.1)) (λ f. IsName f.0 × ((f.1.0 < 2 ^ 32) × (f.1.1 < 2 ^ 32)))
+        exact_flag
+    (exact_both string_at string IsName (number w32 & number w32) (λ f. int32 f.0 ++ int32 f.1)
+        (λ f. (f.0 < 2 ^ 32) × (f.1 < 2 ^ 32)) exact_string
     (exact_both (number w32) int32 (λ n. n < 2 ^ 32) (number w32) int32 (λ n. n < 2 ^ 32) exact_int32 exact_int32))
 
 column_made : (f : column_fields) → FieldsFit f → (fields_of f ≡ column_spelling (column_of f)) × IsColumn (column_of f)
@@ -148,18 +162,22 @@ column_back x fits =
     let f : column_fields = (x.is_key, (x.name, (x.type_oid, modifier))) in (
       f,
       (
-        ap (λ (z : ℤ). let y : RelationColumn = record { is_key = x.is_key; name = x.name; type_oid = x.type_oid; type_modifier = z } in y) (to_z-of_z fits.type_modifier),
+        ap (λ (z : ℤ). let y : RelationColumn =
+            record { is_key = x.is_key; name = x.name; type_oid = x.type_oid; type_modifier = z } in y)
+            (to_z-of_z fits.type_modifier),
         (tt, (fits.name, (fits.type_oid, unsigned_fits x.type_modifier fits.type_modifier))),
       ),
     )
 
 exact_column : Exact column_at column_spelling IsColumn
 unfolding column_at
-exact_column = exact_mapped (flag_at & string_at & number w32 & number w32) fields_of FieldsFit column_of column_spelling IsColumn exact_column_fields column_made column_back
+exact_column = exact_mapped (flag_at & string_at & number w32 & number w32) fields_of FieldsFit column_of
+    column_spelling IsColumn exact_column_fields column_made column_back
 
 exact_columns : Exact columns_at columns_spelling (λ columns. (length columns < 2 ^ 15) × All IsColumn columns)
 unfolding columns_at
-exact_columns = exact_then count16 (many column_at) int16 (flat_map column_spelling) (λ n. n < 2 ^ 15) (All IsColumn) length exact_count16
+exact_columns = exact_then count16 (many column_at) int16 (flat_map column_spelling) (λ n. n < 2 ^ 15) (All IsColumn)
+    length exact_count16
     (λ n _. many_all column_at column_spelling IsColumn exact_column n)
 
 abbrev pub relation_fields : Type 0
@@ -169,12 +187,15 @@ abbrev pub relation_of : relation_fields → Relation
 relation_of f = record { oid = f.0; namespace = f.1.0; name = f.1.1.0; identity = f.1.1.1.0; columns = f.1.1.1.1 }
 
 abbrev pub RelationFits : relation_fields → Type 0
-RelationFits f = (f.0 < 2 ^ 32) × (IsName f.1.0 × (IsName f.1.1.0 × (Unit {0} × ((length f.1.1.1.1 < 2 ^ 15) × All IsColumn f.1.1.1.1))))
+RelationFits f = (f.0 < 2 ^ 32)
+    × (IsName f.1.0 × (IsName f.1.1.0 × (Unit {0} × ((length f.1.1.1.1 < 2 ^ 15) × All IsColumn f.1.1.1.1))))
 
 abbrev pub relation_parts : relation_fields → List ℕ
-relation_parts f = int32 f.0 ++ (string f.1.0 ++ (string f.1.1.0 ++ (letter_of f.1.1.1.0 ++ columns_spelling f.1.1.1.1)))
+relation_parts f = int32 f.0
+    ++ (string f.1.0 ++ (string f.1.1.0 ++ (letter_of f.1.1.1.0 ++ columns_spelling f.1.1.1.1)))
 
-pub exact_relation_fields : Exact (number w32 & string_at & string_at & identity_at & columns_at) relation_parts RelationFits
+pub exact_relation_fields : Exact (number w32 & string_at & string_at & identity_at & columns_at) relation_parts
+    RelationFits
 exact_relation_fields =
     exact_both (number w32) int32 (λ n. n < 2 ^ 32) (string_at & string_at & identity_at & columns_at)
     (λ f. string f.0 ++ (string f.1.0 ++ (letter_of f.1.1.0 ++ columns_spelling f.1.1.1)))
@@ -183,5 +204,7 @@ exact_relation_fields =
     (λ f. string f.0 ++ (letter_of f.1.0 ++ columns_spelling f.1.1))
     (λ f. IsName f.0 × (Unit {0} × ((length f.1.1 < 2 ^ 15) × All IsColumn f.1.1))) exact_string
     (exact_both string_at string IsName (identity_at & columns_at)
-    (λ f. letter_of f.0 ++ columns_spelling f.1) (λ f. Unit {0} × ((length f.1 < 2 ^ 15) × All IsColumn f.1)) exact_string
-    (exact_both identity_at letter_of Always columns_at columns_spelling (λ columns. (length columns < 2 ^ 15) × All IsColumn columns) exact_identity exact_columns)))
+    (λ f. letter_of f.0 ++ columns_spelling f.1) (λ f. Unit {0} × ((length f.1 < 2 ^ 15) × All IsColumn f.1))
+        exact_string
+    (exact_both identity_at letter_of Always columns_at columns_spelling
+        (λ columns. (length columns < 2 ^ 15) × All IsColumn columns) exact_identity exact_columns)))

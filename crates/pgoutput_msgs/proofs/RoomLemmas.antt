@@ -23,7 +23,8 @@ use Rattle.pgoutput_msgs.proofs.RowLemmas.{short_number}
 
 short_value : (datum : Datum) → IsSendableValue datum → IsCellWithinRange (cell_of datum)
 short_value Missing h = tt
-short_value (Known (Number z)) h = short_number z 9223372036854775807 9223372036854775807 (lit< tt) (lit< tt) h.above_least h.below_greatest
+short_value (Known (Number z)) h =
+    short_number z 9223372036854775807 9223372036854775807 (lit< tt) (lit< tt) h.above_least h.below_greatest
 short_value (Known (Truth true)) h = omega arith
 short_value (Known (Truth false)) h = omega arith
 short_value (Known (Bytes bytes)) h = omega (arith, h)
@@ -33,7 +34,8 @@ row_room cells h = record {
   few = omega (arith, length-map cells cell_of, h.few);
   short = λ k d long.
       let within : k < length cells = omega (arith, length-map cells cell_of, long) in
-      subst IsCellWithinRange (sym (get_or-map cell_of cells k Missing d within)) (short_value (get_or cells k Missing) (h.values k Missing within));
+      subst IsCellWithinRange (sym (get_or-map cell_of cells k Missing d within))
+          (short_value (get_or cells k Missing) (h.values k Missing within));
 }
 
 pub old_room : (part : r.PartOf) → IsSendablePart (Some part) → IsOldWithinRange (old_of part)
@@ -46,30 +48,40 @@ maybe_old_room (Some part) h = old_room part h
 
 message_room : (change : r.ChangeOf) → IsSendableChange change → All IsWithinRange (message_of change)
 message_room (r.Insert table new) h = all_one IsWithinRange (m.Insert (oid_of table) (cells_of new)) (row_room new h.1)
-message_room (r.Update table part new) h = all_one IsWithinRange (m.Update (oid_of table) (maybe_old_of part) (cells_of new)) (maybe_old_room part h.1, row_room new h.2)
+message_room (r.Update table part new) h =
+    all_one IsWithinRange (m.Update (oid_of table) (maybe_old_of part) (cells_of new))
+    (maybe_old_room part h.1, row_room new h.2)
 message_room (r.Delete table None) h = All-nil IsWithinRange
-message_room (r.Delete table (Some part)) h = all_one IsWithinRange (m.Delete (oid_of table) (old_of part)) (old_room part h.1)
-message_room (r.Truncate numbers) h = all_one IsWithinRange (m.Truncate 0 (map oid_of numbers)) (omega (arith, length-map numbers oid_of, h.0))
+message_room (r.Delete table (Some part)) h =
+    all_one IsWithinRange (m.Delete (oid_of table) (old_of part)) (old_room part h.1)
+message_room (r.Truncate numbers) h =
+    all_one IsWithinRange (m.Truncate 0 (map oid_of numbers)) (omega (arith, length-map numbers oid_of, h.0))
 
 -- ---- Relations
 
-pub length_columns : (table : Table) (number : ℕ) (columns : List Column) → length (columns_from table number columns) ≡ length columns
+pub length_columns : (table : Table) (number : ℕ) (columns : List Column)
+    → length (columns_from table number columns) ≡ length columns
 length_columns table number [] = refl
 length_columns table number (column ∷ columns) = ap suc (length_columns table (number + 1) columns)
 
-pub relation_room : (tables : List Table) (number : ℕ) (found : Option Table) → slice_get tables number ≡ found → All IsLimitedTable tables
+pub relation_room : (tables : List Table) (number : ℕ) (found : Option Table) → slice_get tables number ≡ found
+    → All IsLimitedTable tables
     → IfSome found (λ table. IsWithinRange (m.Relation (relation_of number table)))
 relation_room tables number None e limited = tt
 relation_room tables number (Some table) e limited =
     let narrow : IsLimitedTable table =
-    subst IsLimitedTable (get_or_from_slice_get tables number table table e) (limited number table (slice_get_within tables number table e)) in
+    subst IsLimitedTable (get_or_from_slice_get tables number table table e)
+        (limited number table (slice_get_within tables number table e)) in
     omega (arith, length_columns table 0 table.columns, narrow.columns)
 
 -- ---- all messages
 
-pub messages_room : (checked : CheckedOf) (subscriber : ℕ) (told : List Bool) (commit : CommitOf) → IsSendable commit → IsLimited checked.catalog
+pub messages_room : (checked : CheckedOf) (subscriber : ℕ) (told : List Bool) (commit : CommitOf) → IsSendable commit
+    → IsLimited checked.catalog
     → All IsWithinRange (messages_for checked subscriber told commit)
 messages_room checked subscriber told commit h limited =
     let tables = checked.catalog.tables in
     all_messages IsWithinRange checked subscriber told commit h
-    (record { relations = λ number. relation_room tables number (slice_get tables number) refl limited.each_table; changes = message_room }) tt tt
+    (record { relations =
+        λ number. relation_room tables number (slice_get tables number) refl limited.each_table; changes =
+        message_room }) tt tt

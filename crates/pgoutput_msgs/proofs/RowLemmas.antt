@@ -28,9 +28,11 @@ pub short_number : (number : ℤ) (least greatest : ℕ) → least < 2 ^ 63 → 
     → number ≤ℤ pos greatest → length (signed_decimal number) < 2 ^ 31
 short_number number least greatest p q low high = omega (arith, few_digits number least greatest p q low high)
 
-short_constant : (kind : ColType) (constant : Constant) → IsOf kind constant → IsCellWithinRange (cell_of (Known constant))
+short_constant : (kind : ColType) (constant : Constant) → IsOf kind constant
+    → IsCellWithinRange (cell_of (Known constant))
 short_constant SmallInt (Number z) h = short_number z 32767 32767 (lit< tt) (lit< tt) h.above_least h.below_greatest
-short_constant Integer (Number z) h = short_number z 2147483647 2147483647 (lit< tt) (lit< tt) h.above_least h.below_greatest
+short_constant Integer (Number z) h =
+    short_number z 2147483647 2147483647 (lit< tt) (lit< tt) h.above_least h.below_greatest
 short_constant BigInt (Number z) h =
     short_number z 9223372036854775807 9223372036854775807 (lit< tt) (lit< tt) h.above_least h.below_greatest
 short_constant Boolean (Truth true) h = omega arith
@@ -52,14 +54,16 @@ short_datum column Missing h = tt
 short_datum column (Known constant) h = short_constant column.kind constant h
 
 short_row : (columns : List Column) (row : List Datum) → length row ≡ length columns
-    → ((k : ℕ) → IfSome (slice_get columns k) (λ column. Fits column (value_at row k))) → All IsCellWithinRange (cells_of row)
+    → ((k : ℕ) → IfSome (slice_get columns k) (λ column. Fits column (value_at row k)))
+    → All IsCellWithinRange (cells_of row)
 short_row columns [] l fits k d h = absurd (omega (arith, h))
 short_row [] (datum ∷ row) l fits k d h = absurd (omega (arith, l))
 short_row (column ∷ columns) (datum ∷ row) l fits zero d h = short_datum column datum (fits 0)
 short_row (column ∷ columns) (datum ∷ row) l fits (suc k) d h =
     short_row columns row (omega (arith, l)) (λ j. fits (suc j)) k d (omega (arith, h))
 
-pub valid_row_fits : (columns : List Column) (row : List Datum) → IsValid columns row → length columns < 2 ^ 15 → IsTupleWithinRange (cells_of row)
+pub valid_row_fits : (columns : List Column) (row : List Datum) → IsValid columns row → length columns < 2 ^ 15
+    → IsTupleWithinRange (cells_of row)
 valid_row_fits columns row valid few = record {
   few = omega (arith, length-map row cell_of, valid.wide);
   short = short_row columns row valid.wide valid.fits;

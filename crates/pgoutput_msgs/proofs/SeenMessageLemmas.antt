@@ -31,12 +31,15 @@ none_once : (tables : List Table) (number : ℕ) (b : Bool) → filter is_change
 none_once tables number true = refl
 none_once tables number false = no_change tables number (slice_get tables number)
 
-none_in_relations : (tables : List Table) (told : List Bool) (numbers : List ℕ) → filter is_change (relations_of tables told numbers) ≡ []
+none_in_relations : (tables : List Table) (told : List Bool) (numbers : List ℕ)
+    → filter is_change (relations_of tables told numbers) ≡ []
 unfolding relations_of relation_once
 none_in_relations tables told [] = refl
 none_in_relations tables told (number ∷ numbers) =
-    filter-append is_change (introduced tables (slice_index_or told number false) number) (relations_of tables (told_one told number) numbers)
-    ∙ ap (λ (x : List Msg). x ++ filter is_change (relations_of tables (told_one told number) numbers)) (none_once tables number (slice_index_or told number false))
+    filter-append is_change (introduced tables (slice_index_or told number false) number)
+        (relations_of tables (told_one told number) numbers)
+    ∙ ap (λ (x : List Msg). x ++ filter is_change (relations_of tables (told_one told number) numbers))
+        (none_once tables number (slice_index_or told number false))
     ∙ none_in_relations tables (told_one told number) numbers
 
 is_its_own : (change : r.ChangeOf) → filter is_change (message_of change) ≡ message_of change
@@ -57,11 +60,13 @@ one_said tables told None others = refl
 one_said tables told (Some change) others =
     ap (λ (x : List Msg). x ++ messages_in others)
     (filter-append is_change (relations_of tables told (named_in change)) (message_of change)
-    ∙ ap (λ (x : List Msg). x ++ filter is_change (message_of change)) (none_in_relations tables told (named_in change)) ∙ is_its_own change)
+    ∙ ap (λ (x : List Msg). x ++ filter is_change (message_of change))
+        (none_in_relations tables told (named_in change)) ∙ is_its_own change)
     ∙ sym (flat_map-cons message_of change others)
 
 all_said : (checked : CheckedOf) (subscriber : ℕ) (told : List Bool) (changes : List r.ChangeOf)
-    → filter is_change (said_each checked subscriber told changes) ≡ messages_in (filter_map (got (setting_in checked) subscriber) changes)
+    → filter is_change (said_each checked subscriber told changes)
+        ≡ messages_in (filter_map (got (setting_in checked) subscriber) changes)
 unfolding said_each
 all_said checked subscriber told [] = refl
 all_said checked subscriber told (change ∷ changes) =
@@ -69,12 +74,15 @@ all_said checked subscriber told (change ∷ changes) =
     let tables = checked.catalog.tables in
     let later = said_each checked subscriber (told_by told mine) changes in
     filter-append is_change (said tables told mine) later
-    ∙ ap (λ (x : List Msg). filter is_change (said tables told mine) ++ x) (all_said checked subscriber (told_by told mine) changes)
+    ∙ ap (λ (x : List Msg). filter is_change (said tables told mine) ++ x)
+        (all_said checked subscriber (told_by told mine) changes)
     ∙ one_said tables told mine (filter_map (got (setting_in checked) subscriber) changes)
 
-within_begin : (commit : CommitOf) (messages : List Msg) → filter is_change (enclosed commit messages) ≡ filter is_change messages
+within_begin : (commit : CommitOf) (messages : List Msg)
+    → filter is_change (enclosed commit messages) ≡ filter is_change messages
 within_begin commit [] = refl
-within_begin commit (first ∷ others) = filter-append is_change (first ∷ others) (commit_of commit ∷ []) ∙ no_more (filter is_change (first ∷ others))
+within_begin commit (first ∷ others) = filter-append is_change (first ∷ others) (commit_of commit ∷ [])
+    ∙ no_more (filter is_change (first ∷ others))
   where
     no_more : (xs : List Msg) → xs ++ [] ≡ xs
     no_more [] = refl
@@ -82,8 +90,10 @@ within_begin commit (first ∷ others) = filter-append is_change (first ∷ othe
 
 -- ---- nothing is said where nothing is got
 
-none_after : (checked : CheckedOf) (subscriber : ℕ) (told : List Bool) (mine : Option r.ChangeOf) (got_later : List r.ChangeOf) (changes : List r.ChangeOf)
-    → ((later : List Bool) → got_later ≡ [] → said_each checked subscriber later changes ≡ []) → cons_option mine got_later ≡ []
+none_after : (checked : CheckedOf) (subscriber : ℕ) (told : List Bool) (mine : Option r.ChangeOf)
+    (got_later : List r.ChangeOf) (changes : List r.ChangeOf)
+    → ((later : List Bool) → got_later ≡ [] → said_each checked subscriber later changes ≡ [])
+    → cons_option mine got_later ≡ []
     → said checked.catalog.tables told mine ++ said_each checked subscriber (told_by told mine) changes ≡ []
 unfolding said told_by
 none_after checked subscriber told None got_later changes again h = again told h
@@ -94,7 +104,8 @@ none_said : (checked : CheckedOf) (subscriber : ℕ) (told : List Bool) (changes
 unfolding said_each
 none_said checked subscriber told [] h = refl
 none_said checked subscriber told (change ∷ changes) h =
-    none_after checked subscriber told (got (setting_in checked) subscriber change) (filter_map (got (setting_in checked) subscriber) changes) changes
+    none_after checked subscriber told (got (setting_in checked) subscriber change)
+        (filter_map (got (setting_in checked) subscriber) changes) changes
     (λ later none. none_said checked subscriber later changes none) h
 
 enclosed_none : (commit : CommitOf) (messages : List Msg) → messages ≡ [] → enclosed commit messages ≡ []
@@ -103,7 +114,8 @@ enclosed_none commit (first ∷ others) h = absurd cc
 
 -- ---- each has one message
 
-one_gone : (setting : Setting) → Covered setting → (table : ℕ) (old : List Datum) (as_it : Recorded) → setting.recorded table ≡ as_it
+one_gone : (setting : Setting) → Covered setting → (table : ℕ) (old : List Datum) (as_it : Recorded)
+    → setting.recorded table ≡ as_it
     → length (gone_message table (part_by as_it (setting.identity table) (setting.blanked table) old None)) ≡ 1
 one_gone setting covered table old Columns h = refl
 one_gone setting covered table old Whole h = refl
@@ -125,13 +137,15 @@ as_message setting (s.Delete table old) = by_part (part_of setting table old Non
     by_part (Some part) = refl
 as_message setting (s.Truncate numbers) = refl
 
-as_messages : (setting : Setting) (all : List Seen) → flat_map (λ one. message_of (as_recorded setting one)) all ≡ flat_map (seen_message setting) all
+as_messages : (setting : Setting) (all : List Seen)
+    → flat_map (λ one. message_of (as_recorded setting one)) all ≡ flat_map (seen_message setting) all
 as_messages setting [] = refl
 as_messages setting (one ∷ all) =
     ap (λ (x : List Msg). x ++ flat_map (λ other. message_of (as_recorded setting other)) all) (as_message setting one)
     ∙ ap (λ (x : List Msg). seen_message setting one ++ x) (as_messages setting all)
 
-nothing_seen : (setting : Setting) → Covered setting → (all : List Seen) → flat_map (seen_message setting) all ≡ [] → all ≡ []
+nothing_seen : (setting : Setting) → Covered setting → (all : List Seen) → flat_map (seen_message setting) all ≡ []
+    → all ≡ []
 nothing_seen setting covered [] h = refl
 nothing_seen setting covered (one ∷ all) h =
     let long = length-append (seen_message setting one) (flat_map (seen_message setting) all) in
@@ -146,9 +160,11 @@ tells_what_is_seen checked covered subscriber told commit tables number commands
     let all = seen setting subscriber tables commands in
     let mine = filter_map (got setting subscriber) commit.changes in
     let gets : mine ≡ map (as_recorded setting) all =
-    ap (filter_map (got setting subscriber)) recorded ∙ record_shows_all setting covered subscriber tables number commands h in
+    ap (filter_map (got setting subscriber)) recorded
+        ∙ record_shows_all setting covered subscriber tables number commands h in
     let changes : filter is_change (messages_for checked subscriber told commit) ≡ flat_map (seen_message setting) all =
-    within_begin commit (said_each checked subscriber told commit.changes) ∙ all_said checked subscriber told commit.changes
+    within_begin commit (said_each checked subscriber told commit.changes)
+        ∙ all_said checked subscriber told commit.changes
     ∙ ap messages_in gets ∙ flat_map-map message_of (as_recorded setting) all ∙ as_messages setting all in
     record {
       changes = changes;

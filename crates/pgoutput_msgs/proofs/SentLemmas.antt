@@ -38,7 +38,8 @@ pub record IsPlain (message : Msg) : Type 0 where
   pub short : length (spelling_of message) ≤ 13108011
 
 -- spellings one after the other, each of at most so many bytes
-flat_at_most : {A : Type 0} (spell : A → List ℕ) (most : ℕ) (xs : List A) → All (λ x. length (spell x) ≤ most) xs → length (flat_map spell xs) ≤ most * length xs
+flat_at_most : {A : Type 0} (spell : A → List ℕ) (most : ℕ) (xs : List A) → All (λ x. length (spell x) ≤ most) xs
+    → length (flat_map spell xs) ≤ most * length xs
 flat_at_most spell most [] all = omega arith
 flat_at_most {A = A} spell most (x ∷ xs) all =
     let each : A → Type 0 = λ y. length (spell y) ≤ most in
@@ -51,18 +52,23 @@ flat_at_most {A = A} spell most (x ∷ xs) all =
 
 cell_read : (datum : Datum) → IsSendableValue datum → IsCellText (cell_of datum) → IsCell (cell_of datum)
 cell_read Missing h text = tt
-cell_read (Known (Number z)) h text = (text, omega (arith, few_digits z 9223372036854775807 9223372036854775807 (lit< tt) (lit< tt) h.above_least h.below_greatest))
+cell_read (Known (Number z)) h text =
+    (text, omega (arith, few_digits z 9223372036854775807 9223372036854775807 (lit< tt) (lit< tt) h.above_least
+    h.below_greatest))
 cell_read (Known (Truth true)) h text = (text, omega arith)
 cell_read (Known (Truth false)) h text = (text, omega arith)
 cell_read (Known (Bytes bytes)) h text = (text, omega (arith, h))
 
 text_at_most : (text : List ℕ) (most : ℕ) → length text ≤ most → length (cell_spelling (Text text)) ≤ most + 5
-text_at_most text most h = omega (arith, length-append (codes "t") (int32 (length text) ++ text), length-append (int32 (length text)) text, h)
+text_at_most text most h =
+    omega (arith, length-append (codes "t") (int32 (length text) ++ text), length-append (int32 (length text)) text,
+    h)
 
 cell_short : (datum : Datum) → IsSendableValue datum → length (cell_spelling (cell_of datum)) ≤ 65540
 cell_short Missing h = omega arith
 cell_short (Known (Number z)) h =
-    let digits = few_digits z 9223372036854775807 9223372036854775807 (lit< tt) (lit< tt) h.above_least h.below_greatest in
+    let digits = few_digits z 9223372036854775807 9223372036854775807 (lit< tt) (lit< tt) h.above_least
+        h.below_greatest in
     text_at_most _ 65535 (omega (arith, digits))
 cell_short (Known (Truth true)) h = omega arith
 cell_short (Known (Truth false)) h = omega arith
@@ -70,12 +76,14 @@ cell_short (Known (Bytes bytes)) h = text_at_most bytes 65535 h
 
 cells_read : (cells : List Datum) → IsSendableRow cells → AreTexts (cells_of cells) → IsTuple (cells_of cells)
 cells_read cells h texts =
-    let read = All-map (λ cell. IsCellText cell → IsCell cell) cell_of cells (λ k d within. cell_read (get_or cells k d) (h.values k d within)) in
+    let read = All-map (λ cell. IsCellText cell → IsCell cell) cell_of cells
+        (λ k d within. cell_read (get_or cells k d) (h.values k d within)) in
     (omega (arith, length-map cells cell_of, h.few), λ k d within. read k d within (texts k d within))
 
 cells_short : (cells : List Datum) → IsSendableRow cells → length (tuple_spelling (cells_of cells)) ≤ 6554002
 cells_short cells h =
-    let each = All-map (λ cell. length (cell_spelling cell) ≤ 65540) cell_of cells (λ k d within. cell_short (get_or cells k d) (h.values k d within)) in
+    let each = All-map (λ cell. length (cell_spelling cell) ≤ 65540) cell_of cells
+        (λ k d within. cell_short (get_or cells k d) (h.values k d within)) in
     let all = flat_at_most cell_spelling 65540 (cells_of cells) each in
     omega (arith, all, length-map cells cell_of, h.few)
 
@@ -87,11 +95,13 @@ old_short : (part : r.PartOf) → IsSendablePart (Some part) → length (old_spe
 old_short (r.Key row) h = omega (arith, cells_short row h)
 old_short (r.Full row) h = omega (arith, cells_short row h)
 
-maybe_old_read : (part : Option r.PartOf) → IsSendablePart part → IsMaybeOldText (maybe_old_of part) → IsMaybeOld (maybe_old_of part)
+maybe_old_read : (part : Option r.PartOf) → IsSendablePart part → IsMaybeOldText (maybe_old_of part)
+    → IsMaybeOld (maybe_old_of part)
 maybe_old_read None h texts = tt
 maybe_old_read (Some part) h texts = old_read part h texts
 
-maybe_old_short : (part : Option r.PartOf) → IsSendablePart part → length (maybe_old_spelling (maybe_old_of part)) ≤ 6554003
+maybe_old_short : (part : Option r.PartOf) → IsSendablePart part
+    → length (maybe_old_spelling (maybe_old_of part)) ≤ 6554003
 maybe_old_short None h = omega arith
 maybe_old_short (Some part) h = old_short part h
 
@@ -100,13 +110,15 @@ maybe_old_short (Some part) h = old_short part h
 is_oid : (table : ℕ) → IsTableNumber table → IsOid (oid_of table)
 is_oid table h = omega (arith, h)
 
-pub plain_insert : (table : ℕ) (new : List Datum) → IsTableNumber table → IsSendableRow new → IsPlain (m.Insert (oid_of table) (cells_of new))
+pub plain_insert : (table : ℕ) (new : List Datum) → IsTableNumber table → IsSendableRow new
+    → IsPlain (m.Insert (oid_of table) (cells_of new))
 plain_insert table new number row = record {
   read_back = λ texts. (is_oid table number, cells_read new row texts);
   short = omega (arith, cells_short new row);
 }
 
-pub plain_update : (table : ℕ) (part : Option r.PartOf) (new : List Datum) → IsTableNumber table → IsSendablePart part → IsSendableRow new
+pub plain_update : (table : ℕ) (part : Option r.PartOf) (new : List Datum) → IsTableNumber table → IsSendablePart part
+    → IsSendableRow new
     → IsPlain (m.Update (oid_of table) (maybe_old_of part) (cells_of new))
 plain_update table part new number old row = record {
   read_back = λ texts. (is_oid table number, (maybe_old_read part old texts.0, cells_read new row texts.1));
@@ -115,13 +127,15 @@ plain_update table part new number old row = record {
       omega (arith, split, maybe_old_short part old, cells_short new row);
 }
 
-pub plain_delete : (table : ℕ) (part : r.PartOf) → IsTableNumber table → IsSendablePart (Some part) → IsPlain (m.Delete (oid_of table) (old_of part))
+pub plain_delete : (table : ℕ) (part : r.PartOf) → IsTableNumber table → IsSendablePart (Some part)
+    → IsPlain (m.Delete (oid_of table) (old_of part))
 plain_delete table part number old = record {
   read_back = λ texts. (is_oid table number, old_read part old texts);
   short = omega (arith, old_short part old);
 }
 
-pub plain_truncate : (numbers : List ℕ) → length numbers ≤ 64 → All IsTableNumber numbers → IsPlain (m.Truncate 0 (map oid_of numbers))
+pub plain_truncate : (numbers : List ℕ) → length numbers ≤ 64 → All IsTableNumber numbers
+    → IsPlain (m.Truncate 0 (map oid_of numbers))
 plain_truncate numbers few all = record {
   read_back = λ texts. (
     omega (arith, length-map numbers oid_of, few),
@@ -131,11 +145,16 @@ plain_truncate numbers few all = record {
 }
 
 plain_message : (change : r.ChangeOf) → IsSendableChange change → All IsPlain (message_of change)
-plain_message (r.Insert table new) h = all_one IsPlain (m.Insert (oid_of table) (cells_of new)) (plain_insert table new h.0 h.1)
-plain_message (r.Update table part new) h = all_one IsPlain (m.Update (oid_of table) (maybe_old_of part) (cells_of new)) (plain_update table part new h.0 h.1 h.2)
+plain_message (r.Insert table new) h =
+    all_one IsPlain (m.Insert (oid_of table) (cells_of new)) (plain_insert table new h.0 h.1)
+plain_message (r.Update table part new) h =
+    all_one IsPlain (m.Update (oid_of table) (maybe_old_of part) (cells_of new))
+    (plain_update table part new h.0 h.1 h.2)
 plain_message (r.Delete table None) h = All-nil IsPlain
-plain_message (r.Delete table (Some part)) h = all_one IsPlain (m.Delete (oid_of table) (old_of part)) (plain_delete table part h.0 h.1)
-plain_message (r.Truncate numbers) h = all_one IsPlain (m.Truncate 0 (map oid_of numbers)) (plain_truncate numbers h.0 h.1)
+plain_message (r.Delete table (Some part)) h =
+    all_one IsPlain (m.Delete (oid_of table) (old_of part)) (plain_delete table part h.0 h.1)
+plain_message (r.Truncate numbers) h =
+    all_one IsPlain (m.Truncate 0 (map oid_of numbers)) (plain_truncate numbers h.0 h.1)
 
 -- ---- Relations
 
@@ -149,20 +168,24 @@ type_oid_fits k.Text = omega arith
 name_read : (name : List ℕ) → IsPlainName name → IsUtf8 name → IsName name
 name_read name h text = record { is_text = text; no_zero = h.no_zero }
 
-column_read : (table : Table) (number : ℕ) (column : Column) → HasPlainName column → HasTextName (column_of table number column) → IsColumn (column_of table number column)
+column_read : (table : Table) (number : ℕ) (column : Column) → HasPlainName column
+    → HasTextName (column_of table number column) → IsColumn (column_of table number column)
 column_read table number column h text = record {
   name = name_read column.name h text;
   type_oid = type_oid_fits column.kind;
   type_modifier = record { sfits = omega arith };
 }
 
-column_short : (table : Table) (number : ℕ) (column : Column) → HasPlainName column → length (column_spelling (column_of table number column)) ≤ 73
+column_short : (table : Table) (number : ℕ) (column : Column) → HasPlainName column
+    → length (column_spelling (column_of table number column)) ≤ 73
 column_short table number column h =
     let relation = column_of table number column in
-    let split = length-append (string column.name) (int32 relation.type_oid ++ int32 (cast_unsigned w32 relation.type_modifier)) in
+    let split = length-append (string column.name)
+        (int32 relation.type_oid ++ int32 (cast_unsigned w32 relation.type_modifier)) in
     omega (arith, split, length-append column.name (0 ∷ []), h.short)
 
-columns_read : (table : Table) (number : ℕ) (columns : List Column) → All HasPlainName columns → All HasTextName (columns_from table number columns)
+columns_read : (table : Table) (number : ℕ) (columns : List Column) → All HasPlainName columns
+    → All HasTextName (columns_from table number columns)
     → All IsColumn (columns_from table number columns)
 columns_read table number [] names texts = All-nil IsColumn
 columns_read table number (column ∷ columns) names texts =
@@ -172,13 +195,17 @@ columns_read table number (column ∷ columns) names texts =
     (columns_read table (number + 1) columns (All-tail HasPlainName column columns names)
     (All-tail HasTextName (column_of table number column) (columns_from table (number + 1) columns) texts))
 
-columns_short : (table : Table) (number : ℕ) (columns : List Column) → All HasPlainName columns → All (λ column. length (column_spelling column) ≤ 73) (columns_from table number columns)
+columns_short : (table : Table) (number : ℕ) (columns : List Column) → All HasPlainName columns
+    → All (λ column. length (column_spelling column) ≤ 73) (columns_from table number columns)
 columns_short table number [] names = All-nil (λ column. length (column_spelling column) ≤ 73)
 columns_short table number (column ∷ columns) names =
-    All-cons (λ one. length (column_spelling one) ≤ 73) (column_of table number column) (columns_from table (number + 1) columns)
-    (column_short table number column (All-head HasPlainName column columns names)) (columns_short table (number + 1) columns (All-tail HasPlainName column columns names))
+    All-cons (λ one. length (column_spelling one) ≤ 73) (column_of table number column)
+        (columns_from table (number + 1) columns)
+    (column_short table number column (All-head HasPlainName column columns names))
+        (columns_short table (number + 1) columns (All-tail HasPlainName column columns names))
 
-pub plain_relation : (number : ℕ) (table : Table) → number < 64 → length table.columns ≤ 100 → IsNamed table → IsPlain (m.Relation (relation_of number table))
+pub plain_relation : (number : ℕ) (table : Table) → number < 64 → length table.columns ≤ 100 → IsNamed table
+    → IsPlain (m.Relation (relation_of number table))
 plain_relation number table low few names =
     let columns = columns_from table 0 table.columns in
     let long = length_columns table 0 table.columns in
@@ -192,12 +219,17 @@ plain_relation number table low few names =
       };
       short =
           let all = flat_at_most column_spelling 73 columns (columns_short table 0 table.columns names.columns) in
-          let schema_split = length-append (string table.schema) (string table.name ++ (int8 (identity_letter (identity_of table.identity)) ++ columns_spelling columns)) in
-          let name_split = length-append (string table.name) (int8 (identity_letter (identity_of table.identity)) ++ columns_spelling columns) in
-          omega (arith, all, long, few, schema_split, name_split, length-append table.schema (0 ∷ []), length-append table.name (0 ∷ []), names.schema.short, names.name.short);
+          let schema_split = length-append (string table.schema)
+              (string table.name ++ (int8 (identity_letter (identity_of table.identity)) ++ columns_spelling columns))
+              in
+          let name_split = length-append (string table.name)
+              (int8 (identity_letter (identity_of table.identity)) ++ columns_spelling columns) in
+          omega (arith, all, long, few, schema_split, name_split, length-append table.schema (0 ∷ []),
+              length-append table.name (0 ∷ []), names.schema.short, names.name.short);
     }
 
-relation_found : (tables : List Table) (number : ℕ) (found : Option Table) → slice_get tables number ≡ found → length tables ≤ 64 → All IsLimitedTable tables
+relation_found : (tables : List Table) (number : ℕ) (found : Option Table) → slice_get tables number ≡ found
+    → length tables ≤ 64 → All IsLimitedTable tables
     → IfSome found (λ table. IsPlain (m.Relation (relation_of number table)))
 relation_found tables number None e few limited = tt
 relation_found tables number (Some table) e few limited =
@@ -220,22 +252,26 @@ plain_commit commit h = record {
   short = omega arith;
 }
 
-all_plain : (checked : CheckedOf) (subscriber : ℕ) (told : List Bool) (commit : CommitOf) → IsSendable commit → IsLimited checked.catalog
+all_plain : (checked : CheckedOf) (subscriber : ℕ) (told : List Bool) (commit : CommitOf) → IsSendable commit
+    → IsLimited checked.catalog
     → All IsPlain (messages_for checked subscriber told commit)
 all_plain checked subscriber told commit h limited =
     let tables = checked.catalog.tables in
     all_messages IsPlain checked subscriber told commit h
     (record {
-      relations = λ number. relation_found tables number (slice_get tables number) refl limited.tables limited.each_table;
+      relations = λ number. relation_found tables number (slice_get tables number) refl limited.tables
+          limited.each_table;
       changes = plain_message;
     })
     (plain_begin commit h) (plain_commit commit h)
 
-pub messages_sent : (checked : CheckedOf) (subscriber : ℕ) (told : List Bool) (commit : CommitOf) (messages : List Msg) → IsSendable commit → IsLimited checked.catalog
+pub messages_sent : (checked : CheckedOf) (subscriber : ℕ) (told : List Bool) (commit : CommitOf)
+    (messages : List Msg) → IsSendable commit → IsLimited checked.catalog
     → messages ≡ messages_for checked subscriber told commit → All HasTexts messages → All IsSent messages
 messages_sent checked subscriber told commit messages h limited are texts =
     let plain = subst (All IsPlain) (sym are) (all_plain checked subscriber told commit h limited) in
-    λ n d within. record { read_back = (plain n d within).read_back (texts n d within); short = (plain n d within).short }
+    λ n d within. record { read_back = (plain n d within).read_back (texts n d within); short =
+        (plain n d within).short }
 
 -- ---- laws
 

@@ -16,126 +16,167 @@ module _ {S : Type 0} (takes_one : S → S → Msg → Type 0) where
   pub takes_message : (old new : S) (message : Msg) → takes_one old new message → Takes takes_one old new (message ∷ [])
   takes_message old new message took = (new, took, refl)
 
-  pub takes_both : (old between new : S) (first second : List Msg) → Takes takes_one old between first → Takes takes_one between new second → Takes takes_one old new (first ++ second)
+  pub takes_both : (old between new : S) (first second : List Msg) → Takes takes_one old between first
+      → Takes takes_one between new second → Takes takes_one old new (first ++ second)
   takes_both old between new [] second one other = subst (λ (s : S). Takes takes_one s new second) one other
   takes_both old between new (message ∷ first) second one other =
       (one.0, one.1, takes_both one.0 between new first second one.2 other)
 
   -- what is said of a change that the subscriber gets: the Relations that were not sent, and the message
   pub takes_said : (old between new : S) (tables : List Table) (told : List Bool) (change : r.ChangeOf)
-      → Takes takes_one old between (relations_of tables told (named_in change)) → Takes takes_one between new (message_of change)
+      → Takes takes_one old between (relations_of tables told (named_in change))
+      → Takes takes_one between new (message_of change)
       → Takes takes_one old new (said tables told (Some change))
   unfolding said
-  takes_said old between new tables told change relations message = takes_both old between new (relations_of tables told (named_in change)) (message_of change) relations message
+  takes_said old between new tables told change relations message =
+      takes_both old between new (relations_of tables told (named_in change)) (message_of change) relations message
 
 -- messages that were taken so far, of which this holds
-pub record Taken {S : Type 0} (takes_one : S → S → Msg → Type 0) (old now : S) (holds : List Msg → Type 0) : Type 0 where
+pub record Taken {S : Type 0} (takes_one : S → S → Msg → Type 0) (old now : S) (holds : List Msg → Type 0) : Type 0
+    where
   pub messages : List Msg
   pub taken : Takes takes_one old now messages
   pub so_far : holds messages
 
-abbrev pub Introduced : {S : Type 0} → (S → S → Msg → Type 0) → List Table → List Bool → List Bool → S → S → List ℕ → List ℕ → Type 0
-Introduced takes_one tables told told_now old now all left = Taken takes_one old now (λ (messages : List Msg). Introduces tables told told_now [] messages all left)
+abbrev pub Introduced : {S : Type 0} → (S → S → Msg → Type 0) → List Table → List Bool → List Bool → S → S → List ℕ
+    → List ℕ → Type 0
+Introduced takes_one tables told told_now old now all left =
+    Taken takes_one old now (λ (messages : List Msg). Introduces tables told told_now [] messages all left)
 
-abbrev pub Said : {S : Type 0} → (S → S → Msg → Type 0) → CheckedOf → ℕ → List Bool → List Bool → S → S → List Change → List Change → Type 0
-Said takes_one checked subscriber told told_now old now all left = Taken takes_one old now (λ (messages : List Msg). Says checked subscriber told told_now [] messages all left)
+abbrev pub Said : {S : Type 0} → (S → S → Msg → Type 0) → CheckedOf → ℕ → List Bool → List Bool → S → S → List Change
+    → List Change → Type 0
+Said takes_one checked subscriber told told_now old now all left =
+    Taken takes_one old now (λ (messages : List Msg). Says checked subscriber told told_now [] messages all left)
 
 module _ {S : Type 0} (takes_one : S → S → Msg → Type 0) where
   -- ---- the Relation of a table
 
-  pub was_told : (sink : S) (tables : List Table) (told : List Bool) (number : ℕ) → true ≡ slice_index_or told number false → Takes takes_one sink sink (relation_once tables told number)
+  pub was_told : (sink : S) (tables : List Table) (told : List Bool) (number : ℕ)
+      → true ≡ slice_index_or told number false → Takes takes_one sink sink (relation_once tables told number)
   unfolding relation_once
   was_told sink tables told number is =
       subst (λ (b : Bool). Takes takes_one sink sink (introduced tables b number)) is refl
 
-  pub was_not_told : (old new : S) (tables : List Table) (told : List Bool) (number : ℕ) → false ≡ slice_index_or told number false
-      → Takes takes_one old new (relation_at number (slice_get tables number)) → Takes takes_one old new (relation_once tables told number)
+  pub was_not_told : (old new : S) (tables : List Table) (told : List Bool) (number : ℕ)
+      → false ≡ slice_index_or told number false
+      → Takes takes_one old new (relation_at number (slice_get tables number))
+      → Takes takes_one old new (relation_once tables told number)
   unfolding relation_once
   was_not_told old new tables told number is took =
       subst (λ (b : Bool). Takes takes_one old new (introduced tables b number)) is took
 
   -- ---- Relations
 
-  pub none_introduced : (sink : S) (tables : List Table) (told : List Bool) (all : List ℕ) → Introduced takes_one tables told told sink sink all (drop 0 all)
-  none_introduced sink tables told all = record { messages = []; taken = refl; so_far = record { text = refl; flags = refl } }
+  pub none_introduced : (sink : S) (tables : List Table) (told : List Bool) (all : List ℕ)
+      → Introduced takes_one tables told told sink sink all (drop 0 all)
+  none_introduced sink tables told all =
+      record { messages = []; taken = refl; so_far = record { text = refl; flags = refl } }
 
-  pub more_introduced : (old now new : S) (tables : List Table) (told told_now later : List Bool) (all : List ℕ) (i n : ℕ) → n ≡ get_or all i 0 → i < length all
+  pub more_introduced : (old now new : S) (tables : List Table) (told told_now later : List Bool) (all : List ℕ)
+      (i n : ℕ) → n ≡ get_or all i 0 → i < length all
       → Takes takes_one now new (relation_once tables told_now n) → later ≡ told_one told_now n
-      → Introduced takes_one tables told told_now old now all (drop i all) → Introduced takes_one tables told later old new all (drop (i + 1) all)
+      → Introduced takes_one tables told told_now old now all (drop i all)
+      → Introduced takes_one tables told later old new all (drop (i + 1) all)
   more_introduced old now new tables told told_now later all i n is within took marked before =
       let first = before.messages in
       let second = relation_once tables told_now n in
       record {
         messages = first ++ second;
         taken = takes_both takes_one old now new first second before.taken took;
-        so_far = introduces_on tables told told_now later [] first (first ++ second) all i n is within refl marked before.so_far;
+        so_far = introduces_on tables told told_now later [] first (first ++ second) all i n is within refl marked
+            before.so_far;
       }
 
-  pub all_taken : (old now : S) (tables : List Table) (told told_now : List Bool) (all : List ℕ) (i : ℕ) → length all ≤ i
-      → Introduced takes_one tables told told_now old now all (drop i all) → Takes takes_one old now (relations_of tables told all)
+  pub all_taken : (old now : S) (tables : List Table) (told told_now : List Bool) (all : List ℕ) (i : ℕ)
+      → length all ≤ i
+      → Introduced takes_one tables told told_now old now all (drop i all)
+      → Takes takes_one old now (relations_of tables told all)
   all_taken old now tables told told_now all i over so =
       subst (Takes takes_one old now) (all_introduced tables told told_now [] so.messages all i over so.so_far) so.taken
 
-  pub all_flags : (old now : S) (tables : List Table) (told told_now : List Bool) (all : List ℕ) (i : ℕ) → length all ≤ i
+  pub all_flags : (old now : S) (tables : List Table) (told told_now : List Bool) (all : List ℕ) (i : ℕ)
+      → length all ≤ i
       → Introduced takes_one tables told told_now old now all (drop i all) → told_now ≡ told_all told all
-  all_flags old now tables told told_now all i over so = all_marked tables told told_now [] so.messages all i over so.so_far
+  all_flags old now tables told told_now all i over so =
+      all_marked tables told told_now [] so.messages all i over so.so_far
 
   -- ---- changes
 
-  pub none_said : (sink : S) (checked : CheckedOf) (subscriber : ℕ) (told : List Bool) (all : List Change) → Said takes_one checked subscriber told told sink sink all (drop 0 all)
-  none_said sink checked subscriber told all = record { messages = []; taken = refl; so_far = record { text = refl; flags = refl } }
+  pub none_said : (sink : S) (checked : CheckedOf) (subscriber : ℕ) (told : List Bool) (all : List Change)
+      → Said takes_one checked subscriber told told sink sink all (drop 0 all)
+  none_said sink checked subscriber told all =
+      record { messages = []; taken = refl; so_far = record { text = refl; flags = refl } }
 
-  pub more_said : (old now new : S) (checked : CheckedOf) (subscriber : ℕ) (told told_now later : List Bool) (all : List Change) (i : ℕ) (c : Change) → c ≡ get_or all i c → i < length all
-      → Takes takes_one now new (said checked.catalog.tables told_now (got (setting_in checked) subscriber (change_view c)))
+  pub more_said : (old now new : S) (checked : CheckedOf) (subscriber : ℕ) (told told_now later : List Bool)
+      (all : List Change) (i : ℕ) (c : Change) → c ≡ get_or all i c → i < length all
+      → Takes takes_one now new
+          (said checked.catalog.tables told_now (got (setting_in checked) subscriber (change_view c)))
       → later ≡ told_by told_now (got (setting_in checked) subscriber (change_view c))
-      → Said takes_one checked subscriber told told_now old now all (drop i all) → Said takes_one checked subscriber told later old new all (drop (i + 1) all)
+      → Said takes_one checked subscriber told told_now old now all (drop i all)
+      → Said takes_one checked subscriber told later old new all (drop (i + 1) all)
   more_said old now new checked subscriber told told_now later all i c is within took marked before =
       let first = before.messages in
       let second = said checked.catalog.tables told_now (got (setting_in checked) subscriber (change_view c)) in
       record {
         messages = first ++ second;
         taken = takes_both takes_one old now new first second before.taken took;
-        so_far = says_on checked subscriber told told_now later [] first (first ++ second) all i c is within refl marked before.so_far;
+        so_far = says_on checked subscriber told told_now later [] first (first ++ second) all i c is within refl
+            marked before.so_far;
       }
 
-  pub all_changes_taken : (old now : S) (checked : CheckedOf) (subscriber : ℕ) (told told_now : List Bool) (all : List Change) (i : ℕ) → length all ≤ i
-      → Said takes_one checked subscriber told told_now old now all (drop i all) → Takes takes_one old now (said_each checked subscriber told (map change_view all))
+  pub all_changes_taken : (old now : S) (checked : CheckedOf) (subscriber : ℕ) (told told_now : List Bool)
+      (all : List Change) (i : ℕ) → length all ≤ i
+      → Said takes_one checked subscriber told told_now old now all (drop i all)
+      → Takes takes_one old now (said_each checked subscriber told (map change_view all))
   all_changes_taken old now checked subscriber told told_now all i over so =
-      subst (Takes takes_one old now) (all_said checked subscriber told told_now [] so.messages all i over so.so_far) so.taken
+      subst (Takes takes_one old now) (all_said checked subscriber told told_now [] so.messages all i over so.so_far)
+          so.taken
 
-  pub all_changes_told : (old now : S) (checked : CheckedOf) (subscriber : ℕ) (told told_now : List Bool) (all : List Change) (i : ℕ) → length all ≤ i
-      → Said takes_one checked subscriber told told_now old now all (drop i all) → told_now ≡ told_each checked subscriber told (map change_view all)
-  all_changes_told old now checked subscriber told told_now all i over so = all_told checked subscriber told told_now [] so.messages all i over so.so_far
+  pub all_changes_told : (old now : S) (checked : CheckedOf) (subscriber : ℕ) (told told_now : List Bool)
+      (all : List Change) (i : ℕ) → length all ≤ i
+      → Said takes_one checked subscriber told told_now old now all (drop i all)
+      → told_now ≡ told_each checked subscriber told (map change_view all)
+  all_changes_told old now checked subscriber told told_now all i over so =
+      all_told checked subscriber told told_now [] so.messages all i over so.so_far
 
   -- what is said of what the subscriber gets of a change
-  pub said_of : (old new : S) (tables all : List Table) (told : List Bool) (one other : Option r.ChangeOf) → tables ≡ all → other ≡ one
+  pub said_of : (old new : S) (tables all : List Table) (told : List Bool) (one other : Option r.ChangeOf)
+      → tables ≡ all → other ≡ one
       → Takes takes_one old new (said tables told one) → Takes takes_one old new (said all told other)
   said_of old new tables all told one other same is took =
       subst (λ (change : Option r.ChangeOf). Takes takes_one old new (said all told change)) (sym is)
       (subst (λ (ts : List Table). Takes takes_one old new (said ts told one)) same took)
 
   -- where the subscriber gets nothing, nothing is taken
-  pub nothing_taken : (sink : S) (tables : List Table) (told : List Bool) → Takes takes_one sink sink (said tables told None)
+  pub nothing_taken : (sink : S) (tables : List Table) (told : List Bool)
+      → Takes takes_one sink sink (said tables told None)
   unfolding said
   nothing_taken sink tables told = refl
 
-  pub nothing_deleted : (sink : S) (tables : List Table) (told : List Bool) (table : ℕ) (part : Option r.PartOf) → part ≡ None
+  pub nothing_deleted : (sink : S) (tables : List Table) (told : List Bool) (table : ℕ) (part : Option r.PartOf)
+      → part ≡ None
       → Takes takes_one sink sink (said tables told (Some (r.Delete table part)))
   unfolding said relations_of
   nothing_deleted sink tables told table None is = refl
   nothing_deleted sink tables told table (Some part) is = absurd cc
 
   -- where the change names this table alone
-  pub takes_named : (old between new : S) (tables : List Table) (told : List Bool) (table : ℕ) (change : r.ChangeOf) → named_in change ≡ table ∷ []
-      → Takes takes_one old between (relations_of tables told (table ∷ [])) → Takes takes_one between new (message_of change) → Takes takes_one old new (said tables told (Some change))
+  pub takes_named : (old between new : S) (tables : List Table) (told : List Bool) (table : ℕ) (change : r.ChangeOf)
+      → named_in change ≡ table ∷ []
+      → Takes takes_one old between (relations_of tables told (table ∷ []))
+      → Takes takes_one between new (message_of change) → Takes takes_one old new (said tables told (Some change))
   takes_named old between new tables told table change named relations message =
-      takes_said takes_one old between new tables told change (subst (λ (ns : List ℕ). Takes takes_one old between (relations_of tables told ns)) (sym named) relations) message
+      takes_said takes_one old between new tables told change
+          (subst (λ (ns : List ℕ). Takes takes_one old between (relations_of tables told ns)) (sym named) relations)
+          message
 
-pub told_named : (told later : List Bool) (table : ℕ) (change : r.ChangeOf) → named_in change ≡ table ∷ [] → later ≡ told_all told (table ∷ []) → later ≡ told_by told (Some change)
+pub told_named : (told later : List Bool) (table : ℕ) (change : r.ChangeOf) → named_in change ≡ table ∷ []
+    → later ≡ told_all told (table ∷ []) → later ≡ told_by told (Some change)
 unfolding told_by
 told_named told later table change named is = is ∙ ap (told_all told) (sym named)
 
-pub nothing_told_deleted : (told : List Bool) (table : ℕ) (part : Option r.PartOf) → part ≡ None → told ≡ told_by told (Some (r.Delete table part))
+pub nothing_told_deleted : (told : List Bool) (table : ℕ) (part : Option r.PartOf) → part ≡ None
+    → told ≡ told_by told (Some (r.Delete table part))
 unfolding told_by told_all
 nothing_told_deleted told table None is = refl
 nothing_told_deleted told table (Some part) is = absurd cc
@@ -149,7 +190,8 @@ is_added old new message = new ≡ old ++ message ∷ []
 pub all_added : (old new messages : List Msg) → Takes is_added old new messages → new ≡ old ++ messages
 all_added old new [] is = is ∙ sym (append-nil old)
 all_added old new (message ∷ messages) took =
-    all_added took.0 new messages took.2 ∙ ap (λ (m : List Msg). m ++ messages) took.1 ∙ append_assoc old (message ∷ []) messages
+    all_added took.0 new messages took.2 ∙ ap (λ (m : List Msg). m ++ messages) took.1
+        ∙ append_assoc old (message ∷ []) messages
 
 pub spoken_messages : (old new messages : List Msg) → old ≡ [] → Takes is_added old new messages → new ≡ messages
 spoken_messages old new messages none took = all_added old new messages took ∙ ap (λ (m : List Msg). m ++ messages) none

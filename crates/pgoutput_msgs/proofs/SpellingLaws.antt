@@ -18,14 +18,16 @@ use Rattle.pgoutput_msgs.proofs.Messages.{exact_message}
 abbrev good : {A : Type 0} → A → Result A MsgError
 good a = Ok a
 
-end_ok : (read : Msg × List ℕ) (message : Msg) (at_end : Bool) → (if at_end then good read.0 else Err Trailing) ≡ Ok message → (at_end ≡ true) × (read.0 ≡ message)
+end_ok : (read : Msg × List ℕ) (message : Msg) (at_end : Bool)
+    → (if at_end then good read.0 else Err Trailing) ≡ Ok message → (at_end ≡ true) × (read.0 ≡ message)
 end_ok read message true e = (refl, cc)
 end_ok read message false e = absurd cc
 
 ended_ok : (outcome : Outcome Msg) (message : Msg) → ended outcome ≡ Ok message → outcome ≡ Ok (message, [])
 ended_ok (Ok read) message e =
     let found = end_ok read message (length read.1 == 0) e in
-    ap (λ (rest : List ℕ). done read.0 rest) (nil_from_length read.1 (eqb-true _ _ found.0)) ∙ ap (λ (x : Msg). done x []) found.1
+    ap (λ (rest : List ℕ). done read.0 rest) (nil_from_length read.1 (eqb-true _ _ found.0))
+        ∙ ap (λ (x : Msg). done x []) found.1
 ended_ok (Err fault) message e = absurd cc
 
 pub are_spellings : DecodedAreSpellings
@@ -37,7 +39,8 @@ are_spellings bytes message is_bytes e =
 pub are_decoded : SpellingsAreDecoded
 unfolding decoded
 are_decoded message fits =
-    ap (λ (bytes : List ℕ). ended (message_at bytes)) (sym (append-nil (spelling_of message))) ∙ ap ended (exact_message.again message [] fits)
+    ap (λ (bytes : List ℕ). ended (message_at bytes)) (sym (append-nil (spelling_of message)))
+        ∙ ap ended (exact_message.again message [] fits)
 
 not_at_end : (message : Msg) (next : ℕ) (more : List ℕ) → ended (Ok (message, next ∷ more)) ≡ Err Trailing
 not_at_end message next more =
@@ -46,20 +49,25 @@ not_at_end message next more =
 
 pub nothing_follows : NothingMayFollow
 unfolding decoded
-nothing_follows message next more fits = ap ended (exact_message.again message (next ∷ more) fits) ∙ not_at_end message next more
+nothing_follows message next more fits = ap ended (exact_message.again message (next ∷ more) fits)
+    ∙ not_at_end message next more
 
 pub prefix_free : NoneIsProperPrefix
 prefix_free one other rest p q e =
     let both : done one rest ≡ done other [] =
-    sym (exact_message.again one rest p) ∙ ap message_at (e ∙ sym (append-nil (spelling_of other))) ∙ exact_message.again other [] q in
+    sym (exact_message.again one rest p) ∙ ap message_at (e ∙ sym (append-nil (spelling_of other)))
+        ∙ exact_message.again other [] q in
     (same_read one other rest [] both).1
 
 pub same_message : EachSpellsOne
 same_message one other p q e =
     let both : done one [] ≡ done other [] =
-    sym (exact_message.again one [] p) ∙ ap (λ (bytes : List ℕ). message_at (bytes ++ [])) e ∙ exact_message.again other [] q in
+    sym (exact_message.again one [] p) ∙ ap (λ (bytes : List ℕ). message_at (bytes ++ [])) e
+        ∙ exact_message.again other [] q in
     (same_read one other [] [] both).0
 
-pub is_found : (bytes : List ℕ) (result : Result Msg MsgError) → IsBytes bytes → Answers (λ message. message) told (decoded bytes) result → IfOk result (λ message. IsMessage message × (bytes ≡ spelling_of message))
+pub is_found : (bytes : List ℕ) (result : Result Msg MsgError) → IsBytes bytes
+    → Answers (λ message. message) told (decoded bytes) result
+    → IfOk result (λ message. IsMessage message × (bytes ≡ spelling_of message))
 is_found bytes (Ok message) is_bytes answer = are_spellings bytes message is_bytes answer
 is_found bytes (Err error) is_bytes answer = tt

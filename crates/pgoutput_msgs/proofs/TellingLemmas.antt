@@ -21,71 +21,95 @@ use Rattle.pgoutput_msgs.specs.Telling.{relation_once, relations_of, told_one, t
 use Rattle.pgoutput_msgs.specs.declared.message.Msg.{Msg}
 
 -- the Relations so far, and those of the tables that are left, are those of all
-pub record Introduces (tables : List Table) (told told_now : List Bool) (before now : List Msg) (all left : List ℕ) : Type 0 where
+pub record Introduces (tables : List Table) (told told_now : List Bool) (before now : List Msg) (all left : List ℕ) :
+    Type 0 where
   pub text : now ++ relations_of tables told_now left ≡ before ++ relations_of tables told all
   pub flags : told_all told_now left ≡ told_all told all
 
-relations_of-cons : (tables : List Table) (told : List Bool) (n : ℕ) (numbers : List ℕ) → relations_of tables told (n ∷ numbers) ≡ relation_once tables told n ++ relations_of tables (told_one told n) numbers
+relations_of-cons : (tables : List Table) (told : List Bool) (n : ℕ) (numbers : List ℕ)
+    → relations_of tables told (n ∷ numbers) ≡ relation_once tables told n
+    ++ relations_of tables (told_one told n) numbers
 unfolding relations_of
 relations_of-cons tables told n numbers = refl
 
-told_all-cons : (told : List Bool) (n : ℕ) (numbers : List ℕ) → told_all told (n ∷ numbers) ≡ told_all (told_one told n) numbers
+told_all-cons : (told : List Bool) (n : ℕ) (numbers : List ℕ)
+    → told_all told (n ∷ numbers) ≡ told_all (told_one told n) numbers
 unfolding told_all
 told_all-cons told n numbers = refl
 
 next_left : (all : List ℕ) (i n : ℕ) → n ≡ get_or all i n → i < length all → drop i all ≡ n ∷ drop (i + 1) all
-next_left all i n is within = at_drop_more (λ (x : List ℕ). x) all i n within ∙ ap (λ (x : ℕ). x ∷ drop (i + 1) all) (sym is)
+next_left all i n is within = at_drop_more (λ (x : List ℕ). x) all i n within
+    ∙ ap (λ (x : ℕ). x ∷ drop (i + 1) all) (sym is)
 
-pub introduces_on : (tables : List Table) (told told_now later : List Bool) (before now after : List Msg) (all : List ℕ) (i n : ℕ) → n ≡ get_or all i 0 → i < length all
+pub introduces_on : (tables : List Table) (told told_now later : List Bool) (before now after : List Msg)
+    (all : List ℕ) (i n : ℕ) → n ≡ get_or all i 0 → i < length all
     → after ≡ now ++ relation_once tables told_now n → later ≡ told_one told_now n
-    → Introduces tables told told_now before now all (drop i all) → Introduces tables told later before after all (drop (i + 1) all)
+    → Introduces tables told told_now before now all (drop i all)
+    → Introduces tables told later before after all (drop (i + 1) all)
 introduces_on tables told told_now later before now after all i n is within wrote marked so_far =
     let left = at_drop_more (λ (x : List ℕ). x) all i 0 within ∙ ap (λ (x : ℕ). x ∷ drop (i + 1) all) (sym is) in
     record {
       text = ap (λ (x : List Msg). x ++ relations_of tables later (drop (i + 1) all)) wrote
-          ∙ ap (λ (x : List Bool). (now ++ relation_once tables told_now n) ++ relations_of tables x (drop (i + 1) all)) marked
-          ∙ append_assoc now (relation_once tables told_now n) (relations_of tables (told_one told_now n) (drop (i + 1) all))
+          ∙ ap (λ (x : List Bool). (now ++ relation_once tables told_now n)
+              ++ relations_of tables x (drop (i + 1) all)) marked
+          ∙ append_assoc now (relation_once tables told_now n)
+              (relations_of tables (told_one told_now n) (drop (i + 1) all))
           ∙ ap (λ (x : List Msg). now ++ x) (sym (relations_of-cons tables told_now n (drop (i + 1) all)))
           ∙ ap (λ (x : List ℕ). now ++ relations_of tables told_now x) (sym left) ∙ so_far.text;
-      flags = ap (λ (x : List Bool). told_all x (drop (i + 1) all)) marked ∙ sym (told_all-cons told_now n (drop (i + 1) all))
+      flags = ap (λ (x : List Bool). told_all x (drop (i + 1) all)) marked
+          ∙ sym (told_all-cons told_now n (drop (i + 1) all))
           ∙ ap (told_all told_now) (sym left) ∙ so_far.flags;
     }
 
-pub all_introduced : (tables : List Table) (told told_now : List Bool) (before now : List Msg) (all : List ℕ) (i : ℕ) → length all ≤ i → Introduces tables told told_now before now all (drop i all)
+pub all_introduced : (tables : List Table) (told told_now : List Bool) (before now : List Msg) (all : List ℕ) (i : ℕ)
+    → length all ≤ i → Introduces tables told told_now before now all (drop i all)
     → now ≡ before ++ relations_of tables told all
 unfolding relations_of
 all_introduced tables told told_now before now all i over so_far =
-    sym (append-nil now) ∙ ap (λ (x : List Msg). now ++ x) (sym (at_drop_all (relations_of tables told_now) all i over)) ∙ so_far.text
+    sym (append-nil now) ∙ ap (λ (x : List Msg). now ++ x)
+        (sym (at_drop_all (relations_of tables told_now) all i over)) ∙ so_far.text
 
-pub all_marked : (tables : List Table) (told told_now : List Bool) (before now : List Msg) (all : List ℕ) (i : ℕ) → length all ≤ i → Introduces tables told told_now before now all (drop i all)
+pub all_marked : (tables : List Table) (told told_now : List Bool) (before now : List Msg) (all : List ℕ) (i : ℕ)
+    → length all ≤ i → Introduces tables told told_now before now all (drop i all)
     → told_now ≡ told_all told all
 unfolding told_all
-all_marked tables told told_now before now all i over so_far = sym (at_drop_all (told_all told_now) all i over) ∙ so_far.flags
+all_marked tables told told_now before now all i over so_far = sym (at_drop_all (told_all told_now) all i over)
+    ∙ so_far.flags
 
 -- ---- changes
 
 -- what was said so far, and what is said of the changes that are left, is what is said of all
-pub record Says (checked : CheckedOf) (subscriber : ℕ) (told told_now : List Bool) (before now : List Msg) (all left : List Change) : Type 0 where
-  pub text : now ++ said_each checked subscriber told_now (map change_view left) ≡ before ++ said_each checked subscriber told (map change_view all)
-  pub flags : told_each checked subscriber told_now (map change_view left) ≡ told_each checked subscriber told (map change_view all)
+pub record Says (checked : CheckedOf) (subscriber : ℕ) (told told_now : List Bool) (before now : List Msg)
+    (all left : List Change) : Type 0 where
+  pub text : now ++ said_each checked subscriber told_now (map change_view left) ≡ before
+      ++ said_each checked subscriber told (map change_view all)
+  pub flags : told_each checked subscriber told_now (map change_view left)
+      ≡ told_each checked subscriber told (map change_view all)
 
 said_each-cons : (checked : CheckedOf) (subscriber : ℕ) (told : List Bool) (c : ChangeOf) (changes : List ChangeOf)
     → said_each checked subscriber told (c ∷ changes)
-    ≡ said checked.catalog.tables told (got (setting_in checked) subscriber c) ++ said_each checked subscriber (told_by told (got (setting_in checked) subscriber c)) changes
+    ≡ said checked.catalog.tables told (got (setting_in checked) subscriber c)
+        ++ said_each checked subscriber (told_by told (got (setting_in checked) subscriber c)) changes
 unfolding said_each
 said_each-cons checked subscriber told c changes = refl
 
 told_each-cons : (checked : CheckedOf) (subscriber : ℕ) (told : List Bool) (c : ChangeOf) (changes : List ChangeOf)
-    → told_each checked subscriber told (c ∷ changes) ≡ told_each checked subscriber (told_by told (got (setting_in checked) subscriber c)) changes
+    → told_each checked subscriber told (c ∷ changes)
+        ≡ told_each checked subscriber (told_by told (got (setting_in checked) subscriber c)) changes
 unfolding told_each
 told_each-cons checked subscriber told c changes = refl
 
-next_change : (all : List Change) (i : ℕ) (c : Change) → c ≡ get_or all i c → i < length all → map change_view (drop i all) ≡ change_view c ∷ map change_view (drop (i + 1) all)
-next_change all i c is within = at_drop_more (map change_view) all i c within ∙ ap (λ (x : Change). change_view x ∷ map change_view (drop (i + 1) all)) (sym is)
+next_change : (all : List Change) (i : ℕ) (c : Change) → c ≡ get_or all i c → i < length all
+    → map change_view (drop i all) ≡ change_view c ∷ map change_view (drop (i + 1) all)
+next_change all i c is within = at_drop_more (map change_view) all i c within
+    ∙ ap (λ (x : Change). change_view x ∷ map change_view (drop (i + 1) all)) (sym is)
 
-pub says_on : (checked : CheckedOf) (subscriber : ℕ) (told told_now later : List Bool) (before now after : List Msg) (all : List Change) (i : ℕ) (c : Change) → c ≡ get_or all i c → i < length all
-    → after ≡ now ++ said checked.catalog.tables told_now (got (setting_in checked) subscriber (change_view c)) → later ≡ told_by told_now (got (setting_in checked) subscriber (change_view c))
-    → Says checked subscriber told told_now before now all (drop i all) → Says checked subscriber told later before after all (drop (i + 1) all)
+pub says_on : (checked : CheckedOf) (subscriber : ℕ) (told told_now later : List Bool) (before now after : List Msg)
+    (all : List Change) (i : ℕ) (c : Change) → c ≡ get_or all i c → i < length all
+    → after ≡ now ++ said checked.catalog.tables told_now (got (setting_in checked) subscriber (change_view c))
+    → later ≡ told_by told_now (got (setting_in checked) subscriber (change_view c))
+    → Says checked subscriber told told_now before now all (drop i all)
+    → Says checked subscriber told later before after all (drop (i + 1) all)
 says_on checked subscriber told told_now later before now after all i c is within wrote marked so_far =
     let left = next_change all i c is within in
     let one = said checked.catalog.tables told_now (got (setting_in checked) subscriber (change_view c)) in
@@ -97,24 +121,31 @@ says_on checked subscriber told told_now later before now after all i c is withi
           ∙ append_assoc now one (said_each checked subscriber next rest)
           ∙ ap (λ (x : List Msg). now ++ x) (sym (said_each-cons checked subscriber told_now (change_view c) rest))
           ∙ ap (λ (x : List ChangeOf). now ++ said_each checked subscriber told_now x) (sym left) ∙ so_far.text;
-      flags = ap (λ (x : List Bool). told_each checked subscriber x rest) marked ∙ sym (told_each-cons checked subscriber told_now (change_view c) rest)
+      flags = ap (λ (x : List Bool). told_each checked subscriber x rest) marked
+          ∙ sym (told_each-cons checked subscriber told_now (change_view c) rest)
           ∙ ap (told_each checked subscriber told_now) (sym left) ∙ so_far.flags;
     }
 
-pub all_said : (checked : CheckedOf) (subscriber : ℕ) (told told_now : List Bool) (before now : List Msg) (all : List Change) (i : ℕ) → length all ≤ i → Says checked subscriber told told_now before now all (drop i all)
+pub all_said : (checked : CheckedOf) (subscriber : ℕ) (told told_now : List Bool) (before now : List Msg)
+    (all : List Change) (i : ℕ) → length all ≤ i → Says checked subscriber told told_now before now all (drop i all)
     → now ≡ before ++ said_each checked subscriber told (map change_view all)
 unfolding said_each
 all_said checked subscriber told told_now before now all i over so_far =
-    sym (append-nil now) ∙ ap (λ (x : List Msg). now ++ x) (sym (at_drop_all (λ (left : List Change). said_each checked subscriber told_now (map change_view left)) all i over)) ∙ so_far.text
+    sym (append-nil now) ∙ ap (λ (x : List Msg). now ++ x)
+        (sym (at_drop_all (λ (left : List Change). said_each checked subscriber told_now (map change_view left)) all i
+        over)) ∙ so_far.text
 
-pub all_told : (checked : CheckedOf) (subscriber : ℕ) (told told_now : List Bool) (before now : List Msg) (all : List Change) (i : ℕ) → length all ≤ i → Says checked subscriber told told_now before now all (drop i all)
+pub all_told : (checked : CheckedOf) (subscriber : ℕ) (told told_now : List Bool) (before now : List Msg)
+    (all : List Change) (i : ℕ) → length all ≤ i → Says checked subscriber told told_now before now all (drop i all)
     → told_now ≡ told_each checked subscriber told (map change_view all)
 unfolding told_each
 all_told checked subscriber told told_now before now all i over so_far =
-    sym (at_drop_all (λ (left : List Change). told_each checked subscriber told_now (map change_view left)) all i over) ∙ so_far.flags
+    sym (at_drop_all (λ (left : List Change). told_each checked subscriber told_now (map change_view left)) all i
+        over) ∙ so_far.flags
 
 -- a change among those that can be sent can be sent
-pub sendable_change : (changes : List Change) (i : ℕ) (c : Change) → All IsSendableChange (map change_view changes) → c ≡ get_or changes i c → i < length changes → IsSendableChange (change_view c)
+pub sendable_change : (changes : List Change) (i : ℕ) (c : Change) → All IsSendableChange (map change_view changes)
+    → c ≡ get_or changes i c → i < length changes → IsSendableChange (change_view c)
 sendable_change changes i c all is within =
     let long : i < length (map change_view changes) = omega (arith, length-map changes change_view, within) in
     let there = all i (change_view c) long in
@@ -122,68 +153,92 @@ sendable_change changes i c all is within =
 
 -- ---- what the subscriber gets of a change
 
-got_by : (checked : CheckedOf) (subscriber : ℕ) (change : r.ChangeOf) (plan : PlanOf) (out : Option o.OutOf) → plan ≡ checked.plan → out ≡ out_for plan subscriber change
-    → got (setting_in checked) subscriber change ≡ option_map (o.stands_for (o.table_of change) (takes_any plan subscriber)) out
+got_by : (checked : CheckedOf) (subscriber : ℕ) (change : r.ChangeOf) (plan : PlanOf) (out : Option o.OutOf)
+    → plan ≡ checked.plan → out ≡ out_for plan subscriber change
+    → got (setting_in checked) subscriber change
+        ≡ option_map (o.stands_for (o.table_of change) (takes_any plan subscriber)) out
 got_by checked subscriber change plan out own is =
-    sym (ap (λ (p : PlanOf). option_map (o.stands_for (o.table_of change) (takes_any p subscriber)) (out_for p subscriber change)) own)
+    sym (ap (λ (p : PlanOf). option_map (o.stands_for (o.table_of change) (takes_any p subscriber))
+        (out_for p subscriber change)) own)
     ∙ ap (option_map (o.stands_for (o.table_of change) (takes_any plan subscriber))) (sym is)
 
-pub got_none : (checked : CheckedOf) (subscriber : ℕ) (change : r.ChangeOf) (plan : PlanOf) → plan ≡ checked.plan → None ≡ out_for plan subscriber change → got (setting_in checked) subscriber change ≡ None
+pub got_none : (checked : CheckedOf) (subscriber : ℕ) (change : r.ChangeOf) (plan : PlanOf) → plan ≡ checked.plan
+    → None ≡ out_for plan subscriber change → got (setting_in checked) subscriber change ≡ None
 got_none checked subscriber change plan own out =
     got_by checked subscriber change plan None own out
 
-pub got_insert : (checked : CheckedOf) (subscriber : ℕ) (change : r.ChangeOf) (plan : PlanOf) (table : ℕ) (new : List Datum) → plan ≡ checked.plan → table ≡ o.table_of change
-    → Some (o.Insert new) ≡ out_for plan subscriber change → got (setting_in checked) subscriber change ≡ Some (r.Insert table new)
+pub got_insert : (checked : CheckedOf) (subscriber : ℕ) (change : r.ChangeOf) (plan : PlanOf) (table : ℕ)
+    (new : List Datum) → plan ≡ checked.plan → table ≡ o.table_of change
+    → Some (o.Insert new) ≡ out_for plan subscriber change
+    → got (setting_in checked) subscriber change ≡ Some (r.Insert table new)
 got_insert checked subscriber change plan table new own at out =
     got_by checked subscriber change plan (Some (o.Insert new)) own out ∙ ap (λ (n : ℕ). Some (r.Insert n new)) (sym at)
 
-pub got_update : (checked : CheckedOf) (subscriber : ℕ) (change : r.ChangeOf) (plan : PlanOf) (table : ℕ) (part : Option r.PartOf) (new : List Datum) → plan ≡ checked.plan → table ≡ o.table_of change
-    → Some (o.Update part new) ≡ out_for plan subscriber change → got (setting_in checked) subscriber change ≡ Some (r.Update table part new)
+pub got_update : (checked : CheckedOf) (subscriber : ℕ) (change : r.ChangeOf) (plan : PlanOf) (table : ℕ)
+    (part : Option r.PartOf) (new : List Datum) → plan ≡ checked.plan → table ≡ o.table_of change
+    → Some (o.Update part new) ≡ out_for plan subscriber change
+    → got (setting_in checked) subscriber change ≡ Some (r.Update table part new)
 got_update checked subscriber change plan table part new own at out =
-    got_by checked subscriber change plan (Some (o.Update part new)) own out ∙ ap (λ (n : ℕ). Some (r.Update n part new)) (sym at)
+    got_by checked subscriber change plan (Some (o.Update part new)) own out
+        ∙ ap (λ (n : ℕ). Some (r.Update n part new)) (sym at)
 
-pub got_delete : (checked : CheckedOf) (subscriber : ℕ) (change : r.ChangeOf) (plan : PlanOf) (table : ℕ) (part : Option r.PartOf) → plan ≡ checked.plan → table ≡ o.table_of change
-    → Some (o.Delete part) ≡ out_for plan subscriber change → got (setting_in checked) subscriber change ≡ Some (r.Delete table part)
+pub got_delete : (checked : CheckedOf) (subscriber : ℕ) (change : r.ChangeOf) (plan : PlanOf) (table : ℕ)
+    (part : Option r.PartOf) → plan ≡ checked.plan → table ≡ o.table_of change
+    → Some (o.Delete part) ≡ out_for plan subscriber change
+    → got (setting_in checked) subscriber change ≡ Some (r.Delete table part)
 got_delete checked subscriber change plan table part own at out =
-    got_by checked subscriber change plan (Some (o.Delete part)) own out ∙ ap (λ (n : ℕ). Some (r.Delete n part)) (sym at)
+    got_by checked subscriber change plan (Some (o.Delete part)) own out
+        ∙ ap (λ (n : ℕ). Some (r.Delete n part)) (sym at)
 
-pub got_truncate : (checked : CheckedOf) (subscriber : ℕ) (change : r.ChangeOf) (plan : PlanOf) (numbers carried : List ℕ) → plan ≡ checked.plan → carried ≡ filter (takes_any plan subscriber) numbers
-    → Some (o.Truncate numbers) ≡ out_for plan subscriber change → got (setting_in checked) subscriber change ≡ Some (r.Truncate carried)
+pub got_truncate : (checked : CheckedOf) (subscriber : ℕ) (change : r.ChangeOf) (plan : PlanOf)
+    (numbers carried : List ℕ) → plan ≡ checked.plan → carried ≡ filter (takes_any plan subscriber) numbers
+    → Some (o.Truncate numbers) ≡ out_for plan subscriber change
+    → got (setting_in checked) subscriber change ≡ Some (r.Truncate carried)
 got_truncate checked subscriber change plan numbers carried own at out =
-    got_by checked subscriber change plan (Some (o.Truncate numbers)) own out ∙ ap (λ (ns : List ℕ). Some (r.Truncate ns)) (sym at)
+    got_by checked subscriber change plan (Some (o.Truncate numbers)) own out
+        ∙ ap (λ (ns : List ℕ). Some (r.Truncate ns)) (sym at)
 
 abbrev some_truncate : List ℕ → Option o.OutOf
 some_truncate numbers = Some (o.Truncate numbers)
 
-no_insert : (test : Bool) (new : List Datum) (numbers : List ℕ) → some_truncate numbers ≡ (if test then Some (o.Insert new) else None) → ⊥
+no_insert : (test : Bool) (new : List Datum) (numbers : List ℕ)
+    → some_truncate numbers ≡ (if test then Some (o.Insert new) else None) → ⊥
 no_insert true new numbers e = absurd cc
 no_insert false new numbers e = absurd cc
 
-no_update : (one two : Bool) (part : Option r.PartOf) (new : List Datum) (numbers : List ℕ) → some_truncate numbers ≡ o.out_by one two part new → ⊥
+no_update : (one two : Bool) (part : Option r.PartOf) (new : List Datum) (numbers : List ℕ)
+    → some_truncate numbers ≡ o.out_by one two part new → ⊥
 no_update false false part new numbers e = absurd cc
 no_update false true part new numbers e = absurd cc
 no_update true false part new numbers e = absurd cc
 no_update true true part new numbers e = absurd cc
 
-no_delete : (test : Bool) (part : Option r.PartOf) (numbers : List ℕ) → some_truncate numbers ≡ (if test then Some (o.Delete part) else None) → ⊥
+no_delete : (test : Bool) (part : Option r.PartOf) (numbers : List ℕ)
+    → some_truncate numbers ≡ (if test then Some (o.Delete part) else None) → ⊥
 no_delete true part numbers e = absurd cc
 no_delete false part numbers e = absurd cc
 
-no_gone : (passes : List Datum → Bool) (part : Option r.PartOf) (numbers : List ℕ) → some_truncate numbers ≡ o.out_gone passes part → ⊥
+no_gone : (passes : List Datum → Bool) (part : Option r.PartOf) (numbers : List ℕ)
+    → some_truncate numbers ≡ o.out_gone passes part → ⊥
 no_gone passes None numbers e = absurd cc
 no_gone passes (Some (r.Key row)) numbers e = no_delete (passes row) (Some (r.Key row)) numbers e
 no_gone passes (Some (r.Full row)) numbers e = no_delete (passes row) (Some (r.Full row)) numbers e
 
-same_numbers : (test : Bool) (all numbers : List ℕ) → some_truncate numbers ≡ (if test then some_truncate all else None) → numbers ≡ all
+same_numbers : (test : Bool) (all numbers : List ℕ)
+    → some_truncate numbers ≡ (if test then some_truncate all else None) → numbers ≡ all
 same_numbers true all numbers e = cc
 same_numbers false all numbers e = absurd cc
 
 -- the tables of a TRUNCATE that can be sent have numbers of tables
-pub truncated_numbers : (plan : PlanOf) (subscriber : ℕ) (change : r.ChangeOf) (numbers : List ℕ) → IsSendableChange change → Some (o.Truncate numbers) ≡ out_for plan subscriber change → All IsTableNumber numbers
-truncated_numbers plan subscriber (r.Insert table new) numbers fits e = absurd (no_insert (takes_row plan subscriber table new) new numbers e)
+pub truncated_numbers : (plan : PlanOf) (subscriber : ℕ) (change : r.ChangeOf) (numbers : List ℕ)
+    → IsSendableChange change → Some (o.Truncate numbers) ≡ out_for plan subscriber change → All IsTableNumber numbers
+truncated_numbers plan subscriber (r.Insert table new) numbers fits e =
+    absurd (no_insert (takes_row plan subscriber table new) new numbers e)
 truncated_numbers plan subscriber (r.Update table part new) numbers fits e =
-    absurd (no_update (takes_row plan subscriber table (o.asked part new)) (takes_row plan subscriber table new) part new numbers e)
-truncated_numbers plan subscriber (r.Delete table part) numbers fits e = absurd (no_gone (takes_row plan subscriber table) part numbers e)
+    absurd (no_update (takes_row plan subscriber table (o.asked part new)) (takes_row plan subscriber table new) part
+        new numbers e)
+truncated_numbers plan subscriber (r.Delete table part) numbers fits e =
+    absurd (no_gone (takes_row plan subscriber table) part numbers e)
 truncated_numbers plan subscriber (r.Truncate all) numbers fits e =
     subst (All IsTableNumber) (sym (same_numbers (list_any (takes_any plan subscriber) all) all numbers e)) fits.1
 
@@ -194,31 +249,37 @@ pub record Keeps (test : ℕ → Bool) (all kept left : List ℕ) : Type 0 where
   pub list : kept ++ filter test left ≡ filter test all
   pub numbers : All IsTableNumber kept
 
-filter_first : (test : ℕ → Bool) (n : ℕ) (rest : List ℕ) (b : Bool) → test n ≡ b → filter test (n ∷ rest) ≡ (if b then n ∷ filter test rest else filter test rest)
+filter_first : (test : ℕ → Bool) (n : ℕ) (rest : List ℕ) (b : Bool) → test n ≡ b
+    → filter test (n ∷ rest) ≡ (if b then n ∷ filter test rest else filter test rest)
 filter_first test n rest b e = ap (λ (x : Bool). if x then n ∷ filter test rest else filter test rest) e
 
 one_number : (n : ℕ) → IsTableNumber n → All IsTableNumber (n ∷ [])
 one_number n number zero d h = number
 one_number n number (suc k) d h = absurd (omega (arith, h))
 
-pub keeps_on : (test : ℕ → Bool) (all kept : List ℕ) (i n : ℕ) → n ≡ get_or all i n → i < length all → test n ≡ true → IsTableNumber n → Keeps test all kept (drop i all) → Keeps test all (kept ++ n ∷ []) (drop (i + 1) all)
+pub keeps_on : (test : ℕ → Bool) (all kept : List ℕ) (i n : ℕ) → n ≡ get_or all i n → i < length all → test n ≡ true
+    → IsTableNumber n → Keeps test all kept (drop i all) → Keeps test all (kept ++ n ∷ []) (drop (i + 1) all)
 keeps_on test all kept i n is within passes number so_far =
     let left = next_left all i n is within in
     record {
-      list = append_assoc kept (n ∷ []) (filter test (drop (i + 1) all)) ∙ ap (λ (x : List ℕ). kept ++ x) (sym (filter_first test n (drop (i + 1) all) true passes))
+      list = append_assoc kept (n ∷ []) (filter test (drop (i + 1) all))
+          ∙ ap (λ (x : List ℕ). kept ++ x) (sym (filter_first test n (drop (i + 1) all) true passes))
           ∙ ap (λ (x : List ℕ). kept ++ filter test x) (sym left) ∙ so_far.list;
       numbers = All-append IsTableNumber kept (n ∷ []) so_far.numbers (one_number n number);
     }
 
-pub keeps_past : (test : ℕ → Bool) (all kept : List ℕ) (i n : ℕ) → n ≡ get_or all i n → i < length all → test n ≡ false → Keeps test all kept (drop i all) → Keeps test all kept (drop (i + 1) all)
+pub keeps_past : (test : ℕ → Bool) (all kept : List ℕ) (i n : ℕ) → n ≡ get_or all i n → i < length all
+    → test n ≡ false → Keeps test all kept (drop i all) → Keeps test all kept (drop (i + 1) all)
 keeps_past test all kept i n is within fails so_far =
     let left = next_left all i n is within in
     record {
-      list = ap (λ (x : List ℕ). kept ++ x) (sym (filter_first test n (drop (i + 1) all) false fails)) ∙ ap (λ (x : List ℕ). kept ++ filter test x) (sym left) ∙ so_far.list;
+      list = ap (λ (x : List ℕ). kept ++ x) (sym (filter_first test n (drop (i + 1) all) false fails))
+          ∙ ap (λ (x : List ℕ). kept ++ filter test x) (sym left) ∙ so_far.list;
       numbers = so_far.numbers;
     }
 
-pub all_kept : (test : ℕ → Bool) (all kept : List ℕ) (i : ℕ) → length all ≤ i → Keeps test all kept (drop i all) → kept ≡ filter test all
+pub all_kept : (test : ℕ → Bool) (all kept : List ℕ) (i : ℕ) → length all ≤ i → Keeps test all kept (drop i all)
+    → kept ≡ filter test all
 all_kept test all kept i over so_far =
     sym (append-nil kept) ∙ ap (λ (x : List ℕ). kept ++ x) (sym (at_drop_all (filter test) all i over)) ∙ so_far.list
 
@@ -228,10 +289,12 @@ pub nothing_told : (told : List Bool) → told ≡ told_by told None
 unfolding told_by
 nothing_told told = refl
 
-pub enclosed_some : (commit : CommitOf) (messages : List Msg) → (length messages ≡ 0 → ⊥) → (begin_of commit ∷ messages) ++ commit_of commit ∷ [] ≡ enclosed commit messages
+pub enclosed_some : (commit : CommitOf) (messages : List Msg) → (length messages ≡ 0 → ⊥)
+    → (begin_of commit ∷ messages) ++ commit_of commit ∷ [] ≡ enclosed commit messages
 enclosed_some commit [] some = absurd (some refl)
 enclosed_some commit (first ∷ others) some = refl
 
-pub enclosed_none : (commit : CommitOf) (messages : List Msg) → length messages ≡ 0 → messages ≡ enclosed commit messages
+pub enclosed_none : (commit : CommitOf) (messages : List Msg) → length messages ≡ 0
+    → messages ≡ enclosed commit messages
 enclosed_none commit [] none = refl
 enclosed_none commit (first ∷ others) none = absurd (omega (arith, none))

@@ -34,12 +34,14 @@ same_or_other : (n number : ℕ) → (n ≡ number) ⊎ (n ≢ number)
 same_or_other zero zero = inl refl
 same_or_other zero (suc number) = inr (λ e. omega (arith, e))
 same_or_other (suc n) zero = inr (λ e. omega (arith, e))
-same_or_other (suc n) (suc number) = elim (same_or_other n number) [ inl e ↦ inl (ap suc e) | inr differs ↦ inr (λ e. differs (omega (arith, e))) ]
+same_or_other (suc n) (suc number) =
+    elim (same_or_other n number) [ inl e ↦ inl (ap suc e) | inr differs ↦ inr (λ e. differs (omega (arith, e))) ]
 
 below_or_not : (n most : ℕ) → (n < most) ⊎ (most ≤ n)
 below_or_not n zero = inr (omega arith)
 below_or_not zero (suc most) = inl (omega arith)
-below_or_not (suc n) (suc most) = elim (below_or_not n most) [ inl h ↦ inl (omega (arith, h)) | inr h ↦ inr (omega (arith, h)) ]
+below_or_not (suc n) (suc most) =
+    elim (below_or_not n most) [ inl h ↦ inl (omega (arith, h)) | inr h ↦ inr (omega (arith, h)) ]
 
 eq_itself : (n : ℕ) → nat_eq n n ≡ true
 eq_itself n = search rules
@@ -59,63 +61,78 @@ or_true false = refl
 -- one more number in a list
 among_itself : (number : ℕ) (named : List ℕ) → is_among number (named ++ number ∷ []) ≡ true
 among_itself number named =
-    list_any-append (nat_eq number) named (number ∷ []) ∙ ap (λ (b : Bool). is_among number named || (b || false)) (eq_itself number) ∙ or_true (is_among number named)
+    list_any-append (nat_eq number) named (number ∷ [])
+        ∙ ap (λ (b : Bool). is_among number named || (b || false)) (eq_itself number)
+        ∙ or_true (is_among number named)
 
 among_others : (n number : ℕ) (named : List ℕ) → n ≢ number → is_among n (named ++ number ∷ []) ≡ is_among n named
 among_others n number named differs =
-    list_any-append (nat_eq n) named (number ∷ []) ∙ ap (λ (b : Bool). is_among n named || (b || false)) (is_other n number differs (nat_eq n number) refl) ∙ or_false (is_among n named)
+    list_any-append (nat_eq n) named (number ∷ [])
+        ∙ ap (λ (b : Bool). is_among n named || (b || false)) (is_other n number differs (nat_eq n number) refl)
+        ∙ or_false (is_among n named)
 
 -- ---- flags and names
 
 module _ (tables : List Table) where
-  named_one : (told : List Bool) (named : List ℕ) (number : ℕ) → AreNamed tables told named → AreNamed tables (told_one told number) (named ++ number ∷ [])
+  named_one : (told : List Bool) (named : List ℕ) (number : ℕ) → AreNamed tables told named
+      → AreNamed tables (told_one told number) (named ++ number ∷ [])
   named_one told named number is = record {
     long = length-set told number true ∙ is.long;
     each = λ n within. elim (same_or_other n number) [
       | inl e ↦ subst (λ k. is_told (told_one told number) k ≡ is_among k (named ++ number ∷ [])) (sym e)
           (get_or-set_same told number true false (let long = is.long in omega arith) ∙ sym (among_itself number named))
-      | inr differs ↦ get_or-set_other told number n true false differs ∙ is.each n within ∙ sym (among_others n number named differs)
+      | inr differs ↦ get_or-set_other told number n true false differs ∙ is.each n within
+          ∙ sym (among_others n number named differs)
     ];
   }
 
-  named_all : (told : List Bool) (named numbers : List ℕ) → AreNamed tables told named → AreNamed tables (told_all told numbers) (named ++ numbers)
+  named_all : (told : List Bool) (named numbers : List ℕ) → AreNamed tables told named
+      → AreNamed tables (told_all told numbers) (named ++ numbers)
   unfolding told_all
   named_all told named [] is = subst (AreNamed tables told) (search rules) is
   named_all told named (number ∷ numbers) is =
       subst (AreNamed tables (told_all (told_one told number) numbers)) (append_assoc named (number ∷ []) numbers)
       (named_all (told_one told number) (named ++ number ∷ []) numbers (named_one told named number is))
 
-  introduced_by : (b : Bool) (number : ℕ) → introduced tables b number ≡ (if b then [] else relation_at number (slice_get tables number))
+  introduced_by : (b : Bool) (number : ℕ)
+      → introduced tables b number ≡ (if b then [] else relation_at number (slice_get tables number))
   introduced_by true number = refl
   introduced_by false number = refl
 
   -- of a table that isn't there nothing is said
-  none_there : (b : Bool) (number : ℕ) → slice_get tables number ≡ None → (if b then [] else relation_at number (slice_get tables number)) ≡ []
+  none_there : (b : Bool) (number : ℕ) → slice_get tables number ≡ None
+      → (if b then [] else relation_at number (slice_get tables number)) ≡ []
   none_there true number none = refl
   none_there false number none = ap (relation_at number) none
 
-  once_first : (told : List Bool) (named : List ℕ) (number : ℕ) → AreNamed tables told named → relation_once tables told number ≡ first_relation tables named number
+  once_first : (told : List Bool) (named : List ℕ) (number : ℕ) → AreNamed tables told named
+      → relation_once tables told number ≡ first_relation tables named number
   unfolding relation_once
   once_first told named number is = elim (below_or_not number (length tables)) [
-    | inl within ↦ introduced_by (is_told told number) number ∙ ap (λ (b : Bool). if b then [] else relation_at number (slice_get tables number)) (is.each number within)
+    | inl within ↦ introduced_by (is_told told number) number
+        ∙ ap (λ (b : Bool). if b then [] else relation_at number (slice_get tables number)) (is.each number within)
     | inr beyond ↦
         let none : slice_get tables number ≡ None = slice_get_past tables number beyond in
-        introduced_by (is_told told number) number ∙ none_there (is_told told number) number none ∙ sym (none_there (is_among number named) number none)
+        introduced_by (is_told told number) number ∙ none_there (is_told told number) number none
+            ∙ sym (none_there (is_among number named) number none)
   ]
 
-  relations_first : (told : List Bool) (named numbers : List ℕ) → AreNamed tables told named → relations_of tables told numbers ≡ first_relations tables named numbers
+  relations_first : (told : List Bool) (named numbers : List ℕ) → AreNamed tables told named
+      → relations_of tables told numbers ≡ first_relations tables named numbers
   unfolding relations_of
   relations_first told named [] is = refl
   relations_first told named (number ∷ numbers) is =
       ap (λ (x : List Msg). x ++ relations_of tables (told_one told number) numbers) (once_first told named number is)
-      ∙ ap (λ (x : List Msg). first_relation tables named number ++ x) (relations_first (told_one told number) (named ++ number ∷ []) numbers (named_one told named number is))
+      ∙ ap (λ (x : List Msg). first_relation tables named number ++ x)
+          (relations_first (told_one told number) (named ++ number ∷ []) numbers (named_one told named number is))
 
 -- ---- changes that a subscriber gets
 
 -- what is said of them, and the tables that were told of after them
 all_said : List Table → List Bool → List r.ChangeOf → List Msg
 all_said tables told [] = []
-all_said tables told (change ∷ changes) = said tables told (Some change) ++ all_said tables (told_by told (Some change)) changes
+all_said tables told (change ∷ changes) =
+    said tables told (Some change) ++ all_said tables (told_by told (Some change)) changes
 
 all_told : List Bool → List r.ChangeOf → List Bool
 all_told told [] = told
@@ -129,33 +146,40 @@ module _ (checked : CheckedOf) (subscriber : ℕ) where
   mine = got (setting_in checked) subscriber
 
   said_one : (told : List Bool) (one : Option r.ChangeOf) (others : List r.ChangeOf)
-      → said tables told one ++ all_said tables (told_by told one) others ≡ all_said tables told (cons_option one others)
+      → said tables told one ++ all_said tables (told_by told one) others
+          ≡ all_said tables told (cons_option one others)
   unfolding said told_by all_said
   said_one told None others = refl
   said_one told (Some change) others = refl
 
-  told_first : (told : List Bool) (one : Option r.ChangeOf) (others : List r.ChangeOf) → all_told (told_by told one) others ≡ all_told told (cons_option one others)
+  told_first : (told : List Bool) (one : Option r.ChangeOf) (others : List r.ChangeOf)
+      → all_told (told_by told one) others ≡ all_told told (cons_option one others)
   unfolding told_by all_told
   told_first told None others = refl
   told_first told (Some change) others = refl
 
-  said_mine : (told : List Bool) (changes : List r.ChangeOf) → said_each checked subscriber told changes ≡ all_said tables told (filter_map mine changes)
+  said_mine : (told : List Bool) (changes : List r.ChangeOf)
+      → said_each checked subscriber told changes ≡ all_said tables told (filter_map mine changes)
   unfolding said_each all_said
   said_mine told [] = refl
   said_mine told (change ∷ changes) =
       ap (λ (x : List Msg). said tables told (mine change) ++ x) (said_mine (told_by told (mine change)) changes)
       ∙ said_one told (mine change) (filter_map mine changes)
 
-  told_mine : (told : List Bool) (changes : List r.ChangeOf) → told_each checked subscriber told changes ≡ all_told told (filter_map mine changes)
+  told_mine : (told : List Bool) (changes : List r.ChangeOf)
+      → told_each checked subscriber told changes ≡ all_told told (filter_map mine changes)
   unfolding told_each all_told
   told_mine told [] = refl
-  told_mine told (change ∷ changes) = told_mine (told_by told (mine change)) changes ∙ told_first told (mine change) (filter_map mine changes)
+  told_mine told (change ∷ changes) = told_mine (told_by told (mine change)) changes
+      ∙ told_first told (mine change) (filter_map mine changes)
 
 -- ---- what is seen, as it is recorded
 
 -- something is recorded of an old row that goes
-part_there : (setting : Setting) → Covered setting → (table : ℕ) (old : List Datum) (as_it : Recorded) → setting.recorded table ≡ as_it
-    → (part : Option r.PartOf) → part ≡ part_by as_it (setting.identity table) (setting.blanked table) old None → part ≢ None
+part_there : (setting : Setting) → Covered setting → (table : ℕ) (old : List Datum) (as_it : Recorded)
+    → setting.recorded table ≡ as_it
+    → (part : Option r.PartOf) → part ≡ part_by as_it (setting.identity table) (setting.blanked table) old None
+    → part ≢ None
 part_there setting covered table old Columns h part is none = absurd cc
 part_there setting covered table old Whole h part is none = absurd cc
 part_there setting covered table old Nowhere h part is none = absurd (covered.recorded table h)
@@ -168,7 +192,8 @@ names_as : (setting : Setting) → Covered setting → (one : Seen) → named_in
 names_as setting covered (s.Insert table new) = refl
 names_as setting covered (s.Update table old new) = refl
 names_as setting covered (s.Delete table old) =
-    named_by_part table (part_of setting table old None) (part_there setting covered table old (setting.recorded table) refl (part_of setting table old None) refl)
+    named_by_part table (part_of setting table old None)
+        (part_there setting covered table old (setting.recorded table) refl (part_of setting table old None) refl)
 names_as setting covered (s.Truncate numbers) = refl
 
 -- ---- the messages of what is seen
@@ -184,18 +209,23 @@ module _ (checked : CheckedOf) (covered : Covered (setting_in checked)) where
   abbrev recorded : Seen → r.ChangeOf
   recorded = as_recorded (setting_in checked)
 
-  said_as : (told : List Bool) (named : List ℕ) (one : Seen) → AreNamed all_tables told named → said all_tables told (Some (recorded one)) ≡ change_told checked named one
+  said_as : (told : List Bool) (named : List ℕ) (one : Seen) → AreNamed all_tables told named
+      → said all_tables told (Some (recorded one)) ≡ change_told checked named one
   unfolding said
   said_as told named one is =
-      ap (λ (numbers : List ℕ). relations_of all_tables told numbers ++ message_of (recorded one)) (names_as (setting_in checked) covered one)
-      ∙ ap (λ (messages : List Msg). relations_of all_tables told (tables_of one) ++ messages) (as_message (setting_in checked) one)
-      ∙ ap (λ (relations : List Msg). relations ++ seen_message (setting_in checked) one) (relations_first all_tables told named (tables_of one) is)
+      ap (λ (numbers : List ℕ). relations_of all_tables told numbers ++ message_of (recorded one))
+          (names_as (setting_in checked) covered one)
+      ∙ ap (λ (messages : List Msg). relations_of all_tables told (tables_of one) ++ messages)
+          (as_message (setting_in checked) one)
+      ∙ ap (λ (relations : List Msg). relations ++ seen_message (setting_in checked) one)
+          (relations_first all_tables told named (tables_of one) is)
 
   told_one_more : (told : List Bool) (named : List ℕ) (one : Seen) → AreNamed all_tables told named
       → AreNamed all_tables (told_by told (Some (recorded one))) (named ++ tables_of one)
   unfolding told_by
   told_one_more told named one is =
-      subst (λ numbers. AreNamed all_tables (told_all told numbers) (named ++ tables_of one)) (sym (names_as (setting_in checked) covered one))
+      subst (λ numbers. AreNamed all_tables (told_all told numbers) (named ++ tables_of one))
+          (sym (names_as (setting_in checked) covered one))
       (named_all all_tables told named (tables_of one) is)
 
   changes_as : (told : List Bool) (named : List ℕ) (all : List Seen) → AreNamed all_tables told named
@@ -203,7 +233,8 @@ module _ (checked : CheckedOf) (covered : Covered (setting_in checked)) where
   unfolding all_said
   changes_as told named [] is = refl
   changes_as told named (one ∷ all) is =
-      ap (λ (messages : List Msg). messages ++ all_said all_tables (told_by told (Some (recorded one))) (map recorded all)) (said_as told named one is)
+      ap (λ (messages : List Msg). messages
+          ++ all_said all_tables (told_by told (Some (recorded one))) (map recorded all)) (said_as told named one is)
       ∙ ap (λ (messages : List Msg). change_told checked named one ++ messages)
       (changes_as (told_by told (Some (recorded one))) (named ++ tables_of one) all (told_one_more told named one is))
 
@@ -213,7 +244,8 @@ module _ (checked : CheckedOf) (covered : Covered (setting_in checked)) where
   told_as told named [] is = subst (AreNamed all_tables told) (search rules) is
   told_as told named (one ∷ all) is =
       subst (AreNamed all_tables (all_told (told_by told (Some (recorded one))) (map recorded all)))
-      (append_assoc named (tables_of one) (flat_map tables_of all) ∙ ap (λ (numbers : List ℕ). named ++ numbers) (sym (flat_map-cons tables_of one all)))
+      (append_assoc named (tables_of one) (flat_map tables_of all)
+          ∙ ap (λ (numbers : List ℕ). named ++ numbers) (sym (flat_map-cons tables_of one all)))
       (told_as (told_by told (Some (recorded one))) (named ++ tables_of one) all (told_one_more told named one is))
 
   -- each change has a message
@@ -224,14 +256,17 @@ module _ (checked : CheckedOf) (covered : Covered (setting_in checked)) where
       simp length-append (omega (arith, one_message)))
       (ap length none)
 
-within : (commit : CommitOf) (messages : List Msg) → messages ≢ [] → enclosed commit messages ≡ begin_of commit ∷ messages ++ commit_of commit ∷ []
+within : (commit : CommitOf) (messages : List Msg) → messages ≢ []
+    → enclosed commit messages ≡ begin_of commit ∷ messages ++ commit_of commit ∷ []
 within commit [] some = absurd (some refl)
 within commit (first ∷ others) some = refl
 
-told_within : (checked : CheckedOf) → Covered (setting_in checked) → (named : List ℕ) (commit : CommitOf) (all : List Seen)
+told_within : (checked : CheckedOf) → Covered (setting_in checked)
+    → (named : List ℕ) (commit : CommitOf) (all : List Seen)
     → enclosed commit (changes_told checked named all) ≡ transaction_told checked named commit.number commit.time all
 told_within checked covered named commit [] = refl
-told_within checked covered named commit (one ∷ all) = within commit (changes_told checked named (one ∷ all)) (something_told checked covered named one all)
+told_within checked covered named commit (one ∷ all) =
+    within commit (changes_told checked named (one ∷ all)) (something_told checked covered named one all)
 
 -- ---- the law
 
@@ -240,11 +275,14 @@ commits_tell_transactions checked covered subscriber told named is commit tables
     let setting = setting_in checked in
     let all = seen setting subscriber tables commands in
     let gets : filter_map (got setting subscriber) commit.changes ≡ map (as_recorded setting) all =
-    ap (filter_map (got setting subscriber)) as_recorded_there ∙ record_shows_all setting covered subscriber tables number commands h in
+    ap (filter_map (got setting subscriber)) as_recorded_there
+        ∙ record_shows_all setting covered subscriber tables number commands h in
     record {
       messages = ap (enclosed commit)
-          (said_mine checked subscriber told commit.changes ∙ ap (all_said checked.catalog.tables told) gets ∙ changes_as checked covered told named all is)
+          (said_mine checked subscriber told commit.changes ∙ ap (all_said checked.catalog.tables told) gets
+              ∙ changes_as checked covered told named all is)
           ∙ told_within checked covered named commit all;
       named_after = subst (λ flags. AreNamed checked.catalog.tables flags (named ++ flat_map tables_of all))
-          (sym (told_mine checked subscriber told commit.changes ∙ ap (all_told told) gets)) (told_as checked covered told named all is);
+          (sym (told_mine checked subscriber told commit.changes ∙ ap (all_told told) gets))
+              (told_as checked covered told named all is);
     }

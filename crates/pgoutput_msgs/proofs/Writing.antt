@@ -15,36 +15,45 @@ pub record Writes {A : Type 0} (spell : A → List ℕ) (old now : Vec ℕ) (all
   pub long : vec_len now + length (flat_map spell left) ≡ vec_len old + length (flat_map spell all)
   pub kept : vec_capacity old ≤ vec_capacity now
 
-pub puts_both : (old between later : Vec ℕ) (first second : List ℕ) → Puts old between first → Puts between later second → Puts old later (first ++ second)
+pub puts_both : (old between later : Vec ℕ) (first second : List ℕ) → Puts old between first
+    → Puts between later second → Puts old later (first ++ second)
 puts_both old between later first second one other = record {
-  appended = other.appended ∙ ap (λ (bytes : List ℕ). bytes ++ second) one.appended ∙ append_assoc old.items first second;
+  appended = other.appended ∙ ap (λ (bytes : List ℕ). bytes ++ second) one.appended
+      ∙ append_assoc old.items first second;
   longer = omega (arith, length-append first second, one.longer, other.longer);
   kept = omega (arith, one.kept, other.kept);
 }
 
-first_left : {A : Type 0} (spell : A → List ℕ) (all : List A) (i : ℕ) (a : A) → a ≡ get_or all i a → i < length all → flat_map spell (drop i all) ≡ spell a ++ flat_map spell (drop (i + 1) all)
+first_left : {A : Type 0} (spell : A → List ℕ) (all : List A) (i : ℕ) (a : A) → a ≡ get_or all i a → i < length all
+    → flat_map spell (drop i all) ≡ spell a ++ flat_map spell (drop (i + 1) all)
 first_left {A = A} spell all i a is within =
-    at_drop_more (flat_map spell) all i a within ∙ ap (λ (x : A). flat_map spell (x ∷ drop (i + 1) all)) (sym is) ∙ flat_map-cons spell a (drop (i + 1) all)
+    at_drop_more (flat_map spell) all i a within ∙ ap (λ (x : A). flat_map spell (x ∷ drop (i + 1) all)) (sym is)
+        ∙ flat_map-cons spell a (drop (i + 1) all)
 
-pub room_left : {A : Type 0} (spell : A → List ℕ) (old now : Vec ℕ) (all : List A) (i : ℕ) (a : A) → a ≡ get_or all i a → i < length all → Writes spell old now all (drop i all)
+pub room_left : {A : Type 0} (spell : A → List ℕ) (old now : Vec ℕ) (all : List A) (i : ℕ) (a : A)
+    → a ≡ get_or all i a → i < length all → Writes spell old now all (drop i all)
     → HasRoom old (flat_map spell all) → HasRoom now (spell a)
 room_left spell old now all i a is within so_far room =
-    let split = ap length (first_left spell all i a is within) ∙ length-append (spell a) (flat_map spell (drop (i + 1) all)) in
+    let split = ap length (first_left spell all i a is within)
+        ∙ length-append (spell a) (flat_map spell (drop (i + 1) all)) in
     omega (arith, split, so_far.long, so_far.kept)
 
-pub writes_on : {A : Type 0} (spell : A → List ℕ) (old now later : Vec ℕ) (all : List A) (i : ℕ) (a : A) → a ≡ get_or all i a → i < length all → Writes spell old now all (drop i all)
+pub writes_on : {A : Type 0} (spell : A → List ℕ) (old now later : Vec ℕ) (all : List A) (i : ℕ) (a : A)
+    → a ≡ get_or all i a → i < length all → Writes spell old now all (drop i all)
     → Puts now later (spell a) → Writes spell old later all (drop (i + 1) all)
 writes_on spell old now later all i a is within so_far put =
     let first = first_left spell all i a is within in
     let split = ap length first ∙ length-append (spell a) (flat_map spell (drop (i + 1) all)) in
     record {
-      text = ap (λ (bytes : List ℕ). bytes ++ flat_map spell (drop (i + 1) all)) put.appended ∙ append_assoc now.items (spell a) (flat_map spell (drop (i + 1) all))
+      text = ap (λ (bytes : List ℕ). bytes ++ flat_map spell (drop (i + 1) all)) put.appended
+          ∙ append_assoc now.items (spell a) (flat_map spell (drop (i + 1) all))
           ∙ ap (λ (bytes : List ℕ). now.items ++ bytes) (sym first) ∙ so_far.text;
       long = omega (arith, split, so_far.long, put.longer);
       kept = omega (arith, so_far.kept, put.kept);
     }
 
-pub all_written : {A : Type 0} (spell : A → List ℕ) (old now : Vec ℕ) (all : List A) (i : ℕ) → length all ≤ i → Writes spell old now all (drop i all) → Puts old now (flat_map spell all)
+pub all_written : {A : Type 0} (spell : A → List ℕ) (old now : Vec ℕ) (all : List A) (i : ℕ) → length all ≤ i
+    → Writes spell old now all (drop i all) → Puts old now (flat_map spell all)
 all_written spell old now all i over so_far =
     let none : flat_map spell (drop i all) ≡ [] = at_drop_all (flat_map spell) all i over in
     record {
@@ -63,13 +72,17 @@ pub record Measures {A : Type 0} (spell : A → List ℕ) (all left : List A) (t
   pub sum : capped (total + length (flat_map spell left)) ≡ capped (length (flat_map spell all))
   pub few : total < 2 ^ 64
 
-pub measures_on : {A : Type 0} (spell : A → List ℕ) (all : List A) (i : ℕ) (a : A) (total size later : ℕ) → a ≡ get_or all i a → i < length all
-    → size ≡ capped (length (spell a)) → later ≡ capped (total + size) → Measures spell all (drop i all) total → Measures spell all (drop (i + 1) all) later
+pub measures_on : {A : Type 0} (spell : A → List ℕ) (all : List A) (i : ℕ) (a : A) (total size later : ℕ)
+    → a ≡ get_or all i a → i < length all
+    → size ≡ capped (length (spell a)) → later ≡ capped (total + size) → Measures spell all (drop i all) total
+    → Measures spell all (drop (i + 1) all) later
 measures_on spell all i a total size later is within one sum so_far =
-    let split = ap length (first_left spell all i a is within) ∙ length-append (spell a) (flat_map spell (drop (i + 1) all)) in
+    let split = ap length (first_left spell all i a is within)
+        ∙ length-append (spell a) (flat_map spell (drop (i + 1) all)) in
     record { sum = omega (arith, split, one, sum, so_far.sum); few = omega (arith, sum) }
 
-pub all_measured : {A : Type 0} (spell : A → List ℕ) (all : List A) (i : ℕ) (total : ℕ) → length all ≤ i → Measures spell all (drop i all) total → total ≡ capped (length (flat_map spell all))
+pub all_measured : {A : Type 0} (spell : A → List ℕ) (all : List A) (i : ℕ) (total : ℕ) → length all ≤ i
+    → Measures spell all (drop i all) total → total ≡ capped (length (flat_map spell all))
 all_measured spell all i total over so_far =
     let none = ap length (at_drop_all (flat_map spell) all i over) in
     omega (arith, none, so_far.few, so_far.sum)
@@ -80,13 +93,17 @@ all_measured spell all i total over so_far =
 pub record Covers {A : Type 0} (spell : A → List ℕ) (before : ℕ) (all left : List A) (total : ℕ) : Type 0 where
   pub sum : capped (before + length (flat_map spell all)) ≤ capped (total + length (flat_map spell left))
 
-pub covers_on : {A : Type 0} (spell : A → List ℕ) (before : ℕ) (all : List A) (i : ℕ) (a : A) (total size later : ℕ) → a ≡ get_or all i a → i < length all
-    → capped (length (spell a)) ≤ size → later ≡ capped (total + size) → Covers spell before all (drop i all) total → Covers spell before all (drop (i + 1) all) later
+pub covers_on : {A : Type 0} (spell : A → List ℕ) (before : ℕ) (all : List A) (i : ℕ) (a : A) (total size later : ℕ)
+    → a ≡ get_or all i a → i < length all
+    → capped (length (spell a)) ≤ size → later ≡ capped (total + size) → Covers spell before all (drop i all) total
+    → Covers spell before all (drop (i + 1) all) later
 covers_on spell before all i a total size later is within one sum so_far =
-    let split = ap length (first_left spell all i a is within) ∙ length-append (spell a) (flat_map spell (drop (i + 1) all)) in
+    let split = ap length (first_left spell all i a is within)
+        ∙ length-append (spell a) (flat_map spell (drop (i + 1) all)) in
     record { sum = omega (arith, split, one, sum, so_far.sum) }
 
-pub all_covered : {A : Type 0} (spell : A → List ℕ) (before : ℕ) (all : List A) (i : ℕ) (total : ℕ) → length all ≤ i → Covers spell before all (drop i all) total
+pub all_covered : {A : Type 0} (spell : A → List ℕ) (before : ℕ) (all : List A) (i : ℕ) (total : ℕ) → length all ≤ i
+    → Covers spell before all (drop i all) total
     → capped (before + length (flat_map spell all)) ≤ total
 all_covered spell before all i total over so_far =
     let none = ap length (at_drop_all (flat_map spell) all i over) in

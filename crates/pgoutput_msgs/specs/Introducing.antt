@@ -1,4 +1,5 @@
--- That a Relation message tells of each table before the first change of it, and once: PostgreSQL 15, 55.5.3. Logical Replication Protocol Message Flow.
+-- That a Relation message tells of each table before the first change of it, and once: PostgreSQL 15, 55.5.3. Logical
+-- Replication Protocol Message Flow.
 use Rattle.std.specs.Prelude.{◌≡◌, ℕ, ◌<◌, ◌≤◌, Bool, true, false, List, [], ◌∷◌, ◌++◌, fold, length, slice_index_or, All, Contains, None}
 use Rattle.filter_tree.specs.declared.table.Table.{Table}
 use Rattle.shard_checker.specs.CheckedView.{CheckedOf, setting_in}
@@ -34,7 +35,8 @@ known_after known _ = known
 -- So is each of these messages, after those before it.
 abbrev pub AreIntroduced : List ℕ → List Msg → Type 0
 AreIntroduced known [] = Unit {0}
-AreIntroduced known (message ∷ messages) = IsIntroduced known message × AreIntroduced (known_after known message) messages
+AreIntroduced known (message ∷ messages) = IsIntroduced known message
+    × AreIntroduced (known_after known message) messages
 
 -- ---- commits
 
@@ -61,7 +63,8 @@ IsOf tables commit = All (IsChangeOf tables) commit.changes
 abbrev pub messages_in_turn : CheckedOf → ℕ → List Bool → List CommitOf → List Msg
 messages_in_turn checked subscriber told [] = []
 messages_in_turn checked subscriber told (commit ∷ commits) =
-    messages_for checked subscriber told commit ++ messages_in_turn checked subscriber (told_after checked subscriber told commit) commits
+    messages_for checked subscriber told commit
+        ++ messages_in_turn checked subscriber (told_after checked subscriber told commit) commits
 
 abbrev pub told_in_turn : CheckedOf → ℕ → List Bool → List CommitOf → List Bool
 told_in_turn checked subscriber told commits = fold (told_after checked subscriber) told commits
@@ -76,9 +79,11 @@ RecordsAreOfTables = (checked : CheckedOf) (tables : Tables) (number : ℕ) (com
 
 -- So are the commits of a log.
 abbrev pub LogsAreOfTables : Type 0
-LogsAreOfTables = (book : Book) (transactions : List Transaction) → StandsFor book transactions → All (IsOf (book_checked book).catalog.tables) (book_log book)
+LogsAreOfTables = (book : Book) (transactions : List Transaction) → StandsFor book transactions
+    → All (IsOf (book_checked book).catalog.tables) (book_log book)
 
--- Where the OIDs of the tables that were told are known, the messages are introduced, and then those of the tables that were told after them are known.
+-- Where the OIDs of the tables that were told are known, the messages are introduced, and then those of the tables
+-- that were told after them are known.
 pub record Introduces (told after : List Bool) (messages : List Msg) : Type 0 where
   pub introduced : (known : List ℕ) → AreTold told known → AreIntroduced known messages
   pub known : (known : List ℕ) → AreTold told known → AreTold after (fold known_after known messages)

@@ -1,4 +1,5 @@
--- What lets a reader take spellings apart, and that what is decoded of a spelling is its message: PostgreSQL 15, 55.9. Logical Replication Message Formats.
+-- What lets a reader take spellings apart, and that what is decoded of a spelling is its message: PostgreSQL 15,
+-- 55.9. Logical Replication Message Formats.
 use Rattle.std.specs.Prelude.{◌≡◌, ◌<◌, ℕ, List, [], ◌∷◌, ◌++◌, get_or, Ok, Err}
 use Rattle.pgoutput_msgs.specs.declared.error.MsgError.TheVariants.{Trailing}
 use Rattle.pgoutput_msgs.specs.declared.message.Msg.{Msg}

@@ -1,4 +1,5 @@
--- Which messages the layout has room for, where counts and lengths are signed numbers, and what each field of a message is: PostgreSQL 15, 55.9. Logical Replication Message Formats.
+-- Which messages the layout has room for, where counts and lengths are signed numbers, and what each field of a
+-- message is: PostgreSQL 15, 55.9. Logical Replication Message Formats.
 use Rattle.std.specs.Prelude.{ℕ, ◌<◌, ◌^◌, List, length, All, Contains, FitsSigned, Option, Some, None}
 use Rattle.std.specs.Int.{w32}
 use Rattle.std.specs.Str.{IsUtf8}

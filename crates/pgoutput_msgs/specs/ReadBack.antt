@@ -1,4 +1,5 @@
--- That the tuple of a row is read back as that row, also where only a part of the row was recorded: PostgreSQL 15, 55.9. Logical Replication Message Formats.
+-- That the tuple of a row is read back as that row, also where only a part of the row was recorded: PostgreSQL 15,
+-- 55.9. Logical Replication Message Formats.
 use Rattle.std.specs.Prelude.{◌≡◌, List, [], ◌∷◌, map, Option, Some}
 use Rattle.filter_tree.specs.Datum.{Datum, Missing, Known}
 use Rattle.filter_tree.specs.Valid.{IsOf, IsValid}
@@ -34,7 +35,8 @@ RowsReadBack = (kinds : List ColType) (row : List Datum) → AreOf kinds row →
 
 -- and a row that fits its table is such a row, whichever of its values are null
 abbrev pub ValidRowsReadBack : Type 0
-ValidRowsReadBack = (columns : List Column) (row : List Datum) → IsValid columns row → row_in (kinds_of columns) (cells_of row) ≡ Some row
+ValidRowsReadBack = (columns : List Column) (row : List Datum) → IsValid columns row
+    → row_in (kinds_of columns) (cells_of row) ≡ Some row
 
 -- ---- what is recorded of old rows
 
@@ -43,7 +45,9 @@ abbrev pub old_cells : OldTuple → List Cell
 old_cells (o.Key tuple) = tuple
 old_cells (o.Full tuple) = tuple
 
--- Where anything is recorded of an old row that fits its table, its tuple is read back as the row with nulls outside the columns of the replica identity; under FULL that is the row.
+-- Where anything is recorded of an old row that fits its table, its tuple is read back as the row with nulls outside
+-- the columns of the replica identity; under FULL that is the row.
 abbrev pub RecordedRowsReadBack : Type 0
-RecordedRowsReadBack = (table : Table) (old : List Datum) → IsValid table.columns old → (new : Option (List Datum)) (part : PartOf) → part_in table old new ≡ Some part
+RecordedRowsReadBack = (table : Table) (old : List Datum) → IsValid table.columns old
+    → (new : Option (List Datum)) (part : PartOf) → part_in table old new ≡ Some part
     → row_in (kinds_of table.columns) (old_cells (old_of part)) ≡ Some (blanked_in (Some table) old)

@@ -1,4 +1,5 @@
--- How a message is read from the left: each rule takes bytes from the front of a list, and gives what it reads and the bytes that are left, or the first fault: PostgreSQL 15, 55.9. Logical Replication Message Formats.
+-- How a message is read from the left: each rule takes bytes from the front of a list, and gives what it reads and
+-- the bytes that are left, or the first fault: PostgreSQL 15, 55.9. Logical Replication Message Formats.
 use Rattle.std.specs.Prelude.{ℕ, zero, suc, ◌+◌, ◌^◌, ◌==◌, nat_lt, Bool, true, false, if◌then◌else◌, List, [], ◌∷◌, length, take, drop, Option, Some, None, Result, Ok, Err}
 use Rattle.std.specs.Int.{Width, w16, w32, w64, byte_len, from_be_bytes, cast_signed}
 use Rattle.std.specs.List.{position}

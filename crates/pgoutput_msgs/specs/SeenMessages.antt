@@ -1,4 +1,6 @@
--- That what a subscriber is told of a commit is what it sees of the commit's commands, with what is recorded of old rows: PostgreSQL 15, "Logical Replication", 31.3.3 UPDATE Transformations, and 55.5.3. Logical Replication Protocol Message Flow.
+-- That what a subscriber is told of a commit is what it sees of the commit's commands, with what is recorded of old
+-- rows: PostgreSQL 15, "Logical Replication", 31.3.3 UPDATE Transformations, and 55.5.3. Logical Replication Protocol
+-- Message Flow.
 use Rattle.std.specs.Prelude.{◌≡◌, ℕ, Bool, true, false, List, [], ◌∷◌, length, filter, map, Option, Some, None}
 use Rattle.std.specs.List.{flat_map}
 use Rattle.shard_checker.specs.CheckedView.{CheckedOf, setting_in}
@@ -34,7 +36,8 @@ gone_message table (Some part) = m.Delete (oid_of table) (old_of part) ∷ []
 -- The message of what is seen. A new row alone is an Insert, an old one alone a Delete, and both are an Update.
 abbrev pub seen_message : Setting → Seen → List Msg
 seen_message setting (s.Insert table new) = m.Insert (oid_of table) (cells_of new) ∷ []
-seen_message setting (s.Update table old new) = m.Update (oid_of table) (maybe_old_of (part_of setting table old (Some new))) (cells_of new) ∷ []
+seen_message setting (s.Update table old new) =
+    m.Update (oid_of table) (maybe_old_of (part_of setting table old (Some new))) (cells_of new) ∷ []
 seen_message setting (s.Delete table old) = gone_message table (part_of setting table old None)
 seen_message setting (s.Truncate numbers) = m.Truncate 0 (map oid_of numbers) ∷ []
 
@@ -48,9 +51,13 @@ pub record TellsWhatIsSeen (setting : Setting) (messages : List Msg) (all : List
   pub none : all ≡ [] → messages ≡ []
   pub only : messages ≡ [] → all ≡ []
 
--- The messages of a commit, whose changes are what its commands record on the tables before it, tell of what is seen of the commands.
+-- The messages of a commit, whose changes are what its commands record on the tables before it, tell of what is seen
+-- of the commands.
 abbrev pub MessagesTellWhatIsSeen : Type 0
-MessagesTellWhatIsSeen = (checked : CheckedOf) → Covered (setting_in checked) → (subscriber : ℕ) (told : List Bool) (commit : CommitOf)
-    → (tables : Tables) (number : ℕ) (commands : List Command) → first_fault (setting_in checked) tables number commands ≡ None
+MessagesTellWhatIsSeen = (checked : CheckedOf) → Covered (setting_in checked)
+    → (subscriber : ℕ) (told : List Bool) (commit : CommitOf)
+    → (tables : Tables) (number : ℕ) (commands : List Command)
+    → first_fault (setting_in checked) tables number commands ≡ None
     → commit.changes ≡ record_of (setting_in checked) tables commands
-    → TellsWhatIsSeen (setting_in checked) (messages_for checked subscriber told commit) (seen (setting_in checked) subscriber tables commands)
+    → TellsWhatIsSeen (setting_in checked) (messages_for checked subscriber told commit)
+        (seen (setting_in checked) subscriber tables commands)

@@ -1,8 +1,10 @@
--- Messages that are taken one after another, where a relation says what one message leaves: PostgreSQL 15, 55.5.3. Logical Replication Protocol Message Flow.
+-- Messages that are taken one after another, where a relation says what one message leaves: PostgreSQL 15, 55.5.3.
+-- Logical Replication Protocol Message Flow.
 use Rattle.std.specs.Prelude.{◌≡◌, List, [], ◌∷◌}
 use Rattle.pgoutput_msgs.specs.declared.message.Msg.{Msg}
 
 -- these messages were taken, between the old state and the new one
 abbrev pub Takes : {S : Type 0} → (S → S → Msg → Type 0) → S → S → List Msg → Type 0
 Takes takes_one old new [] = new ≡ old
-Takes {S = S} takes_one old new (message ∷ messages) = (next : S) × takes_one old next message × Takes takes_one next new messages
+Takes {S = S} takes_one old new (message ∷ messages) = (next : S) × takes_one old next message
+    × Takes takes_one next new messages

@@ -1,4 +1,6 @@
--- The messages that tell a subscriber of a commit: PostgreSQL 15, 55.5.3. Logical Replication Protocol Message Flow, and 55.9. Logical Replication Message Formats. Log sequence numbers, OIDs and numbers of transactions are this project's own.
+-- The messages that tell a subscriber of a commit: PostgreSQL 15, 55.5.3. Logical Replication Protocol Message Flow,
+-- and 55.9. Logical Replication Message Formats. Log sequence numbers, OIDs and numbers of transactions are this
+-- project's own.
 use Rattle.std.specs.Prelude.{ℕ, ◌+◌, ◌*◌, negsuc, Bool, true, false, List, [], ◌∷◌, ◌++◌, map, slice_get, slice_index_or, slice_set, Option, Some, None}
 use Rattle.filter_tree.specs.declared.table.ColType.{ColType}
 use Rattle.filter_tree.specs.declared.table.ColType.TheVariants as k
@@ -62,7 +64,8 @@ identity_of t.Nothing = i.Nothing
 
 -- a column with this flag, and no modifier of its type
 abbrev pub flagged : Bool → Column → RelationColumn
-flagged is_key column = record { is_key = is_key; name = column.name; type_oid = type_oid_of column.kind; type_modifier = negsuc 0 }
+flagged is_key column =
+    record { is_key = is_key; name = column.name; type_oid = type_oid_of column.kind; type_modifier = negsuc 0 }
 
 -- the column of this number: the flag marks those of the replica identity, under FULL all
 abbrev pub column_of : Table → ℕ → Column → RelationColumn

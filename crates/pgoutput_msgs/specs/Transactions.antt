@@ -1,4 +1,7 @@
--- What a connection tells a subscriber of transactions, said of what the subscriber sees of them alone: Begin, each change directly after the Relations of those of its tables that no change of the connection named before, and Commit: PostgreSQL 15, 55.5.3. Logical Replication Protocol Message Flow. Log sequence numbers, OIDs and numbers of transactions are this project's own.
+-- What a connection tells a subscriber of transactions, said of what the subscriber sees of them alone: Begin, each
+-- change directly after the Relations of those of its tables that no change of the connection named before, and
+-- Commit: PostgreSQL 15, 55.5.3. Logical Replication Protocol Message Flow. Log sequence numbers, OIDs and numbers of
+-- transactions are this project's own.
 use Rattle.std.specs.Prelude.{◌≡◌, ℕ, ◌<◌, nat_eq, Bool, false, List, [], ◌∷◌, ◌++◌, length, slice_get, slice_index_or, if◌then◌else◌, None}
 use Rattle.std.specs.List.{flat_map, list_any}
 use Rattle.filter_tree.specs.declared.table.Table.{Table}
@@ -34,24 +37,29 @@ first_relation tables named number = if is_among number named then [] else relat
 -- the Relations of the tables that were not named before, in this order
 abbrev pub first_relations : List Table → List ℕ → List ℕ → List Msg
 first_relations tables named [] = []
-first_relations tables named (number ∷ numbers) = first_relation tables named number ++ first_relations tables (named ++ number ∷ []) numbers
+first_relations tables named (number ∷ numbers) =
+    first_relation tables named number ++ first_relations tables (named ++ number ∷ []) numbers
 
 -- ---- transactions
 
 -- a change, directly after the Relations of the tables that it is the first to name
 abbrev pub change_told : CheckedOf → List ℕ → Seen → List Msg
-change_told checked named change = first_relations checked.catalog.tables named (tables_of change) ++ seen_message (setting_in checked) change
+change_told checked named change =
+    first_relations checked.catalog.tables named (tables_of change) ++ seen_message (setting_in checked) change
 
 -- changes, each after the tables that those before it named
 abbrev pub changes_told : CheckedOf → List ℕ → List Seen → List Msg
 changes_told checked named [] = []
-changes_told checked named (change ∷ changes) = change_told checked named change ++ changes_told checked (named ++ tables_of change) changes
+changes_told checked named (change ∷ changes) =
+    change_told checked named change ++ changes_told checked (named ++ tables_of change) changes
 
--- Begin and Commit with the number and the time of the transaction, and the changes between them; nothing where nothing is seen
+-- Begin and Commit with the number and the time of the transaction, and the changes between them; nothing where
+-- nothing is seen
 abbrev pub transaction_told : CheckedOf → List ℕ → ℕ → ℕ → List Seen → List Msg
 transaction_told checked named number time [] = []
 transaction_told checked named number time (first ∷ others) =
-    m.Begin (lsn_of number) time (xid_of number) ∷ changes_told checked named (first ∷ others) ++ m.Commit (lsn_of number) (end_lsn_of number) time ∷ []
+    m.Begin (lsn_of number) time (xid_of number) ∷ changes_told checked named (first ∷ others)
+        ++ m.Commit (lsn_of number) (end_lsn_of number) time ∷ []
 
 -- ---- the law
 
@@ -61,13 +69,18 @@ pub record AreNamed (tables : List Table) (told : List Bool) (named : List ℕ) 
   pub each : (number : ℕ) → number < length tables → slice_index_or told number false ≡ is_among number named
 
 -- the messages of a commit tell what is seen of its transaction, and then the tables are named that it names
-pub record TellsTransaction (checked : CheckedOf) (subscriber : ℕ) (told : List Bool) (named : List ℕ) (commit : CommitOf) (all : List Seen) : Type 0 where
-  pub messages : messages_for checked subscriber told commit ≡ transaction_told checked named commit.number commit.time all
-  pub named_after : AreNamed checked.catalog.tables (told_after checked subscriber told commit) (named ++ flat_map tables_of all)
+pub record TellsTransaction (checked : CheckedOf) (subscriber : ℕ) (told : List Bool) (named : List ℕ)
+    (commit : CommitOf) (all : List Seen) : Type 0 where
+  pub messages : messages_for checked subscriber told commit
+      ≡ transaction_told checked named commit.number commit.time all
+  pub named_after : AreNamed checked.catalog.tables (told_after checked subscriber told commit)
+      (named ++ flat_map tables_of all)
 
 -- So it is with each commit whose changes are what its commands record on the tables before it.
 abbrev pub CommitsTellTransactions : Type 0
-CommitsTellTransactions = (checked : CheckedOf) → Covered (setting_in checked) → (subscriber : ℕ) (told : List Bool) (named : List ℕ) → AreNamed checked.catalog.tables told named
-    → (commit : CommitOf) (tables : Tables) (number : ℕ) (commands : List Command) → first_fault (setting_in checked) tables number commands ≡ None
+CommitsTellTransactions = (checked : CheckedOf) → Covered (setting_in checked)
+    → (subscriber : ℕ) (told : List Bool) (named : List ℕ) → AreNamed checked.catalog.tables told named
+    → (commit : CommitOf) (tables : Tables) (number : ℕ) (commands : List Command)
+    → first_fault (setting_in checked) tables number commands ≡ None
     → commit.changes ≡ record_of (setting_in checked) tables commands
     → TellsTransaction checked subscriber told named commit (seen (setting_in checked) subscriber tables commands)

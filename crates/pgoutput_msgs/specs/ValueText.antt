@@ -1,4 +1,6 @@
--- The text of a row's value in a message, and the value that a text is of a type: integers in decimal, booleans as `t` and `f`, and null, which has none: PostgreSQL 15, 55.9. Logical Replication Message Formats, and Chapter 8. Data Types.
+-- The text of a row's value in a message, and the value that a text is of a type: integers in decimal, booleans as
+-- `t` and `f`, and null, which has none: PostgreSQL 15, 55.9. Logical Replication Message Formats, and Chapter 8.
+-- Data Types.
 use Rattle.std.specs.Prelude.{ℕ, ℤ, int_le, true, false, ◌&&◌, ◌==◌, nat_le, if◌then◌else◌, List, [], ◌∷◌, length, map, codes, Option, Some, None, option_map}
 use Rattle.std.specs.Fmt.{signed_decimal}
 use Rattle.std.specs.List.{list_any}
@@ -35,14 +37,16 @@ value_spelling value = cell_spelling (cell_of (datum_view value))
 -- the number, if this is its own text and it is in the range of the type
 abbrev pub number_if : ColType → List ℕ → ℤ → Option ℤ
 number_if kind text number =
-    if bytes_eq text (signed_decimal number) && (int_le (least_of kind) number && int_le number (greatest_of kind)) then Some number else None
+    if bytes_eq text (signed_decimal number) && (int_le (least_of kind) number && int_le number (greatest_of kind))
+        then Some number else None
 
 unfoldable pub number_in : ColType → List ℕ → Option ℤ
 number_in kind text = number_if kind text (signed_digits_value 10 text)
 
 unfoldable pub truth_in : List ℕ → Option Constant
 truth_in text =
-    if bytes_eq text (codes "t") then Some (Truth true) else (if bytes_eq text (codes "f") then Some (Truth false) else None)
+    if bytes_eq text (codes "t") then
+        Some (Truth true) else (if bytes_eq text (codes "f") then Some (Truth false) else None)
 
 -- a text has no zero byte, and at most 65,535 bytes
 unfoldable pub text_in : List ℕ → Option Constant
@@ -67,7 +71,8 @@ row_with None others = None
 row_with (Some datum) None = None
 row_with (Some datum) (Some others) = Some (datum ∷ others)
 
--- the row of a tuple whose columns have these types: none where it has another width, or a text that is none of its type
+-- the row of a tuple whose columns have these types: none where it has another width, or a text that is none of its
+-- type
 unfoldable pub row_in : List ColType → List Cell → Option (List Datum)
 row_in [] [] = Some []
 row_in (kind ∷ kinds) (cell ∷ cells) = row_with (datum_in kind cell) (row_in kinds cells)

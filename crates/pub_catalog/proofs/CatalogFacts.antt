@@ -1,4 +1,5 @@
--- A catalog is within its limits, carries tables that are there, and is named: what its fields keep, of which there is one proof at most.
+-- A catalog is within its limits, carries tables that are there, and is named: what its fields keep, of which there
+-- is one proof at most.
 use Rattle.std.proofs.Common.{◌≡◌, ℕ, List, [], ◌∷◌, All, length, map, refl, sym, ap, subst, arith}
 use Rattle.std.specs.Prelude.{Option, Some, None}
 use Rattle.std.proofs.Math.Logic.{∥∥₁_elim}
@@ -20,7 +21,8 @@ use Rattle.pub_catalog.specs.Catalogs.{EntryOf, PublicationOf}
 use Rattle.filter_tree.specs.Expr.{Expr}
 use Rattle.pub_catalog.specs.CatalogView.{publication_view, catalog_view}
 
-IsIdentity-prop : (columns : List Column) (indexes : List UniqueIndex) (identity : Identity) → IsProp (IsIdentity columns indexes identity)
+IsIdentity-prop : (columns : List Column) (indexes : List UniqueIndex) (identity : Identity)
+    → IsProp (IsIdentity columns indexes identity)
 IsIdentity-prop columns indexes (Index number) = Prim.hlevel props
 IsIdentity-prop columns indexes Default = Unit-prop {0}
 IsIdentity-prop columns indexes Full = Unit-prop {0}
@@ -49,12 +51,14 @@ FilterNamesWithin-prop count (Some filter) = Prim.hlevel props
 IsKnownEntry-prop : (tables : List Table) (entry : EntryOf Expr) → IsProp (IsKnownEntry tables entry)
 IsKnownEntry-prop tables entry = Prim.hlevel (props, FilterNamesWithin-prop)
 
-all_carry-prop : (tables : List Table) (publications : List (PublicationOf Expr)) → IsProp (All (CarriesKnown tables) publications)
+all_carry-prop : (tables : List Table) (publications : List (PublicationOf Expr))
+    → IsProp (All (CarriesKnown tables) publications)
 all_carry-prop tables publications = Prim.hlevel (props, IsKnownEntry-prop)
 
 pub catalog_entries_known : (catalog : Catalog) → AllCarryKnown (catalog_view catalog)
 catalog_entries_known catalog =
-    ∥∥₁_elim catalog.known_entries (all_carry-prop catalog.tables.items (map publication_view catalog.publications.items)) (λ known. known)
+    ∥∥₁_elim catalog.known_entries
+        (all_carry-prop catalog.tables.items (map publication_view catalog.publications.items)) (λ known. known)
 
 -- ---- names
 
@@ -68,7 +72,9 @@ all_taken-prop : (count : ℕ) (subscriptions : List Subscription) → IsProp (A
 all_taken-prop count subscriptions = Prim.hlevel (props, AreTaken-prop)
 
 -- publications have the same names as plain data
-pub names_viewed : (publications : List Publication) → map (λ (p : PublicationOf Expr). p.name) (map publication_view publications) ≡ map (λ (p : Publication). p.name) publications
+pub names_viewed : (publications : List Publication)
+    → map (λ (p : PublicationOf Expr). p.name) (map publication_view publications)
+    ≡ map (λ (p : Publication). p.name) publications
 names_viewed [] = refl
 names_viewed (publication ∷ publications) = ap (λ names. publication.name ∷ names) (names_viewed publications)
 
@@ -76,8 +82,11 @@ pub catalog_named : (catalog : Catalog) → IsNamedCatalog (catalog_view catalog
 catalog_named catalog =
     let publications = catalog.publications.items in
     record {
-      publications = subst AreOwnNames (sym (names_viewed publications)) (∥∥₁_elim catalog.named_publications (AreOwnNames-prop _) (λ own. own));
+      publications = subst AreOwnNames (sym (names_viewed publications))
+          (∥∥₁_elim catalog.named_publications (AreOwnNames-prop _) (λ own. own));
       subscriptions = ∥∥₁_elim catalog.named_subscriptions (AreOwnNames-prop _) (λ own. own);
-      taken = subst (λ count. All (TakesKnown count) catalog.subscriptions.items) (sym (length-map publications publication_view))
-          (∥∥₁_elim catalog.taken_publications (all_taken-prop (length publications) catalog.subscriptions.items) (λ taken. taken));
+      taken = subst (λ count. All (TakesKnown count) catalog.subscriptions.items)
+          (sym (length-map publications publication_view))
+          (∥∥₁_elim catalog.taken_publications (all_taken-prop (length publications) catalog.subscriptions.items)
+              (λ taken. taken));
     }

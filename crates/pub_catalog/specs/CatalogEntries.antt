@@ -1,4 +1,5 @@
--- That publications carry tables that are there, and filter their rows by columns that are there: PostgreSQL 15, "Logical Replication", 31.1 Publication and 31.3 Row Filters.
+-- That publications carry tables that are there, and filter their rows by columns that are there: PostgreSQL 15,
+-- "Logical Replication", 31.1 Publication and 31.3 Row Filters.
 use Rattle.std.specs.Prelude.{ℕ, ◌<◌, List, All, length, Option, Some, None}
 use Rattle.filter_tree.specs.Expr.{Expr}
 use Rattle.filter_tree.specs.Lists.{NamesWithin}

@@ -1,4 +1,5 @@
--- How much a catalog has at most, that the columns of its keys and unique indexes are there, and what names are: PostgreSQL 15, "SQL Syntax", 4.1.1 Identifiers and Key Words.
+-- How much a catalog has at most, that the columns of its keys and unique indexes are there, and what names are:
+-- PostgreSQL 15, "SQL Syntax", 4.1.1 Identifiers and Key Words.
 use Rattle.std.specs.Prelude.{◌≡◌, ◌<◌, ◌≤◌, true, List, All, length, slice_get}
 use Rattle.filter_tree.specs.declared.table.Column.{Column}
 use Rattle.filter_tree.specs.declared.table.Identity.{Identity}

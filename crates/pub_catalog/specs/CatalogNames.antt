@@ -1,4 +1,5 @@
--- How publications and subscriptions are named, and that a subscription's publications are there: PostgreSQL 15, SQL Commands, CREATE PUBLICATION and CREATE SUBSCRIPTION, and "SQL Syntax", 4.1.1 Identifiers and Key Words.
+-- How publications and subscriptions are named, and that a subscription's publications are there: PostgreSQL 15, SQL
+-- Commands, CREATE PUBLICATION and CREATE SUBSCRIPTION, and "SQL Syntax", 4.1.1 Identifiers and Key Words.
 use Rattle.std.specs.Prelude.{ℕ, ◌<◌, List, All, length, map, nat_eq}
 use Rattle.std.specs.List.{IsDistinct}
 use Rattle.std.specs.Str.{bytes_eq}

@@ -1,4 +1,5 @@
--- What a catalog has: tables, publications that carry them, whole or the rows of a filter, and subscriptions to publications: PostgreSQL 15, "Logical Replication", 31.1 Publication, 31.2 Subscription and 31.3 Row Filters.
+-- What a catalog has: tables, publications that carry them, whole or the rows of a filter, and subscriptions to
+-- publications: PostgreSQL 15, "Logical Replication", 31.1 Publication, 31.2 Subscription and 31.3 Row Filters.
 use Rattle.std.specs.Prelude.{ℕ, zero, suc, true, List, [], ◌∷◌, ◌++◌, map, Option}
 use Rattle.std.specs.Option.{option_map}
 use Rattle.filter_tree.specs.declared.table.Column.{Column}
@@ -64,7 +65,11 @@ abbrev pub entry_map : {S T : Type 0} → (S → T) → EntryOf S → EntryOf T
 entry_map f entry = record { table = entry.table; filter = option_map f entry.filter }
 
 abbrev pub publication_map : {S T : Type 0} → (S → T) → PublicationOf S → PublicationOf T
-publication_map f publication = record { name = publication.name; publishes = publication.publishes; entries = map (entry_map f) publication.entries }
+publication_map f publication =
+    record { name = publication.name; publishes = publication.publishes; entries =
+    map (entry_map f) publication.entries }
 
 abbrev pub catalog_map : {S T : Type 0} → (S → T) → CatalogOf S → CatalogOf T
-catalog_map f catalog = record { tables = catalog.tables; publications = map (publication_map f) catalog.publications; subscriptions = catalog.subscriptions }
+catalog_map f catalog =
+    record { tables = catalog.tables; publications = map (publication_map f) catalog.publications; subscriptions =
+    catalog.subscriptions }

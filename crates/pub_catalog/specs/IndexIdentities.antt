@@ -1,4 +1,5 @@
--- Which unique indexes may be a replica identity: PostgreSQL 15, SQL Commands, ALTER TABLE, REPLICA IDENTITY USING INDEX.
+-- Which unique indexes may be a replica identity: PostgreSQL 15, SQL Commands, ALTER TABLE, REPLICA IDENTITY USING
+-- INDEX.
 use Rattle.std.specs.Prelude.{ℕ, Bool, false, List, Option, Some, None, slice_get}
 use Rattle.std.specs.List.{list_all}
 use Rattle.filter_tree.specs.declared.table.Column.{Column}

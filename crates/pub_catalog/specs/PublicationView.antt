@@ -11,4 +11,6 @@ abbrev pub entry_view : Entry → EntryOf Expr
 entry_view entry = record { table = entry.table; filter = option_map expr_view entry.filter }
 
 abbrev pub publication_view : Publication → PublicationOf Expr
-publication_view publication = record { name = publication.name; publishes = publication.publishes; entries = map entry_view publication.entries.items }
+publication_view publication =
+    record { name = publication.name; publishes = publication.publishes; entries =
+    map entry_view publication.entries.items }

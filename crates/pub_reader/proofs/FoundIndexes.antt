@@ -5,14 +5,16 @@ use Rattle.filter_tree.specs.declared.table.Column.{Column}
 use Rattle.filter_tree.specs.declared.table.Identity.TheVariants.{Index}
 use Rattle.filter_tree.specs.declared.table.UniqueIndex.{UniqueIndex}
 use Rattle.sql_reader.specs.declared.name.PlacedName.{PlacedName}
-use Rattle.sql_reader.specs.Wrong as w
+use Rattle.sql_reader.specs.ErrorKinds as w
 use Rattle.pub_catalog.specs.IndexIdentities.{identifies}
 use Rattle.pub_reader.specs.Drafts.{find_index}
 use Rattle.pub_reader.specs.Grammar.{fault}
 use Rattle.pub_reader.specs.Identities.{index_named}
 
-module _ (columns : List Column) (indexes : List UniqueIndex) (called : PlacedName) {text : List ℕ} {place : Option ℕ} {number : ℕ} {told : Bool}
-    (spelled : text ≡ called.text) (found : place ≡ find_index text indexes) (there : place ≡ Some number) (tells : told ≡ identifies columns (slice_get indexes number)) where
+module _ (columns : List Column) (indexes : List UniqueIndex) (called : PlacedName) {text : List ℕ} {place : Option ℕ}
+    {number : ℕ} {told : Bool}
+    (spelled : text ≡ called.text) (found : place ≡ find_index text indexes) (there : place ≡ Some number)
+        (tells : told ≡ identifies columns (slice_get indexes number)) where
   is_found : find_index called.text indexes ≡ Some number
   is_found = sym (found ∙ ap (λ (text : List ℕ). find_index text indexes) spelled) ∙ there
 

@@ -31,17 +31,21 @@ whole (byte ∷ text) h =
     let longer : parts (byte ∷ text) ≡ before_first byte (parts text) = rw e refl in
     longer ∙ ap (before_first byte) (whole text (omega arith)))
 
-pub parts-cut : (text front back : List ℕ) (n : ℕ) → n ≡ prefix_len is_part_byte text → front ≡ take n text → back ≡ drop n text → 0 < length back →
+pub parts-cut : (text front back : List ℕ) (n : ℕ) → n ≡ prefix_len is_part_byte text → front ≡ take n text
+    → back ≡ drop n text → 0 < length back →
     parts text ≡ front ∷ parts (take (length back - 1) (drop 1 back))
 parts-cut text front back n is first second some =
     let inside : prefix_len is_part_byte text < length text = omega (arith, length-drop n text, ap length second) in
     let one_more : n + 1 ≡ suc (prefix_len is_part_byte text) = omega arith in
-    let all : take (length back - 1) (drop 1 back) ≡ drop 1 back = take_all (length back - 1) (drop 1 back) (omega (arith, length-drop 1 back)) in
-    let following : drop 1 back ≡ drop (suc (prefix_len is_part_byte text)) text = ap (drop 1) second ∙ drop-drop 1 n text ∙ ap (λ k. drop k text) one_more in
+    let all : take (length back - 1) (drop 1 back) ≡ drop 1 back =
+        take_all (length back - 1) (drop 1 back) (omega (arith, length-drop 1 back)) in
+    let following : drop 1 back ≡ drop (suc (prefix_len is_part_byte text)) text = ap (drop 1) second
+        ∙ drop-drop 1 n text ∙ ap (λ k. drop k text) one_more in
     let same_front : front ≡ take (prefix_len is_part_byte text) text = first ∙ ap (λ k. take k text) is in
     cut text inside ∙ rw (all, following, same_front) refl
 
-pub parts-whole : (text front back : List ℕ) (n : ℕ) → n ≡ prefix_len is_part_byte text → front ≡ take n text → back ≡ drop n text → length back < 1 → parts text ≡ front ∷ []
+pub parts-whole : (text front back : List ℕ) (n : ℕ) → n ≡ prefix_len is_part_byte text → front ≡ take n text
+    → back ≡ drop n text → length back < 1 → parts text ≡ front ∷ []
 parts-whole text front back n is first second none =
     let past : length text ≤ prefix_len is_part_byte text = omega (arith, length-drop n text, ap length second) in
     let all : take n text ≡ text = take_all n text (omega arith) in

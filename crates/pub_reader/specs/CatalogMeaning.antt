@@ -11,4 +11,6 @@ pub record MeansAsWritten (read : Verdict (CatalogOf Written)) (catalog : Catalo
   pub written : CatalogOf Written
   pub is_read : read ≡ Ok written
   pub trees : catalog ≡ catalog_map filter_of written
-  pub meanings : (row : List Datum) → catalog_map (λ filter. meaning filter row) catalog ≡ catalog_map (λ expression. written_meaning expression row) written
+  pub meanings : (row : List Datum)
+      → catalog_map (λ filter. meaning filter row) catalog
+      ≡ catalog_map (λ expression. written_meaning expression row) written

@@ -1,4 +1,5 @@
--- How a catalog is named while it is read: PostgreSQL 15, SQL Commands, CREATE TABLE, CREATE PUBLICATION and CREATE SUBSCRIPTION, and "SQL Syntax", 4.1.1 Identifiers and Key Words.
+-- How a catalog is named while it is read: PostgreSQL 15, SQL Commands, CREATE TABLE, CREATE PUBLICATION and CREATE
+-- SUBSCRIPTION, and "SQL Syntax", 4.1.1 Identifiers and Key Words.
 use Rattle.std.specs.Prelude.{All, length, map}
 use Rattle.pub_catalog.specs.CatalogLimits.{IsNamed}
 use Rattle.pub_catalog.specs.CatalogNames.{AreOwnNames, TakesKnown}

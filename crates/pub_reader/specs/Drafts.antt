@@ -1,4 +1,5 @@
--- What a catalog has while it is read, and what it comes to at its end: PostgreSQL 15, SQL Commands, CREATE PUBLICATION: FOR ALL TABLES and FOR TABLES IN SCHEMA cover tables that are made later too.
+-- What a catalog has while it is read, and what it comes to at its end: PostgreSQL 15, SQL Commands, CREATE
+-- PUBLICATION: FOR ALL TABLES and FOR TABLES IN SCHEMA cover tables that are made later too.
 use Rattle.std.specs.Prelude.{ℕ, suc, Bool, false, ◌||◌, ◌&&◌, ◌==◌, if◌then◌else◌, List, [], ◌∷◌, ◌++◌, map, position, Option, None, codes}
 use Rattle.std.specs.List.{list_any}
 use Rattle.std.specs.Option.{is_some, option_map, option_to_list}
@@ -10,7 +11,8 @@ use Rattle.pub_catalog.specs.declared.catalog.Operations.{Operations}
 use Rattle.pub_catalog.specs.declared.catalog.Subscription.{Subscription}
 use Rattle.pub_catalog.specs.Catalogs.{EntryOf, PublicationOf, CatalogOf, entry_map}
 
--- what a publication covers: the tables that it names, and what it carries whole, the tables of some schemas or every table
+-- what a publication covers: the tables that it names, and what it carries whole, the tables of some schemas or every
+-- table
 pub record CoverageOf (S : Type 0) : Type 0 where
   pub entries : List (EntryOf S)
   pub schemas : List (List ℕ)
@@ -59,7 +61,8 @@ find_index text indexes = position (λ index. bytes_eq text index.name) indexes
 
 -- Tables and indexes of a schema share their names: whether the table, or an index of it, has this one.
 abbrev pub has_name : List ℕ → List ℕ → Table → Bool
-has_name schema text table = bytes_eq schema table.schema && (bytes_eq text table.name || is_some (find_index text table.indexes))
+has_name schema text table =
+    bytes_eq schema table.schema && (bytes_eq text table.name || is_some (find_index text table.indexes))
 
 -- the table that has this name in the schema, or an index of this name
 abbrev pub find_relation : List ℕ → List ℕ → List Table → Option ℕ
@@ -82,7 +85,8 @@ filters_in tree number (entry ∷ entries) = filter_on tree number entry ++ filt
 
 abbrev pub filters_on : {S : Type 0} → (S → Expr) → ℕ → List (DraftPublicationOf S) → List Expr
 filters_on tree number [] = []
-filters_on tree number (publication ∷ publications) = filters_in tree number publication.coverage.entries ++ filters_on tree number publications
+filters_on tree number (publication ∷ publications) =
+    filters_in tree number publication.coverage.entries ++ filters_on tree number publications
 
 -- ---- the end of the catalog
 
@@ -98,22 +102,33 @@ whole_from covers number (table ∷ tables) =
 
 -- the entries of a publication: the tables that it names, and then each table that it carries whole
 abbrev pub resolved_entries : {S : Type 0} → List Table → CoverageOf S → List (EntryOf S)
-resolved_entries tables coverage = coverage.entries ++ whole_from (is_covered coverage.everything coverage.schemas) 0 tables
+resolved_entries tables coverage =
+    coverage.entries ++ whole_from (is_covered coverage.everything coverage.schemas) 0 tables
 
 abbrev pub resolved_publication : {S : Type 0} → List Table → DraftPublicationOf S → PublicationOf S
-resolved_publication tables publication = record { name = publication.name; publishes = publication.publishes; entries = resolved_entries tables publication.coverage }
+resolved_publication tables publication =
+    record { name = publication.name; publishes = publication.publishes; entries =
+    resolved_entries tables publication.coverage }
 
 -- the catalog, once all tables are made
 abbrev pub resolved : {S : Type 0} → DraftOf S → CatalogOf S
-resolved draft = record { tables = draft.tables; publications = map (resolved_publication draft.tables) draft.publications; subscriptions = draft.subscriptions }
+resolved draft = record
+    { tables = draft.tables; publications =
+    map (resolved_publication draft.tables) draft.publications; subscriptions = draft.subscriptions }
 
 -- ---- the same with other filters
 
 abbrev pub coverage_map : {S T : Type 0} → (S → T) → CoverageOf S → CoverageOf T
-coverage_map f coverage = record { entries = map (entry_map f) coverage.entries; schemas = coverage.schemas; everything = coverage.everything }
+coverage_map f coverage =
+    record { entries = map (entry_map f) coverage.entries; schemas = coverage.schemas; everything =
+    coverage.everything }
 
 abbrev pub draft_publication_map : {S T : Type 0} → (S → T) → DraftPublicationOf S → DraftPublicationOf T
-draft_publication_map f publication = record { name = publication.name; publishes = publication.publishes; coverage = coverage_map f publication.coverage }
+draft_publication_map f publication =
+    record { name = publication.name; publishes = publication.publishes; coverage =
+    coverage_map f publication.coverage }
 
 abbrev pub draft_map : {S T : Type 0} → (S → T) → DraftOf S → DraftOf T
-draft_map f draft = record { schemas = draft.schemas; tables = draft.tables; publications = map (draft_publication_map f) draft.publications; subscriptions = draft.subscriptions }
+draft_map f draft = record
+    { schemas = draft.schemas; tables = draft.tables; publications =
+    map (draft_publication_map f) draft.publications; subscriptions = draft.subscriptions }

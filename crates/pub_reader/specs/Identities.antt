@@ -30,7 +30,8 @@ action ts = action_by (item_ahead ts) ts
 abbrev pub by_index : List Column → List UniqueIndex → PlacedName → Option ℕ → Verdict Identity
 by_index columns indexes called None = Err (fault called.place w.UnknownName)
 by_index columns indexes called (Some number) =
-    if identifies columns (slice_get indexes number) then Ok (Index number) else Err (fault called.place w.NullableIndex)
+    if identifies columns (slice_get indexes number) then
+        Ok (Index number) else Err (fault called.place w.NullableIndex)
 
 -- the identity by the index of this name, of a table that has these columns and indexes
 unfoldable pub index_named : List Column → List UniqueIndex → PlacedName → Verdict Identity

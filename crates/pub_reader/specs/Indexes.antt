@@ -1,4 +1,6 @@
--- CREATE UNIQUE INDEX: PostgreSQL 15, SQL Commands, CREATE INDEX, and "Data Definition", 5.9 Schemas. An index is in its table's schema, and has columns alone: an order, an operator class, an expression, and the clauses after the list are left out.
+-- CREATE UNIQUE INDEX: PostgreSQL 15, SQL Commands, CREATE INDEX, and "Data Definition", 5.9 Schemas. An index is in
+-- its table's schema, and has columns alone: an order, an operator class, an expression, and the clauses after the
+-- list are left out.
 use Rattle.std.specs.Prelude.{ℕ, ◌==◌, nat_le, if◌then◌else◌, List, [], ◌∷◌, ◌++◌, length, Option, Some, Ok, Err, codes}
 use Rattle.std.specs.List.{list_any}
 use Rattle.std.specs.Str.{bytes_eq}
@@ -17,16 +19,19 @@ use Rattle.pub_reader.specs.Drafts.{DraftOf, find_relation}
 use Rattle.pub_reader.specs.Schemas.{fresh}
 use Rattle.pub_reader.specs.TableNames.{table_number}
 
--- a new index of the table of this number has a name that no table and no index of the table's schema has, and a table has at most 8
-unfoldable pub new_index : List Table → ℕ → PlacedName → Verdict (Unit {0})
-new_index tables number called =
-    fresh called (find_relation (schema_at tables number) called.text tables) (nat_le 8 (length (indexes_at tables number))) Indexes
+-- a new index of the table of this number has a name that no table and no index of the table's schema has, and a
+-- table has at most 8
+unfoldable pub check_new_index : List Table → ℕ → PlacedName → Verdict (Unit {0})
+check_new_index tables number called =
+    fresh called (find_relation (schema_at tables number) called.text tables)
+        (nat_le 8 (length (indexes_at tables number))) Indexes
 
 -- ---- the method
 
 -- another method than B-tree is left out
 unfoldable pub known_method : PlacedName → Verdict (Unit {0})
-known_method called = if bytes_eq called.text (codes "btree") then Ok tt else Err (fault called.place (w.LeftOut Clause))
+known_method called = if bytes_eq called.text (codes "btree") then
+    Ok tt else Err (fault called.place (w.LeftOut Clause))
 
 unfoldable pub named_method : Rule (Unit {0})
 named_method = do
@@ -45,7 +50,8 @@ method ts = method_by (item_ahead ts) ts
 -- ---- the columns, each at most once
 
 unfoldable pub once_in_index : List ℕ → PlacedName → FoundColumn → Verdict (Unit {0})
-once_in_index numbers called column = if list_any (λ n. n == column.number) numbers then Err (fault called.place w.NameTwice) else Ok tt
+once_in_index numbers called column = if list_any (λ n. n == column.number) numbers then
+    Err (fault called.place w.NameTwice) else Ok tt
 
 unfoldable pub index_column : List Column → List ℕ → Rule (List ℕ)
 index_column columns numbers = do
@@ -85,7 +91,7 @@ indexed_table draft called = do
   -- ONLY leaves out the partitions of a table, of which there are none
   eat (i.Keyword k.Only)
   number ← table_number draft
-  check (new_index draft.tables number called)
+  check (check_new_index draft.tables number called)
   pure number
 
 -- after CREATE UNIQUE

@@ -23,4 +23,4 @@ pub use Rattle.sql_reader.specs.KindNames
 pub use Rattle.sql_reader.specs.Reading
 pub use Rattle.sql_reader.specs.Rows
 pub use Rattle.sql_reader.specs.Written
-pub use Rattle.sql_reader.specs.Wrong
+pub use Rattle.sql_reader.specs.ErrorKinds

@@ -1,4 +1,5 @@
--- What a publication is made for: PostgreSQL 15, SQL Commands, CREATE PUBLICATION: FOR TABLE, FOR TABLES IN SCHEMA and the WHERE clause.
+-- What a publication is made for: PostgreSQL 15, SQL Commands, CREATE PUBLICATION: FOR TABLE, FOR TABLES IN SCHEMA
+-- and the WHERE clause.
 use Rattle.std.specs.Prelude.{ℕ, Bool, not, ◌&&◌, ◌||◌, ◌==◌, if◌then◌else◌, List, [], ◌∷◌, ◌++◌, Option, Some, None, Ok, Err}
 use Rattle.std.specs.List.{list_any}
 use Rattle.std.specs.Option.{is_some}
@@ -40,8 +41,10 @@ is_filtered number entry = entry.table == number && is_some entry.filter
 -- A table; its name is at this place. Its second mention is ignored, but refused if either mention has a filter.
 unfoldable pub table_mentioned : {S : Type 0} → CoverageOf S → ℕ → EntryOf S → Verdict (CoverageOf S)
 table_mentioned coverage place entry =
-    if not (list_any (is_of entry.table) coverage.entries) then Ok (record coverage { entries = coverage.entries ++ entry ∷ [] })
-    else if is_some entry.filter || list_any (is_filtered entry.table) coverage.entries then Err (fault place w.TableTwice)
+    if not (list_any (is_of entry.table) coverage.entries) then
+        Ok (record coverage { entries = coverage.entries ++ entry ∷ [] })
+    else if is_some entry.filter || list_any (is_filtered entry.table) coverage.entries then
+        Err (fault place w.TableTwice)
     else Ok coverage
 
 -- ---- WHERE
@@ -72,7 +75,8 @@ named_schema draft coverage = do
 
 -- the current schema is "public"
 unfoldable pub current_schema : {S : Type 0} → CoverageOf S → Rule (ObjectsOf S)
-current_schema coverage = expect (i.Keyword k.CurrentSchema) >> pure (objects_so_far o.Schema (with_schema coverage public_schema))
+current_schema coverage =
+    expect (i.Keyword k.CurrentSchema) >> pure (objects_so_far o.Schema (with_schema coverage public_schema))
 
 abbrev pub schema_object_by : {S : Type 0} → Option Item → DraftOf S → CoverageOf S → Rule (ObjectsOf S)
 schema_object_by (Some (i.Keyword k.CurrentSchema)) draft coverage = current_schema coverage
@@ -90,7 +94,8 @@ in_schema draft coverage = do
 
 -- a schema, once its name is read
 unfoldable pub taken_schema : {S : Type 0} → DraftOf S → CoverageOf S → PlacedName → Rule (ObjectsOf S)
-taken_schema draft coverage called = check (schema_mentioned draft coverage called) >>= (λ covered. pure (objects_so_far o.Schema covered))
+taken_schema draft coverage called =
+    check (schema_mentioned draft coverage called) >>= (λ covered. pure (objects_so_far o.Schema covered))
 
 module _ {S : Type 0} (forms : Forms S) where
   -- ---- a table
@@ -99,7 +104,8 @@ module _ {S : Type 0} (forms : Forms S) where
   unfoldable pub ended : DraftOf S → CoverageOf S → ℕ → ℕ → S → Rule (Option S)
   ended draft coverage number place filter = do
     expect i.Close
-    check (limited place ((filters_on forms.tree number draft.publications ++ filters_in forms.tree number coverage.entries) ++ forms.tree filter ∷ []))
+    check (limited place ((filters_on forms.tree number draft.publications
+        ++ filters_in forms.tree number coverage.entries) ++ forms.tree filter ∷ []))
     pure (Some filter)
 
   unfoldable pub where_clause : DraftOf S → CoverageOf S → ℕ → Rule (Option S)
@@ -147,7 +153,8 @@ module _ {S : Type 0} (forms : Forms S) where
   tables_by _ kind draft coverage called = taken_by kind draft coverage called
 
   unfoldable pub after_tables : DraftOf S → ObjectsOf S → PlacedName → Rule (ObjectsOf S)
-  after_tables draft objects called = look >> (λ ts. tables_by (item_ahead ts) objects.kind draft objects.coverage called ts)
+  after_tables draft objects called =
+      look >> (λ ts. tables_by (item_ahead ts) objects.kind draft objects.coverage called ts)
 
   unfoldable pub tables_object : DraftOf S → ObjectsOf S → Rule (ObjectsOf S)
   tables_object draft objects = name >>= after_tables draft objects

@@ -1,4 +1,5 @@
--- The list of operations that a publication publishes: PostgreSQL 15, SQL Commands, CREATE PUBLICATION, the parameter "publish".
+-- The list of operations that a publication publishes: PostgreSQL 15, SQL Commands, CREATE PUBLICATION, the parameter
+-- "publish".
 use Rattle.std.specs.Prelude.{ℕ, suc, ◌-◌, Bool, true, false, not, ◌==◌, if◌then◌else◌, List, [], ◌∷◌, length, take, drop, Option, Some, None, codes}
 use Rattle.std.specs.Borrow.{Bor}
 use Rattle.std.specs.List.{prefix_len, suffix_len}

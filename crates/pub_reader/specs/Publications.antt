@@ -14,13 +14,15 @@ use Rattle.pub_reader.specs.Publishing.{parameters_clause}
 use Rattle.pub_reader.specs.Schemas.{fresh}
 
 -- a new publication has a new name, and there are at most 64
-unfoldable pub new_publication : {S : Type 0} → DraftOf S → PlacedName → Verdict (Unit {0})
-new_publication draft called = fresh called (find_publication called.text draft.publications) (nat_le 64 (length draft.publications)) Publications
+unfoldable pub check_new_publication : {S : Type 0} → DraftOf S → PlacedName → Verdict (Unit {0})
+check_new_publication draft called =
+    fresh called (find_publication called.text draft.publications) (nat_le 64 (length draft.publications))
+    Publications
 
 unfoldable pub publication_name : {S : Type 0} → DraftOf S → Rule PlacedName
 publication_name draft = do
   called ← name
-  check (new_publication draft called)
+  check (check_new_publication draft called)
   pure called
 
 -- every table, those that are made later too
@@ -36,7 +38,10 @@ published (Some listed) = listed
 
 -- the draft with one more publication
 abbrev pub with_publication : {S : Type 0} → DraftOf S → PlacedName → CoverageOf S → Given → DraftOf S
-with_publication draft called coverage given = record draft { publications = draft.publications ++ record { name = called.text; publishes = published given.publishes; coverage = coverage } ∷ [] }
+with_publication draft called coverage given =
+    record draft { publications =
+    draft.publications ++ record { name = called.text; publishes = published given.publishes; coverage = coverage }
+    ∷ [] }
 
 module _ {S : Type 0} (forms : Forms S) where
   unfoldable pub listed_objects : DraftOf S → Rule (CoverageOf S)

@@ -40,7 +40,9 @@ publish given = do
 
 abbrev pub is_boolean : List ℕ → Bool
 is_boolean word =
-    str_eq_ignore_ascii_case word (codes "true") || (str_eq_ignore_ascii_case word (codes "false") || (str_eq_ignore_ascii_case word (codes "on") || str_eq_ignore_ascii_case word (codes "off")))
+    str_eq_ignore_ascii_case word (codes "true")
+        || (str_eq_ignore_ascii_case word (codes "false")
+        || (str_eq_ignore_ascii_case word (codes "on") || str_eq_ignore_ascii_case word (codes "off")))
 
 abbrev pub boolean_taken : Bool → Rule (Unit {0})
 boolean_taken true = advance
@@ -84,7 +86,8 @@ parameter_by _ written = parameter_named written
 
 abbrev pub parameter_given : Option Parameter → Given → Rule Given
 parameter_given (Some p.Publish) given = if is_some given.publishes then refuse_as w.NameTwice else publish given
-parameter_given (Some p.PartitionRoot) given = if given.partition_root then refuse_as w.NameTwice else partition_root given
+parameter_given (Some p.PartitionRoot) given = if given.partition_root then
+    refuse_as w.NameTwice else partition_root given
 parameter_given None given = refuse_as w.UnknownName
 
 unfoldable pub one_parameter : Given → Rule Given

@@ -22,11 +22,12 @@ unfoldable pub known_schema : List (List ℕ) → PlacedName → Verdict ℕ
 known_schema schemas called = known called (find_schema called.text schemas)
 
 -- a new schema has a new name
-unfoldable pub new_schema : List (List ℕ) → PlacedName → Verdict (Unit {0})
-new_schema schemas called = if is_some (find_schema called.text schemas) then Err (fault called.place w.NameTwice) else Ok tt
+unfoldable pub check_new_schema : List (List ℕ) → PlacedName → Verdict (Unit {0})
+check_new_schema schemas called = if is_some (find_schema called.text schemas) then
+    Err (fault called.place w.NameTwice) else Ok tt
 
 unfoldable pub create_schema : {S : Type 0} → DraftOf S → Rule (DraftOf S)
 create_schema draft = do
   called ← name
-  check (new_schema draft.schemas called)
+  check (check_new_schema draft.schemas called)
   pure (record draft { schemas = with_name draft.schemas called.text })

@@ -1,4 +1,5 @@
--- The commands of a script: PostgreSQL 15, SQL Commands, INSERT, UPDATE, DELETE and TRUNCATE, in a short form: a table, and then rows and keys in parentheses. A key is written as a row.
+-- The commands of a script: PostgreSQL 15, SQL Commands, INSERT, UPDATE, DELETE and TRUNCATE, in a short form: a
+-- table, and then rows and keys in parentheses. A key is written as a row.
 use Rattle.std.specs.Prelude.{ℕ, List, [], ◌∷◌, ◌++◌, Option, Some, None, if◌then◌else◌, codes}
 use Rattle.std.specs.Str.{str_eq_ignore_ascii_case}
 use Rattle.filter_tree.specs.declared.table.Table.{Table}

@@ -1,4 +1,5 @@
--- The tables that a script names, which are those of a catalog: PostgreSQL 15, "Data Definition", 5.9 Schemas. A name without a schema is one of the schema "public".
+-- The tables that a script names, which are those of a catalog: PostgreSQL 15, "Data Definition", 5.9 Schemas. A name
+-- without a schema is one of the schema "public".
 use Rattle.std.specs.Prelude.{ℕ, Bool, ◌||◌, if◌then◌else◌, List, Ok, Err}
 use Rattle.std.specs.List.{list_any}
 use Rattle.std.specs.Str.{bytes_eq}
@@ -29,11 +30,15 @@ name_after_schema tables schema = do
 
 -- the number of the table of that name
 unfoldable pub table_after_schema : List Table → PlacedName → Rule ℕ
-table_after_schema tables schema = name_after_schema tables schema >>= (λ called. check (known_table tables schema.text called))
+table_after_schema tables schema =
+    name_after_schema tables schema >>= (λ called. check (known_table tables schema.text called))
 
--- After a first name, which is that of a schema if a dot follows: the token after it is looked at before it is looked up.
+-- After a first name, which is that of a schema if a dot follows: the token after it is looked at before it is looked
+-- up.
 unfoldable pub table_called : List Table → PlacedName → Rule ℕ
-table_called tables called = look >> (λ ts. if is_ahead i.Dot ts then table_after_schema tables called ts else check (known_table tables public_schema called) ts)
+table_called tables called =
+    look >> (λ ts. if is_ahead i.Dot ts then
+    table_after_schema tables called ts else check (known_table tables public_schema called) ts)
 
 unfoldable pub script_table : List Table → Rule ℕ
 script_table tables = name >>= table_called tables

@@ -1,4 +1,5 @@
--- The steps of a script, in words of its own: what is committed, and what happens on the connection of a subscriber, by its number. Bytes are counted.
+-- The steps of a script, in words of its own: what is committed, and what happens on the connection of a subscriber,
+-- by its number. Bytes are counted.
 use Rattle.std.specs.Prelude.{ℕ, Bool, true, false, nat_le, List, Option, Some, None, if◌then◌else◌, codes}
 use Rattle.std.specs.Str.{str_eq_ignore_ascii_case}
 use Rattle.filter_tree.specs.declared.table.Table.{Table}

@@ -1,4 +1,5 @@
--- CREATE SUBSCRIPTION: PostgreSQL 15, SQL Commands, CREATE SUBSCRIPTION. The connection text is not used, and WITH is left out.
+-- CREATE SUBSCRIPTION: PostgreSQL 15, SQL Commands, CREATE SUBSCRIPTION. The connection text is not used, and WITH is
+-- left out.
 use Rattle.std.specs.Prelude.{ℕ, ◌==◌, nat_le, if◌then◌else◌, List, [], ◌∷◌, ◌++◌, length, Option, Some, None, Ok, Err}
 use Rattle.std.specs.List.{list_any}
 use Rattle.pub_reader.specs.Grammar.k
@@ -11,20 +12,23 @@ use Rattle.pub_reader.specs.Drafts.{DraftOf, find_publication, find_subscription
 use Rattle.pub_reader.specs.Schemas.{fresh}
 
 -- a new subscription has a new name, and there are at most 32
-unfoldable pub new_subscription : {S : Type 0} → DraftOf S → PlacedName → Verdict (Unit {0})
-new_subscription draft called = fresh called (find_subscription called.text draft.subscriptions) (nat_le 32 (length draft.subscriptions)) Subscriptions
+unfoldable pub check_new_subscription : {S : Type 0} → DraftOf S → PlacedName → Verdict (Unit {0})
+check_new_subscription draft called =
+    fresh called (find_subscription called.text draft.subscriptions) (nat_le 32 (length draft.subscriptions))
+    Subscriptions
 
 unfoldable pub subscription_name : {S : Type 0} → DraftOf S → Rule PlacedName
 subscription_name draft = do
   called ← name
-  check (new_subscription draft called)
+  check (check_new_subscription draft called)
   pure called
 
 -- ---- its publications, each at most once
 
 abbrev pub once : List ℕ → PlacedName → Option ℕ → Verdict ℕ
 once numbers called None = Err (fault called.place w.UnknownName)
-once numbers called (Some number) = if list_any (λ n. n == number) numbers then Err (fault called.place w.NameTwice) else Ok number
+once numbers called (Some number) = if list_any (λ n. n == number) numbers then
+    Err (fault called.place w.NameTwice) else Ok number
 
 unfoldable pub subscribed : {S : Type 0} → DraftOf S → List ℕ → PlacedName → Verdict ℕ
 subscribed draft numbers called = once numbers called (find_publication called.text draft.publications)
@@ -61,4 +65,5 @@ unfoldable pub create_subscription : {S : Type 0} → DraftOf S → Rule (DraftO
 create_subscription draft = do
   called ← subscription_name draft
   numbers ← subscription_body draft
-  pure (record draft { subscriptions = draft.subscriptions ++ record { name = called.text; publications = numbers } ∷ [] })
+  pure (record draft { subscriptions =
+      draft.subscriptions ++ record { name = called.text; publications = numbers } ∷ [] })

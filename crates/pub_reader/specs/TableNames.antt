@@ -1,4 +1,5 @@
--- The names of tables, with their schemas: PostgreSQL 15, "Data Definition", 5.9 Schemas. A name without a schema is one of the schema "public".
+-- The names of tables, with their schemas: PostgreSQL 15, "Data Definition", 5.9 Schemas. A name without a schema is
+-- one of the schema "public".
 use Rattle.std.specs.Prelude.{ℕ, Bool, true, nat_le, if◌then◌else◌, List, length, Option, Some, Err}
 use Rattle.filter_tree.specs.declared.table.Table.{Table}
 use Rattle.pub_reader.specs.Grammar.k
@@ -26,11 +27,15 @@ name_in_schema schemas schema = do
 
 -- the table of that name
 unfoldable pub table_in_schema : {S : Type 0} → DraftOf S → PlacedName → Rule ℕ
-table_in_schema draft schema = name_in_schema draft.schemas schema >>= (λ called. check (known_table draft.tables schema.text called))
+table_in_schema draft schema =
+    name_in_schema draft.schemas schema >>= (λ called. check (known_table draft.tables schema.text called))
 
--- After a first name, which is that of a schema if a dot follows: the token after it is looked at before it is looked up.
+-- After a first name, which is that of a schema if a dot follows: the token after it is looked at before it is looked
+-- up.
 unfoldable pub table_named : {S : Type 0} → DraftOf S → PlacedName → Rule ℕ
-table_named draft called = look >> (λ ts. if is_ahead i.Dot ts then table_in_schema draft called ts else check (known_table draft.tables public_schema called) ts)
+table_named draft called =
+    look >> (λ ts. if is_ahead i.Dot ts then
+    table_in_schema draft called ts else check (known_table draft.tables public_schema called) ts)
 
 unfoldable pub table_number : {S : Type 0} → DraftOf S → Rule ℕ
 table_number draft = name >>= table_named draft
@@ -38,11 +43,13 @@ table_number draft = name >>= table_named draft
 -- ---- a new table
 
 -- a new table has a name that no table and no index of its schema has, and there are at most 64
-unfoldable pub new_table : List Table → NewName → Verdict (Unit {0})
-new_table tables called = fresh called.name (find_relation called.schema called.name.text tables) (nat_le 64 (length tables)) Tables
+unfoldable pub check_new_table : List Table → NewName → Verdict (Unit {0})
+check_new_table tables called =
+    fresh called.name (find_relation called.schema called.name.text tables) (nat_le 64 (length tables)) Tables
 
 unfoldable pub new_in_schema : List (List ℕ) → PlacedName → Rule NewName
-new_in_schema schemas schema = name_in_schema schemas schema >>= (λ called. pure (record { schema = schema.text; name = called }))
+new_in_schema schemas schema =
+    name_in_schema schemas schema >>= (λ called. pure (record { schema = schema.text; name = called }))
 
 -- IF is a name unless NOT follows, where a clause begins that is left out
 abbrev pub new_by : Bool → Option Item → List (List ℕ) → PlacedName → Rule NewName
@@ -66,6 +73,6 @@ unfoldable pub new_name : {S : Type 0} → DraftOf S → Rule NewName
 new_name draft = λ ts. (do
   first ← name
   called ← new_named draft.schemas (is_ahead (i.Keyword k.If) ts) first
-  check (new_table draft.tables called)
+  check (check_new_table draft.tables called)
   table_head
   pure called) ts

@@ -73,11 +73,11 @@ impl Draft {
     ghost use Rattle.pub_catalog.specs.CatalogView.{catalog_view};
     ghost use Rattle.pub_reader.specs.Drafts as spec;
     ghost use Rattle.pub_reader.specs.DraftView.{draft_view, draft_publication_view};
-    ghost use Rattle.pub_reader.specs.Indexes.{new_index};
-    ghost use Rattle.pub_reader.specs.Publications.{new_publication};
-    ghost use Rattle.pub_reader.specs.Schemas.{known, new_schema, known_schema};
-    ghost use Rattle.pub_reader.specs.Subscriptions.{new_subscription};
-    ghost use Rattle.pub_reader.specs.TableNames.{new_table, known_table};
+    ghost use Rattle.pub_reader.specs.Indexes.{check_new_index};
+    ghost use Rattle.pub_reader.specs.Publications.{check_new_publication};
+    ghost use Rattle.pub_reader.specs.Schemas.{known, check_new_schema, known_schema};
+    ghost use Rattle.pub_reader.specs.Subscriptions.{check_new_subscription};
+    ghost use Rattle.pub_reader.specs.TableNames.{check_new_table, known_table};
 
     /// Nothing made but the schema `public`.
     pub fn new(alloc: Global) -> Result<Draft, AllocError>
@@ -96,9 +96,9 @@ impl Draft {
     }
 
     /// Refuses a schema whose name is taken.
-    #[tactic(auto, unfolding(crate::specs::Schemas::new_schema))]
-    pub fn new_schema(&self, name: &PlacedName) -> Result<(), ReadError>
-        ensures { Answers (λ u. u) (new_schema (draft_view self.now).schemas name.now) result }
+    #[tactic(auto, unfolding(crate::specs::Schemas::check_new_schema))]
+    pub fn check_new_schema(&self, name: &PlacedName) -> Result<(), ReadError>
+        ensures { Answers (λ u. u) (check_new_schema (draft_view self.now).schemas name.now) result }
     {
         let found = self.schemas.find(name.text.as_str());
         if found.is_some() {
@@ -159,9 +159,9 @@ impl Draft {
     }
 
     /// Refuses a table whose name a table or an index of its schema has, or that is one too many.
-    #[tactic(auto, unfolding(crate::specs::TableNames::new_table))]
-    pub fn new_table(&self, name: &NewName) -> Result<(), ReadError>
-        ensures { Answers (λ u. u) (new_table (draft_view self.now).tables name.now) result }
+    #[tactic(auto, unfolding(crate::specs::TableNames::check_new_table))]
+    pub fn check_new_table(&self, name: &NewName) -> Result<(), ReadError>
+        ensures { Answers (λ u. u) (check_new_table (draft_view self.now).tables name.now) result }
     {
         let found = self.find_relation(name.schema.as_str(), name.name.text.as_str());
         check_new(
@@ -174,10 +174,10 @@ impl Draft {
 
     /// Refuses an index of the table of this number whose name a table or an index of the table's schema has, or that
     /// is one too many.
-    #[tactic(auto, unfolding(crate::specs::Indexes::new_index))]
-    pub fn new_index(&self, number: usize, name: &PlacedName) -> Result<(), ReadError>
+    #[tactic(auto, unfolding(crate::specs::Indexes::check_new_index))]
+    pub fn check_new_index(&self, number: usize, name: &PlacedName) -> Result<(), ReadError>
         requires { number < length (draft_view self.now).tables }
-        ensures { Answers (λ u. u) (new_index (draft_view self.now).tables number name.now) result }
+        ensures { Answers (λ u. u) (check_new_index (draft_view self.now).tables number name.now) result }
     {
         let found = self.find_relation(self.schema(number), name.text.as_str());
         check_new(
@@ -189,9 +189,9 @@ impl Draft {
     }
 
     /// Refuses a publication whose name is taken, or that is one too many.
-    #[tactic(auto, unfolding(crate::specs::Publications::new_publication))]
-    pub fn new_publication(&self, name: &PlacedName) -> Result<(), ReadError>
-        ensures answer { Answers (λ u. u) (new_publication (draft_view self.now) name.now) result }
+    #[tactic(auto, unfolding(crate::specs::Publications::check_new_publication))]
+    pub fn check_new_publication(&self, name: &PlacedName) -> Result<(), ReadError>
+        ensures answer { Answers (λ u. u) (check_new_publication (draft_view self.now) name.now) result }
         ensures free { OnOk result (spec.find_publication name.now.text (draft_view self.now).publications ≡ None) }
     {
         let found = self.find_publication(name.text.as_str());
@@ -204,9 +204,9 @@ impl Draft {
     }
 
     /// Refuses a subscription whose name is taken, or that is one too many.
-    #[tactic(auto, unfolding(crate::specs::Subscriptions::new_subscription))]
-    pub fn new_subscription(&self, name: &PlacedName) -> Result<(), ReadError>
-        ensures answer { Answers (λ u. u) (new_subscription (draft_view self.now) name.now) result }
+    #[tactic(auto, unfolding(crate::specs::Subscriptions::check_new_subscription))]
+    pub fn check_new_subscription(&self, name: &PlacedName) -> Result<(), ReadError>
+        ensures answer { Answers (λ u. u) (check_new_subscription (draft_view self.now) name.now) result }
         ensures free { OnOk result (spec.find_subscription name.now.text (draft_view self.now).subscriptions ≡ None) }
     {
         let found = self.find_subscription(name.text.as_str());

@@ -3,7 +3,7 @@
 ghost use Rattle.std.specs.Prelude.{◌<◌, ◌∷◌, ◌++◌, [], length, map};
 ghost use Rattle.std.specs.Option.{option_map};
 ghost use Rattle.filter_tree.specs.Shape.{expr_view};
-ghost use Rattle.sql_reader.specs.Taking.{Takes, TakesSome, Answers};
+ghost use Rattle.sql_reader.specs.ParsingContracts.{Takes, TakesSome, Answers};
 ghost use Rattle.sql_reader.specs.Written.{as_filter};
 ghost use Rattle.pub_reader.specs.Drafts.{filters_in, filters_on};
 ghost use Rattle.pub_reader.specs.DraftView.{coverage_view, draft_view};

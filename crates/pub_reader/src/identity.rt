@@ -2,7 +2,7 @@
 
 ghost use Rattle.pub_reader.specs.DraftView.{draft_view};
 ghost use Rattle.pub_reader.specs.Identities as spec;
-ghost use Rattle.sql_reader.specs.Taking.{Takes, TakesSome, Answers};
+ghost use Rattle.sql_reader.specs.ParsingContracts.{Takes, TakesSome, Answers};
 
 use crate::draft::{Draft, find_index};
 use crate::names::known_number;

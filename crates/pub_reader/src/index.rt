@@ -3,7 +3,7 @@
 ghost use Rattle.std.specs.Prelude.{◌<◌, IfOk, length};
 ghost use Rattle.pub_reader.specs.DraftView.{draft_view};
 ghost use Rattle.pub_reader.specs.Indexes as spec;
-ghost use Rattle.sql_reader.specs.Taking.{Takes, TakesSome, to_read, Reads, Answers};
+ghost use Rattle.sql_reader.specs.ParsingContracts.{Takes, TakesSome, to_read, Reads, Answers};
 
 use crate::draft::Draft;
 use crate::table_name::table_number;
@@ -82,7 +82,7 @@ fn index_column(
 }
 
 /// Takes the names of the columns of the index, which commas part.
-#[tactic(auto, using(sql_reader::proofs::Turning::chains), unfolding(crate::specs::Indexes::index_columns))]
+#[tactic(auto, using(sql_reader::proofs::RepetitionLemmas::chains), unfolding(crate::specs::Indexes::index_columns))]
 fn index_columns(
     r: &mut Reader<'_>,
     alloc: Global,
@@ -143,7 +143,7 @@ fn indexed_table(
     r.expect(Item::Keyword(Keyword::On), "ON")?;
     r.eat(Item::Keyword(Keyword::Only));
     let number = table_number(r, alloc, draft)?;
-    draft.new_index(number, name)?;
+    draft.check_new_index(number, name)?;
     Ok(number)
 }
 

@@ -1,7 +1,7 @@
 //! What a publication is made for: tables, with the filters of their rows, and schemas.
 
 ghost use Rattle.std.specs.Prelude.{◌≡◌};
-ghost use Rattle.sql_reader.specs.Taking.{Takes, TakesSome, to_read, Reads, Answers};
+ghost use Rattle.sql_reader.specs.ParsingContracts.{Takes, TakesSome, to_read, Reads, Answers};
 ghost use Rattle.sql_reader.specs.Written.{as_filter};
 ghost use Rattle.pub_reader.specs.Drafts.{nothing_covered};
 ghost use Rattle.pub_reader.specs.DraftView.{coverage_view, draft_view, objects_view};
@@ -268,7 +268,7 @@ fn first_object(
 }
 
 /// Takes objects, which commas part.
-#[tactic(auto, using(sql_reader::proofs::Turning::chains), unfolding(crate::specs::Objects::objects))]
+#[tactic(auto, using(sql_reader::proofs::RepetitionLemmas::chains), unfolding(crate::specs::Objects::objects))]
 pub fn objects(
     r: &mut Reader<'_>,
     alloc: Global,

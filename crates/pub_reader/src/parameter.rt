@@ -3,7 +3,7 @@
 ghost use Rattle.std.specs.Prelude.{◌≡◌, IsSome};
 ghost use Rattle.pub_reader.specs.Operations.{operations as operations_of};
 ghost use Rattle.pub_reader.specs.Publishing as spec;
-ghost use Rattle.sql_reader.specs.Taking.{Takes, TakesSome, to_read, item_ahead, written_ahead};
+ghost use Rattle.sql_reader.specs.ParsingContracts.{Takes, TakesSome, to_read, item_ahead, written_ahead};
 
 use crate::publish::operations;
 use pub_catalog::Operations;
@@ -207,7 +207,7 @@ fn one_parameter(r: &mut Reader<'_>, given: Given) -> Result<Given, ReadError>
 }
 
 /// Takes parameters, which commas part.
-#[tactic(auto, using(sql_reader::proofs::Turning::chains), unfolding(crate::specs::Publishing::parameters))]
+#[tactic(auto, using(sql_reader::proofs::RepetitionLemmas::chains), unfolding(crate::specs::Publishing::parameters))]
 fn parameters(r: &mut Reader<'_>) -> Result<Given, ReadError>
     ensures { TakesSome (λ given. given) spec.parameters r.old result r.new }
 {

@@ -1,7 +1,7 @@
 //! CREATE PUBLICATION.
 
 ghost use Rattle.std.specs.Prelude.{◌≡◌, IfOk, None, OnOk};
-ghost use Rattle.sql_reader.specs.Taking.{Takes, TakesSome};
+ghost use Rattle.sql_reader.specs.ParsingContracts.{Takes, TakesSome};
 ghost use Rattle.sql_reader.specs.Written.{as_filter};
 ghost use Rattle.pub_reader.specs.Drafts.{find_publication};
 ghost use Rattle.pub_reader.specs.DraftView.{coverage_view, draft_view};
@@ -34,7 +34,7 @@ fn publication_name(
     ensures free { IfOk result (λ name. find_publication name.text (draft_view draft.now).publications ≡ None) }
 {
     let name = read_name(r, alloc, "the name of a publication")?;
-    draft.new_publication(&name)?;
+    draft.check_new_publication(&name)?;
     Ok(name)
 }
 

@@ -2,7 +2,7 @@
 
 ghost use Rattle.std.specs.Prelude.{◌<◌, OnOk, map};
 ghost use Rattle.sql_reader.specs.Items.{size};
-ghost use Rattle.sql_reader.specs.Taking.{TakesSome, to_read, Reads, Answers};
+ghost use Rattle.sql_reader.specs.ParsingContracts.{TakesSome, to_read, Reads, Answers};
 ghost use Rattle.pub_reader.specs.Scripts as spec;
 ghost use Rattle.pub_reader.specs.ScriptView.{line_view};
 
@@ -55,7 +55,7 @@ fn one_line(
 }
 
 /// Takes steps to the end of a text.
-#[tactic(auto, using(sql_reader::proofs::Turning::turns), unfolding(crate::specs::Scripts::lines))]
+#[tactic(auto, using(sql_reader::proofs::RepetitionLemmas::turns), unfolding(crate::specs::Scripts::lines))]
 fn lines(r: &mut Reader<'_>, alloc: Global, tables: &[Table]) -> Result<Vec<Line>, ReadError>
     ensures { Reads (λ lines. map line_view lines.items) (spec.lines tables.now (to_read r.old))
         result (to_read r.new) }

@@ -2,7 +2,7 @@
 
 ghost use Rattle.std.specs.Prelude.{◌≡◌, map};
 ghost use Rattle.table_changes.specs.Commands.{command_view};
-ghost use Rattle.sql_reader.specs.Taking.{Takes, TakesSome, to_read};
+ghost use Rattle.sql_reader.specs.ParsingContracts.{Takes, TakesSome, to_read};
 ghost use Rattle.pub_reader.specs.ScriptCommands as spec;
 
 use crate::script_table::script_table;
@@ -93,7 +93,7 @@ fn one_table(
 }
 
 /// Takes the names of tables, which commas part, and tells their numbers.
-#[tactic(auto, using(sql_reader::proofs::Turning::chains), unfolding(crate::specs::ScriptCommands::table_list))]
+#[tactic(auto, using(sql_reader::proofs::RepetitionLemmas::chains), unfolding(crate::specs::ScriptCommands::table_list))]
 fn table_list(r: &mut Reader<'_>, alloc: Global, tables: &[Table]) -> Result<Vec<usize>, ReadError>
     ensures { TakesSome (λ numbers. numbers.items) (spec.table_list tables.now) r.old result r.new }
 {
@@ -159,7 +159,7 @@ fn one_command(
 }
 
 /// Takes commands, which commas part.
-#[tactic(auto, using(sql_reader::proofs::Turning::chains), unfolding(crate::specs::ScriptCommands::command_list))]
+#[tactic(auto, using(sql_reader::proofs::RepetitionLemmas::chains), unfolding(crate::specs::ScriptCommands::command_list))]
 fn command_list(
     r: &mut Reader<'_>,
     alloc: Global,

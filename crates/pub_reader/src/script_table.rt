@@ -1,7 +1,7 @@
 //! The tables that a script names.
 
 ghost use Rattle.std.specs.Prelude.{◌≡◌};
-ghost use Rattle.sql_reader.specs.Taking.{Takes, TakesSome, Answers};
+ghost use Rattle.sql_reader.specs.ParsingContracts.{Takes, TakesSome, Answers};
 ghost use Rattle.pub_reader.specs.Drafts.{find_table as table_found};
 ghost use Rattle.pub_reader.specs.ScriptTables as spec;
 ghost use Rattle.pub_reader.specs.TableNames.{known_table as table_known};

@@ -1,7 +1,7 @@
 //! The statements of a catalog.
 
 ghost use Rattle.std.specs.Prelude.{IfOk, OnOk};
-ghost use Rattle.sql_reader.specs.Taking.{Takes, TakesSome, to_read, Reads, Answers};
+ghost use Rattle.sql_reader.specs.ParsingContracts.{Takes, TakesSome, to_read, Reads, Answers};
 ghost use Rattle.sql_reader.specs.Written.{as_filter, as_written};
 ghost use Rattle.pub_catalog.specs.CatalogEntries.{AllCarryKnown};
 ghost use Rattle.pub_catalog.specs.CatalogLimits.{IsLimited};
@@ -86,7 +86,7 @@ fn ended_statement(r: &mut Reader<'_>, alloc: Global, draft: &mut Draft) -> Resu
 }
 
 /// Takes statements to the end of a text.
-#[tactic(auto, using(sql_reader::proofs::Turning::turns), unfolding(crate::specs::Statements::statements))]
+#[tactic(auto, using(sql_reader::proofs::RepetitionLemmas::turns), unfolding(crate::specs::Statements::statements))]
 fn statements(r: &mut Reader<'_>, alloc: Global, draft: &mut Draft) -> Result<(), ReadError>
     ensures reads { Reads (λ _. draft_view draft.new) (spec.statements as_filter (draft_view draft.old) (to_read r.old))
         result (to_read r.new) }
@@ -110,7 +110,12 @@ fn statements(r: &mut Reader<'_>, alloc: Global, draft: &mut Draft) -> Result<()
 /// # Errors
 ///
 /// The first fault of the text, or `OutOfMemory` where an allocation was refused.
-#[tactic(auto, using(crate::proofs::CarryingCatalogs::means_as_written, pub_catalog::proofs::CatalogFacts::catalog_limited, pub_catalog::proofs::CatalogFacts::catalog_entries_known, pub_catalog::proofs::CatalogFacts::catalog_named))]
+#[tactic(auto, using(
+    crate::proofs::CarryingCatalogs::means_as_written,
+    pub_catalog::proofs::CatalogFacts::catalog_limited,
+    pub_catalog::proofs::CatalogFacts::catalog_entries_known,
+    pub_catalog::proofs::CatalogFacts::catalog_named
+))]
 pub fn read_catalog(alloc: Global, text: &str) -> Result<Catalog, ReadError>
     ensures catalog { Answers catalog_view (spec.catalog_by as_filter text.now) result }
     ensures written { IfOk result

@@ -1,6 +1,6 @@
 //! The steps of a script.
 
-ghost use Rattle.sql_reader.specs.Taking.{Takes, TakesSome};
+ghost use Rattle.sql_reader.specs.ParsingContracts.{Takes, TakesSome};
 ghost use Rattle.pub_reader.specs.ScriptView.{step_view};
 ghost use Rattle.pub_reader.specs.Steps as spec;
 

@@ -1,7 +1,7 @@
 //! The words that begin the steps of a script.
 
 ghost use Rattle.std.specs.Prelude.{◌≡◌};
-ghost use Rattle.sql_reader.specs.Taking.{TakesSome, to_read};
+ghost use Rattle.sql_reader.specs.ParsingContracts.{TakesSome, to_read};
 ghost use Rattle.pub_reader.specs.Steps as spec;
 
 use sql_reader::{ErrorKind, Item, Limit, ReadError, Reader, same_word};

@@ -4,7 +4,7 @@ ghost use Rattle.std.specs.Prelude.{◌≡◌, IfOk, None};
 ghost use Rattle.pub_reader.specs.Drafts.{find_subscription};
 ghost use Rattle.pub_reader.specs.DraftView.{draft_view};
 ghost use Rattle.pub_reader.specs.Subscriptions as spec;
-ghost use Rattle.sql_reader.specs.Taking.{TakesSome, to_read, Reads, Answers};
+ghost use Rattle.sql_reader.specs.ParsingContracts.{TakesSome, to_read, Reads, Answers};
 
 use crate::draft::Draft;
 use filter_tree::Items;
@@ -23,7 +23,7 @@ fn subscription_name(
     ensures free { IfOk result (λ name. find_subscription name.text (draft_view draft.now).subscriptions ≡ None) }
 {
     let name = read_name(r, alloc, "the name of a subscription")?;
-    draft.new_subscription(&name)?;
+    draft.check_new_subscription(&name)?;
     Ok(name)
 }
 
@@ -60,7 +60,7 @@ fn one_publication(
 }
 
 /// Takes the names of publications, which commas part.
-#[tactic(auto, using(sql_reader::proofs::Turning::chains), unfolding(crate::specs::Subscriptions::publication_list))]
+#[tactic(auto, using(sql_reader::proofs::RepetitionLemmas::chains), unfolding(crate::specs::Subscriptions::publication_list))]
 fn publication_list(
     r: &mut Reader<'_>,
     alloc: Global,

@@ -4,7 +4,7 @@ ghost use Rattle.std.specs.Prelude.{◌≡◌};
 ghost use Rattle.sql_reader.specs.Columns.{parts_view};
 ghost use Rattle.pub_reader.specs.DraftView.{draft_view};
 ghost use Rattle.pub_reader.specs.Tables as spec;
-ghost use Rattle.sql_reader.specs.Taking.{TakesSome, to_read, Reads, Answers};
+ghost use Rattle.sql_reader.specs.ParsingContracts.{TakesSome, to_read, Reads, Answers};
 
 use crate::draft::Draft;
 use crate::table_name::{NewName, new_name};

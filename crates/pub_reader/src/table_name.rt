@@ -3,7 +3,7 @@
 ghost use Rattle.std.specs.Prelude.{◌<◌, IfOk, length};
 ghost use Rattle.pub_reader.specs.DraftView.{draft_view};
 ghost use Rattle.pub_reader.specs.TableNames as spec;
-ghost use Rattle.sql_reader.specs.Taking.{Takes, TakesSome, to_read, Reads};
+ghost use Rattle.sql_reader.specs.ParsingContracts.{Takes, TakesSome, to_read, Reads};
 
 use crate::draft::{Draft, PUBLIC};
 use filter_tree::Text;
@@ -140,7 +140,7 @@ pub fn new_name(r: &mut Reader<'_>, alloc: Global, draft: &Draft) -> Result<NewN
     let is_if = r.is(Item::Keyword(Keyword::If));
     let first = read_name(r, alloc, "the name of a table")?;
     let name = new_named(r, alloc, draft, is_if, first)?;
-    draft.new_table(&name)?;
+    draft.check_new_table(&name)?;
     table_head(r)?;
     Ok(name)
 }

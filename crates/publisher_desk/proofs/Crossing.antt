@@ -1,4 +1,5 @@
--- Threads may share a publisher, and a seat may go to another thread. The lemmas of `tables_log/proofs/Crossing` say what crosses threads of a book and of a checked catalog.
+-- Threads may share a publisher, and a seat may go to another thread. The lemmas of `tables_log/proofs/Crossing` say
+-- what crosses threads of a book and of a checked catalog.
 use denote.RattleType.{RattleType}
 use denote.Param.Send.{IsSend, IsSync, sendable, struct_send, struct_sync, recorded_send, recorded_sync, view_send, view_sync}
 use denote.Struct.Declared.{shape}
@@ -22,14 +23,17 @@ wish_send = search sendable depth 60
 module _ (Q : RattleType) (p : pub_.Ghosts Q.Denot) (l : led.Ghosts Q.Denot) where
   pub desk_send : IsSend (D.the_row Q p l)
   desk_send = view_send _ _ _ _ _ (recorded_send (DI.the_field Q p l).row _ _ (DI.the_type Q p l).to_one
-      (struct_send (shape (DI.the_type Q p l)) (book_field_send, (LB.the_send Q l, (Vec-send W.the_row wish_send, (search sendable, tt))))))
+      (struct_send (shape (DI.the_type Q p l))
+          (book_field_send, (LB.the_send Q l, (Vec-send W.the_row wish_send, (search sendable, tt))))))
 
   publisher_field_sync : IsSync (PI.the_field Q p l).row
   publisher_field_sync = struct_sync (shape (PI.the_type Q p l))
-      (search sendable, (Arc-sync C.the_row checked_send checked_sync, (search (desk_send, crosses), (search (sendable, crosses) depth 40, tt))))
+      (search sendable, (Arc-sync C.the_row checked_send checked_sync,
+          (search (desk_send, crosses), (search (sendable, crosses) depth 40, tt))))
 
   pub publisher_sync : IsSync (P.the_row Q p l)
-  publisher_sync = view_sync _ _ _ _ _ (recorded_sync (PI.the_field Q p l).row _ _ (PI.the_type Q p l).to_one publisher_field_sync)
+  publisher_sync = view_sync _ _ _ _ _
+      (recorded_sync (PI.the_field Q p l).row _ _ (PI.the_type Q p l).to_one publisher_field_sync)
 
   pub seat_send : IsSend (Se.the_row Q p l)
   seat_send = SeS.the_send Q p l

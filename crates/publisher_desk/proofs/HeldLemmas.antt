@@ -6,8 +6,8 @@ use Rattle.std.proofs.lemmas.List.Elements.{All-replicate}
 use Rattle.filter_tree.specs.Datum.{Datum}
 use Rattle.shard_checker.specs.CheckedView.{CheckedOf, setting_in}
 use Rattle.table_changes.specs.Commands.{Command}
-use Rattle.table_changes.specs.Growing.{AreAlike}
-use Rattle.table_changes.proofs.GrowingLemmas.{are_alike}
+use Rattle.table_changes.specs.CommandLists.{AreAlike}
+use Rattle.table_changes.proofs.CommandListLemmas.{are_alike}
 use Rattle.tables_log.specs.BookView.{book_checked, book_limit, book_log, book_rows, book_setting, book_slots}
 use Rattle.tables_log.specs.Committing.{IsNew, Commits, IsKept, ChangesSlots, RefusedBy}
 use Rattle.tables_log.specs.Slots.{end_after}
@@ -21,29 +21,39 @@ use Rattle.publisher_desk.specs.Answers.{IsMade, IsFound, IsRefused}
 use Rattle.publisher_desk.specs.Held.{IsLogOf, AddsEntry, IsBookOf, IsHeldFor}
 use Rattle.publisher_desk.specs.declared.wish.Wish.{Wish}
 
-sent_longer : (wishes : List Wish) (commits more : ℕ) → commits ≤ more → All (λ (wish : Wish). wish.sent ≤ end_after commits) wishes
+sent_longer : (wishes : List Wish) (commits more : ℕ) → commits ≤ more
+    → All (λ (wish : Wish). wish.sent ≤ end_after commits) wishes
     → All (λ (wish : Wish). wish.sent ≤ end_after more) wishes
 sent_longer wishes commits more longer sent place wish low = let one = sent place wish low in omega (arith, one)
 
 -- ---- the book
 
-log_of : (checked : CheckedOf) (book : Book) (transactions : List Transaction) → book_checked book ≡ checked → StandsFor book transactions → IsLogOf checked transactions (book_log book)
+log_of : (checked : CheckedOf) (book : Book) (transactions : List Transaction) → book_checked book ≡ checked
+    → StandsFor book transactions → IsLogOf checked transactions (book_log book)
 log_of checked book transactions named stands =
-    subst (λ (one : CheckedOf). IsLogOf one transactions (book_log book)) named (record { accepted = stands.accepted; entries = stands.log })
+    subst (λ (one : CheckedOf). IsLogOf one transactions (book_log book)) named
+        (record { accepted = stands.accepted; entries = stands.log })
 
-pub new_held : (one checked : CheckedOf) (book : Book) (limit most total count : ℕ) (idle : Wish) (wishes : List Wish) → IsNew book one limit → one ≡ checked → limit ≡ most → total ≡ 0
-    → idle.sent ≡ 0 → wishes ≡ replicate count idle → count ≡ length checked.catalog.subscriptions → IsHeldFor checked most book total wishes
+pub new_held : (one checked : CheckedOf) (book : Book) (limit most total count : ℕ) (idle : Wish) (wishes : List Wish)
+    → IsNew book one limit → one ≡ checked → limit ≡ most → total ≡ 0
+    → idle.sent ≡ 0 → wishes ≡ replicate count idle → count ≡ length checked.catalog.subscriptions
+    → IsHeldFor checked most book total wishes
 new_held one checked book limit most total count idle wishes new same bound none unsent all long = record {
-  is = record { named = new.checked_is ∙ same; limited = new.limit_is ∙ bound; transactions = []; stands = new_stands book one limit new };
+  is = record { named = new.checked_is ∙ same; limited = new.limit_is ∙ bound; transactions = []; stands =
+      new_stands book one limit new };
   counted = ap length new.log ∙ sym none;
   slots = ap length all ∙ length-replicate count idle ∙ long;
-  sent = subst (All (λ (wish : Wish). wish.sent ≤ end_after (length (book_log book)))) (sym all) (All-replicate (λ (wish : Wish). wish.sent ≤ end_after (length (book_log book))) count idle (omega (arith, unsent)));
+  sent = subst (All (λ (wish : Wish). wish.sent ≤ end_after (length (book_log book)))) (sym all)
+      (All-replicate (λ (wish : Wish). wish.sent ≤ end_after (length (book_log book))) count idle
+      (omega (arith, unsent)));
 }
 
-commit_held : (checked : CheckedOf) (limit : ℕ) (old new : Book) (commands : List Command) (time number total more : ℕ) (wishes : List Wish) → Commits old new commands time number → more ≡ total + 1
+commit_held : (checked : CheckedOf) (limit : ℕ) (old new : Book) (commands : List Command)
+    (time number total more : ℕ) (wishes : List Wish) → Commits old new commands time number → more ≡ total + 1
     → IsHeldFor checked limit old total wishes → IsHeldFor checked limit new more wishes
 commit_held checked limit old new commands time number total more wishes commits one held =
-    let longer : length (book_log new) ≡ length (book_log old) + 1 = ap length commits.log ∙ length-append (book_log old) _ in
+    let longer : length (book_log new) ≡ length (book_log old) + 1 = ap length commits.log
+        ∙ length-append (book_log old) _ in
     record {
       is = record {
         named = commits.checked ∙ held.is.named;
@@ -56,7 +66,8 @@ commit_held checked limit old new commands time number total more wishes commits
       sent = sent_longer wishes (length (book_log old)) (length (book_log new)) (omega (arith, longer)) held.sent;
     }
 
-slots_held : (checked : CheckedOf) (limit : ℕ) (old new : Book) (slots : List Slot) (total : ℕ) (wishes : List Wish) → ChangesSlots old new slots
+slots_held : (checked : CheckedOf) (limit : ℕ) (old new : Book) (slots : List Slot) (total : ℕ) (wishes : List Wish)
+    → ChangesSlots old new slots
     → IsHeldFor checked limit old total wishes → IsHeldFor checked limit new total wishes
 slots_held checked limit old new slots total wishes changes held = record {
   is = record {
@@ -70,26 +81,33 @@ slots_held checked limit old new slots total wishes changes held = record {
   sent = subst (λ log. All (λ (wish : Wish). wish.sent ≤ end_after (length log)) wishes) (sym changes.log) held.sent;
 }
 
-pub made_held : (checked : CheckedOf) (limit : ℕ) (old new : Book) (commands : List Command) (time total more : ℕ) (wishes : List Wish) (result : Result ℕ CommitError)
-    → IfOk result (λ number. Commits old new commands time number) → OnErr result (IsKept old new) → OnOk result (more ≡ total + 1) → OnErr result (more ≡ total)
+pub made_held : (checked : CheckedOf) (limit : ℕ) (old new : Book) (commands : List Command) (time total more : ℕ)
+    (wishes : List Wish) (result : Result ℕ CommitError)
+    → IfOk result (λ number. Commits old new commands time number) → OnErr result (IsKept old new)
+    → OnOk result (more ≡ total + 1) → OnErr result (more ≡ total)
     → IsHeldFor checked limit old total wishes → IsHeldFor checked limit new more wishes
-made_held checked limit old new commands time total more wishes (Ok number) commits kept one same held = commit_held checked limit old new commands time number total more wishes commits one held
+made_held checked limit old new commands time total more wishes (Ok number) commits kept one same held =
+    commit_held checked limit old new commands time number total more wishes commits one held
 made_held checked limit old new commands time total more wishes (Err error) commits kept one same held =
-    subst (λ (n : ℕ). IsHeldFor checked limit new n wishes) (sym same) (slots_held checked limit old new (book_slots old) total wishes kept held)
+    subst (λ (n : ℕ). IsHeldFor checked limit new n wishes) (sym same)
+        (slots_held checked limit old new (book_slots old) total wishes kept held)
 
 -- ---- answers
 
 module _ (checked : CheckedOf) (limit : ℕ) (old : Book) (is : IsBookOf checked limit old) where
-  adds_entry : (new : Book) (commands : List Command) (time number : ℕ) → Commits old new commands time number → AddsEntry checked (book_log old) (book_log new) commands time number
+  adds_entry : (new : Book) (commands : List Command) (time number : ℕ) → Commits old new commands time number
+      → AddsEntry checked (book_log old) (book_log new) commands time number
   adds_entry new commands time number commits = record {
     number_is = commits.number_is;
     transactions = is.transactions;
     before = log_of checked old is.transactions is.named is.stands;
-    now = log_of checked new (is.transactions ++ record { commands = commands; time = time } ∷ []) (commits.checked ∙ is.named)
+    now = log_of checked new (is.transactions ++ record { commands = commands; time = time } ∷ [])
+        (commits.checked ∙ is.named)
         (commits_add_one old new commands time number commits is.transactions is.stands);
   }
 
-  is_made : (new : Book) (commands : List Command) (time number : ℕ) → Commits old new commands time number → IsMade checked limit commands time number
+  is_made : (new : Book) (commands : List Command) (time number : ℕ) → Commits old new commands time number
+      → IsMade checked limit commands time number
   unfolding adds_entry
   is_made new commands time number commits =
       let count = each_is_logged old is.transactions is.stands in
@@ -100,17 +118,20 @@ module _ (checked : CheckedOf) (limit : ℕ) (old : Book) (is : IsBookOf checked
         accepted = (adds_entry new commands time number commits).now.accepted;
       }
 
-  pub commits_add : (new : Book) (commands : List Command) (time : ℕ) (result : Result ℕ CommitError) → IfOk result (λ number. Commits old new commands time number)
+  pub commits_add : (new : Book) (commands : List Command) (time : ℕ) (result : Result ℕ CommitError)
+      → IfOk result (λ number. Commits old new commands time number)
       → IfOk result (AddsEntry checked (book_log old) (book_log new) commands time)
   commits_add new commands time (Ok number) commits = adds_entry new commands time number commits
   commits_add new commands time (Err error) commits = tt
 
-  pub commits_make : (new : Book) (commands : List Command) (time : ℕ) (result : Result ℕ CommitError) → IfOk result (λ number. Commits old new commands time number)
+  pub commits_make : (new : Book) (commands : List Command) (time : ℕ) (result : Result ℕ CommitError)
+      → IfOk result (λ number. Commits old new commands time number)
       → IfOk result (IsMade checked limit commands time)
   commits_make new commands time (Ok number) commits = is_made new commands time number commits
   commits_make new commands time (Err error) commits = tt
 
-  is_found : (table number : ℕ) (key : List Datum) (answer : Option (List Datum)) → number ≡ length (book_log old) → answer ≡ book_rows old table 0 key
+  is_found : (table number : ℕ) (key : List Datum) (answer : Option (List Datum)) → number ≡ length (book_log old)
+      → answer ≡ book_rows old table 0 key
       → IsFound checked table key number answer
   is_found table number key answer number_is answer_is =
       let at = log_of checked old is.transactions is.named is.stands in
@@ -118,15 +139,19 @@ module _ (checked : CheckedOf) (limit : ℕ) (old : Book) (is : IsBookOf checked
         transactions = is.transactions;
         number_is = number_is ∙ each_is_logged old is.transactions is.stands;
         accepted = at.accepted;
-        answer_is = answer_is ∙ is.stands.rows table 0 key ∙ ap (λ (one : CheckedOf). after (setting_in one) is.transactions table 0 key) is.named;
+        answer_is = answer_is ∙ is.stands.rows table 0 key
+            ∙ ap (λ (one : CheckedOf). after (setting_in one) is.transactions table 0 key) is.named;
       }
 
-  pub looks_up : {E : Type 0} (table : ℕ) (key : List Datum) (result : Result (ℕ × Option (List Datum)) E) → IfOk result (λ found. found.0 ≡ length (book_log old))
-      → IfOk result (λ found. found.1 ≡ book_rows old table 0 key) → IfOk result (λ found. IsFound checked table key found.0 found.1)
+  pub looks_up : {E : Type 0} (table : ℕ) (key : List Datum) (result : Result (ℕ × Option (List Datum)) E)
+      → IfOk result (λ found. found.0 ≡ length (book_log old))
+      → IfOk result (λ found. found.1 ≡ book_rows old table 0 key)
+      → IfOk result (λ found. IsFound checked table key found.0 found.1)
   looks_up table key (Ok found) number_is answer_is = is_found table found.0 key found.1 number_is answer_is
   looks_up table key (Err error) number_is answer_is = tt
 
-  refused_in : (commands : List Command) (error : CommitError) → RefusedBy old commands error → IsRefused (book_checked old) (book_limit old) commands error
+  refused_in : (commands : List Command) (error : CommitError) → RefusedBy old commands error
+      → IsRefused (book_checked old) (book_limit old) commands error
   refused_in commands e.EmptyTransaction refused = refused
   refused_in commands e.TooManyCommands refused = refused
   refused_in commands e.LogFull refused = record {
@@ -148,15 +173,21 @@ module _ (checked : CheckedOf) (limit : ℕ) (old : Book) (is : IsBookOf checked
       }
   refused_in commands e.OutOfMemory refused = tt
 
-  is_refused : (commands : List Command) (error : CommitError) → RefusedBy old commands error → IsRefused checked limit commands error
+  is_refused : (commands : List Command) (error : CommitError) → RefusedBy old commands error
+      → IsRefused checked limit commands error
   is_refused commands error refused =
       subst (λ (n : ℕ). IsRefused checked n commands error) is.limited
-      (subst (λ (one : CheckedOf). IsRefused one (book_limit old) commands error) is.named (refused_in commands error refused))
+      (subst (λ (one : CheckedOf). IsRefused one (book_limit old) commands error) is.named
+          (refused_in commands error refused))
 
-  pub commits_refuse : (commands : List Command) (result : Result ℕ CommitError) → IfErr result (RefusedBy old commands) → IfErr result (IsRefused checked limit commands)
+  pub commits_refuse : (commands : List Command) (result : Result ℕ CommitError)
+      → IfErr result (RefusedBy old commands) → IfErr result (IsRefused checked limit commands)
   commits_refuse commands (Ok number) refused = tt
   commits_refuse commands (Err error) refused = is_refused commands error refused
 
 -- for users of a lent book: whatever is said of its slots, they are those that it has
-pub slots_left : (old new : Book) (slots : List Slot) → ChangesSlots old new slots → ChangesSlots old new (book_slots new)
-slots_left old new slots changes = record { checked = changes.checked; limit = changes.limit; rows = changes.rows; log = changes.log; slots_are = refl }
+pub slots_left : (old new : Book) (slots : List Slot) → ChangesSlots old new slots
+    → ChangesSlots old new (book_slots new)
+slots_left old new slots changes =
+    record { checked = changes.checked; limit = changes.limit; rows = changes.rows; log = changes.log; slots_are =
+    refl }

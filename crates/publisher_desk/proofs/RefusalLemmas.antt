@@ -12,22 +12,29 @@ use Rattle.tables_log.specs.declared.error.CommitError.{CommitError}
 use Rattle.tables_log.specs.declared.error.CommitError.TheVariants as e
 use Rattle.publisher_desk.specs.Refusals.{HasFault}
 
-has_fault_in : (book : Book) (commands : List Command) (error : CommitError) → RefusedBy book commands error → HasFault (book_setting book) commands error
+has_fault_in : (book : Book) (commands : List Command) (error : CommitError) → RefusedBy book commands error
+    → HasFault (book_setting book) commands error
 has_fault_in book commands e.EmptyTransaction refused = refused
 has_fault_in book commands e.TooManyCommands refused = refused
 has_fault_in book commands e.LogFull refused = tt
-has_fault_in book commands (e.At number f.NoTable) refused = faults_of_commands_stay (book_setting book) (book_rows book) commands number NoTable refl refused.first
-has_fault_in book commands (e.At number (f.Row fault)) refused = faults_of_commands_stay (book_setting book) (book_rows book) commands number (Unfit fault) refl refused.first
+has_fault_in book commands (e.At number f.NoTable) refused =
+    faults_of_commands_stay (book_setting book) (book_rows book) commands number NoTable refl refused.first
+has_fault_in book commands (e.At number (f.Row fault)) refused =
+    faults_of_commands_stay (book_setting book) (book_rows book) commands number (Unfit fault) refl refused.first
 has_fault_in book commands (e.At number f.NoSuchRow) refused = tt
 has_fault_in book commands (e.At number f.DuplicateKey) refused = tt
 has_fault_in book commands e.OutOfMemory refused = tt
 
-has_fault : (checked : CheckedOf) (book : Book) (commands : List Command) (error : CommitError) → book_checked book ≡ checked → RefusedBy book commands error
+has_fault : (checked : CheckedOf) (book : Book) (commands : List Command) (error : CommitError)
+    → book_checked book ≡ checked → RefusedBy book commands error
     → HasFault (setting_in checked) commands error
 has_fault checked book commands error named refused =
-    subst (λ (one : CheckedOf). HasFault (setting_in one) commands error) named (has_fault_in book commands error refused)
+    subst (λ (one : CheckedOf). HasFault (setting_in one) commands error) named
+        (has_fault_in book commands error refused)
 
-pub commits_have_faults : (checked : CheckedOf) (book : Book) (commands : List Command) → book_checked book ≡ checked → (result : Result ℕ CommitError) → IfErr result (RefusedBy book commands)
+pub commits_have_faults : (checked : CheckedOf) (book : Book) (commands : List Command) → book_checked book ≡ checked
+    → (result : Result ℕ CommitError) → IfErr result (RefusedBy book commands)
     → IfErr result (HasFault (setting_in checked) commands)
 commits_have_faults checked book commands named (Ok number) refused = tt
-commits_have_faults checked book commands named (Err error) refused = has_fault checked book commands error named refused
+commits_have_faults checked book commands named (Err error) refused =
+    has_fault checked book commands error named refused

@@ -25,18 +25,22 @@ highest_append (note ∷ notes) more = let rest = highest_append notes more in o
 
 up_to_highest : (notes : List Note) → AreUpTo (highest notes) notes
 up_to_highest [] place note at = absurd cc
-up_to_highest (first ∷ notes) zero note at = let same : first ≡ note = some_is first note at in let number : number_of first ≡ number_of note = ap number_of same in omega (arith, number)
-up_to_highest (first ∷ notes) (suc place) note at = let later = up_to_highest notes place note at in omega (arith, later)
+up_to_highest (first ∷ notes) zero note at = let same : first ≡ note = some_is first note at in
+    let number : number_of first ≡ number_of note = ap number_of same in omega (arith, number)
+up_to_highest (first ∷ notes) (suc place) note at = let later = up_to_highest notes place note at in
+    omega (arith, later)
 
 later_of : (notes : List Note) (number : ℕ) → number < highest notes → HasLater notes number
 later_of [] number low = absurd (omega arith)
 later_of (first ∷ notes) number low = by_test (ltb number (number_of first))
     (λ here. record { place = 0; note = first; at = refl; later = ltb-true number (number_of first) here })
     (λ beside.
-    let rest : HasLater notes number = later_of notes number (omega (arith, ltb-false number (number_of first) beside)) in
+    let rest : HasLater notes number =
+        later_of notes number (omega (arith, ltb-false number (number_of first) beside)) in
     record { place = suc rest.place; note = rest.note; at = rest.at; later = rest.later })
 
-later_found : (notes seen : List Note) (high number : ℕ) → notes ≡ seen → high ≡ highest notes → number < high → HasLater seen number
+later_found : (notes seen : List Note) (high number : ℕ) → notes ≡ seen → high ≡ highest notes → number < high
+    → HasLater seen number
 later_found notes seen high number same high_is low =
     subst (λ (list : List Note). HasLater list number) same (later_of notes number (omega (arith, high_is)))
 
@@ -44,24 +48,34 @@ up_to_number : (notes : List Note) (high number : ℕ) → high ≡ highest note
 up_to_number notes high number is low place note at = let one = up_to_highest notes place note at in omega (arith, one)
 
 -- the ledger counts its receipts
-pub receipts_seen : (notes seen : List Note) (amount count : ℕ) → notes ≡ seen → amount ≡ receipts notes → amount ≤ count → receipts seen ≤ count
-receipts_seen notes seen amount count same is low = let receipts_are : receipts notes ≡ receipts seen = ap receipts same in omega (arith, is, low, receipts_are)
+pub receipts_seen : (notes seen : List Note) (amount count : ℕ) → notes ≡ seen → amount ≡ receipts notes
+    → amount ≤ count → receipts seen ≤ count
+receipts_seen notes seen amount count same is low = let receipts_are : receipts notes ≡ receipts seen =
+    ap receipts same in omega (arith, is, low, receipts_are)
 
 -- a later note than those of the log
-pub behind : (notes seen : List Note) (high number amount tables table : ℕ) → notes ≡ seen → high ≡ highest notes → amount ≡ receipts notes → number < high → amount ≤ number → table < tables
+pub behind : (notes seen : List Note) (high number amount tables table : ℕ) → notes ≡ seen → high ≡ highest notes
+    → amount ≡ receipts notes → number < high → amount ≤ number → table < tables
     → HasLater seen number × (receipts seen ≤ number) × (table < tables)
 behind notes seen high number amount tables table same high_is counted low bound there =
-    (later_found notes seen high number same high_is low, receipts_seen notes seen amount number same counted bound, there)
+    (later_found notes seen high number same high_is low, receipts_seen notes seen amount number same counted bound,
+        there)
 
-pub up_to_seen : (notes seen : List Note) (high number : ℕ) → notes ≡ seen → high ≡ highest notes → high ≤ number → AreUpTo number seen
-up_to_seen notes seen high number same is low = subst (λ (list : List Note). AreUpTo number list) same (up_to_number notes high number is low)
+pub up_to_seen : (notes seen : List Note) (high number : ℕ) → notes ≡ seen → high ≡ highest notes → high ≤ number
+    → AreUpTo number seen
+up_to_seen notes seen high number same is low =
+    subst (λ (list : List Note). AreUpTo number list) same (up_to_number notes high number is low)
 
 -- ---- one note more
 
-forward_more : (notes : List Note) (note : Note) → ((reading : Reading) → note ≡ Looked reading → AreUpTo reading.number notes) → IsForward notes → IsForward (notes ++ note ∷ [])
+forward_more : (notes : List Note) (note : Note)
+    → ((reading : Reading) → note ≡ Looked reading → AreUpTo reading.number notes) → IsForward notes
+    → IsForward (notes ++ note ∷ [])
 forward_more notes note up forward earlier place before reading low at found = by_test (place == length notes)
     (λ here. let same : place ≡ length notes = number_is place (length notes) here in
-    let last : note ≡ Looked reading = some_is note (Looked reading) (sym (get_last notes note) ∙ ap (slice_get (notes ++ note ∷ [])) (sym same) ∙ found) in
+    let last : note ≡ Looked reading =
+        some_is note (Looked reading)
+        (sym (get_last notes note) ∙ ap (slice_get (notes ++ note ∷ [])) (sym same) ∙ found) in
     let apart : earlier ≢ length notes = omega arith in
     up reading last earlier before (sym (get_front notes note earlier apart) ∙ at))
     (λ beside. let apart : place ≢ length notes = number_apart place (length notes) beside in
@@ -70,16 +84,19 @@ forward_more notes note up forward earlier place before reading low at found = b
     let apart' : earlier ≢ length notes = omega arith in
     forward earlier place before reading low (sym (get_front notes note earlier apart') ∙ at) inside)
 
-pub new_seat : (notes : List Note) (high parts amount : ℕ) → notes ≡ [] → high ≡ 0 → parts ≡ 1 → amount ≡ 0 → IsSeat notes high parts amount
+pub new_seat : (notes : List Note) (high parts amount : ℕ) → notes ≡ [] → high ≡ 0 → parts ≡ 1 → amount ≡ 0
+    → IsSeat notes high parts amount
 new_seat notes high parts amount none low one nothing = record {
   one = one;
   counted = nothing ∙ sym (ap receipts none);
   high_is = low ∙ sym (ap highest none);
   timed = subst AreTimed (sym none) (All-nil HasTime);
-  forward = λ earlier place note reading low' at found. let no : slice_get [] earlier ≡ Some note = subst (λ (list : List Note). slice_get list earlier ≡ Some note) none at in absurd cc;
+  forward = λ earlier place note reading low' at found. let no : slice_get [] earlier ≡ Some note =
+      subst (λ (list : List Note). slice_get list earlier ≡ Some note) none at in absurd cc;
 }
 
-receipt_kept : (notes : List Note) (receipt : ReceiptOf) (high last parts more amount count : ℕ) → last ≡ max high receipt.number → receipt.time < 2 ^ 64 → more ≡ parts → count ≡ amount + 1
+receipt_kept : (notes : List Note) (receipt : ReceiptOf) (high last parts more amount count : ℕ)
+    → last ≡ max high receipt.number → receipt.time < 2 ^ 64 → more ≡ parts → count ≡ amount + 1
     → IsSeat notes high parts amount → IsSeat (notes ++ Committed receipt ∷ []) last more count
 receipt_kept notes receipt high last parts more amount count last_is timed same one seat = record {
   timed = All-push HasTime notes (Committed receipt) seat.timed timed;
@@ -89,7 +106,8 @@ receipt_kept notes receipt high last parts more amount count last_is timed same 
   forward = forward_more notes (Committed receipt) (λ reading no. absurd cc) seat.forward;
 }
 
-reading_kept : (notes : List Note) (reading : Reading) (high last parts more amount count : ℕ) → last ≡ reading.number → high ≤ last → more ≡ parts → count ≡ amount
+reading_kept : (notes : List Note) (reading : Reading) (high last parts more amount count : ℕ) → last ≡ reading.number
+    → high ≤ last → more ≡ parts → count ≡ amount
     → IsSeat notes high parts amount → IsSeat (notes ++ Looked reading ∷ []) last more count
 reading_kept notes reading high last parts more amount count last_is low same still seat = record {
   timed = All-push HasTime notes (Looked reading) seat.timed tt;
@@ -97,20 +115,27 @@ reading_kept notes reading high last parts more amount count last_is low same st
   counted = let push = receipts_append notes (Looked reading ∷ []) in omega (arith, push, still, seat.counted);
   high_is = let push = highest_append notes (Looked reading ∷ []) in omega (arith, push, seat.high_is);
   forward = forward_more notes (Looked reading)
-      (λ other same. let number : reading.number ≡ other.number = ap number_of same in up_to_number notes high other.number seat.high_is (omega (arith, number))) seat.forward;
+      (λ other same. let number : reading.number ≡ other.number = ap number_of same in
+          up_to_number notes high other.number seat.high_is (omega (arith, number))) seat.forward;
 }
 
 -- ---- notes that were pushed onto a list with room
 
 module _ (notes roomy all : List Note) (same : roomy ≡ notes) where
-  pub receipt_pushed : (receipt : ReceiptOf) (high last number parts more amount count : ℕ) → all ≡ roomy ++ Committed receipt ∷ [] → receipt.number ≡ number
-      → last ≡ max high number → receipt.time < 2 ^ 64 → more ≡ parts → count ≡ amount + 1 → IsSeat notes high parts amount → IsSeat all last more count
+  pub receipt_pushed : (receipt : ReceiptOf) (high last number parts more amount count : ℕ)
+      → all ≡ roomy ++ Committed receipt ∷ [] → receipt.number ≡ number
+      → last ≡ max high number → receipt.time < 2 ^ 64 → more ≡ parts → count ≡ amount + 1
+      → IsSeat notes high parts amount → IsSeat all last more count
   receipt_pushed receipt high last number parts more amount count pushed number_is last_is timed more_is count_is seat =
-      subst (λ (list : List Note). IsSeat list last more count) (sym (pushed ∙ ap (λ (list : List Note). list ++ Committed receipt ∷ []) same))
-      (receipt_kept notes receipt high last parts more amount count (omega (arith, last_is, number_is)) timed more_is count_is seat)
+      subst (λ (list : List Note). IsSeat list last more count)
+          (sym (pushed ∙ ap (λ (list : List Note). list ++ Committed receipt ∷ []) same))
+      (receipt_kept notes receipt high last parts more amount count (omega (arith, last_is, number_is)) timed more_is
+          count_is seat)
 
-  pub reading_pushed : (reading : Reading) (high number parts more amount count : ℕ) → all ≡ roomy ++ Looked reading ∷ [] → reading.number ≡ number → high ≤ number
+  pub reading_pushed : (reading : Reading) (high number parts more amount count : ℕ)
+      → all ≡ roomy ++ Looked reading ∷ [] → reading.number ≡ number → high ≤ number
       → more ≡ parts → count ≡ amount → IsSeat notes high parts amount → IsSeat all number more count
   reading_pushed reading high number parts more amount count pushed number_is low more_is count_is seat =
-      subst (λ (list : List Note). IsSeat list number more count) (sym (pushed ∙ ap (λ (list : List Note). list ++ Looked reading ∷ []) same))
+      subst (λ (list : List Note). IsSeat list number more count)
+          (sym (pushed ∙ ap (λ (list : List Note). list ++ Looked reading ∷ []) same))
       (reading_kept notes reading high number parts more amount count (sym number_is) low more_is count_is seat)

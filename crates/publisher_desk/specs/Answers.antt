@@ -1,4 +1,5 @@
--- What answers say of the transactions that were accepted before: PostgreSQL 15, 3.4. Transactions, and Chapter 6 Data Manipulation.
+-- What answers say of the transactions that were accepted before: PostgreSQL 15, 3.4. Transactions, and Chapter 6
+-- Data Manipulation.
 use Rattle.std.specs.Prelude.{◌≡◌, ℕ, ◌+◌, ◌<◌, ◌≤◌, List, [], ◌∷◌, ◌++◌, length, Option, Some}
 use Rattle.filter_tree.specs.Datum.{Datum}
 use Rattle.shard_checker.specs.CheckedView.{CheckedOf, setting_in}
@@ -19,7 +20,8 @@ pub record IsMade (checked : CheckedOf) (limit : ℕ) (commands : List Command) 
   pub accepted : AreAccepted (setting_in checked) no_rows (earlier ++ record { commands = commands; time = time } ∷ [])
 
 -- This is the row of the key after so many transactions, each of which was accepted after those before it.
-pub record IsFound (checked : CheckedOf) (table : ℕ) (key : List Datum) (number : ℕ) (answer : Option (List Datum)) : Type 0 where
+pub record IsFound (checked : CheckedOf) (table : ℕ) (key : List Datum) (number : ℕ) (answer : Option (List Datum)) :
+    Type 0 where
   pub transactions : List Transaction
   pub number_is : number ≡ length transactions
   pub accepted : AreAccepted (setting_in checked) no_rows transactions
@@ -38,12 +40,14 @@ pub record IsFull (checked : CheckedOf) (limit : ℕ) (commands : List Command) 
   pub full : length transactions ≡ limit
 
 -- after some transactions the command of this number, from 1, is the first that is refused, for this fault
-pub record IsFaulty (checked : CheckedOf) (limit : ℕ) (commands : List Command) (number : ℕ) (fault : CommandFault) : Type 0 where
+pub record IsFaulty (checked : CheckedOf) (limit : ℕ) (commands : List Command) (number : ℕ) (fault : CommandFault) :
+    Type 0 where
   pub sized : IsTransaction commands
   pub transactions : List Transaction
   pub accepted : AreAccepted (setting_in checked) no_rows transactions
   pub room : length transactions < limit
-  pub first : first_fault (setting_in checked) (after (setting_in checked) transactions) 1 commands ≡ Some (number, fault)
+  pub first : first_fault (setting_in checked) (after (setting_in checked) transactions) 1 commands
+      ≡ Some (number, fault)
 
 abbrev pub IsRefused : CheckedOf → ℕ → List Command → CommitError → Type 0
 IsRefused checked limit commands e.EmptyTransaction = commands ≡ []

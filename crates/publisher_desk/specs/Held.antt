@@ -1,4 +1,5 @@
--- What is so of a publisher's book each time that its lock is got: PostgreSQL 15, 3.4. Transactions, and "Logical Replication", 31.1 Publication.
+-- What is so of a publisher's book each time that its lock is got: PostgreSQL 15, 3.4. Transactions, and "Logical
+-- Replication", 31.1 Publication.
 use Rattle.std.specs.Prelude.{◌≡◌, ℕ, ◌+◌, ◌≤◌, List, [], ◌∷◌, ◌++◌, All, length}
 use Rattle.shard_checker.specs.CheckedView.{CheckedOf, setting_in}
 use Rattle.table_changes.specs.Commands.{Command}
@@ -19,8 +20,10 @@ pub record IsLogOf (checked : CheckedOf) (transactions : List Transaction) (log 
   pub accepted : AreAccepted (setting_in checked) no_rows transactions
   pub entries : log ≡ entries_from (setting_in checked) no_rows 1 transactions
 
--- The log was that of some transactions, and is that of these and of the one that was handed in, whose number is that of all.
-pub record AddsEntry (checked : CheckedOf) (old new : List CommitOf) (commands : List Command) (time number : ℕ) : Type 0 where
+-- The log was that of some transactions, and is that of these and of the one that was handed in, whose number is that
+-- of all.
+pub record AddsEntry (checked : CheckedOf) (old new : List CommitOf) (commands : List Command) (time number : ℕ) :
+    Type 0 where
   pub number_is : number ≡ length old + 1
   pub transactions : List Transaction
   pub before : IsLogOf checked transactions old

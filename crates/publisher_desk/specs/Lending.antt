@@ -1,4 +1,5 @@
--- What is done with a book that is lent under a publisher's lock, and what senders are told to do next: PostgreSQL 15, "Logical Replication", 31.2.1 Replication Slot Management, and 55.4. Streaming Replication Protocol.
+-- What is done with a book that is lent under a publisher's lock, and what senders are told to do next: PostgreSQL
+-- 15, "Logical Replication", 31.2.1 Replication Slot Management, and 55.4. Streaming Replication Protocol.
 use Rattle.std.specs.Prelude.{◌≡◌, ℕ, List, length, Some, None}
 use Rattle.std.specs.Arc.{arc_value}
 use Rattle.shard_checker.specs.CheckedView.{CheckedOf}
@@ -14,8 +15,10 @@ use Rattle.publisher_desk.specs.declared.step.Step.{Step}
 use Rattle.publisher_desk.specs.declared.step.Step.TheVariants.{Entry, Reply, Ended, Finished, OutOfMemory}
 use Rattle.publisher_desk.specs.declared.wish.Wish.{Wish}
 
--- A user was lent a book of the checked catalog and of some list of transactions. It changed its slots, and did what is said of it.
-pub record IsLent {U A : Type 0} (did : U → U → Book → Book → List Wish → List Wish → A → Type 0) (checked : CheckedOf) (before after : U) (answer : A) : Type 0 where
+-- A user was lent a book of the checked catalog and of some list of transactions. It changed its slots, and did what
+-- is said of it.
+pub record IsLent {U A : Type 0} (did : U → U → Book → Book → List Wish → List Wish → A → Type 0)
+    (checked : CheckedOf) (before after : U) (answer : A) : Type 0 where
   pub old : Book
   pub new : Book
   pub wishes : List Wish

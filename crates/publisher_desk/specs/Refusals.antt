@@ -1,4 +1,5 @@
--- What refusals say of what was handed in, whatever rows there are: PostgreSQL 15, 3.4. Transactions, and Chapter 6 Data Manipulation.
+-- What refusals say of what was handed in, whatever rows there are: PostgreSQL 15, 3.4. Transactions, and Chapter 6
+-- Data Manipulation.
 use Rattle.std.specs.Prelude.{◌≡◌, ℕ, ◌<◌, ◌≤◌, List, [], length}
 use Rattle.shard_checker.specs.CheckedView.{CheckedOf}
 use Rattle.table_changes.specs.Always.{HasAlways}
@@ -13,7 +14,8 @@ use Rattle.publisher_desk.specs.declared.note.Note.{Note}
 use Rattle.publisher_desk.specs.declared.read_fault.ReadFault.{ReadFault}
 use Rattle.publisher_desk.specs.declared.read_fault.ReadFault.TheVariants as r
 
--- The list has the fault that the error tells. A full log, a row that isn't there and a key that another row has are not faults of the list alone, and memory may be refused for any.
+-- The list has the fault that the error tells. A full log, a row that isn't there and a key that another row has are
+-- not faults of the list alone, and memory may be refused for any.
 abbrev pub HasFault : Setting → List Command → CommitError → Type 0
 HasFault setting commands e.EmptyTransaction = commands ≡ []
 HasFault setting commands e.TooManyCommands = 1000 < length commands
@@ -24,8 +26,10 @@ HasFault setting commands (e.At number f.DuplicateKey) = Unit {0}
 HasFault setting commands e.LogFull = Unit {0}
 HasFault setting commands e.OutOfMemory = Unit {0}
 
--- why a row isn't read: the seat has a note of a later number than the log, which has as many commits as the seat has receipts at least; or there is no such table
+-- why a row isn't read: the seat has a note of a later number than the log, which has as many commits as the seat has
+-- receipts at least; or there is no such table
 abbrev pub HasReadFault : CheckedOf → List Note → ℕ → ReadFault → Type 0
-HasReadFault checked notes table (r.Behind number) = HasLater notes number × (receipts notes ≤ number) × (table < length checked.catalog.tables)
+HasReadFault checked notes table (r.Behind number) = HasLater notes number × (receipts notes ≤ number)
+    × (table < length checked.catalog.tables)
 HasReadFault checked notes table r.NoTable = length checked.catalog.tables ≤ table
 HasReadFault checked notes table r.OutOfMemory = table < length checked.catalog.tables

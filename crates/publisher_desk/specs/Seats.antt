@@ -33,7 +33,8 @@ AreUpTo number notes = (place : ℕ) (note : Note) → slice_get notes place ≡
 
 -- No row was read of fewer commits than an earlier note knows of.
 abbrev pub IsForward : List Note → Type 0
-IsForward notes = (earlier place : ℕ) (note : Note) (reading : Reading) → earlier < place → slice_get notes earlier ≡ Some note → slice_get notes place ≡ Some (Looked reading)
+IsForward notes = (earlier place : ℕ) (note : Note) (reading : Reading) → earlier < place
+    → slice_get notes earlier ≡ Some note → slice_get notes place ≡ Some (Looked reading)
     → number_of note ≤ reading.number
 
 -- the time of a commit has 64 bits
@@ -49,7 +50,8 @@ pub record AreFree (left parts amount : ℕ) : Type 0 where
   pub parts_are : parts ≡ left
   pub none : amount ≡ 0
 
--- A seat has one part of the ledger, whose amount is the number of its receipts. `high` is the greatest number that it knows of.
+-- A seat has one part of the ledger, whose amount is the number of its receipts. `high` is the greatest number that
+-- it knows of.
 pub record IsSeat (notes : List Note) (high parts amount : ℕ) : Type 0 where
   pub one : parts ≡ 1
   pub counted : amount ≡ receipts notes

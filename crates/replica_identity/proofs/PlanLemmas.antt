@@ -25,16 +25,26 @@ as_many [] = refl
 as_many (share ∷ shares) = ap suc (as_many shares)
 
 -- an entry of no table
-pub joined_past : (shares : List (Share Global)) (entry : EntryOf Expr) → length shares ≤ entry.table → map share_view shares ≡ joined_at (map share_view shares) entry
-joined_past shares entry h = sym (set_past (map share_view shares) entry.table (joined (slice_index_or (map share_view shares) entry.table Nothing) entry.filter) (subst (λ n. n ≤ entry.table) (sym (as_many shares)) h))
+pub joined_past : (shares : List (Share Global)) (entry : EntryOf Expr) → length shares ≤ entry.table
+    → map share_view shares ≡ joined_at (map share_view shares) entry
+joined_past shares entry h =
+    sym (set_past (map share_view shares) entry.table
+    (joined (slice_index_or (map share_view shares) entry.table Nothing) entry.filter)
+    (subst (λ n. n ≤ entry.table) (sym (as_many shares)) h))
 
-set_joined : (shares : List (Share Global)) (i : ℕ) (share made : Share Global) (more : Option Expr) → i < length shares → share ≡ slice_index_or shares i share → share_view made ≡ joined (share_view share) more →
-    map share_view (slice_set shares i made) ≡ slice_set (map share_view shares) i (joined (slice_index_or (map share_view shares) i Nothing) more)
+set_joined : (shares : List (Share Global)) (i : ℕ) (share made : Share Global) (more : Option Expr)
+    → i < length shares → share ≡ slice_index_or shares i share → share_view made ≡ joined (share_view share) more →
+    map share_view (slice_set shares i made)
+        ≡ slice_set (map share_view shares) i (joined (slice_index_or (map share_view shares) i Nothing) more)
 set_joined [] i share made more h is e = absurd (omega arith)
-set_joined (first ∷ shares) zero share made more h is e = ap (λ (s : ShareOf). s ∷ map share_view shares) (e ∙ ap (λ (s : Share Global). joined (share_view s) more) is)
-set_joined (first ∷ shares) (suc i) share made more h is e = ap (λ (ss : List ShareOf). share_view first ∷ ss) (set_joined shares i share made more (omega arith) is e)
+set_joined (first ∷ shares) zero share made more h is e =
+    ap (λ (s : ShareOf). s ∷ map share_view shares) (e ∙ ap (λ (s : Share Global). joined (share_view s) more) is)
+set_joined (first ∷ shares) (suc i) share made more h is e =
+    ap (λ (ss : List ShareOf). share_view first ∷ ss) (set_joined shares i share made more (omega arith) is e)
 
-pub joined_in : (shares : List (Share Global)) (entry : EntryOf Expr) (share made : Share Global) → entry.table < length shares → share ≡ slice_index_or shares entry.table share → share_view made ≡ joined (share_view share) entry.filter →
+pub joined_in : (shares : List (Share Global)) (entry : EntryOf Expr) (share made : Share Global)
+    → entry.table < length shares → share ≡ slice_index_or shares entry.table share
+    → share_view made ≡ joined (share_view share) entry.filter →
     map share_view (slice_set shares entry.table made) ≡ joined_at (map share_view shares) entry
 joined_in shares entry share made h is e = set_joined shares entry.table share made entry.filter h is e
 

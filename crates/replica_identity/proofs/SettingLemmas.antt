@@ -29,18 +29,21 @@ has_primary_keys catalog plan = record { has_key = λ table row. primary_in (sli
 next_is : (place : ℕ) → place + 1 ≡ suc place
 next_is place = omega arith
 
-pub index_in : (table : Table) (place : ℕ) (index : UniqueIndex) → slice_get table.indexes place ≡ Some index → (row : List Datum)
+pub index_in : (table : Table) (place : ℕ) (index : UniqueIndex) → slice_get table.indexes place ≡ Some index
+    → (row : List Datum)
     → value_in (slice_get (keys_in (Some table)) (place + 1)) row ≡ unless_null (values_at index.columns row)
 index_in table place index there row =
     ap (λ k. value_in (slice_get (keys_in (Some table)) k) row) (next_is place)
     ∙ ap (λ found. value_in found row) (slice_get-map index_key table.indexes place ∙ ap (option_map index_key) there)
 
-pub has_table : (catalog : CatalogOf Expr) (plan : PlanOf) (number : ℕ) (table : Table) → slice_get catalog.tables number ≡ Some table → HasTable (setting_of catalog plan) number table
+pub has_table : (catalog : CatalogOf Expr) (plan : PlanOf) (number : ℕ) (table : Table)
+    → slice_get catalog.tables number ≡ Some table → HasTable (setting_of catalog plan) number table
 has_table catalog plan number table there = record {
   known = lt-ltb number (length catalog.tables) (slice_get_within catalog.tables number table there);
   fault = λ row. ap (λ found. fault_in found row) there;
   primary = λ row. ap (λ found. value_in (slice_get (keys_in found) 0) row) there;
-  indexed = λ place index at row. ap (λ found. value_in (slice_get (keys_in found) (place + 1)) row) there ∙ index_in table place index at row;
+  indexed = λ place index at row. ap (λ found. value_in (slice_get (keys_in found) (place + 1)) row) there
+      ∙ index_in table place index at row;
 }
 
 -- ---- identities
@@ -53,9 +56,11 @@ map_append f (x ∷ xs) ys = ap (λ rest. f x ∷ rest) (map_append f xs ys)
 numbers_after : (n : ℕ) → numbers_to (suc n) ≡ 0 ∷ map suc (numbers_to n)
 numbers_after zero = refl
 numbers_after (suc n) =
-    ap (λ numbers. numbers ++ suc n ∷ []) (numbers_after n) ∙ ap (λ numbers. 0 ∷ numbers) (sym (map_append suc (numbers_to n) (n ∷ [])))
+    ap (λ numbers. numbers ++ suc n ∷ []) (numbers_after n)
+        ∙ ap (λ numbers. 0 ∷ numbers) (sym (map_append suc (numbers_to n) (n ∷ [])))
 
-values_after : (cell : Datum) (row : List Datum) (numbers : List ℕ) → values_at (map suc numbers) (cell ∷ row) ≡ values_at numbers row
+values_after : (cell : Datum) (row : List Datum) (numbers : List ℕ)
+    → values_at (map suc numbers) (cell ∷ row) ≡ values_at numbers row
 values_after cell row [] = refl
 values_after cell row (number ∷ numbers) = ap (λ values. value_at row number ∷ values) (values_after cell row numbers)
 
@@ -65,13 +70,16 @@ all_values (cell ∷ row) =
     ap (λ numbers. values_at numbers (cell ∷ row)) (numbers_after (length row))
     ∙ ap (λ values. cell ∷ values) (values_after cell row (numbers_to (length row)) ∙ all_values row)
 
-by_columns : (identity : Identity) (table : Table) (row : List Datum) → table.identity ≡ identity → length row ≡ length table.columns
+by_columns : (identity : Identity) (table : Table) (row : List Datum) → table.identity ≡ identity
+    → length row ≡ length table.columns
     → identity_by (recorded_as identity) table row ≡ values_at (identity_columns table) row
 by_columns Default table row is wide = refl
 by_columns (Index number) table row is wide = refl
 by_columns Full table row is wide =
-    sym (all_values row) ∙ ap (λ n. values_at (numbers_to n) row) wide ∙ ap (λ identity. values_at (columns_by identity table) row) (sym is)
+    sym (all_values row) ∙ ap (λ n. values_at (numbers_to n) row) wide
+        ∙ ap (λ identity. values_at (columns_by identity table) row) (sym is)
 by_columns Nothing table row is wide = refl
 
-pub columns_identify : (table : Table) (row : List Datum) → length row ≡ length table.columns → identity_in (Some table) row ≡ values_at (identity_columns table) row
+pub columns_identify : (table : Table) (row : List Datum) → length row ≡ length table.columns
+    → identity_in (Some table) row ≡ values_at (identity_columns table) row
 columns_identify table row wide = by_columns table.identity table row refl wide

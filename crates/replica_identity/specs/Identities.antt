@@ -1,4 +1,5 @@
--- The columns of a table's replica identity, whose old values an UPDATE or DELETE records, and whether they tell which row it was: PostgreSQL 15, "Logical Replication", 31.1 Publication, and ALTER TABLE (REPLICA IDENTITY).
+-- The columns of a table's replica identity, whose old values an UPDATE or DELETE records, and whether they tell
+-- which row it was: PostgreSQL 15, "Logical Replication", 31.1 Publication, and ALTER TABLE (REPLICA IDENTITY).
 use Rattle.std.specs.Prelude.{ℕ, zero, suc, ◌==◌, Bool, true, false, List, [], ◌∷◌, ◌++◌, length, Option, Some, None, slice_get}
 use Rattle.std.specs.List.{list_any}
 use Rattle.filter_tree.specs.declared.table.Identity.{Identity}
@@ -33,7 +34,8 @@ is_covered table column = list_any (λ number. number == column) (identity_colum
 
 -- ---- rows told apart
 
--- An index that is not there, or one of whose columns takes a null, is no replica identity: one that was dropped is as NOTHING.
+-- An index that is not there, or one of whose columns takes a null, is no replica identity: one that was dropped is
+-- as NOTHING.
 abbrev pub identity_tells : Identity → Table → Bool
 identity_tells Default table = true
 identity_tells (Index number) table = identifies table.columns (slice_get table.indexes number)

@@ -1,4 +1,5 @@
--- Shares that grow by the entries of publications, one after another: PostgreSQL 15, "Logical Replication", 31.3.6 Combining Multiple Row Filters.
+-- Shares that grow by the entries of publications, one after another: PostgreSQL 15, "Logical Replication", 31.3.6
+-- Combining Multiple Row Filters.
 use Rattle.std.specs.Prelude.{List, Option, Some, None, slice_index_or, slice_set}
 use Rattle.filter_tree.specs.Expr.{Expr, Or}
 use Rattle.pub_catalog.specs.Catalogs.{EntryOf}

@@ -1,4 +1,5 @@
--- What is recorded of an old row of a table: PostgreSQL 15, "Logical Replication", 31.1 Publication, and SQL Commands, ALTER TABLE (REPLICA IDENTITY).
+-- What is recorded of an old row of a table: PostgreSQL 15, "Logical Replication", 31.1 Publication, and SQL
+-- Commands, ALTER TABLE (REPLICA IDENTITY).
 use Rattle.std.specs.Prelude.{◌≡◌, ℕ, Bool, List, Option, Some, slice_get}
 use Rattle.std.specs.List.{list_all}
 use Rattle.std.specs.Ordering.{eq_by_cmp}
@@ -15,7 +16,8 @@ use Rattle.table_changes.specs.Setting.{Columns}
 
 -- of an old row that goes, or that a new one replaces
 abbrev pub part_in : Table → List Datum → Option (List Datum) → Option PartOf
-part_in table old new = part_by (recorded_as table.identity) (identity_in (Some table)) (blanked_in (Some table)) old new
+part_in table old new =
+    part_by (recorded_as table.identity) (identity_in (Some table)) (blanked_in (Some table)) old new
 
 -- the same, where these columns identify rows
 abbrev pub key_part : List ℕ → List Datum → Option (List Datum) → Option PartOf
@@ -30,5 +32,7 @@ agree_in one other columns = list_all (agree_at one other) columns
 
 -- In the setting of a catalog this is what is recorded of the rows of a table that is there.
 abbrev pub RecordsParts : Type 0
-RecordsParts = (catalog : CatalogOf Expr) (plan : PlanOf) (number : ℕ) (table : Table) → slice_get catalog.tables number ≡ Some table
-    → (old : List Datum) (new : Option (List Datum)) → part_of (setting_of catalog plan) number old new ≡ part_in table old new
+RecordsParts = (catalog : CatalogOf Expr) (plan : PlanOf) (number : ℕ) (table : Table)
+    → slice_get catalog.tables number ≡ Some table
+    → (old : List Datum) (new : Option (List Datum))
+    → part_of (setting_of catalog plan) number old new ≡ part_in table old new

@@ -1,4 +1,6 @@
--- Which rows pass to a subscriber: those that some publication which it takes carries, with the whole table or by a filter that is true: PostgreSQL 15, "Logical Replication", 31.1 Publication, 31.2 Subscription and 31.3 Row Filters.
+-- Which rows pass to a subscriber: those that some publication which it takes carries, with the whole table or by a
+-- filter that is true: PostgreSQL 15, "Logical Replication", 31.1 Publication, 31.2 Subscription and 31.3 Row
+-- Filters.
 use Rattle.std.specs.Prelude.{ℕ, ◌==◌, Bool, true, ◌&&◌, List, [], Option, Some, None, slice_get, filter_map}
 use Rattle.std.specs.List.{list_any}
 use Rattle.filter_tree.specs.Datum.{Datum}

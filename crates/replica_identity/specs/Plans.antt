@@ -1,4 +1,5 @@
--- What each subscriber takes of each table of a catalog: PostgreSQL 15, "Logical Replication", 31.2 Subscription and 31.3.6 Combining Multiple Row Filters.
+-- What each subscriber takes of each table of a catalog: PostgreSQL 15, "Logical Replication", 31.2 Subscription and
+-- 31.3.6 Combining Multiple Row Filters.
 use Rattle.std.specs.Prelude.{◌≡◌, ℕ, ◌+◌, ◌<◌, ◌==◌, List, [], ◌∷◌, map, flat_map, filter, slice_get, slice_index_or, length, Option, Some, None}
 use Rattle.filter_tree.specs.Datum.{Datum}
 use Rattle.filter_tree.specs.Expr.{Expr}
@@ -11,7 +12,8 @@ use Rattle.replica_identity.specs.declared.shares.Plan.{Plan}
 
 -- what the entries for a table carry of it
 abbrev pub filters_for : ℕ → List (EntryOf Expr) → List (Option Expr)
-filters_for table entries = map (λ (entry : EntryOf Expr). entry.filter) (filter (λ entry. entry.table == table) entries)
+filters_for table entries =
+    map (λ (entry : EntryOf Expr). entry.filter) (filter (λ entry. entry.table == table) entries)
 
 abbrev pub share_in : List (EntryOf Expr) → ℕ → ShareOf
 share_in entries table = share_by (filters_for table entries)
@@ -35,7 +37,8 @@ entries_listed publications numbers = flat_map (entries_at publications) numbers
 
 -- a subscriber's share of each table
 abbrev pub shares_for : CatalogOf Expr → Subscription → List ShareOf
-shares_for catalog subscription = shares_from (entries_listed catalog.publications subscription.publications) 0 catalog.tables
+shares_for catalog subscription =
+    shares_from (entries_listed catalog.publications subscription.publications) 0 catalog.tables
 
 -- of each subscriber the share of each table
 abbrev pub PlanOf : Type 0
@@ -54,4 +57,5 @@ share_at plan subscriber table = slice_index_or (slice_index_or plan subscriber 
 
 -- Of each table of the catalog each subscriber's share takes the rows that pass to it.
 pub record TakesWhatPasses (catalog : CatalogOf Expr) (plan : PlanOf) : Type 0 where
-  pub same : (subscriber table : ℕ) → table < length catalog.tables → (row : List Datum) → takes (share_at plan subscriber table) row ≡ passes catalog subscriber table row
+  pub same : (subscriber table : ℕ) → table < length catalog.tables → (row : List Datum)
+      → takes (share_at plan subscriber table) row ≡ passes catalog subscriber table row

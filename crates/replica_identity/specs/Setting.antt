@@ -1,4 +1,5 @@
--- What a catalog and its plan say of changes of its tables: PostgreSQL 15, "Logical Replication", 31.1 Publication and 31.3 Row Filters, and 5.4.4 Primary Keys and 11.6 Unique Indexes.
+-- What a catalog and its plan say of changes of its tables: PostgreSQL 15, "Logical Replication", 31.1 Publication
+-- and 31.3 Row Filters, and 5.4.4 Primary Keys and 11.6 Unique Indexes.
 use Rattle.std.specs.Prelude.{not, List, [], ◌∷◌, map, length, nat_lt, slice_get, Option, Some, None}
 use Rattle.filter_tree.specs.Datum.{Datum}
 use Rattle.filter_tree.specs.Expr.{Expr}

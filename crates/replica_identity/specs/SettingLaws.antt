@@ -1,4 +1,5 @@
--- What the setting of each catalog and plan has of its tables, and by which columns rows are told apart: PostgreSQL 15, 5.4.4 Primary Keys, 11.6 Unique Indexes, and SQL Commands, ALTER TABLE (REPLICA IDENTITY).
+-- What the setting of each catalog and plan has of its tables, and by which columns rows are told apart: PostgreSQL
+-- 15, 5.4.4 Primary Keys, 11.6 Unique Indexes, and SQL Commands, ALTER TABLE (REPLICA IDENTITY).
 use Rattle.std.specs.Prelude.{◌≡◌, ℕ, ◌+◌, true, List, length, Some, slice_get}
 use Rattle.filter_tree.specs.Datum.{Datum}
 use Rattle.filter_tree.specs.Expr.{Expr}
@@ -22,7 +23,8 @@ pub record HasTable (setting : Setting) (number : ℕ) (table : Table) : Type 0 
       → (row : List Datum) → key_at setting.keys number (place + 1) row ≡ unless_null (values_at index.columns row)
 
 abbrev pub SettingHasTables : Type 0
-SettingHasTables = (catalog : CatalogOf Expr) (plan : PlanOf) (number : ℕ) (table : Table) → slice_get catalog.tables number ≡ Some table
+SettingHasTables = (catalog : CatalogOf Expr) (plan : PlanOf) (number : ℕ) (table : Table)
+    → slice_get catalog.tables number ≡ Some table
     → HasTable (setting_of catalog plan) number table
 
 -- Each row has a primary key.
@@ -31,4 +33,5 @@ RowsHaveKeys = (catalog : CatalogOf Expr) (plan : PlanOf) → HasPrimaryKeys (se
 
 -- The values of the identity's columns identify a row that is as wide as its table; under FULL they are the row.
 abbrev pub ColumnsIdentify : Type 0
-ColumnsIdentify = (table : Table) (row : List Datum) → length row ≡ length table.columns → identity_in (Some table) row ≡ values_at (identity_columns table) row
+ColumnsIdentify = (table : Table) (row : List Datum) → length row ≡ length table.columns
+    → identity_in (Some table) row ≡ values_at (identity_columns table) row

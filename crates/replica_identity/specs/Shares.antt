@@ -1,4 +1,6 @@
--- What a subscriber takes of a table, where filters of several publications are joined by OR and one that carries the table whole makes the others redundant: PostgreSQL 15, "Logical Replication", 31.3.6 Combining Multiple Row Filters.
+-- What a subscriber takes of a table, where filters of several publications are joined by OR and one that carries the
+-- table whole makes the others redundant: PostgreSQL 15, "Logical Replication", 31.3.6 Combining Multiple Row
+-- Filters.
 use Rattle.std.specs.Prelude.{Bool, true, false, List, [], ◌∷◌, Option, fold, is_none, filter_map, if◌then◌else◌}
 use Rattle.std.specs.List.{list_any}
 use Rattle.filter_tree.specs.Datum.{Datum}

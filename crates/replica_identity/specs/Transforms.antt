@@ -1,4 +1,5 @@
--- What a subscriber gets of a change by its shares of the tables: PostgreSQL 15, "Logical Replication", 31.3.1 Row Filter Rules and 31.3.3 UPDATE Transformations.
+-- What a subscriber gets of a change by its shares of the tables: PostgreSQL 15, "Logical Replication", 31.3.1 Row
+-- Filter Rules and 31.3.3 UPDATE Transformations.
 use Rattle.std.specs.Prelude.{ℕ, Bool, not, List, Option}
 use Rattle.filter_tree.specs.Datum.{Datum}
 use Rattle.replica_identity.specs.Plans.{PlanOf, share_at}

@@ -88,7 +88,12 @@ fn key_part(
 /// new row or one of these columns changes; otherwise nothing. The only error is want of memory.
 ///
 /// PostgreSQL 15, SQL Commands, ALTER TABLE (REPLICA IDENTITY).
-#[tactic(auto, using(crate::proofs::PartLemmas::by_default, crate::proofs::PartLemmas::by_index, crate::proofs::PartLemmas::by_full, crate::proofs::PartLemmas::by_nothing))]
+#[tactic(auto, using(
+    crate::proofs::PartLemmas::by_default,
+    crate::proofs::PartLemmas::by_index,
+    crate::proofs::PartLemmas::by_full,
+    crate::proofs::PartLemmas::by_nothing
+))]
 pub fn old_part(
     alloc: Global,
     table: &Table,

@@ -18,7 +18,8 @@ pub record IsFlushing (before after : Option (List ℕ)) (was_failed failed : Bo
 pub flushes_none : (known : Option (List ℕ)) (voice : Voice) → Flushes known known voice voice
 flushes_none known voice = record { bytes = []; whole = refl; checked = refl; stage_is = refl; put = Appends-nil known }
 
-pub flushes_more : (before middle after : Option (List ℕ)) (old between new : Voice) (count : ℕ) → Flushes before middle old between → Appends middle after (take count (voice_output between))
+pub flushes_more : (before middle after : Option (List ℕ)) (old between new : Voice) (count : ℕ)
+    → Flushes before middle old between → Appends middle after (take count (voice_output between))
     → Passes between new count → Flushes before after old new
 flushes_more before middle after old between new count flushes put passes =
     let front : List ℕ = take count (voice_output between) in
@@ -26,25 +27,31 @@ flushes_more before middle after old between new count flushes put passes =
     sym (take-append-drop count (voice_output between)) ∙ ap (λ (rest : List ℕ). front ++ rest) (sym passes.output) in
     record {
       bytes = flushes.bytes ++ front;
-      whole = flushes.whole ∙ ap (λ (rest : List ℕ). flushes.bytes ++ rest) split ∙ sym (append_assoc flushes.bytes front (voice_output new));
+      whole = flushes.whole ∙ ap (λ (rest : List ℕ). flushes.bytes ++ rest) split
+          ∙ sym (append_assoc flushes.bytes front (voice_output new));
       checked = passes.checked ∙ flushes.checked;
       stage_is = passes.stage_is ∙ flushes.stage_is;
       put = Appends-trans before middle after flushes.bytes front flushes.put put;
     }
 
 -- all bytes that were written, passed on at once
-pub flush_passes : (before after : Option (List ℕ)) (old new : Voice) (flushes : Flushes before after old new) → Passes old new (length flushes.bytes)
+pub flush_passes : (before after : Option (List ℕ)) (old new : Voice) (flushes : Flushes before after old new)
+    → Passes old new (length flushes.bytes)
 flush_passes before after old new flushes = record {
   checked = flushes.checked;
   stage_is = flushes.stage_is;
   output = sym (ap (drop (length flushes.bytes)) flushes.whole ∙ drop-append_seam flushes.bytes (voice_output new));
 }
 
-pub flush_front : (before after : Option (List ℕ)) (old new : Voice) (flushes : Flushes before after old new) → take (length flushes.bytes) (voice_output old) ≡ flushes.bytes
-flush_front before after old new flushes = ap (take (length flushes.bytes)) flushes.whole ∙ take-append_seam flushes.bytes (voice_output new)
+pub flush_front : (before after : Option (List ℕ)) (old new : Voice) (flushes : Flushes before after old new)
+    → take (length flushes.bytes) (voice_output old) ≡ flushes.bytes
+flush_front before after old new flushes = ap (take (length flushes.bytes)) flushes.whole
+    ∙ take-append_seam flushes.bytes (voice_output new)
 
-pub tells_flushed : (before after : Option (List ℕ)) (old new : Voice) (told : Told) (flushes : Flushes before after old new) → IsTelling old told
+pub tells_flushed : (before after : Option (List ℕ)) (old new : Voice) (told : Told)
+    (flushes : Flushes before after old new) → IsTelling old told
     → IsTelling new (record told { passed = told.passed ++ flushes.bytes })
 tells_flushed before after old new told flushes tells =
-    subst (λ (bytes : List ℕ). IsTelling new (record told { passed = told.passed ++ bytes })) (flush_front before after old new flushes)
+    subst (λ (bytes : List ℕ). IsTelling new (record told { passed = told.passed ++ bytes }))
+        (flush_front before after old new flushes)
     (voice_passes_on old new told (length flushes.bytes) tells (flush_passes before after old new flushes))

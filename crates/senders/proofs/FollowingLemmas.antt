@@ -29,13 +29,13 @@ use Rattle.publisher_desk.specs.declared.note.Note.{Note}
 use Rattle.publisher_desk.specs.declared.note.Note.TheVariants.{Committed, Looked}
 use Rattle.senders_close.specs.Gathering.{all_receipts, receipts_in}
 use Rattle.senders_close.specs.Histories.{transaction_of, transactions_of}
-use Rattle.senders_close.specs.Taking.{IsTaken}
+use Rattle.senders_close.specs.TakenCommits.{IsTaken}
 use Rattle.stream_laws.specs.Cutting.{whole_in}
 use Rattle.stream_laws.specs.Following.{Follows, IsPublished, IsSentItem, log_of}
 use Rattle.stream_laws.specs.FollowingBytes.{AreFirst, StopsFollowing, items_from, position_in}
-use Rattle.stream_laws.specs.Sayable.{IsClocked, IsTimedTransaction}
+use Rattle.stream_laws.specs.LayoutRoom.{IsClocked, IsTimedTransaction}
 use Rattle.stream_laws.proofs.FollowingBytesLemmas.{fed_follow, stopped_follow}
-use Rattle.stream_laws.proofs.SayableLemmas.{logs_can_be_said}
+use Rattle.stream_laws.proofs.LayoutRoomLemmas.{logs_fit_layouts}
 use Rattle.stream_laws.proofs.SentItems.{streams_can_be_sent}
 use Rattle.test_subscriber.specs.Subscribers.{sub_machine}
 use Rattle.senders.specs.Following.{ClientsFollow, ClientsStop, ClosedAreFollowed, ClosedAreTold, ClosedTellTheLog, IsFirstPart, IsLastPart, NoBytes, OfDone, ServedAreFirstParts}
@@ -49,8 +49,10 @@ data Cut (a b c d : List ℕ) : Type 0 where
   After : (middle : List ℕ) → a ≡ c ++ middle → d ≡ middle ++ b → Cut a b c d
 
 cut_cons : (x y : ℕ) (a b c d : List ℕ) → x ≡ y → Cut a b c d → Cut (x ∷ a) b (y ∷ c) d
-cut_cons x y a b c d same (Before middle left right) = Before middle (ap (λ (z : ℕ). z ∷ c) (sym same) ∙ ap (λ (l : List ℕ). x ∷ l) left) right
-cut_cons x y a b c d same (After middle left right) = After middle (ap (λ (z : ℕ). z ∷ a) same ∙ ap (λ (l : List ℕ). y ∷ l) left) right
+cut_cons x y a b c d same (Before middle left right) =
+    Before middle (ap (λ (z : ℕ). z ∷ c) (sym same) ∙ ap (λ (l : List ℕ). x ∷ l) left) right
+cut_cons x y a b c d same (After middle left right) =
+    After middle (ap (λ (z : ℕ). z ∷ a) same ∙ ap (λ (l : List ℕ). y ∷ l) left) right
 
 cut : (a b c d : List ℕ) → a ++ b ≡ c ++ d → Cut a b c d
 cut [] b c d e = Before c refl e
@@ -62,18 +64,25 @@ cut (x ∷ a) b (y ∷ c) d e =
 
 -- ---- what was written
 
-last_part : (frames : List Frame) (last front rest : List ℕ) → last ≡ front ++ rest → IsLast frames last → IsLastPart frames front
-last_part frames last front rest is (serving.Nothing none) = NoBytes (nil_from_length front (omega (arith, ap length (sym is ∙ none), length-append front rest)))
+last_part : (frames : List Frame) (last front rest : List ℕ) → last ≡ front ++ rest → IsLast frames last
+    → IsLastPart frames front
+last_part frames last front rest is (serving.Nothing none) =
+    NoBytes (nil_from_length front (omega (arith, ap length (sym is ∙ none), length-append front rest)))
 last_part frames last front rest is (serving.Done done ends) = OfDone rest (sym is ∙ done) ends
 
 -- where the whole stream was written, nothing of it is left
 none_between : (middle last rest : List ℕ) → IsTail rest last → rest ≡ middle ++ last → middle ≡ []
 none_between middle last rest tail is =
-    nil_from_length middle (omega (arith, ap length is, ap length tail.list_is, length-append middle last, length-append tail.front rest))
+    nil_from_length middle
+        (omega (arith, ap length is, ap length tail.list_is, length-append middle last,
+        length-append tail.front rest))
 
-module _ (checked : CheckedOf) (transactions : List Transaction) (frames : List Frame) (slot start : ℕ) (taken : List CommitOf) (written : List ℕ) (failed : Bool) (why : End)
+module _ (checked : CheckedOf) (transactions : List Transaction) (frames : List Frame) (slot start : ℕ)
+    (taken : List CommitOf) (written : List ℕ) (failed : Bool) (why : End)
     (is : IsStream checked frames slot start taken written failed why) where
-  by_cut : (all : List ℕ) → all ≡ stream (telling_of checked) (log_of checked transactions) slot (length checked.catalog.tables) start is.moves → Cut written is.rest all is.last
+  by_cut : (all : List ℕ)
+      → all ≡ stream (telling_of checked) (log_of checked transactions) slot (length checked.catalog.tables) start
+      is.moves → Cut written is.rest all is.last
       → IsFirstPart checked transactions frames slot start taken written why
   by_cut all whole (Before middle left right) = record {
     moves = is.moves;
@@ -102,21 +111,27 @@ module _ (checked : CheckedOf) (transactions : List Transaction) (frames : List 
     whole = λ finished. refl;
   }
 
-log_is : (checked : CheckedOf) (book : Book) (transactions : List Transaction) → book_checked book ≡ checked → StandsFor book transactions → book_log book ≡ log_of checked transactions
+log_is : (checked : CheckedOf) (book : Book) (transactions : List Transaction) → book_checked book ≡ checked
+    → StandsFor book transactions → book_log book ≡ log_of checked transactions
 log_is checked book transactions named stands = stands.log ∙ ap (λ (k : CheckedOf). log_of k transactions) named
 
 pub served_are_first_parts : ServedAreFirstParts
 served_are_first_parts checked book transactions named stands frames slot start taken written failed why is at =
     let log : List CommitOf = log_of checked transactions in
-    let there : AreAt log (count_before start) taken = subst (λ (l : List CommitOf). AreAt l (count_before start) taken) (log_is checked book transactions named stands) at in
+    let there : AreAt log (count_before start) taken =
+        subst (λ (l : List CommitOf). AreAt l (count_before start) taken)
+        (log_is checked book transactions named stands) at in
     by_cut checked transactions frames slot start taken written failed why is
     (stream (telling_of checked) log slot (length checked.catalog.tables) start is.moves) refl
-    (cut written is.rest (stream (telling_of checked) log slot (length checked.catalog.tables) start is.moves) is.last (is.bytes log there))
+    (cut written is.rest (stream (telling_of checked) log slot (length checked.catalog.tables) start is.moves) is.last
+        (is.bytes log there))
 
 -- ---- who is fed it
 
 -- what is so of a catalog that was checked, and of a log of transactions that were accepted
-module _ (checked : Checked) (transactions : List Transaction) (accepted : AreAccepted (setting_in (checked_view checked)) no_rows transactions) (timed : All IsTimedTransaction transactions)
+module _ (checked : Checked) (transactions : List Transaction)
+    (accepted : AreAccepted (setting_in (checked_view checked)) no_rows transactions)
+    (timed : All IsTimedTransaction transactions)
     (few : length transactions ≤ 1000000000) where
   published : IsPublished (checked_view checked) transactions
   published =
@@ -124,34 +139,44 @@ module _ (checked : Checked) (transactions : List Transaction) (accepted : AreAc
       let plan = plan_view checked.plan in
       let own = kept_own catalog plan checked.own in
       let sound = kept_sound catalog checked.sound in
-      record { covered = own_covered catalog plan own sound; apart = own_apart catalog plan own sound; accepted = accepted }
+      record { covered = own_covered catalog plan own sound; apart = own_apart catalog plan own sound; accepted =
+          accepted }
 
   sent : (slot position : ℕ) (moves : List Move) → count_before position ≤ length transactions → All IsClocked moves
       → All IsSentItem (items_from (checked_view checked) transactions slot position moves)
   unfolding published
   sent slot position moves low clocks =
       streams_can_be_sent (checked_view checked) transactions accepted
-      (logs_can_be_said (checked_view checked) published.covered (checked_limited checked) transactions accepted timed few) slot position moves low clocks
+      (logs_fit_layouts (checked_view checked) published.covered (checked_limited checked) transactions accepted timed
+          few) slot position moves low clocks
 
 pub clients_follow : ClientsFollow
-clients_follow checked transactions accepted timed few slot start moves clocks old between new follows at opens bytes others first feeds =
+clients_follow checked transactions accepted timed few slot start moves clocks old between new follows at opens bytes
+    others first feeds =
     let view : CheckedOf = checked_view checked in
     let position : ℕ = (sub_machine old).position in
-    let here : AreFirst view transactions slot position moves bytes others = subst (λ (p : ℕ). AreFirst view transactions slot p moves bytes others) (sym at) first in
-    subst (λ (p : ℕ). Follows view transactions slot (position_in view transactions slot p moves bytes) (sub_machine new)) at
-    (fed_follow view transactions (published checked transactions accepted timed few) slot old between new follows opens moves
+    let here : AreFirst view transactions slot position moves bytes others =
+        subst (λ (p : ℕ). AreFirst view transactions slot p moves bytes others) (sym at) first in
+    subst (λ (p : ℕ). Follows view transactions slot (position_in view transactions slot p moves bytes)
+        (sub_machine new)) at
+    (fed_follow view transactions (published checked transactions accepted timed few) slot old between new follows
+        opens moves
     (sent checked transactions accepted timed few slot position moves follows.within clocks) bytes others here feeds)
 
 pub clients_stop : ClientsStop
-clients_stop checked transactions accepted timed few slot start moves clocks old between middle new follows at opens bytes piece others error first feeds stops =
+clients_stop checked transactions accepted timed few slot start moves clocks old between middle new follows at opens
+    bytes piece others error first feeds stops =
     let view : CheckedOf = checked_view checked in
     let position : ℕ = (sub_machine old).position in
     let here : AreFirst view transactions slot position moves (bytes ++ piece) others =
     subst (λ (p : ℕ). AreFirst view transactions slot p moves (bytes ++ piece) others) (sym at) first in
-    let stopped = stopped_follow view transactions (published checked transactions accepted timed few) slot old between middle new follows opens moves
-    (sent checked transactions accepted timed few slot position moves follows.within clocks) bytes piece others error here feeds stops in (
+    let stopped = stopped_follow view transactions (published checked transactions accepted timed few) slot old
+        between middle new follows opens moves
+    (sent checked transactions accepted timed few slot position moves follows.within clocks) bytes piece others error
+        here feeds stops in (
       stopped.0,
-      subst (λ (p : ℕ). StopsFollowing view transactions slot p (whole_in (length bytes) (items_from view transactions slot p moves))
+      subst (λ (p : ℕ). StopsFollowing view transactions slot p
+          (whole_in (length bytes) (items_from view transactions slot p moves))
           (whole_in (length (bytes ++ piece)) (items_from view transactions slot p moves)) new) at stopped.1,
     )
 
@@ -170,36 +195,47 @@ receipts_timed (Looked reading ∷ notes) timed = receipts_timed notes (All-tail
 all_timed : (seats : List (List Note)) → All AreTimed seats → All IsTimedReceipt (all_receipts seats)
 all_timed [] timed = All-nil IsTimedReceipt
 all_timed (notes ∷ seats) timed =
-    All-append IsTimedReceipt (receipts_in notes) (all_receipts seats) (receipts_timed notes (All-head AreTimed notes seats timed)) (all_timed seats (All-tail AreTimed notes seats timed))
+    All-append IsTimedReceipt (receipts_in notes) (all_receipts seats)
+        (receipts_timed notes (All-head AreTimed notes seats timed))
+        (all_timed seats (All-tail AreTimed notes seats timed))
 
-transactions_timed : (receipts : List ReceiptOf) → All IsTimedReceipt receipts → All IsTimedTransaction (transactions_of receipts)
+transactions_timed : (receipts : List ReceiptOf) → All IsTimedReceipt receipts
+    → All IsTimedTransaction (transactions_of receipts)
 transactions_timed [] timed = All-nil IsTimedTransaction
 transactions_timed (receipt ∷ receipts) timed =
-    All-cons IsTimedTransaction (transaction_of receipt) (transactions_of receipts) (All-head IsTimedReceipt receipt receipts timed)
+    All-cons IsTimedTransaction (transaction_of receipt) (transactions_of receipts)
+        (All-head IsTimedReceipt receipt receipts timed)
     (transactions_timed receipts (All-tail IsTimedReceipt receipt receipts timed))
 
 pub closed_are_told : ClosedAreTold
 closed_are_told checked limit seats served book closed =
     let order : List ReceiptOf = closed.order in
-    let each : All IsTimedReceipt order = All-permutation IsTimedReceipt (all_receipts seats) order closed.ordered.all (all_timed seats closed.timed) in
+    let each : All IsTimedReceipt order =
+        All-permutation IsTimedReceipt (all_receipts seats) order closed.ordered.all (all_timed seats closed.timed) in
     let long : length closed.transactions ≡ length order = ap length closed.told ∙ length-map order transaction_of in
-    let logged : length (book_log book) ≡ length book.log.items = length-map book.log.items (λ commit. arc_value commit) in
+    let logged : length (book_log book) ≡ length book.log.items =
+        length-map book.log.items (λ commit. arc_value commit) in
     record {
-      accepted = subst (λ (c : CheckedOf). AreAccepted (setting_in c) no_rows closed.transactions) closed.named closed.stands.accepted;
-      timed = subst (λ (l : List Transaction). All IsTimedTransaction l) (sym closed.told) (transactions_timed order each);
+      accepted = subst (λ (c : CheckedOf). AreAccepted (setting_in c) no_rows closed.transactions) closed.named
+          closed.stands.accepted;
+      timed = subst (λ (l : List Transaction). All IsTimedTransaction l) (sym closed.told)
+          (transactions_timed order each);
       few = omega (arith, long, logged, closed.counted, book.room, book.within);
     }
 
 pub closed_tell_the_log : ClosedTellTheLog
 closed_tell_the_log checked limit seats served book closed one among frames slot start at written failed is =
     let taken : IsTaken (book_log book) one = All-contains (IsTaken (book_log book)) served one closed.taken among in
-    served_are_first_parts checked book closed.transactions closed.named closed.stands frames slot start (commits_of one) written failed one.end is
+    served_are_first_parts checked book closed.transactions closed.named closed.stands frames slot start
+        (commits_of one) written failed one.end is
     (subst (λ (o : Option ℕ). AreAt (book_log book) (count_before (unwrap_or o 0)) (commits_of one)) at taken.at)
 
 pub closed_are_followed : ClosedAreFollowed
-closed_are_followed checked limit seats served book closed one frames slot start written part old between new follows at opens bytes rest is feeds =
+closed_are_followed checked limit seats served book closed one frames slot start written part old between new follows
+    at opens bytes rest is feeds =
     let view : CheckedOf = checked_view checked in
     let told = closed_are_told view limit seats served book closed in
     let first : AreFirst view closed.transactions slot start part.moves bytes (rest ++ part.others) =
     sym (append_assoc bytes rest part.others) ∙ ap (λ (l : List ℕ). l ++ part.others) is ∙ part.first in
-    clients_follow checked closed.transactions told.accepted told.timed told.few slot start part.moves part.clocks old between new follows at opens bytes (rest ++ part.others) first feeds
+    clients_follow checked closed.transactions told.accepted told.timed told.few slot start part.moves part.clocks old
+        between new follows at opens bytes (rest ++ part.others) first feeds

@@ -23,13 +23,17 @@ use Rattle.senders.specs.declared.next.Next.TheVariants as next
 
 -- ---- a piece, under the lock
 
-sent_from : (was now : Option (ℕ × ℕ)) (sent : ℕ) → IsSentFrom was sent → ((started : ℕ × ℕ) → was ≡ Some started → now ≡ Some started) → IsSentFrom now (sent_then was sent now)
-sent_from (Some started) now sent from stays = subst (λ (o : Option (ℕ × ℕ)). IsSentFrom o sent) (sym (stays started refl)) from
+sent_from : (was now : Option (ℕ × ℕ)) (sent : ℕ) → IsSentFrom was sent
+    → ((started : ℕ × ℕ) → was ≡ Some started → now ≡ Some started) → IsSentFrom now (sent_then was sent now)
+sent_from (Some started) now sent from stays =
+    subst (λ (o : Option (ℕ × ℕ)). IsSentFrom o sent) (sym (stays started refl)) from
 sent_from None None sent from stays = tt
 sent_from None (Some started) sent from stays = omega arith
 
-explained : (checked : CheckedOf) (bytes : List ℕ) (old new : Ear) (book : Book) (sent : ℕ) (heard : Result Heard LinkFault) → IsSentFrom (ear_started old) sent → StaysStarted old new
-    → IfErr heard (λ fault. IsAnsweredBy fault [] (ear_refusal new)) → Explains checked bytes new (reach_of old new book sent) heard → IsExplained checked bytes new heard
+explained : (checked : CheckedOf) (bytes : List ℕ) (old new : Ear) (book : Book) (sent : ℕ)
+    (heard : Result Heard LinkFault) → IsSentFrom (ear_started old) sent → StaysStarted old new
+    → IfErr heard (λ fault. IsAnsweredBy fault [] (ear_refusal new))
+    → Explains checked bytes new (reach_of old new book sent) heard → IsExplained checked bytes new heard
 explained checked bytes old new book sent (Ok heard) from stays refused explains = explains
 explained checked bytes old new book sent (Err fault) from stays refused explains = record {
   holds = record {
@@ -41,36 +45,44 @@ explained checked bytes old new book sent (Err fault) from stays refused explain
   answered = refused;
 }
 
-pub hears_piece : (checked : CheckedOf) (before after : Listener) (old new : Book) (heard : Result Heard LinkFault) → HeardPiece before after old new heard
+pub hears_piece : (checked : CheckedOf) (before after : Listener) (old new : Book) (heard : Result Heard LinkFault)
+    → HeardPiece before after old new heard
     → HearsPiece checked (piece_of before) before.ear after.ear heard
 hears_piece checked before after old new heard did = record {
   each = λ bytes has.
-      let on = pieces_are_heard checked bytes (piece_of before) before.ear after.ear old new did.sent heard has did.answer did.left in
+      let on = pieces_are_heard checked bytes (piece_of before) before.ear after.ear old new did.sent heard has
+          did.answer did.left in
       record {
         stays = on.stays;
         asks = on.asks;
-        explained = explained checked (bytes ++ piece_of before) before.ear after.ear old did.sent heard did.from on.stays did.refused on.explains;
+        explained = explained checked (bytes ++ piece_of before) before.ear after.ear old did.sent heard did.from
+            on.stays did.refused on.explains;
       };
 }
 
 -- ---- a read
 
-asks_on : (checked : CheckedOf) (bytes : List ℕ) (started : Option (ℕ × ℕ)) → IsStartedBy checked (frames_in bytes) started → AsksIfStarted checked (frames_in bytes) started
+asks_on : (checked : CheckedOf) (bytes : List ℕ) (started : Option (ℕ × ℕ))
+    → IsStartedBy checked (frames_in bytes) started → AsksIfStarted checked (frames_in bytes) started
 asks_on checked bytes None by = tt
 asks_on checked bytes (Some started) by = by
 
-pub has_asked : (checked : CheckedOf) (bytes : List ℕ) (ear : Ear) → HasHeard checked bytes ear → AsksIfStarted checked (frames_in bytes) (ear_started ear)
+pub has_asked : (checked : CheckedOf) (bytes : List ℕ) (ear : Ear) → HasHeard checked bytes ear
+    → AsksIfStarted checked (frames_in bytes) (ear_started ear)
 has_asked checked bytes ear has = asks_on checked bytes (ear_started ear) has.started
 
-same_ear : (checked : CheckedOf) (bytes : List ℕ) (old new : Ear) → new ≡ old → HasHeard checked bytes old → HasHeard checked bytes new
+same_ear : (checked : CheckedOf) (bytes : List ℕ) (old new : Ear) → new ≡ old → HasHeard checked bytes old
+    → HasHeard checked bytes new
 same_ear checked bytes old new same has = subst (HasHeard checked bytes) (sym same) has
 
 stays_from : (old middle new : Ear) → middle ≡ old → StaysStarted middle new → StaysStarted old new
 stays_from old middle new same stays = subst (λ (ear : Ear). StaysStarted ear new) same stays
 
-module _ (checked : CheckedOf) (left now_left : Option (List ℕ)) (failed ended : Bool) (old middle new : Listener) (pulls : PullsPiece left now_left (piece_of middle) old middle)
+module _ (checked : CheckedOf) (left now_left : Option (List ℕ)) (failed ended : Bool) (old middle new : Listener)
+    (pulls : PullsPiece left now_left (piece_of middle) old middle)
     (room : length new.piece.items ≡ length middle.piece.items) where
-  by_end : (was_over : Bool) (heard : Heard) → HearsPiece checked (piece_of middle) middle.ear new.ear (Ok heard) → (kind : Option ℕ) → heard.ended ≡ kind
+  by_end : (was_over : Bool) (heard : Heard) → HearsPiece checked (piece_of middle) middle.ear new.ear (Ok heard)
+      → (kind : Option ℕ) → heard.ended ≡ kind
       → HearsNext checked left now_left failed ended old new (next_by_end was_over kind)
   by_end was_over heard hears None none = record {
     more = piece_of middle;
@@ -95,7 +107,8 @@ module _ (checked : CheckedOf) (left now_left : Option (List ℕ)) (failed ended
         };
   }
 
-  pub hears_next : (was_over : Bool) (heard : Result Heard LinkFault) → HearsPiece checked (piece_of middle) middle.ear new.ear heard
+  pub hears_next : (was_over : Bool) (heard : Result Heard LinkFault)
+      → HearsPiece checked (piece_of middle) middle.ear new.ear heard
       → HearsNext checked left now_left failed ended old new (next_by was_over heard)
   hears_next was_over (Ok heard) hears = by_end was_over heard hears heard.ended refl
   hears_next was_over (Err fault) hears = record {
@@ -111,40 +124,52 @@ module _ (checked : CheckedOf) (left now_left : Option (List ℕ)) (failed ended
   }
 
 -- nothing was read, as the source says
-asks_still : (checked : CheckedOf) (bytes : List ℕ) (old new : Ear) → new ≡ old → HasHeard checked bytes old → AsksIfStarted checked (frames_in (bytes ++ [])) (ear_started new)
+asks_still : (checked : CheckedOf) (bytes : List ℕ) (old new : Ear) → new ≡ old → HasHeard checked bytes old
+    → AsksIfStarted checked (frames_in (bytes ++ [])) (ear_started new)
 asks_still checked bytes old new same has =
-    subst (λ (all : List ℕ). AsksIfStarted checked (frames_in all) (ear_started new)) (sym (append-nil bytes)) (has_asked checked bytes new (same_ear checked bytes old new same has))
+    subst (λ (all : List ℕ). AsksIfStarted checked (frames_in all) (ear_started new)) (sym (append-nil bytes))
+        (has_asked checked bytes new (same_ear checked bytes old new same has))
 
 stays_same : (old new : Ear) → new ≡ old → StaysStarted old new
 stays_same old new same started is = ap ear_started same ∙ is
 
-pub read_fails : (checked : CheckedOf) (left now_left : Option (List ℕ)) (failed ended : Bool) (old new : Listener) → PullsNothing left now_left failed old new
+pub read_fails : (checked : CheckedOf) (left now_left : Option (List ℕ)) (failed ended : Bool) (old new : Listener)
+    → PullsNothing left now_left failed old new
     → HearsLast checked left now_left failed ended old new ending.ReadFault
 read_fails checked left now_left failed ended old new pulls = record {
   more = [];
   read = pulls.read;
-  ends = λ bytes has. record { asks = asks_still checked bytes old.ear new.ear pulls.ear has; ends = pulls.said; stays = stays_same old.ear new.ear pulls.ear };
+  ends = λ bytes has. record
+      { asks = asks_still checked bytes old.ear new.ear pulls.ear has; ends = pulls.said; stays =
+      stays_same old.ear new.ear pulls.ear };
 }
 
-pub read_ends : (checked : CheckedOf) (left now_left : Option (List ℕ)) (failed ended : Bool) (old new : Listener) → PullsNothing left now_left ended old new
+pub read_ends : (checked : CheckedOf) (left now_left : Option (List ℕ)) (failed ended : Bool) (old new : Listener)
+    → PullsNothing left now_left ended old new
     → HearsLast checked left now_left failed ended old new ending.NoMore
 read_ends checked left now_left failed ended old new pulls = record {
   more = [];
   read = pulls.read;
-  ends = λ bytes has. record { asks = asks_still checked bytes old.ear new.ear pulls.ear has; ends = pulls.said; stays = stays_same old.ear new.ear pulls.ear };
+  ends = λ bytes has. record
+      { asks = asks_still checked bytes old.ear new.ear pulls.ear has; ends = pulls.said; stays =
+      stays_same old.ear new.ear pulls.ear };
 }
 
 -- ---- reads, one after another
 
-pub hears_nothing : (checked : CheckedOf) (left : Option (List ℕ)) (listener : Listener) → HearsMore checked left left listener listener
+pub hears_nothing : (checked : CheckedOf) (left : Option (List ℕ)) (listener : Listener)
+    → HearsMore checked left left listener listener
 hears_nothing checked left listener = record {
   more = [];
   read = Consumes-nil left;
-  heard = λ bytes has. record { has = subst (λ (all : List ℕ). HasHeard checked all listener.ear) (sym (append-nil bytes)) has; stays = λ started is. is };
+  heard = λ bytes has. record
+      { has = subst (λ (all : List ℕ). HasHeard checked all listener.ear) (sym (append-nil bytes)) has; stays =
+      λ started is. is };
   room = refl;
 }
 
-module _ (checked : CheckedOf) (left middle_left last_left : Option (List ℕ)) (old middle new : Listener) (first : HearsMore checked left middle_left old middle) where
+module _ (checked : CheckedOf) (left middle_left last_left : Option (List ℕ)) (old middle new : Listener)
+    (first : HearsMore checked left middle_left old middle) where
   pub hears_more : HearsMore checked middle_left last_left middle new → HearsMore checked left last_left old new
   hears_more then = record {
     more = first.more ++ then.more;
@@ -153,34 +178,43 @@ module _ (checked : CheckedOf) (left middle_left last_left : Option (List ℕ)) 
         let one = first.heard bytes has in
         let two = then.heard (bytes ++ first.more) one.has in
         record {
-          has = subst (λ (all : List ℕ). HasHeard checked all new.ear) (append_assoc bytes first.more then.more) two.has;
+          has = subst (λ (all : List ℕ). HasHeard checked all new.ear) (append_assoc bytes first.more then.more)
+              two.has;
           stays = λ started is. two.stays started (one.stays started is);
         };
     room = then.room ∙ first.room;
   }
 
-  pub hears_last : (failed ended : Bool) (why : Ending) → HearsLast checked middle_left last_left failed ended middle new why → HearsLast checked left last_left failed ended old new why
+  pub hears_last : (failed ended : Bool) (why : Ending)
+      → HearsLast checked middle_left last_left failed ended middle new why
+      → HearsLast checked left last_left failed ended old new why
   hears_last failed ended why then = record {
     more = first.more ++ then.more;
     read = Consumes-trans left middle_left last_left first.more then.more first.read then.read;
     ends = λ bytes has.
         let one = first.heard bytes has in
         let two = then.ends (bytes ++ first.more) one.has in
-        subst (λ (all : List ℕ). EndsOf checked all old.ear new.ear failed ended why) (append_assoc bytes first.more then.more)
+        subst (λ (all : List ℕ). EndsOf checked all old.ear new.ear failed ended why)
+            (append_assoc bytes first.more then.more)
         (record { asks = two.asks; ends = two.ends; stays = λ started is. two.stays started (one.stays started is) });
   }
 
 -- ---- what came of a read
 
-pub pulled : (left now_left : Option (List ℕ)) (failed ended : Bool) (old new : Listener) (result : Result Bool Failed) (more : Bool) → result ≡ Ok more → more ≡ true
+pub pulled : (left now_left : Option (List ℕ)) (failed ended : Bool) (old new : Listener)
+    (result : Result Bool Failed) (more : Bool) → result ≡ Ok more → more ≡ true
     → Pulls left now_left failed ended old new result → PullsPiece left now_left (piece_of new) old new
 pulled left now_left failed ended old new result more is some pulls =
     subst (Pulls left now_left failed ended old new) (is ∙ ap (λ (b : Bool). Ok b) some) pulls
 
-module _ (checked : CheckedOf) (left middle_left last_left : Option (List ℕ)) (failed ended : Bool) (old middle new : Listener) (first : HearsMore checked left middle_left old middle) (result : Next)
+module _ (checked : CheckedOf) (left middle_left last_left : Option (List ℕ)) (failed ended : Bool)
+    (old middle new : Listener) (first : HearsMore checked left middle_left old middle) (result : Next)
     (hears : HearsNext checked middle_left last_left failed ended middle new result) where
   pub on_after : (was_over : Bool) → result ≡ next.GoesOn was_over → HearsMore checked left last_left old new
-  on_after was_over is = hears_more checked left middle_left last_left old middle new first (subst (HearsNext checked middle_left last_left failed ended middle new) is hears)
+  on_after was_over is =
+      hears_more checked left middle_left last_left old middle new first
+      (subst (HearsNext checked middle_left last_left failed ended middle new) is hears)
 
   pub last_after : (why : Ending) → result ≡ next.Ends why → HearsLast checked left last_left failed ended old new why
-  last_after why is = hears_last checked left middle_left last_left old middle new first failed ended why (subst (HearsNext checked middle_left last_left failed ended middle new) is hears)
+  last_after why is = hears_last checked left middle_left last_left old middle new first failed ended why
+      (subst (HearsNext checked middle_left last_left failed ended middle new) is hears)

@@ -26,15 +26,18 @@ record Answered (before after : Option (List ℕ)) (failed : Bool) (why : End) :
   put : Appends before after written
   answer : IsAnswer written failed why
 
-module _ (checked : CheckedOf) (bytes : List ℕ) (source_failed source_ended : Bool) (before after : Option (List ℕ)) (failed : Bool) (response : List ℕ) where
-  by_fault : (f : LinkFault) → EndsFor checked bytes None response source_failed source_ended (ending.Fault f) → AnswersAs (ending.Fault f) before after failed response
+module _ (checked : CheckedOf) (bytes : List ℕ) (source_failed source_ended : Bool) (before after : Option (List ℕ))
+    (failed : Bool) (response : List ℕ) where
+  by_fault : (f : LinkFault) → EndsFor checked bytes None response source_failed source_ended (ending.Fault f)
+      → AnswersAs (ending.Fault f) before after failed response
       → Answered before after failed (end.Link f)
   by_fault (fault.BadStart state) ends answers =
       let is = ends.answered in
       record {
         written = answers.written;
         put = answers.put;
-        answer = record { refusal = is.refusal; state_is = is.state_is; rest = answers.rest; bytes = answers.bytes_are ∙ is.response_is; all = answers.all };
+        answer = record { refusal = is.refusal; state_is = is.state_is; rest = answers.rest; bytes = answers.bytes_are
+            ∙ is.response_is; all = answers.all };
       }
   by_fault fault.FrameTooLong ends answers = record { written = []; put = answers; answer = refl }
   by_fault fault.BadLength ends answers = record { written = []; put = answers; answer = refl }
@@ -43,52 +46,67 @@ module _ (checked : CheckedOf) (bytes : List ℕ) (source_failed source_ended : 
   by_fault fault.Closed ends answers = record { written = []; put = answers; answer = refl }
   by_fault fault.OutOfMemory ends answers = record { written = []; put = answers; answer = refl }
 
-  answered : (why : Ending) → EndsFor checked bytes None response source_failed source_ended why → AnswersAs why before after failed response → Answered before after failed (cause_by why)
+  answered : (why : Ending) → EndsFor checked bytes None response source_failed source_ended why
+      → AnswersAs why before after failed response → Answered before after failed (cause_by why)
   answered ending.ReadFault ends answers = record { written = []; put = answers; answer = refl }
   answered ending.NoMore ends answers = record { written = []; put = answers; answer = refl }
   answered (ending.Frame kind) ends answers = record { written = []; put = answers; answer = refl }
   answered (ending.Fault f) ends answers = by_fault f ends answers
 
-module _ (checked : CheckedOf) (bytes : List ℕ) (source_failed source_ended : Bool) (before after : Option (List ℕ)) (failed : Bool) (served : Served) (no_slot : served.slot ≡ None)
+module _ (checked : CheckedOf) (bytes : List ℕ) (source_failed source_ended : Bool) (before after : Option (List ℕ))
+    (failed : Bool) (served : Served) (no_slot : served.slot ≡ None)
     (no_start : served.start ≡ None) (none : served.taken.items ≡ []) where
-  unstarted : Answered before after failed served.end → IsCause checked bytes None source_failed source_ended failed served.end
+  unstarted : Answered before after failed served.end
+      → IsCause checked bytes None source_failed source_ended failed served.end
       → IsServedFor checked bytes source_failed source_ended before after failed served
   unstarted answer cause = record {
     written = answer.written;
     put = answer.put;
-    is = subst (λ (o : Option ℕ). IsWritten checked (frames_in bytes) o served.start (commits_of served) answer.written failed served.end) (sym no_slot)
-        (subst (λ (o : Option ℕ). IsWritten checked (frames_in bytes) None o (commits_of served) answer.written failed served.end) (sym no_start)
+    is = subst (λ (o : Option ℕ). IsWritten checked (frames_in bytes) o served.start (commits_of served)
+        answer.written failed served.end) (sym no_slot)
+        (subst (λ (o : Option ℕ). IsWritten checked (frames_in bytes) None o (commits_of served) answer.written failed
+            served.end) (sym no_start)
         (record { none = ap (map (λ commit. arc_value commit)) none; answer = answer.answer }));
-    cause = subst (λ (o : Option ℕ). IsCause checked bytes (started_of o served.start) source_failed source_ended failed served.end) (sym no_slot) cause;
+    cause = subst (λ (o : Option ℕ). IsCause checked bytes (started_of o served.start) source_failed source_ended
+        failed served.end) (sym no_slot) cause;
   }
 
 -- the connection ended before a stream was started
-pub served_refused : (checked : CheckedOf) (left now_left : Option (List ℕ)) (source_failed source_ended : Bool) (before after : Option (List ℕ)) (failed : Bool) (old new : Listener) (served : Served) (why : Ending)
-    → HasHeard checked [] old.ear → EndsAt checked left now_left source_failed source_ended old new None why → AnswersAs why before after failed (ear_refusal new.ear)
+pub served_refused : (checked : CheckedOf) (left now_left : Option (List ℕ)) (source_failed source_ended : Bool)
+    (before after : Option (List ℕ)) (failed : Bool) (old new : Listener) (served : Served) (why : Ending)
+    → HasHeard checked [] old.ear → EndsAt checked left now_left source_failed source_ended old new None why
+    → AnswersAs why before after failed (ear_refusal new.ear)
     → served.slot ≡ None → served.start ≡ None → served.taken.items ≡ [] → served.end ≡ cause_by why
     → IsServed checked left now_left source_failed source_ended before after failed served
-served_refused checked left now_left source_failed source_ended before after failed old new served why fresh at answers no_slot no_start none same =
+served_refused checked left now_left source_failed source_ended before after failed old new served why fresh at
+    answers no_slot no_start none same =
     let bytes : List ℕ = at.hears.more in
     let all = at.hears.ends [] fresh in
     let ends : EndsFor checked bytes None (ear_refusal new.ear) source_failed source_ended why =
-    subst (λ (o : Option (ℕ × ℕ)). EndsFor checked bytes o (ear_refusal new.ear) source_failed source_ended why) at.started_is all.ends in
+    subst (λ (o : Option (ℕ × ℕ)). EndsFor checked bytes o (ear_refusal new.ear) source_failed source_ended why)
+        at.started_is all.ends in
     record {
       bytes = bytes;
       read = at.hears.read;
       served_for = unstarted checked bytes source_failed source_ended before after failed served no_slot no_start none
-          (subst (Answered before after failed) (sym same) (answered checked bytes source_failed source_ended before after failed (ear_refusal new.ear) why ends answers))
+          (subst (Answered before after failed) (sym same)
+              (answered checked bytes source_failed source_ended before after failed (ear_refusal new.ear) why ends
+              answers))
           (subst (IsCause checked bytes None source_failed source_ended failed) (sym same)
           (heard_cause checked bytes None (ear_refusal new.ear) source_failed source_ended failed why ends));
     }
 
 -- no byte was read
-pub served_nothing : (checked : CheckedOf) (left : Option (List ℕ)) (source_failed source_ended : Bool) (before : Option (List ℕ)) (failed : Bool) (served : Served)
+pub served_nothing : (checked : CheckedOf) (left : Option (List ℕ)) (source_failed source_ended : Bool)
+    (before : Option (List ℕ)) (failed : Bool) (served : Served)
     → served.slot ≡ None → served.start ≡ None → served.taken.items ≡ [] → served.end ≡ end.Link fault.OutOfMemory
     → IsServed checked left left source_failed source_ended before before failed served
 served_nothing checked left source_failed source_ended before failed served no_slot no_start none same = record {
   bytes = [];
   read = Consumes-nil left;
   served_for = unstarted checked [] source_failed source_ended before before failed served no_slot no_start none
-      (subst (Answered before before failed) (sym same) (record { written = []; put = Appends-nil before; answer = refl }))
-      (subst (IsCause checked [] None source_failed source_ended failed) (sym same) (record { sent = 0; commits = 0; from = tt; has = tt }));
+      (subst (Answered before before failed) (sym same)
+          (record { written = []; put = Appends-nil before; answer = refl }))
+      (subst (IsCause checked [] None source_failed source_ended failed) (sym same)
+          (record { sent = 0; commits = 0; from = tt; has = tt }));
 }

@@ -25,42 +25,60 @@ use Rattle.senders.proofs.HearingLemmas.{has_asked}
 
 -- ---- causes
 
-memory_cause : (checked : CheckedOf) (bytes : List ℕ) (slot start : ℕ) → HoldsFault checked bytes (Some (slot, start)) fault.OutOfMemory
+memory_cause : (checked : CheckedOf) (bytes : List ℕ) (slot start : ℕ)
+    → HoldsFault checked bytes (Some (slot, start)) fault.OutOfMemory
 memory_cause checked bytes slot start = record { sent = first_sent start; commits = 0; from = omega arith; has = tt }
 
-pub heard_cause : (checked : CheckedOf) (bytes : List ℕ) (started : Option (ℕ × ℕ)) (response : List ℕ) (source_failed source_ended sink_failed : Bool) (why : Ending)
-    → EndsFor checked bytes started response source_failed source_ended why → IsCause checked bytes started source_failed source_ended sink_failed (cause_by why)
+pub heard_cause : (checked : CheckedOf) (bytes : List ℕ) (started : Option (ℕ × ℕ)) (response : List ℕ)
+    (source_failed source_ended sink_failed : Bool) (why : Ending)
+    → EndsFor checked bytes started response source_failed source_ended why
+    → IsCause checked bytes started source_failed source_ended sink_failed (cause_by why)
 heard_cause checked bytes started response source_failed source_ended sink_failed ending.ReadFault ends = ends
 heard_cause checked bytes started response source_failed source_ended sink_failed ending.NoMore ends = inl ends
-heard_cause checked bytes started response source_failed source_ended sink_failed (ending.Frame kind) ends = inr (record { kind = kind; has = ends })
+heard_cause checked bytes started response source_failed source_ended sink_failed (ending.Frame kind) ends =
+    inr (record { kind = kind; has = ends })
 heard_cause checked bytes started response source_failed source_ended sink_failed (ending.Fault fault) ends = ends.holds
 
 -- ---- a stream
 
 -- what the bytes say of it, and of why its listener ended
-record Knows (checked : CheckedOf) (bytes : List ℕ) (slot start : ℕ) (source_failed source_ended : Bool) (why : Option Ending) : Type 0 where
+record Knows (checked : CheckedOf) (bytes : List ℕ) (slot start : ℕ) (source_failed source_ended : Bool)
+    (why : Option Ending) : Type 0 where
   asks : AsksFor checked (frames_in bytes) slot start
   response : List ℕ
-  ends : (ending : Ending) → why ≡ Some ending → EndsFor checked bytes (Some (slot, start)) response source_failed source_ended ending
+  ends : (ending : Ending) → why ≡ Some ending
+      → EndsFor checked bytes (Some (slot, start)) response source_failed source_ended ending
 
-is_last : (checked : CheckedOf) (bytes : List ℕ) (slot start : ℕ) (source_failed source_ended : Bool) (why : Option Ending) (last : List ℕ)
+is_last : (checked : CheckedOf) (bytes : List ℕ) (slot start : ℕ) (source_failed source_ended : Bool)
+    (why : Option Ending) (last : List ℕ)
     → Knows checked bytes slot start source_failed source_ended why → IsSaid why last → IsLast (frames_in bytes) last
-is_last checked bytes slot start source_failed source_ended why last knows (speaking.Nothing none) = serving.Nothing none
-is_last checked bytes slot start source_failed source_ended why last knows (speaking.Done done is) = serving.Done done (knows.ends (ending.Frame 99) is)
+is_last checked bytes slot start source_failed source_ended why last knows (speaking.Nothing none) =
+    serving.Nothing none
+is_last checked bytes slot start source_failed source_ended why last knows (speaking.Done done is) =
+    serving.Done done (knows.ends (ending.Frame 99) is)
 
-module _ (checked : CheckedOf) (bytes : List ℕ) (slot start : ℕ) (source_failed source_ended : Bool) (before after : Option (List ℕ)) (sink_failed : Bool) (why : Option Ending) (served : Served)
+module _ (checked : CheckedOf) (bytes : List ℕ) (slot start : ℕ) (source_failed source_ended : Bool)
+    (before after : Option (List ℕ)) (sink_failed : Bool) (why : Option Ending) (served : Served)
     (knows : Knows checked bytes slot start source_failed source_ended why) where
-  stream_cause : (is : End) → IsEndOf why sink_failed is → IsCause checked bytes (Some (slot, start)) source_failed source_ended sink_failed is
-  stream_cause is (Writing same failed) = subst (IsCause checked bytes (Some (slot, start)) source_failed source_ended sink_failed) (sym same) failed
-  stream_cause is (Memory same) = subst (IsCause checked bytes (Some (slot, start)) source_failed source_ended sink_failed) (sym same) (memory_cause checked bytes slot start)
-  stream_cause is (Whole same) = subst (IsCause checked bytes (Some (slot, start)) source_failed source_ended sink_failed) (sym same) tt
+  stream_cause : (is : End) → IsEndOf why sink_failed is
+      → IsCause checked bytes (Some (slot, start)) source_failed source_ended sink_failed is
+  stream_cause is (Writing same failed) =
+      subst (IsCause checked bytes (Some (slot, start)) source_failed source_ended sink_failed) (sym same) failed
+  stream_cause is (Memory same) =
+      subst (IsCause checked bytes (Some (slot, start)) source_failed source_ended sink_failed) (sym same)
+      (memory_cause checked bytes slot start)
+  stream_cause is (Whole same) =
+      subst (IsCause checked bytes (Some (slot, start)) source_failed source_ended sink_failed) (sym same) tt
   stream_cause is (Heard ending some same) =
       subst (IsCause checked bytes (Some (slot, start)) source_failed source_ended sink_failed) (sym same)
-      (heard_cause checked bytes (Some (slot, start)) knows.response source_failed source_ended sink_failed ending (knows.ends ending some))
+      (heard_cause checked bytes (Some (slot, start)) knows.response source_failed source_ended sink_failed ending
+          (knows.ends ending some))
 
-  stream_served : Streams checked slot start before after sink_failed why served → IsServedFor checked bytes source_failed source_ended before after sink_failed served
+  stream_served : Streams checked slot start before after sink_failed why served
+      → IsServedFor checked bytes source_failed source_ended before after sink_failed served
   stream_served streams =
-      let is : IsStream checked (frames_in bytes) slot start (commits_of served) streams.written sink_failed served.end = record {
+      let is : IsStream checked (frames_in bytes) slot start (commits_of served) streams.written sink_failed
+          served.end = record {
         asks = knows.asks;
         follow = streams.follow;
         moves = streams.moves;
@@ -76,20 +94,26 @@ module _ (checked : CheckedOf) (bytes : List ℕ) (slot start : ℕ) (source_fai
       record {
         written = streams.written;
         put = streams.put;
-        is = subst (λ (o : Option ℕ). IsWritten checked (frames_in bytes) o served.start (commits_of served) streams.written sink_failed served.end) (sym streams.slot_is)
-            (subst (λ (o : Option ℕ). IsWritten checked (frames_in bytes) (Some slot) o (commits_of served) streams.written sink_failed served.end) (sym streams.start_is) is);
-        cause = subst (λ (o : Option ℕ). IsCause checked bytes (started_of o served.start) source_failed source_ended sink_failed served.end) (sym streams.slot_is)
-            (subst (λ (o : Option ℕ). IsCause checked bytes (started_of (Some slot) o) source_failed source_ended sink_failed served.end) (sym streams.start_is)
+        is = subst (λ (o : Option ℕ). IsWritten checked (frames_in bytes) o served.start (commits_of served)
+            streams.written sink_failed served.end) (sym streams.slot_is)
+            (subst (λ (o : Option ℕ). IsWritten checked (frames_in bytes) (Some slot) o (commits_of served)
+                streams.written sink_failed served.end) (sym streams.start_is) is);
+        cause = subst (λ (o : Option ℕ). IsCause checked bytes (started_of o served.start) source_failed source_ended
+            sink_failed served.end) (sym streams.slot_is)
+            (subst (λ (o : Option ℕ). IsCause checked bytes (started_of (Some slot) o) source_failed source_ended
+                sink_failed served.end) (sym streams.start_is)
             (stream_cause served.end streams.ends));
       }
 
 -- ---- what was read of it
 
-asks_for : (checked : CheckedOf) (bytes : List ℕ) (started : Option (ℕ × ℕ)) (slot start : ℕ) → AsksIfStarted checked (frames_in bytes) started → started ≡ Some (slot, start)
+asks_for : (checked : CheckedOf) (bytes : List ℕ) (started : Option (ℕ × ℕ)) (slot start : ℕ)
+    → AsksIfStarted checked (frames_in bytes) started → started ≡ Some (slot, start)
     → AsksFor checked (frames_in bytes) slot start
 asks_for checked bytes started slot start asks is = subst (AsksIfStarted checked (frames_in bytes)) is asks
 
-knows_end : (checked : CheckedOf) (bytes : List ℕ) (old new : Ear) (slot start : ℕ) (source_failed source_ended : Bool) (why : Ending) → EndsOf checked bytes old new source_failed source_ended why
+knows_end : (checked : CheckedOf) (bytes : List ℕ) (old new : Ear) (slot start : ℕ)
+    (source_failed source_ended : Bool) (why : Ending) → EndsOf checked bytes old new source_failed source_ended why
     → ear_started new ≡ Some (slot, start) → Knows checked bytes slot start source_failed source_ended (Some why)
 knows_end checked bytes old new slot start source_failed source_ended why ends is = record {
   asks = asks_for checked bytes (ear_started new) slot start ends.asks is;
@@ -97,10 +121,12 @@ knows_end checked bytes old new slot start source_failed source_ended why ends i
   ends = λ ending some.
       let same : why ≡ ending = cc in
       subst (EndsFor checked bytes (Some (slot, start)) (ear_refusal new) source_failed source_ended) same
-      (subst (λ (o : Option (ℕ × ℕ)). EndsFor checked bytes o (ear_refusal new) source_failed source_ended why) is ends.ends);
+      (subst (λ (o : Option (ℕ × ℕ)). EndsFor checked bytes o (ear_refusal new) source_failed source_ended why) is
+          ends.ends);
 }
 
-knows_on : (checked : CheckedOf) (bytes : List ℕ) (ear : Ear) (slot start : ℕ) (source_failed source_ended : Bool) → HasHeard checked bytes ear → ear_started ear ≡ Some (slot, start)
+knows_on : (checked : CheckedOf) (bytes : List ℕ) (ear : Ear) (slot start : ℕ) (source_failed source_ended : Bool)
+    → HasHeard checked bytes ear → ear_started ear ≡ Some (slot, start)
     → Knows checked bytes slot start source_failed source_ended None
 knows_on checked bytes ear slot start source_failed source_ended has is = record {
   asks = asks_for checked bytes (ear_started ear) slot start (has_asked checked bytes ear has) is;
@@ -110,20 +136,28 @@ knows_on checked bytes ear slot start source_failed source_ended has is = record
 
 -- ---- the cases of a connection
 
-module _ (checked : CheckedOf) (left now_left : Option (List ℕ)) (source_failed source_ended : Bool) (before after : Option (List ℕ)) (sink_failed : Bool) (old new : Listener)
+module _ (checked : CheckedOf) (left now_left : Option (List ℕ)) (source_failed source_ended : Bool)
+    (before after : Option (List ℕ)) (sink_failed : Bool) (old new : Listener)
     (fresh : HasHeard checked [] old.ear) (served : Served) where
-  pub served_ended : (started : ℕ × ℕ) (why : Ending) → EndsAt checked left now_left source_failed source_ended old new (Some started) why
-      → Streams checked started.0 started.1 before after sink_failed (Some why) served → IsServed checked left now_left source_failed source_ended before after sink_failed served
+  pub served_ended : (started : ℕ × ℕ) (why : Ending)
+      → EndsAt checked left now_left source_failed source_ended old new (Some started) why
+      → Streams checked started.0 started.1 before after sink_failed (Some why) served
+      → IsServed checked left now_left source_failed source_ended before after sink_failed served
   served_ended started why at streams = record {
     bytes = at.hears.more;
     read = at.hears.read;
-    served_for = stream_served checked at.hears.more started.0 started.1 source_failed source_ended before after sink_failed (Some why) served
-        (knows_end checked at.hears.more old.ear new.ear started.0 started.1 source_failed source_ended why (at.hears.ends [] fresh) at.started_is) streams;
+    served_for = stream_served checked at.hears.more started.0 started.1 source_failed source_ended before after
+        sink_failed (Some why) served
+        (knows_end checked at.hears.more old.ear new.ear started.0 started.1 source_failed source_ended why
+            (at.hears.ends [] fresh) at.started_is) streams;
   }
 
   -- it was heard on by this listener
-  module _ (middle_left : Option (List ℕ)) (middle : Listener) (started : ℕ × ℕ) (on : StartsOn checked left middle_left old middle started) where
-    by_listener : (why : Option Ending) → HearsAll checked middle_left now_left source_failed source_ended middle new why → Streams checked started.0 started.1 before after sink_failed why served
+  module _ (middle_left : Option (List ℕ)) (middle : Listener) (started : ℕ × ℕ)
+      (on : StartsOn checked left middle_left old middle started) where
+    by_listener : (why : Option Ending)
+        → HearsAll checked middle_left now_left source_failed source_ended middle new why
+        → Streams checked started.0 started.1 before after sink_failed why served
         → IsServed checked left now_left source_failed source_ended before after sink_failed served
     by_listener None more streams =
         let first = on.hears.heard [] fresh in
@@ -131,8 +165,10 @@ module _ (checked : CheckedOf) (left now_left : Option (List ℕ)) (source_faile
         record {
           bytes = on.hears.more ++ more.more;
           read = Consumes-trans left middle_left now_left on.hears.more more.more on.hears.read more.read;
-          served_for = stream_served checked (on.hears.more ++ more.more) started.0 started.1 source_failed source_ended before after sink_failed None served
-              (knows_on checked (on.hears.more ++ more.more) new.ear started.0 started.1 source_failed source_ended then.has (then.stays started on.started_is)) streams;
+          served_for = stream_served checked (on.hears.more ++ more.more) started.0 started.1 source_failed
+              source_ended before after sink_failed None served
+              (knows_on checked (on.hears.more ++ more.more) new.ear started.0 started.1 source_failed source_ended
+                  then.has (then.stays started on.started_is)) streams;
         }
     by_listener (Some why) last streams =
         let first = on.hears.heard [] fresh in
@@ -140,10 +176,13 @@ module _ (checked : CheckedOf) (left now_left : Option (List ℕ)) (source_faile
         record {
           bytes = on.hears.more ++ last.more;
           read = Consumes-trans left middle_left now_left on.hears.more last.more on.hears.read last.read;
-          served_for = stream_served checked (on.hears.more ++ last.more) started.0 started.1 source_failed source_ended before after sink_failed (Some why) served
-              (knows_end checked (on.hears.more ++ last.more) middle.ear new.ear started.0 started.1 source_failed source_ended why then (then.stays started on.started_is)) streams;
+          served_for = stream_served checked (on.hears.more ++ last.more) started.0 started.1 source_failed
+              source_ended before after sink_failed (Some why) served
+              (knows_end checked (on.hears.more ++ last.more) middle.ear new.ear started.0 started.1 source_failed
+                  source_ended why then (then.stays started on.started_is)) streams;
         }
 
-    pub served_started : RunsOn checked started.0 started.1 middle_left now_left source_failed source_ended before after sink_failed middle new served
+    pub served_started : RunsOn checked started.0 started.1 middle_left now_left source_failed source_ended before
+        after sink_failed middle new served
         → IsServed checked left now_left source_failed source_ended before after sink_failed served
     served_started runs = by_listener runs.why runs.hears runs.streams

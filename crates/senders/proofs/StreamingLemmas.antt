@@ -19,7 +19,7 @@ use Rattle.served_connections.specs.declared.end.End.{End}
 use Rattle.served_connections.specs.declared.end.End.TheVariants as end
 use Rattle.served_connections.specs.declared.served.Served.{Served}
 use Rattle.std.proofs.lemmas.List.Elements.{All-nil}
-use Rattle.stream_laws.specs.Sayable.{IsClocked}
+use Rattle.stream_laws.specs.LayoutRoom.{IsClocked}
 use Rattle.senders.specs.Causes.{chosen, chosen_by, end_by, goes_first, unopened_by}
 use Rattle.senders.specs.Refusing.{cause_by}
 use Rattle.senders.specs.Running.{Concludes, IsEndOf, IsWithout, Memory, Writing, Whole, Heard, Streams}
@@ -43,36 +43,47 @@ pub record Wrote (checked : CheckedOf) (slot start : ℕ) (taken : List CommitOf
       → passed ++ output ≡ stream (telling_of checked) log slot (length checked.catalog.tables) start moves
 
 module _ (checked : CheckedOf) (slot start : ℕ) where
-  wrote : (taken : List CommitOf) (now : Told) (bytes output : List ℕ) → All IsClocked now.moves → Follows (started_telling checked slot start copy_both_response) now taken bytes → Spells now output []
+  wrote : (taken : List CommitOf) (now : Told) (bytes output : List ℕ) → All IsClocked now.moves
+      → Follows (started_telling checked slot start copy_both_response) now taken bytes → Spells now output []
       → Wrote checked slot start taken (copy_both_response ++ bytes) output
   wrote taken now bytes output clocks follows spelled =
       let position : first_of now ≡ count_before start = ap (λ (s : Start). count_before s.position) follows.start_is in
       let here : Start = started_at checked (slot, start) in
       record {
-        follow = subst (Follow (count_before start)) follows.taken_is (subst (λ (n : ℕ). Follow n now.taken) position spelled.follow);
+        follow = subst (Follow (count_before start)) follows.taken_is
+            (subst (λ (n : ℕ). Follow n now.taken) position spelled.follow);
         moves = now.moves;
         clocks = clocks;
         takes = spelled.takes ∙ ap length follows.taken_is;
         bytes = λ log are.
             let at : AreAt log (first_of now) now.taken =
-            subst (λ (n : ℕ). AreAt log n now.taken) (sym position) (subst (AreAt log (count_before start)) (sym follows.taken_is) are) in
+            subst (λ (n : ℕ). AreAt log n now.taken) (sym position)
+                (subst (AreAt log (count_before start)) (sym follows.taken_is) are) in
             ap (λ (passed : List ℕ). passed ++ output) (sym follows.passed_is) ∙ spelled.bytes log at
-            ∙ append-nil (stream (telling_of now.checked) log now.start.slot now.start.tables now.start.position now.moves)
-            ∙ ap (λ (k : CheckedOf). stream (telling_of k) log now.start.slot now.start.tables now.start.position now.moves) follows.checked_is
+            ∙ append-nil (stream (telling_of now.checked) log now.start.slot now.start.tables now.start.position
+                now.moves)
+            ∙ ap (λ (k : CheckedOf). stream (telling_of k) log now.start.slot now.start.tables now.start.position
+                now.moves) follows.checked_is
             ∙ ap (λ (s : Start). stream (telling_of checked) log s.slot s.tables s.position now.moves) follows.start_is;
       }
 
-  module _ (before opened sent last : Option (List ℕ)) (put : Appends before opened copy_both_response) (taken : List CommitOf) (voice : Voice) (why : Option Ending) (was_failed failed : Bool)
-      (served : Served) (slot_is : served.slot ≡ Some slot) (start_is : served.start ≡ Some start) (taken_is : commits_of served ≡ taken) (ends : IsEndOf why failed served.end) where
-    after_all : GoesOn opened sent taken voice (started_telling checked slot start copy_both_response) → Closes why sent last failed → Streams checked slot start before last failed why served
+  module _ (before opened sent last : Option (List ℕ)) (put : Appends before opened copy_both_response)
+      (taken : List CommitOf) (voice : Voice) (why : Option Ending) (was_failed failed : Bool)
+      (served : Served) (slot_is : served.slot ≡ Some slot) (start_is : served.start ≡ Some start)
+          (taken_is : commits_of served ≡ taken) (ends : IsEndOf why failed served.end) where
+    after_all : GoesOn opened sent taken voice (started_telling checked slot start copy_both_response)
+        → Closes why sent last failed → Streams checked slot start before last failed why served
     after_all goes closes =
         let front : List ℕ = copy_both_response ++ goes.bytes in
-        let w : Wrote checked slot start taken front (voice_output voice) = wrote taken goes.now goes.bytes (voice_output voice) goes.clocks goes.follows (spells voice goes.now goes.quiet.tells) in
+        let w : Wrote checked slot start taken front (voice_output voice) =
+            wrote taken goes.now goes.bytes (voice_output voice) goes.clocks goes.follows
+            (spells voice goes.now goes.quiet.tells) in
         record {
           slot_is = slot_is;
           start_is = start_is;
           written = front ++ closes.written;
-          put = Appends-trans before sent last front closes.written (Appends-trans before opened sent copy_both_response goes.bytes put goes.put) closes.put;
+          put = Appends-trans before sent last front closes.written
+              (Appends-trans before opened sent copy_both_response goes.bytes put goes.put) closes.put;
           follow = subst (Follow (count_before start)) (sym taken_is) w.follow;
           moves = w.moves;
           clocks = w.clocks;
@@ -83,22 +94,27 @@ module _ (checked : CheckedOf) (slot start : ℕ) where
           bytes = λ log are.
               append_assoc front closes.written closes.rest ∙ ap (λ (x : List ℕ). front ++ x) closes.bytes
               ∙ ap (λ (x : List ℕ). x ++ closes.last)
-              (sym (append-nil front) ∙ ap (λ (x : List ℕ). front ++ x) (sym goes.quiet.none) ∙ w.bytes log (subst (AreAt log (count_before start)) taken_is are));
+              (sym (append-nil front) ∙ ap (λ (x : List ℕ). front ++ x) (sym goes.quiet.none)
+                  ∙ w.bytes log (subst (AreAt log (count_before start)) taken_is are));
           all = λ sound memory. closes.all sound;
           whole = λ finished. record { front = closes.written; list_is = sym closes.bytes };
           ends = ends;
         }
 
-    after_part : Breaks opened sent taken voice (started_telling checked slot start copy_both_response) → SaysNothing sent last was_failed failed
-        → (failed ≡ false → voice_output voice ≡ []) → (served.end ≡ end.Finished → ⊥) → Streams checked slot start before last failed why served
+    after_part : Breaks opened sent taken voice (started_telling checked slot start copy_both_response)
+        → SaysNothing sent last was_failed failed
+        → (failed ≡ false → voice_output voice ≡ []) → (served.end ≡ end.Finished → ⊥)
+        → Streams checked slot start before last failed why served
     after_part breaks says all unfinished =
         let front : List ℕ = copy_both_response ++ breaks.bytes in
-        let w : Wrote checked slot start taken front (voice_output voice) = wrote taken breaks.now breaks.bytes (voice_output voice) breaks.clocks breaks.follows breaks.spells in
+        let w : Wrote checked slot start taken front (voice_output voice) =
+            wrote taken breaks.now breaks.bytes (voice_output voice) breaks.clocks breaks.follows breaks.spells in
         record {
           slot_is = slot_is;
           start_is = start_is;
           written = front ++ [];
-          put = Appends-trans before sent last front [] (Appends-trans before opened sent copy_both_response breaks.bytes put breaks.put) says.put;
+          put = Appends-trans before sent last front []
+              (Appends-trans before opened sent copy_both_response breaks.bytes put breaks.put) says.put;
           follow = subst (Follow (count_before start)) (sym taken_is) w.follow;
           moves = w.moves;
           clocks = w.clocks;
@@ -107,7 +123,8 @@ module _ (checked : CheckedOf) (slot start : ℕ) where
           last = [];
           said = Nothing refl;
           bytes = λ log are.
-              ap (λ (x : List ℕ). x ++ voice_output voice) (append-nil front) ∙ w.bytes log (subst (AreAt log (count_before start)) taken_is are)
+              ap (λ (x : List ℕ). x ++ voice_output voice) (append-nil front)
+                  ∙ w.bytes log (subst (AreAt log (count_before start)) taken_is are)
               ∙ sym (append-nil (stream (telling_of checked) log slot (length checked.catalog.tables) start w.moves));
           all = λ sound memory. all sound;
           whole = λ finished. absurd (unfinished finished);
@@ -128,63 +145,85 @@ stop_unfinished stop.Finished not is = not refl
 stop_unfinished stop.WriteFault not is = cc
 stop_unfinished stop.OutOfMemory not is = cc
 
-by_unfinished : (s : Stop) (is_first : Bool) (why : Ending) → (s ≡ stop.Finished → ⊥) → chosen_by s is_first why ≡ end.Finished → ⊥
+by_unfinished : (s : Stop) (is_first : Bool) (why : Ending) → (s ≡ stop.Finished → ⊥)
+    → chosen_by s is_first why ≡ end.Finished → ⊥
 by_unfinished s true why not is = stop_unfinished s not is
 by_unfinished s false why not is = heard_unfinished why is
 
-unfinished : (s : Stop) (is_first : Bool) (why : Option Ending) → (s ≡ stop.Finished → ⊥) → chosen s is_first why ≡ end.Finished → ⊥
+unfinished : (s : Stop) (is_first : Bool) (why : Option Ending) → (s ≡ stop.Finished → ⊥)
+    → chosen s is_first why ≡ end.Finished → ⊥
 unfinished s is_first None not is = stop_unfinished s not is
 unfinished s is_first (Some why) not is = by_unfinished s (goes_first is_first why) why not is
 
-stop_ends : (s : Stop) (why : Option Ending) (failed : Bool) (is : End) → (s ≡ stop.WriteFault → failed ≡ true) → is ≡ end_by s → IsEndOf why failed is
+stop_ends : (s : Stop) (why : Option Ending) (failed : Bool) (is : End) → (s ≡ stop.WriteFault → failed ≡ true)
+    → is ≡ end_by s → IsEndOf why failed is
 stop_ends stop.Told why failed is fails same = Memory same
 stop_ends stop.Finished why failed is fails same = Whole same
 stop_ends stop.WriteFault why failed is fails same = Writing same (fails refl)
 stop_ends stop.OutOfMemory why failed is fails same = Memory same
 
-both_end : (s : Stop) (is_first : Bool) (why : Ending) (failed : Bool) (is : End) → (s ≡ stop.WriteFault → failed ≡ true) → is ≡ chosen_by s is_first why → IsEndOf (Some why) failed is
+both_end : (s : Stop) (is_first : Bool) (why : Ending) (failed : Bool) (is : End)
+    → (s ≡ stop.WriteFault → failed ≡ true) → is ≡ chosen_by s is_first why → IsEndOf (Some why) failed is
 both_end s true why failed is fails same = stop_ends s (Some why) failed is fails same
 both_end s false why failed is fails same = Heard why refl same
 
-ends_by : (s : Stop) (is_first : Bool) (why : Option Ending) (failed : Bool) (is : End) → (s ≡ stop.WriteFault → failed ≡ true) → is ≡ chosen s is_first why → IsEndOf why failed is
+ends_by : (s : Stop) (is_first : Bool) (why : Option Ending) (failed : Bool) (is : End)
+    → (s ≡ stop.WriteFault → failed ≡ true) → is ≡ chosen s is_first why → IsEndOf why failed is
 ends_by s is_first None failed is fails same = stop_ends s None failed is fails same
 ends_by s is_first (Some why) failed is fails same = both_end s (goes_first is_first why) why failed is fails same
 
 -- ---- all of a stream
 
-module _ (checked : CheckedOf) (slot start : ℕ) (before opened sent last : Option (List ℕ)) (voice : Voice) (why : Option Ending) (was_failed failed : Bool) (served : Served) where
+module _ (checked : CheckedOf) (slot start : ℕ) (before opened sent last : Option (List ℕ)) (voice : Voice)
+    (why : Option Ending) (was_failed failed : Bool) (served : Served) where
   by_stop : (s : Stop) (is_first : Bool) (taken : List CommitOf) → Appends before opened copy_both_response
-      → StopsAs s opened sent taken voice (started_telling checked slot start copy_both_response) → (s ≡ stop.WriteFault → was_failed ≡ true) → served.slot ≡ Some slot → served.start ≡ Some start
-      → commits_of served ≡ taken → served.end ≡ chosen s is_first why → SaysLast s why sent last was_failed failed → Streams checked slot start before last failed why served
+      → StopsAs s opened sent taken voice (started_telling checked slot start copy_both_response)
+      → (s ≡ stop.WriteFault → was_failed ≡ true) → served.slot ≡ Some slot → served.start ≡ Some start
+      → commits_of served ≡ taken → served.end ≡ chosen s is_first why → SaysLast s why sent last was_failed failed
+      → Streams checked slot start before last failed why served
   by_stop stop.Told is_first taken put stops fails slot_is start_is taken_is end_is says =
-      after_all checked slot start before opened sent last put taken voice why was_failed failed served slot_is start_is taken_is
+      after_all checked slot start before opened sent last put taken voice why was_failed failed served slot_is
+          start_is taken_is
       (ends_by stop.Told is_first why failed served.end (λ no. cc) end_is) stops says
   by_stop stop.Finished is_first taken put stops fails slot_is start_is taken_is end_is says =
-      after_all checked slot start before opened sent last put taken voice why was_failed failed served slot_is start_is taken_is
+      after_all checked slot start before opened sent last put taken voice why was_failed failed served slot_is
+          start_is taken_is
       (ends_by stop.Finished is_first why failed served.end (λ no. cc) end_is) stops says
   by_stop stop.WriteFault is_first taken put stops fails slot_is start_is taken_is end_is says =
       let failing : failed ≡ true = says.same ∙ fails refl in
-      after_part checked slot start before opened sent last put taken voice why was_failed failed served slot_is start_is taken_is
+      after_part checked slot start before opened sent last put taken voice why was_failed failed served slot_is
+          start_is taken_is
       (ends_by stop.WriteFault is_first why failed served.end (λ same. failing) end_is) stops says (λ sound. cc)
       (λ finished. unfinished stop.WriteFault is_first why (λ no. cc) (sym end_is ∙ finished))
   by_stop stop.OutOfMemory is_first taken put stops fails slot_is start_is taken_is end_is says =
-      after_part checked slot start before opened sent last put taken voice why was_failed failed served slot_is start_is taken_is
-      (ends_by stop.OutOfMemory is_first why failed served.end (λ no. cc) end_is) stops.breaks says (λ sound. stops.none)
+      after_part checked slot start before opened sent last put taken voice why was_failed failed served slot_is
+          start_is taken_is
+      (ends_by stop.OutOfMemory is_first why failed served.end (λ no. cc) end_is) stops.breaks says
+          (λ sound. stops.none)
       (λ finished. unfinished stop.OutOfMemory is_first why (λ no. cc) (sym end_is ∙ finished))
 
-pub streams_to_its_end : (checked : CheckedOf) (slot start : ℕ) (before opened sent last : Option (List ℕ)) (voice old_voice : Voice) (why : Option Ending) (was_failed failed : Bool) (served : Served) (did : Sent)
+pub streams_to_its_end : (checked : CheckedOf) (slot start : ℕ) (before opened sent last : Option (List ℕ))
+    (voice old_voice : Voice) (why : Option Ending) (was_failed failed : Bool) (served : Served) (did : Sent)
     → Opens checked slot start before opened old_voice
-    → StopsAs did.stop opened sent (map (λ commit. arc_value commit) did.taken.items) voice (started_telling checked slot start copy_both_response) → (did.stop ≡ stop.WriteFault → was_failed ≡ true)
-    → Concludes slot start did why sent last was_failed failed served → Streams checked slot start before last failed why served
-streams_to_its_end checked slot start before opened sent last voice old_voice why was_failed failed served did opens stops fails concludes =
-    by_stop checked slot start before opened sent last voice why was_failed failed served did.stop did.is_first (map (λ commit. arc_value commit) did.taken.items) opens.put stops fails concludes.slot_is
-    concludes.start_is (ap (λ taken. map (λ commit. arc_value commit) taken.items) concludes.taken_is) concludes.end_is concludes.says
+    → StopsAs did.stop opened sent (map (λ commit. arc_value commit) did.taken.items) voice
+        (started_telling checked slot start copy_both_response) → (did.stop ≡ stop.WriteFault → was_failed ≡ true)
+    → Concludes slot start did why sent last was_failed failed served
+    → Streams checked slot start before last failed why served
+streams_to_its_end checked slot start before opened sent last voice old_voice why was_failed failed served did opens
+    stops fails concludes =
+    by_stop checked slot start before opened sent last voice why was_failed failed served did.stop did.is_first
+        (map (λ commit. arc_value commit) did.taken.items) opens.put stops fails concludes.slot_is
+    concludes.start_is (ap (λ taken. map (λ commit. arc_value commit) taken.items) concludes.taken_is)
+        concludes.end_is concludes.says
 
 -- ---- no commit was taken up
 
-module _ (checked : CheckedOf) (slot start : ℕ) (before last : Option (List ℕ)) (failed : Bool) (why : Option Ending) (served : Served) where
-  without : (written rest : List ℕ) → Appends before last written → written ++ rest ≡ copy_both_response → served.slot ≡ Some slot → served.start ≡ Some start → served.taken.items ≡ []
-      → (failed ≡ false → served.end ≢ end.Link fault.OutOfMemory → rest ≡ []) → (served.end ≡ end.Finished → ⊥) → IsEndOf why failed served.end
+module _ (checked : CheckedOf) (slot start : ℕ) (before last : Option (List ℕ)) (failed : Bool) (why : Option Ending)
+    (served : Served) where
+  without : (written rest : List ℕ) → Appends before last written → written ++ rest ≡ copy_both_response
+      → served.slot ≡ Some slot → served.start ≡ Some start → served.taken.items ≡ []
+      → (failed ≡ false → served.end ≢ end.Link fault.OutOfMemory → rest ≡ []) → (served.end ≡ end.Finished → ⊥)
+      → IsEndOf why failed served.end
       → Streams checked slot start before last failed why served
   without written rest put bytes slot_is start_is none all not ends =
       let no_commits : commits_of served ≡ [] = ap (map (λ commit. arc_value commit)) none in
@@ -206,30 +245,41 @@ module _ (checked : CheckedOf) (slot start : ℕ) (before last : Option (List �
         ends = ends;
       }
 
-  not_opened : (is : End) → WritesPart before last failed → IsWithout slot start is served → (is ≡ end.Finished → ⊥) → IsEndOf why failed served.end
+  not_opened : (is : End) → WritesPart before last failed → IsWithout slot start is served → (is ≡ end.Finished → ⊥)
+      → IsEndOf why failed served.end
       → Streams checked slot start before last failed why served
   not_opened is fails without_it not ends =
-      without fails.written fails.rest fails.put fails.bytes without_it.slot_is without_it.start_is without_it.none (λ sound memory. cc) (λ finished. not (sym without_it.end_is ∙ finished)) ends
+      without fails.written fails.rest fails.put fails.bytes without_it.slot_is without_it.start_is without_it.none
+          (λ sound memory. cc) (λ finished. not (sym without_it.end_is ∙ finished)) ends
 
-  starved : Appends before last [] → IsWithout slot start (end.Link fault.OutOfMemory) served → Streams checked slot start before last failed why served
+  starved : Appends before last [] → IsWithout slot start (end.Link fault.OutOfMemory) served
+      → Streams checked slot start before last failed why served
   starved put is =
-      without [] copy_both_response put refl is.slot_is is.start_is is.none (λ sound memory. absurd (memory is.end_is)) (λ finished. cc) (Memory is.end_is)
+      without [] copy_both_response put refl is.slot_is is.start_is is.none
+          (λ sound memory. absurd (memory is.end_is)) (λ finished. cc) (Memory is.end_is)
 
-  pub streams_not : (s : Stop) → FailsToOpen before last failed s → IsWithout slot start (end_by s) served → Streams checked slot start before last failed why served
+  pub streams_not : (s : Stop) → FailsToOpen before last failed s → IsWithout slot start (end_by s) served
+      → Streams checked slot start before last failed why served
   streams_not stop.Told fails is = absurd fails
   streams_not stop.Finished fails is = absurd fails
-  streams_not stop.WriteFault fails is = not_opened end.WriteFault fails is (λ finished. cc) (Writing is.end_is fails.fails)
+  streams_not stop.WriteFault fails is =
+      not_opened end.WriteFault fails is (λ finished. cc) (Writing is.end_is fails.fails)
   streams_not stop.OutOfMemory fails is = starved fails is
 
   -- the client had ended it
-  pub streams_ended : (s : Stop) (ending : Ending) → why ≡ Some ending → FailsToOpen before last failed s → IsWithout slot start (unopened_by s ending) served
+  pub streams_ended : (s : Stop) (ending : Ending) → why ≡ Some ending → FailsToOpen before last failed s
+      → IsWithout slot start (unopened_by s ending) served
       → Streams checked slot start before last failed why served
   streams_ended stop.Told ending some fails is = absurd fails
   streams_ended stop.Finished ending some fails is = absurd fails
-  streams_ended stop.WriteFault ending some fails is = not_opened (cause_by ending) fails is (heard_unfinished ending) (Heard ending some is.end_is)
+  streams_ended stop.WriteFault ending some fails is =
+      not_opened (cause_by ending) fails is (heard_unfinished ending) (Heard ending some is.end_is)
   streams_ended stop.OutOfMemory ending some fails is = starved fails is
 
   -- no thread could be started
-  pub streams_no_further : Appends before last copy_both_response → IsWithout slot start (end.Link fault.OutOfMemory) served → Streams checked slot start before last failed why served
+  pub streams_no_further : Appends before last copy_both_response
+      → IsWithout slot start (end.Link fault.OutOfMemory) served
+      → Streams checked slot start before last failed why served
   streams_no_further put is =
-      without copy_both_response [] put (append-nil copy_both_response) is.slot_is is.start_is is.none (λ sound memory. refl) (λ finished. cc) (Memory is.end_is)
+      without copy_both_response [] put (append-nil copy_both_response) is.slot_is is.start_is is.none
+          (λ sound memory. refl) (λ finished. cc) (Memory is.end_is)

@@ -1,4 +1,5 @@
--- Which cause of an end is told: the first that was met, but for want of memory at the listener, which is told whatever came first (the project's own).
+-- Which cause of an end is told: the first that was met, but for want of memory at the listener, which is told
+-- whatever came first (the project's own).
 use Rattle.std.specs.Prelude.{Bool, true, false, Option, Some, None}
 use Rattle.copy_both.specs.declared.link_fault.LinkFault.TheVariants as fault
 use Rattle.served_connections.specs.declared.end.End.{End}

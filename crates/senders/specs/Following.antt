@@ -1,4 +1,6 @@
--- That a connection that was served told its client of a log: what was written are the first bytes of the stream of its commits, and a subscriber that is fed them has its shard: PostgreSQL 15, 55.4. Streaming Replication Protocol, and "Logical Replication", 31.3 Row Filters.
+-- That a connection that was served told its client of a log: what was written are the first bytes of the stream of
+-- its commits, and a subscriber that is fed them has its shard: PostgreSQL 15, 55.4. Streaming Replication Protocol,
+-- and "Logical Replication", 31.3 Row Filters.
 use Rattle.std.specs.Prelude.{◌≡◌, ◌≢◌, ◌≤◌, ℕ, Bool, List, [], ◌++◌, All, Contains, Some, length, None}
 use Rattle.shard_checker.specs.CheckedView.{CheckedOf, checked_view, setting_in}
 use Rattle.shard_checker.specs.declared.checked.Checked.{Checked}
@@ -20,7 +22,7 @@ use Rattle.senders_close.specs.Closing.{IsClosed}
 use Rattle.stream_laws.specs.Following.{Follows}
 use Rattle.stream_laws.specs.Cutting.{whole_in}
 use Rattle.stream_laws.specs.FollowingBytes.{AreFirst, StopsFollowing, SubFollows, items_from, position_in}
-use Rattle.stream_laws.specs.Sayable.{IsClocked, IsTimedTransaction}
+use Rattle.stream_laws.specs.LayoutRoom.{IsClocked, IsTimedTransaction}
 use Rattle.test_subscriber.specs.Copies.{told}
 use Rattle.test_subscriber.specs.Subscribers.{FeedStops, Feeds, Opens, sub_machine}
 use Rattle.test_subscriber.specs.declared.fault.SubFault.{SubFault}
@@ -32,8 +34,10 @@ pub data IsLastPart (frames : List Frame) (bytes : List ℕ) : Type 0 where
   NoBytes : bytes ≡ [] → IsLastPart frames bytes
   OfDone : (rest : List ℕ) → bytes ++ rest ≡ copy_done → HasEnd frames 99 → IsLastPart frames bytes
 
--- What was written, but for a CopyDone at the end, are the first bytes of the stream over the log of these transactions, which starts at this position and takes these commits.
-pub record IsFirstPart (checked : CheckedOf) (transactions : List Transaction) (frames : List Frame) (slot start : ℕ) (taken : List CommitOf) (written : List ℕ) (why : End) : Type 0 where
+-- What was written, but for a CopyDone at the end, are the first bytes of the stream over the log of these
+-- transactions, which starts at this position and takes these commits.
+pub record IsFirstPart (checked : CheckedOf) (transactions : List Transaction) (frames : List Frame) (slot start : ℕ)
+    (taken : List CommitOf) (written : List ℕ) (why : End) : Type 0 where
   pub moves : List Move
   pub clocks : All IsClocked moves
   pub takes : takes_in moves ≡ length taken
@@ -49,52 +53,74 @@ pub record IsFirstPart (checked : CheckedOf) (transactions : List Transaction) (
 
 -- So it is of each connection whose commits are those of a book's log from its start on.
 abbrev pub ServedAreFirstParts : Type 0
-ServedAreFirstParts = (checked : CheckedOf) (book : Book) (transactions : List Transaction) → book_checked book ≡ checked → StandsFor book transactions
-    → (frames : List Frame) (slot start : ℕ) (taken : List CommitOf) (written : List ℕ) (failed : Bool) (why : End) → IsStream checked frames slot start taken written failed why
-    → AreAt (book_log book) (count_before start) taken → IsFirstPart checked transactions frames slot start taken written why
+ServedAreFirstParts = (checked : CheckedOf) (book : Book) (transactions : List Transaction)
+    → book_checked book ≡ checked → StandsFor book transactions
+    → (frames : List Frame) (slot start : ℕ) (taken : List CommitOf) (written : List ℕ) (failed : Bool) (why : End)
+    → IsStream checked frames slot start taken written failed why
+    → AreAt (book_log book) (count_before start) taken
+    → IsFirstPart checked transactions frames slot start taken written why
 
--- A subscriber that has its shard, opens a connection at its own position, and is fed any first bytes of such a stream, in whatever pieces, has its shard of the tables after the commits that its position counts.
+-- A subscriber that has its shard, opens a connection at its own position, and is fed any first bytes of such a
+-- stream, in whatever pieces, has its shard of the tables after the commits that its position counts.
 abbrev pub ClientsFollow : Type 0
-ClientsFollow = (checked : Checked) (transactions : List Transaction) → AreAccepted (setting_in (checked_view checked)) no_rows transactions → All IsTimedTransaction transactions
+ClientsFollow = (checked : Checked) (transactions : List Transaction)
+    → AreAccepted (setting_in (checked_view checked)) no_rows transactions → All IsTimedTransaction transactions
     → length transactions ≤ 1000000000 → (slot start : ℕ) (moves : List Move) → All IsClocked moves
-    → (old between new : Subscriber) → SubFollows (checked_view checked) transactions slot old → (sub_machine old).position ≡ start → Opens old between
-    → (bytes others : List ℕ) → AreFirst (checked_view checked) transactions slot start moves bytes others → Feeds between bytes new
-    → Follows (checked_view checked) transactions slot (position_in (checked_view checked) transactions slot start moves bytes) (sub_machine new)
+    → (old between new : Subscriber) → SubFollows (checked_view checked) transactions slot old
+    → (sub_machine old).position ≡ start → Opens old between
+    → (bytes others : List ℕ) → AreFirst (checked_view checked) transactions slot start moves bytes others
+    → Feeds between bytes new
+    → Follows (checked_view checked) transactions slot
+        (position_in (checked_view checked) transactions slot start moves bytes) (sub_machine new)
 
--- Where a piece stops it, memory was refused, and it follows still, after all that is whole in the bytes before the piece, and some of what is whole with it.
+-- Where a piece stops it, memory was refused, and it follows still, after all that is whole in the bytes before the
+-- piece, and some of what is whole with it.
 abbrev pub ClientsStop : Type 0
-ClientsStop = (checked : Checked) (transactions : List Transaction) → AreAccepted (setting_in (checked_view checked)) no_rows transactions → All IsTimedTransaction transactions
+ClientsStop = (checked : Checked) (transactions : List Transaction)
+    → AreAccepted (setting_in (checked_view checked)) no_rows transactions → All IsTimedTransaction transactions
     → length transactions ≤ 1000000000 → (slot start : ℕ) (moves : List Move) → All IsClocked moves
-    → (old between middle new : Subscriber) → SubFollows (checked_view checked) transactions slot old → (sub_machine old).position ≡ start → Opens old between
-    → (bytes piece others : List ℕ) (error : SubFault) → AreFirst (checked_view checked) transactions slot start moves (bytes ++ piece) others
+    → (old between middle new : Subscriber) → SubFollows (checked_view checked) transactions slot old
+    → (sub_machine old).position ≡ start → Opens old between
+    → (bytes piece others : List ℕ) (error : SubFault)
+    → AreFirst (checked_view checked) transactions slot start moves (bytes ++ piece) others
     → Feeds between bytes middle → FeedStops middle piece error new
-    → (told error ≡ None) × StopsFollowing (checked_view checked) transactions slot start (whole_in (length bytes) (items_from (checked_view checked) transactions slot start moves))
+    → (told error ≡ None)
+        × StopsFollowing (checked_view checked) transactions slot start
+        (whole_in (length bytes) (items_from (checked_view checked) transactions slot start moves))
     (whole_in (length (bytes ++ piece)) (items_from (checked_view checked) transactions slot start moves)) new
 
 -- ---- in a publisher that was closed
 
--- The transactions that explain the receipts were accepted one after another, have times of 64 bits, and are few enough.
+-- The transactions that explain the receipts were accepted one after another, have times of 64 bits, and are few
+-- enough.
 pub record AreTold (checked : CheckedOf) (transactions : List Transaction) : Type 0 where
   pub accepted : AreAccepted (setting_in checked) no_rows transactions
   pub timed : All IsTimedTransaction transactions
   pub few : length transactions ≤ 1000000000
 
 abbrev pub ClosedAreTold : Type 0
-ClosedAreTold = (checked : CheckedOf) (limit : ℕ) (seats : List (List Note)) (served : List Served) (book : Book) (closed : IsClosed checked limit seats served book)
+ClosedAreTold = (checked : CheckedOf) (limit : ℕ) (seats : List (List Note)) (served : List Served) (book : Book)
+    (closed : IsClosed checked limit seats served book)
     → AreTold checked closed.transactions
 
--- So what was written to each connection, but for a CopyDone at the end, are the first bytes of the stream over the log of these transactions.
+-- So what was written to each connection, but for a CopyDone at the end, are the first bytes of the stream over the
+-- log of these transactions.
 abbrev pub ClosedTellTheLog : Type 0
-ClosedTellTheLog = (checked : CheckedOf) (limit : ℕ) (seats : List (List Note)) (served : List Served) (book : Book) (closed : IsClosed checked limit seats served book)
+ClosedTellTheLog = (checked : CheckedOf) (limit : ℕ) (seats : List (List Note)) (served : List Served) (book : Book)
+    (closed : IsClosed checked limit seats served book)
     → (one : Served) → Contains served one → (frames : List Frame) (slot start : ℕ) → one.start ≡ Some start
     → (written : List ℕ) (failed : Bool) → IsStream checked frames slot start (commits_of one) written failed one.end
     → IsFirstPart checked closed.transactions frames slot start (commits_of one) written one.end
 
--- And a subscriber that has its shard, opened this connection at its own position, and was fed any first bytes of what was written has its shard of the tables after the commits of these transactions that its position counts.
+-- And a subscriber that has its shard, opened this connection at its own position, and was fed any first bytes of
+-- what was written has its shard of the tables after the commits of these transactions that its position counts.
 abbrev pub ClosedAreFollowed : Type 0
-ClosedAreFollowed = (checked : Checked) (limit : ℕ) (seats : List (List Note)) (served : List Served) (book : Book) (closed : IsClosed (checked_view checked) limit seats served book)
+ClosedAreFollowed = (checked : Checked) (limit : ℕ) (seats : List (List Note)) (served : List Served) (book : Book)
+    (closed : IsClosed (checked_view checked) limit seats served book)
     → (one : Served) (frames : List Frame) (slot start : ℕ) (written : List ℕ)
     → (part : IsFirstPart (checked_view checked) closed.transactions frames slot start (commits_of one) written one.end)
-    → (old between new : Subscriber) → SubFollows (checked_view checked) closed.transactions slot old → (sub_machine old).position ≡ start → Opens old between
+    → (old between new : Subscriber) → SubFollows (checked_view checked) closed.transactions slot old
+    → (sub_machine old).position ≡ start → Opens old between
     → (bytes rest : List ℕ) → bytes ++ rest ≡ part.front → Feeds between bytes new
-    → Follows (checked_view checked) closed.transactions slot (position_in (checked_view checked) closed.transactions slot start part.moves bytes) (sub_machine new)
+    → Follows (checked_view checked) closed.transactions slot
+        (position_in (checked_view checked) closed.transactions slot start part.moves bytes) (sub_machine new)

@@ -1,4 +1,5 @@
--- What a connection has heard of all bytes that were read from it: PostgreSQL 15, 55.4. Streaming Replication Protocol, and 55.7. Message Formats.
+-- What a connection has heard of all bytes that were read from it: PostgreSQL 15, 55.4. Streaming Replication
+-- Protocol, and 55.7. Message Formats.
 use Rattle.std.specs.Prelude.{◌≡◌, ◌≤◌, ℕ, min, List, [], ◌++◌, Option, Some, None, Result, Ok, Err}
 use Rattle.shard_checker.specs.CheckedView.{CheckedOf}
 use Rattle.tables_log.specs.Slots.{end_after}
@@ -15,7 +16,8 @@ IsSentFrom None sent = Unit {0}
 IsSentFrom (Some started) sent = first_sent started.1 ≤ sent
 
 -- The bytes have this fault, where the log has some number of commits, and some position from the start on was sent.
-pub record HoldsFault (checked : CheckedOf) (bytes : List ℕ) (started : Option (ℕ × ℕ)) (fault : LinkFault) : Type 0 where
+pub record HoldsFault (checked : CheckedOf) (bytes : List ℕ) (started : Option (ℕ × ℕ)) (fault : LinkFault) : Type 0
+    where
   pub sent : ℕ
   pub commits : ℕ
   pub from : IsSentFrom started sent
@@ -26,7 +28,8 @@ abbrev pub StaysStarted : Ear → Ear → Type 0
 StaysStarted old new = (started : ℕ × ℕ) → ear_started old ≡ Some started → ear_started new ≡ Some started
 
 -- A fault is in the bytes, and a start that was refused has its response.
-pub record Faults (checked : CheckedOf) (bytes : List ℕ) (started : Option (ℕ × ℕ)) (response : List ℕ) (fault : LinkFault) : Type 0 where
+pub record Faults (checked : CheckedOf) (bytes : List ℕ) (started : Option (ℕ × ℕ)) (response : List ℕ)
+    (fault : LinkFault) : Type 0 where
   pub holds : HoldsFault checked bytes started fault
   pub answered : IsAnsweredBy fault [] response
 
@@ -42,5 +45,6 @@ pub record Hears (checked : CheckedOf) (bytes : List ℕ) (old new : Ear) (heard
   pub explained : IsExplained checked bytes new heard
 
 -- So it is of each list of bytes that the ear had heard before the piece.
-pub record HearsPiece (checked : CheckedOf) (piece : List ℕ) (old new : Ear) (heard : Result Heard LinkFault) : Type 0 where
+pub record HearsPiece (checked : CheckedOf) (piece : List ℕ) (old new : Ear) (heard : Result Heard LinkFault) : Type 0
+    where
   pub each : (bytes : List ℕ) → HasHeard checked bytes old → Hears checked (bytes ++ piece) old new heard

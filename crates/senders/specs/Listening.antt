@@ -56,16 +56,19 @@ EndsFor checked bytes started response failed ended ending.NoMore = ended ≡ tr
 EndsFor checked bytes started response failed ended (ending.Frame kind) = HasEnd (frames_in bytes) kind
 EndsFor checked bytes started response failed ended (ending.Fault fault) = Faults checked bytes started response fault
 
-pub record EndsOf (checked : CheckedOf) (bytes : List ℕ) (old new : Ear) (failed ended : Bool) (why : Ending) : Type 0 where
+pub record EndsOf (checked : CheckedOf) (bytes : List ℕ) (old new : Ear) (failed ended : Bool) (why : Ending) : Type 0
+    where
   pub asks : AsksIfStarted checked (frames_in bytes) (ear_started new)
   pub ends : EndsFor checked bytes (ear_started new) (ear_refusal new) failed ended why
   pub stays : StaysStarted old new
 
 -- More bytes were read and heard, and the listener ended.
-pub record HearsLast (checked : CheckedOf) (before after : Option (List ℕ)) (failed ended : Bool) (old new : Listener) (why : Ending) : Type 0 where
+pub record HearsLast (checked : CheckedOf) (before after : Option (List ℕ)) (failed ended : Bool) (old new : Listener)
+    (why : Ending) : Type 0 where
   pub more : List ℕ
   pub read : Consumes before after more
-  pub ends : (bytes : List ℕ) → HasHeard checked bytes old.ear → EndsOf checked (bytes ++ more) old.ear new.ear failed ended why
+  pub ends : (bytes : List ℕ) → HasHeard checked bytes old.ear
+      → EndsOf checked (bytes ++ more) old.ear new.ear failed ended why
 
 -- what comes of a piece
 abbrev pub next_by_end : Bool → Option ℕ → Next
@@ -82,26 +85,33 @@ next_after listened = next_by listened.was_over listened.heard
 -- One read: it goes on, where the connection had ended before or not, or ends.
 abbrev pub HearsNext : CheckedOf → Option (List ℕ) → Option (List ℕ) → Bool → Bool → Listener → Listener → Next → Type 0
 HearsNext checked before after failed ended old new (next.GoesOn was_over) = HearsMore checked before after old new
-HearsNext checked before after failed ended old new (next.Ends why) = HearsLast checked before after failed ended old new why
+HearsNext checked before after failed ended old new (next.Ends why) =
+    HearsLast checked before after failed ended old new why
 
 -- All reads: it ends, or its sender had ended.
-abbrev pub HearsAll : CheckedOf → Option (List ℕ) → Option (List ℕ) → Bool → Bool → Listener → Listener → Option Ending → Type 0
+abbrev pub HearsAll : CheckedOf → Option (List ℕ) → Option (List ℕ) → Bool → Bool → Listener → Listener
+    → Option Ending → Type 0
 HearsAll checked before after failed ended old new None = HearsMore checked before after old new
 HearsAll checked before after failed ended old new (Some why) = HearsLast checked before after failed ended old new why
 
 -- ---- until a stream starts
 
 -- The stream started, and goes on.
-pub record StartsOn (checked : CheckedOf) (before after : Option (List ℕ)) (old new : Listener) (started : ℕ × ℕ) : Type 0 where
+pub record StartsOn (checked : CheckedOf) (before after : Option (List ℕ)) (old new : Listener) (started : ℕ × ℕ) :
+    Type 0 where
   pub hears : HearsMore checked before after old new
   pub started_is : ear_started new.ear ≡ Some started
 
 -- The connection ended, with a stream or without.
-pub record EndsAt (checked : CheckedOf) (before after : Option (List ℕ)) (failed ended : Bool) (old new : Listener) (started : Option (ℕ × ℕ)) (why : Ending) : Type 0 where
+pub record EndsAt (checked : CheckedOf) (before after : Option (List ℕ)) (failed ended : Bool) (old new : Listener)
+    (started : Option (ℕ × ℕ)) (why : Ending) : Type 0 where
   pub hears : HearsLast checked before after failed ended old new why
   pub started_is : ear_started new.ear ≡ started
 
 abbrev pub BeginsAs : CheckedOf → Option (List ℕ) → Option (List ℕ) → Bool → Bool → Listener → Listener → Begun → Type 0
-BeginsAs checked before after failed ended old new (begun.Started started) = StartsOn checked before after old new started
-BeginsAs checked before after failed ended old new (begun.Ended started why) = EndsAt checked before after failed ended old new (Some started) why
-BeginsAs checked before after failed ended old new (begun.Refused why) = EndsAt checked before after failed ended old new None why
+BeginsAs checked before after failed ended old new (begun.Started started) =
+    StartsOn checked before after old new started
+BeginsAs checked before after failed ended old new (begun.Ended started why) =
+    EndsAt checked before after failed ended old new (Some started) why
+BeginsAs checked before after failed ended old new (begun.Refused why) =
+    EndsAt checked before after failed ended old new None why

@@ -1,4 +1,5 @@
--- What is written where no stream was started, and why a connection ended: PostgreSQL 15, 55.4. Streaming Replication Protocol.
+-- What is written where no stream was started, and why a connection ended: PostgreSQL 15, 55.4. Streaming Replication
+-- Protocol.
 use Rattle.std.specs.Prelude.{◌≡◌, ℕ, Bool, false, List, [], ◌++◌, Option}
 use Rattle.std.specs.Io.KnownBytes.{Appends}
 use Rattle.copy_both.specs.declared.link_fault.LinkFault.TheVariants as fault

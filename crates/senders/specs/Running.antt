@@ -1,4 +1,5 @@
--- What a connection whose stream has started wrote, whatever was read from it: PostgreSQL 15, 55.4. Streaming Replication Protocol.
+-- What a connection whose stream has started wrote, whatever was read from it: PostgreSQL 15, 55.4. Streaming
+-- Replication Protocol.
 use Rattle.std.specs.Prelude.{◌≡◌, ◌≢◌, ℕ, Bool, true, false, List, [], ◌++◌, All, length, Option, Some}
 use Rattle.std.specs.Io.KnownBytes.{Appends}
 use Rattle.shard_checker.specs.CheckedView.{CheckedOf}
@@ -10,7 +11,7 @@ use Rattle.copy_both.specs.declared.link_fault.LinkFault.TheVariants as fault
 use Rattle.served_connections.specs.declared.end.End.{End}
 use Rattle.served_connections.specs.declared.end.End.TheVariants as end
 use Rattle.served_connections.specs.declared.served.Served.{Served}
-use Rattle.stream_laws.specs.Sayable.{IsClocked}
+use Rattle.stream_laws.specs.LayoutRoom.{IsClocked}
 use Rattle.senders.specs.Causes.{chosen}
 use Rattle.senders.specs.Listening.{HearsAll}
 use Rattle.senders.specs.Refusing.{cause_by}
@@ -28,7 +29,8 @@ pub record IsWithout (slot start : ℕ) (is : End) (served : Served) : Type 0 wh
   pub end_is : served.end ≡ is
 
 -- The last was said, and the first cause is told.
-pub record Concludes (slot start : ℕ) (sent : Sent) (why : Option Ending) (before after : Option (List ℕ)) (was_failed failed : Bool) (served : Served) : Type 0 where
+pub record Concludes (slot start : ℕ) (sent : Sent) (why : Option Ending) (before after : Option (List ℕ))
+    (was_failed failed : Bool) (served : Served) : Type 0 where
   pub slot_is : served.slot ≡ Some slot
   pub start_is : served.start ≡ Some start
   pub taken_is : served.taken ≡ sent.taken
@@ -43,7 +45,8 @@ pub data IsEndOf (why : Option Ending) (failed : Bool) (is : End) : Type 0 where
   Heard : (ending : Ending) → why ≡ Some ending → is ≡ cause_by ending → IsEndOf why failed is
 
 -- What was written is a first part of the stream of the commits that were taken up, and then of what was said last.
-pub record Streams (checked : CheckedOf) (slot start : ℕ) (before after : Option (List ℕ)) (failed : Bool) (why : Option Ending) (served : Served) : Type 0 where
+pub record Streams (checked : CheckedOf) (slot start : ℕ) (before after : Option (List ℕ)) (failed : Bool)
+    (why : Option Ending) (served : Served) : Type 0 where
   pub slot_is : served.slot ≡ Some slot
   pub start_is : served.start ≡ Some start
   pub written : List ℕ
@@ -62,7 +65,8 @@ pub record Streams (checked : CheckedOf) (slot start : ℕ) (before after : Opti
   pub ends : IsEndOf why failed served.end
 
 -- It was heard meanwhile.
-pub record RunsOn (checked : CheckedOf) (slot start : ℕ) (left now_left : Option (List ℕ)) (source_failed source_ended : Bool) (before after : Option (List ℕ)) (sink_failed : Bool)
+pub record RunsOn (checked : CheckedOf) (slot start : ℕ) (left now_left : Option (List ℕ))
+    (source_failed source_ended : Bool) (before after : Option (List ℕ)) (sink_failed : Bool)
     (old new : Listener) (served : Served) : Type 0 where
   pub why : Option Ending
   pub hears : HearsAll checked left now_left source_failed source_ended old new why

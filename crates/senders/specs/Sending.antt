@@ -9,20 +9,23 @@ use Rattle.copy_both.specs.Tellings.{telling_of}
 use Rattle.copy_both.specs.VoiceLaws.{AreAt, Follow, Told, IsTelling, first_of, takes_in}
 use Rattle.copy_both.specs.Voices.{voice_output}
 use Rattle.copy_both.specs.declared.voice.Voice.{Voice}
-use Rattle.stream_laws.specs.Sayable.{IsClocked}
+use Rattle.stream_laws.specs.LayoutRoom.{IsClocked}
 use Rattle.senders.specs.declared.stop.Stop.{Stop}
 use Rattle.senders.specs.declared.stop.Stop.TheVariants as stop
 
 -- what was told of the stream of this slot that starts here, directly after these bytes were passed on
 abbrev pub started_telling : CheckedOf → ℕ → ℕ → List ℕ → Told
-started_telling checked slot start passed = record { checked = checked; start = started_at checked (slot, start); taken = []; moves = []; passed = passed }
+started_telling checked slot start passed =
+    record { checked = checked; start = started_at checked (slot, start); taken = []; moves = []; passed = passed }
 
 -- What was passed on and what waits are the stream of the moves, and then these bytes.
 pub record Spells (told : Told) (output last : List ℕ) : Type 0 where
   pub follow : Follow (first_of told) told.taken
   pub takes : takes_in told.moves ≡ length told.taken
   pub bytes : (log : List CommitOf) → AreAt log (first_of told) told.taken
-      → told.passed ++ output ≡ stream (telling_of told.checked) log told.start.slot told.start.tables told.start.position told.moves ++ last
+      → told.passed ++ output
+          ≡ stream (telling_of told.checked) log told.start.slot told.start.tables told.start.position told.moves
+          ++ last
 
 -- A voice tells on, and nothing waits.
 pub record IsQuiet (voice : Voice) (told : Told) : Type 0 where

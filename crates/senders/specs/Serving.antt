@@ -1,4 +1,5 @@
--- What came of a connection that was served: which stream was started for it, what was written, and why it ended: PostgreSQL 15, 55.4. Streaming Replication Protocol.
+-- What came of a connection that was served: which stream was started for it, what was written, and why it ended:
+-- PostgreSQL 15, 55.4. Streaming Replication Protocol.
 use Rattle.std.specs.Prelude.{◌≡◌, ◌≢◌, ◌⊎◌, ℕ, Bool, true, false, List, [], ◌++◌, All, length, map, Option, Some, None}
 use Rattle.std.specs.Arc.{arc_value}
 use Rattle.std.specs.Io.KnownBytes.{Appends, Consumes}
@@ -16,7 +17,7 @@ use Rattle.copy_both.specs.declared.sql_state.SqlState.{SqlState}
 use Rattle.served_connections.specs.declared.end.End.{End}
 use Rattle.served_connections.specs.declared.end.End.TheVariants as end
 use Rattle.served_connections.specs.declared.served.Served.{Served}
-use Rattle.stream_laws.specs.Sayable.{IsClocked}
+use Rattle.stream_laws.specs.LayoutRoom.{IsClocked}
 use Rattle.senders.specs.Hearing.{HoldsFault}
 
 -- ---- what was written
@@ -31,8 +32,11 @@ pub data IsLast (frames : List Frame) (last : List ℕ) : Type 0 where
   Nothing : last ≡ [] → IsLast frames last
   Done : last ≡ copy_done → HasEnd frames 99 → IsLast frames last
 
--- The commits that were taken up follow one another from the start on, and what was written are the first bytes of their stream, in each log that has them there; all but where the sink failed or memory was refused. Where the publisher was finished they are the whole stream.
-pub record IsStream (checked : CheckedOf) (frames : List Frame) (slot start : ℕ) (taken : List CommitOf) (written : List ℕ) (failed : Bool) (why : End) : Type 0 where
+-- The commits that were taken up follow one another from the start on, and what was written are the first bytes of
+-- their stream, in each log that has them there; all but where the sink failed or memory was refused. Where the
+-- publisher was finished they are the whole stream.
+pub record IsStream (checked : CheckedOf) (frames : List Frame) (slot start : ℕ) (taken : List CommitOf)
+    (written : List ℕ) (failed : Bool) (why : End) : Type 0 where
   pub asks : AsksFor checked frames slot start
   pub follow : Follow (count_before start) taken
   pub moves : List Move
@@ -66,7 +70,8 @@ pub record IsUnstarted (taken : List CommitOf) (written : List ℕ) (failed : Bo
 
 -- a slot is told together with a start
 abbrev pub IsWritten : CheckedOf → List Frame → Option ℕ → Option ℕ → List CommitOf → List ℕ → Bool → End → Type 0
-IsWritten checked frames (Some slot) (Some start) taken written failed why = IsStream checked frames slot start taken written failed why
+IsWritten checked frames (Some slot) (Some start) taken written failed why =
+    IsStream checked frames slot start taken written failed why
 IsWritten checked frames None None taken written failed why = IsUnstarted taken written failed why
 IsWritten checked frames (Some slot) None taken written failed why = ⊥
 IsWritten checked frames None (Some start) taken written failed why = ⊥
@@ -88,8 +93,10 @@ pub record IsEnded (frames : List Frame) : Type 0 where
 abbrev pub IsCause : CheckedOf → List ℕ → Option (ℕ × ℕ) → Bool → Bool → Bool → End → Type 0
 IsCause checked bytes started source_failed source_ended sink_failed end.ReadFault = source_failed ≡ true
 IsCause checked bytes started source_failed source_ended sink_failed end.WriteFault = sink_failed ≡ true
-IsCause checked bytes started source_failed source_ended sink_failed (end.Link fault) = HoldsFault checked bytes started fault
-IsCause checked bytes started source_failed source_ended sink_failed end.Client = (source_ended ≡ true) ⊎ IsEnded (frames_in bytes)
+IsCause checked bytes started source_failed source_ended sink_failed (end.Link fault) =
+    HoldsFault checked bytes started fault
+IsCause checked bytes started source_failed source_ended sink_failed end.Client =
+    (source_ended ≡ true) ⊎ IsEnded (frames_in bytes)
 IsCause checked bytes started source_failed source_ended sink_failed end.Finished = Unit {0}
 
 -- ---- all of it
@@ -98,14 +105,18 @@ abbrev pub commits_of : Served → List CommitOf
 commits_of served = map (λ commit. arc_value commit) served.taken.items
 
 -- what came of a connection from which these bytes were read
-pub record IsServedFor (checked : CheckedOf) (bytes : List ℕ) (source_failed source_ended : Bool) (before after : Option (List ℕ)) (sink_failed : Bool) (served : Served) : Type 0 where
+pub record IsServedFor (checked : CheckedOf) (bytes : List ℕ) (source_failed source_ended : Bool)
+    (before after : Option (List ℕ)) (sink_failed : Bool) (served : Served) : Type 0 where
   pub written : List ℕ
   pub put : Appends before after written
-  pub is : IsWritten checked (frames_in bytes) served.slot served.start (commits_of served) written sink_failed served.end
-  pub cause : IsCause checked bytes (started_of served.slot served.start) source_failed source_ended sink_failed served.end
+  pub is : IsWritten checked (frames_in bytes) served.slot served.start (commits_of served) written sink_failed
+      served.end
+  pub cause : IsCause checked bytes (started_of served.slot served.start) source_failed source_ended sink_failed
+      served.end
 
 -- The source gave some bytes, and this came of them.
-pub record IsServed (checked : CheckedOf) (left now_left : Option (List ℕ)) (source_failed source_ended : Bool) (before after : Option (List ℕ)) (sink_failed : Bool) (served : Served) : Type 0 where
+pub record IsServed (checked : CheckedOf) (left now_left : Option (List ℕ)) (source_failed source_ended : Bool)
+    (before after : Option (List ℕ)) (sink_failed : Bool) (served : Served) : Type 0 where
   pub bytes : List ℕ
   pub read : Consumes left now_left bytes
   pub served_for : IsServedFor checked bytes source_failed source_ended before after sink_failed served

@@ -26,7 +26,7 @@ use Rattle.senders_close.specs.Closing.{IsClosed}
 use Rattle.senders_close.specs.Gathering.{all_receipts, all_readings, numbers_of, RiseTo, IsRising}
 use Rattle.senders_close.specs.Histories.{transactions_of, AreInOrder, IsRight}
 use Rattle.senders_close.specs.Replays.{Replays, IsAsLong, IsUnlikeIn}
-use Rattle.senders_close.specs.Taking.{IsTaken}
+use Rattle.senders_close.specs.TakenCommits.{IsTaken}
 use Rattle.senders_close.specs.declared.close_error.CloseError.{CloseError}
 use Rattle.senders_close.specs.declared.close_error.CloseError.TheVariants as f
 use Rattle.senders_close.proofs.NumberLemmas.{rise_is_range}
@@ -34,7 +34,8 @@ use Rattle.senders_close.proofs.ReplayLemmas.{replays_all}
 
 -- ---- slots
 
-pub slots_then : (first old new : Book) (slots : List Slot) → ChangesSlots first old (book_slots old) → ChangesSlots old new slots → ChangesSlots first new (book_slots new)
+pub slots_then : (first old new : Book) (slots : List Slot) → ChangesSlots first old (book_slots old)
+    → ChangesSlots old new slots → ChangesSlots first new (book_slots new)
 slots_then first old new slots before after = record {
   checked = after.checked ∙ before.checked;
   limit = after.limit ∙ before.limit;
@@ -43,32 +44,39 @@ slots_then first old new slots before after = record {
   slots_are = refl;
 }
 
-pub slots_after : {E : Type 0} (first old new : Book) (slots : List Slot) (result : Result (Unit {0}) E) → ChangesSlots first old (book_slots old)
+pub slots_after : {E : Type 0} (first old new : Book) (slots : List Slot) (result : Result (Unit {0}) E)
+    → ChangesSlots first old (book_slots old)
     → OnOk result (ChangesSlots old new slots) → OnErr result (IsKept old new) → ChangesSlots first new (book_slots new)
 slots_after first old new slots (Ok done) before ok err = slots_then first old new slots before ok
 slots_after first old new slots (Err error) before ok err = slots_then first old new (book_slots old) before err
 
 -- ---- order
 
-pub in_order : (seats : List (List Note)) (gathered sorted : List ReceiptOf) (high : ℕ) → gathered ≡ all_receipts seats → length gathered ≡ high → IsPermutation gathered sorted
+pub in_order : (seats : List (List Note)) (gathered sorted : List ReceiptOf) (high : ℕ)
+    → gathered ≡ all_receipts seats → length gathered ≡ high → IsPermutation gathered sorted
     → All (IsRising high) seats → RiseTo high 0 (numbers_of sorted) → AreInOrder seats sorted × (length sorted ≡ high)
 in_order seats gathered sorted high all count moved rising rise =
     let long : length sorted ≡ high = length_permutation gathered sorted moved ∙ count in
-    let numbers : length (numbers_of sorted) ≡ length sorted = length-map sorted (λ (receipt : ReceiptOf). receipt.number) in (
+    let numbers : length (numbers_of sorted) ≡ length sorted =
+        length-map sorted (λ (receipt : ReceiptOf). receipt.number) in (
       record {
         all = subst (λ (list : List ReceiptOf). IsPermutation list sorted) all moved;
-        numbered = rise_is_range high 0 (numbers_of sorted) (omega (arith, long, numbers)) rise ∙ ap (λ n. range_with_len 1 n) numbers;
+        numbered = rise_is_range high 0 (numbers_of sorted) (omega (arith, long, numbers)) rise
+            ∙ ap (λ n. range_with_len 1 n) numbers;
         rising = subst (λ (n : ℕ). All (IsRising n) seats) (sym long) rising;
       },
       long,
     )
 
-pub count_cause : (book : Book) (seats : List (List Note)) (gathered : List ReceiptOf) (high : ℕ) → gathered ≡ all_receipts seats → high ≡ length (book_log book) → length gathered ≢ high
+pub count_cause : (book : Book) (seats : List (List Note)) (gathered : List ReceiptOf) (high : ℕ)
+    → gathered ≡ all_receipts seats → high ≡ length (book_log book) → length gathered ≢ high
     → length (book_log book) ≢ length (all_receipts seats)
 count_cause book seats gathered high all log apart same = apart (ap length all ∙ sym same ∙ sym log)
 
-pub repeated_cause : (book : Book) (seats : List (List Note)) (gathered sorted : List ReceiptOf) (high : ℕ) → gathered ≡ all_receipts seats → high ≡ length (book_log book) → length gathered ≡ high
-    → IsPermutation gathered sorted → IsNonDecreasingBy (λ (receipt : ReceiptOf). receipt.number) sorted → ¬ RiseTo high 0 (numbers_of sorted)
+pub repeated_cause : (book : Book) (seats : List (List Note)) (gathered sorted : List ReceiptOf) (high : ℕ)
+    → gathered ≡ all_receipts seats → high ≡ length (book_log book) → length gathered ≡ high
+    → IsPermutation gathered sorted → IsNonDecreasingBy (λ (receipt : ReceiptOf). receipt.number) sorted
+    → ¬ RiseTo high 0 (numbers_of sorted)
     → (length (book_log book) ≡ length (all_receipts seats)) × IsMissing (book_setting book) (book_log book) seats
 repeated_cause book seats gathered sorted high all log count moved order falls = (
   sym log ∙ sym count ∙ ap length all,
@@ -78,29 +86,37 @@ repeated_cause book seats gathered sorted high all log count moved order falls =
 
 -- ---- readings are the same in another order
 
-right_in_order : (P : Reading → Type 0) (seats : List (List Note)) (gathered sorted : List Reading) → gathered ≡ all_readings seats → IsPermutation gathered sorted → All P sorted → All P (all_readings seats)
+right_in_order : (P : Reading → Type 0) (seats : List (List Note)) (gathered sorted : List Reading)
+    → gathered ≡ all_readings seats → IsPermutation gathered sorted → All P sorted → All P (all_readings seats)
 right_in_order P seats gathered sorted all moved right =
-    subst (λ (list : List Reading). All P list) all (All-permutation P sorted gathered (IsPermutation-sym gathered sorted moved) right)
+    subst (λ (list : List Reading). All P list) all
+        (All-permutation P sorted gathered (IsPermutation-sym gathered sorted moved) right)
 
-wrong_in_order : (P : Reading → Type 0) (seats : List (List Note)) (gathered sorted : List Reading) → gathered ≡ all_readings seats → IsPermutation gathered sorted → ¬ All P sorted → ¬ All P (all_readings seats)
+wrong_in_order : (P : Reading → Type 0) (seats : List (List Note)) (gathered sorted : List Reading)
+    → gathered ≡ all_readings seats → IsPermutation gathered sorted → ¬ All P sorted → ¬ All P (all_readings seats)
 wrong_in_order P seats gathered sorted all moved wrong right =
     wrong (All-permutation P gathered sorted moved (subst (λ (list : List Reading). All P list) (sym all) right))
 
 -- ---- causes
 
-long_count : (book : Book) (seats : List (List Note)) (order : List ReceiptOf) → AreInOrder seats order → IsAsLong book order → length (book_log book) ≡ length (all_receipts seats)
+long_count : (book : Book) (seats : List (List Note)) (order : List ReceiptOf) → AreInOrder seats order
+    → IsAsLong book order → length (book_log book) ≡ length (all_receipts seats)
 long_count book seats order ordered long = sym long.count ∙ length_permutation (all_receipts seats) order ordered.all
 
-unlike_cause : (book : Book) (seats : List (List Note)) (served : List Served) (order : List ReceiptOf) (error : CloseError) → AreInOrder seats order → IsAsLong book order → IsUnlikeIn book order error
+unlike_cause : (book : Book) (seats : List (List Note)) (served : List Served) (order : List ReceiptOf)
+    (error : CloseError) → AreInOrder seats order → IsAsLong book order → IsUnlikeIn book order error
     → IsCause book seats served error
 unfolding long_count
 unlike_cause book seats served order f.CountDiffers ordered long unlike = absurd unlike
-unlike_cause book seats served order f.ReceiptMissing ordered long unlike = (long_count book seats order ordered long, IsNotLogged order ordered unlike)
+unlike_cause book seats served order f.ReceiptMissing ordered long unlike =
+    (long_count book seats order ordered long, IsNotLogged order ordered unlike)
 unlike_cause book seats served order f.ReadingWrong ordered long unlike = absurd unlike
 unlike_cause book seats served order f.TakenDiffers ordered long unlike = absurd unlike
 unlike_cause book seats served order f.OutOfMemory ordered long unlike = tt
 
-module _ (book fresh : Book) (seats : List (List Note)) (order : List ReceiptOf) (ordered : AreInOrder seats order) (long : IsAsLong book order) (replayed : Replays book fresh order) (count : length (book_log fresh) ≡ length order) where
+module _ (book fresh : Book) (seats : List (List Note)) (order : List ReceiptOf) (ordered : AreInOrder seats order)
+    (long : IsAsLong book order) (replayed : Replays book fresh order)
+    (count : length (book_log fresh) ≡ length order) where
   -- in the setting of the fresh book
   record Told (setting : Setting) : Type 0 where
     accepted : AreAccepted setting no_rows (transactions_of order)
@@ -108,24 +124,32 @@ module _ (book fresh : Book) (seats : List (List Note)) (order : List ReceiptOf)
 
   told_by : IsToldBy book seats order
   told_by =
-      let all : StandsFor fresh (transactions_of order) × (book_log fresh ≡ book_log book) = replays_all book fresh order replayed long count in
-      let there : Told (book_setting book) = subst Told (ap setting_in replayed.named) (record { accepted = all.0.accepted; logged = sym all.1 ∙ all.0.log }) in
+      let all : StandsFor fresh (transactions_of order) × (book_log fresh ≡ book_log book) =
+          replays_all book fresh order replayed long count in
+      let there : Told (book_setting book) =
+          subst Told (ap setting_in replayed.named)
+          (record { accepted = all.0.accepted; logged = sym all.1 ∙ all.0.log }) in
       record { ordered = ordered; accepted = there.accepted; logged = there.logged }
 
-  wrong_cause : ¬ All (IsRight (book_setting book) (transactions_of order)) (all_readings seats) → HasWrongReading book seats
+  wrong_cause : ¬ All (IsRight (book_setting book) (transactions_of order)) (all_readings seats)
+      → HasWrongReading book seats
   unfolding told_by
   wrong_cause wrong = record { order = order; told = told_by; wrong = wrong }
 
-  taken_cause : (served : List Served) → All (IsRight (book_setting book) (transactions_of order)) (all_readings seats) → ¬ All (IsTaken (book_log fresh)) served → HasOtherTaken book seats served
+  taken_cause : (served : List Served)
+      → All (IsRight (book_setting book) (transactions_of order)) (all_readings seats)
+      → ¬ All (IsTaken (book_log fresh)) served → HasOtherTaken book seats served
   unfolding told_by
   taken_cause served right other = record {
     order = order;
     told = told_by;
     right = right;
-    other = let all = replays_all book fresh order replayed long count in subst (λ (log : List CommitOf). ¬ All (IsTaken log) served) all.1 other;
+    other = let all = replays_all book fresh order replayed long count in
+        subst (λ (log : List CommitOf). ¬ All (IsTaken log) served) all.1 other;
   }
 
-  is_closed : (served : List Served) → All (IsRight (book_setting book) (transactions_of order)) (all_readings seats) → All (IsTaken (book_log fresh)) served
+  is_closed : (served : List Served) → All (IsRight (book_setting book) (transactions_of order)) (all_readings seats)
+      → All (IsTaken (book_log fresh)) served
       → All IsForward seats → All AreTimed seats → IsClosed (book_checked book) (book_limit book) seats served fresh
   is_closed served right taken forward timed = record {
     timed = timed;
@@ -144,51 +168,77 @@ module _ (book fresh : Book) (seats : List (List Note)) (order : List ReceiptOf)
 
 -- ---- what is compared, where lists are seen as slices
 
-module _ (book fresh : Book) (seats : List (List Note)) (receipts seen : List (Bor ReceiptOf)) (seen_is : seen ≡ receipts)
-    (ordered : AreInOrder seats (map (λ (one : Bor ReceiptOf). one.now) receipts)) (long : IsAsLong book (map (λ (one : Bor ReceiptOf). one.now) receipts)) where
+module _ (book fresh : Book) (seats : List (List Note)) (receipts seen : List (Bor ReceiptOf))
+    (seen_is : seen ≡ receipts)
+    (ordered : AreInOrder seats (map (λ (one : Bor ReceiptOf). one.now) receipts))
+        (long : IsAsLong book (map (λ (one : Bor ReceiptOf). one.now) receipts)) where
   seen_ordered : AreInOrder seats (map (λ (one : Bor ReceiptOf). one.now) seen)
-  seen_ordered = subst (λ (list : List (Bor ReceiptOf)). AreInOrder seats (map (λ (one : Bor ReceiptOf). one.now) list)) (sym seen_is) ordered
+  seen_ordered = subst (λ (list : List (Bor ReceiptOf)). AreInOrder seats
+      (map (λ (one : Bor ReceiptOf). one.now) list)) (sym seen_is) ordered
 
   seen_long : IsAsLong book (map (λ (one : Bor ReceiptOf). one.now) seen)
-  seen_long = subst (λ (list : List (Bor ReceiptOf)). IsAsLong book (map (λ (one : Bor ReceiptOf). one.now) list)) (sym seen_is) long
+  seen_long = subst (λ (list : List (Bor ReceiptOf)). IsAsLong book (map (λ (one : Bor ReceiptOf). one.now) list))
+      (sym seen_is) long
 
-  pub unlike_compared : (served : List Served) (error : CloseError) → IsUnlikeIn book (map (λ (one : Bor ReceiptOf). one.now) seen) error → IsCause book seats served error
+  pub unlike_compared : (served : List Served) (error : CloseError)
+      → IsUnlikeIn book (map (λ (one : Bor ReceiptOf). one.now) seen) error → IsCause book seats served error
   unfolding seen_ordered seen_long
-  unlike_compared served error unlike = unlike_cause book seats served (map (λ (one : Bor ReceiptOf). one.now) seen) error seen_ordered seen_long unlike
+  unlike_compared served error unlike =
+      unlike_cause book seats served (map (λ (one : Bor ReceiptOf). one.now) seen) error seen_ordered seen_long unlike
 
-  module _ (gathered sorted looked : List (Bor Reading)) (all : map (λ (one : Bor Reading). one.now) gathered ≡ all_readings seats)
-      (moved : IsPermutation (map (λ (one : Bor Reading). one.now) gathered) (map (λ (one : Bor Reading). one.now) sorted)) (looked_is : looked ≡ sorted)
-      (replayed : Replays book fresh (map (λ (one : Bor ReceiptOf). one.now) seen)) (count : length (book_log fresh) ≡ length seen) where
-    seen_moved : IsPermutation (map (λ (one : Bor Reading). one.now) gathered) (map (λ (one : Bor Reading). one.now) looked)
-    seen_moved = subst (λ (list : List (Bor Reading)). IsPermutation (map (λ (one : Bor Reading). one.now) gathered) (map (λ (one : Bor Reading). one.now) list)) (sym looked_is) moved
+  module _ (gathered sorted looked : List (Bor Reading))
+      (all : map (λ (one : Bor Reading). one.now) gathered ≡ all_readings seats)
+      (moved : IsPermutation (map (λ (one : Bor Reading). one.now) gathered)
+          (map (λ (one : Bor Reading). one.now) sorted)) (looked_is : looked ≡ sorted)
+      (replayed : Replays book fresh (map (λ (one : Bor ReceiptOf). one.now) seen))
+          (count : length (book_log fresh) ≡ length seen) where
+    seen_moved : IsPermutation (map (λ (one : Bor Reading). one.now) gathered)
+        (map (λ (one : Bor Reading). one.now) looked)
+    seen_moved = subst (λ (list : List (Bor Reading)). IsPermutation (map (λ (one : Bor Reading). one.now) gathered)
+        (map (λ (one : Bor Reading). one.now) list)) (sym looked_is) moved
 
     seen_count : length (book_log fresh) ≡ length (map (λ (one : Bor ReceiptOf). one.now) seen)
     seen_count = count ∙ sym (length-map seen (λ (one : Bor ReceiptOf). one.now))
 
-    pub wrong_compared : ¬ All (IsRight (book_setting book) (transactions_of (map (λ (one : Bor ReceiptOf). one.now) seen))) (map (λ (one : Bor Reading). one.now) looked) → HasWrongReading book seats
+    pub wrong_compared : ¬ All
+        (IsRight (book_setting book) (transactions_of (map (λ (one : Bor ReceiptOf). one.now) seen)))
+        (map (λ (one : Bor Reading). one.now) looked) → HasWrongReading book seats
     unfolding seen_moved seen_count seen_ordered seen_long
     wrong_compared wrong =
-        wrong_cause book fresh seats (map (λ (one : Bor ReceiptOf). one.now) seen) seen_ordered seen_long replayed seen_count
-        (wrong_in_order (IsRight (book_setting book) (transactions_of (map (λ (one : Bor ReceiptOf). one.now) seen))) seats (map (λ (one : Bor Reading). one.now) gathered)
+        wrong_cause book fresh seats (map (λ (one : Bor ReceiptOf). one.now) seen) seen_ordered seen_long replayed
+            seen_count
+        (wrong_in_order (IsRight (book_setting book) (transactions_of (map (λ (one : Bor ReceiptOf). one.now) seen)))
+            seats (map (λ (one : Bor Reading). one.now) gathered)
         (map (λ (one : Bor Reading). one.now) looked) all seen_moved wrong)
 
-    module _ (right : All (IsRight (book_setting book) (transactions_of (map (λ (one : Bor ReceiptOf). one.now) seen))) (map (λ (one : Bor Reading). one.now) looked)) (served : List Served) where
-      seen_right : All (IsRight (book_setting book) (transactions_of (map (λ (one : Bor ReceiptOf). one.now) seen))) (all_readings seats)
+    module _ (right : All
+        (IsRight (book_setting book) (transactions_of (map (λ (one : Bor ReceiptOf). one.now) seen)))
+        (map (λ (one : Bor Reading). one.now) looked)) (served : List Served) where
+      seen_right : All (IsRight (book_setting book) (transactions_of (map (λ (one : Bor ReceiptOf). one.now) seen)))
+          (all_readings seats)
       unfolding seen_moved
-      seen_right = right_in_order (IsRight (book_setting book) (transactions_of (map (λ (one : Bor ReceiptOf). one.now) seen))) seats (map (λ (one : Bor Reading). one.now) gathered)
+      seen_right = right_in_order
+          (IsRight (book_setting book) (transactions_of (map (λ (one : Bor ReceiptOf). one.now) seen))) seats
+          (map (λ (one : Bor Reading). one.now) gathered)
           (map (λ (one : Bor Reading). one.now) looked) all seen_moved right
 
       pub taken_compared : ¬ All (IsTaken (book_log fresh)) served → HasOtherTaken book seats served
       unfolding seen_count seen_ordered seen_long seen_right
-      taken_compared other = taken_cause book fresh seats (map (λ (one : Bor ReceiptOf). one.now) seen) seen_ordered seen_long replayed seen_count served seen_right other
+      taken_compared other =
+          taken_cause book fresh seats (map (λ (one : Bor ReceiptOf). one.now) seen) seen_ordered seen_long replayed
+          seen_count served seen_right other
 
-      pub closed_compared : All (IsTaken (book_log fresh)) served → All IsForward seats → All AreTimed seats → IsClosed (book_checked book) (book_limit book) seats served fresh
+      pub closed_compared : All (IsTaken (book_log fresh)) served → All IsForward seats → All AreTimed seats
+          → IsClosed (book_checked book) (book_limit book) seats served fresh
       unfolding seen_count seen_ordered seen_long seen_right
-      closed_compared taken forward timed = is_closed book fresh seats (map (λ (one : Bor ReceiptOf). one.now) seen) seen_ordered seen_long replayed seen_count served seen_right taken forward timed
+      closed_compared taken forward timed =
+          is_closed book fresh seats (map (λ (one : Bor ReceiptOf). one.now) seen) seen_ordered seen_long replayed
+          seen_count served seen_right taken forward timed
 
 -- ---- the closed book
 
-pub still_closed : (checked : CheckedOf) (limit : ℕ) (seats : List (List Note)) (served : List Served) (old new : Book) → ChangesSlots old new (book_slots new) → IsClosed checked limit seats served old
+pub still_closed : (checked : CheckedOf) (limit : ℕ) (seats : List (List Note)) (served : List Served)
+    (old new : Book) → ChangesSlots old new (book_slots new) → IsClosed checked limit seats served old
     → IsClosed checked limit seats served new
 still_closed checked limit seats served old new changes closed = record {
   named = changes.checked ∙ closed.named;
@@ -205,8 +255,10 @@ still_closed checked limit seats served old new changes closed = record {
   taken = subst (λ (log : List CommitOf). All (IsTaken log) served) (sym changes.log) closed.taken;
 }
 
-pub closed_as_named : (checked : CheckedOf) (limit : ℕ) (book fresh new : Book) (seats seen : List (List Note)) (served told : List Served) → IsBookOf checked limit book → seen ≡ seats → told ≡ served
-    → IsClosed (book_checked book) (book_limit book) seen told fresh → ChangesSlots fresh new (book_slots new) → IsClosed checked limit seats served new
+pub closed_as_named : (checked : CheckedOf) (limit : ℕ) (book fresh new : Book) (seats seen : List (List Note))
+    (served told : List Served) → IsBookOf checked limit book → seen ≡ seats → told ≡ served
+    → IsClosed (book_checked book) (book_limit book) seen told fresh → ChangesSlots fresh new (book_slots new)
+    → IsClosed checked limit seats served new
 closed_as_named checked limit book fresh new seats seen served told is same alike closed changes =
     still_closed checked limit seats served fresh new changes
     (subst (λ (list : List (List Note)). IsClosed checked limit list served fresh) same
@@ -214,16 +266,20 @@ closed_as_named checked limit book fresh new seats seen served told is same alik
     (subst (λ (n : ℕ). IsClosed checked n seen told fresh) is.limited
     (subst (λ (one : CheckedOf). IsClosed one (book_limit book) seen told fresh) is.named closed))))
 
-pub refused_as_named : (checked : CheckedOf) (limit : ℕ) (book : Book) (seats seen : List (List Note)) (served told : List Served) (error : CloseError) → IsBookOf checked limit book → seen ≡ seats → told ≡ served
+pub refused_as_named : (checked : CheckedOf) (limit : ℕ) (book : Book) (seats seen : List (List Note))
+    (served told : List Served) (error : CloseError) → IsBookOf checked limit book → seen ≡ seats → told ≡ served
     → IsCause book seen told error → RefusedClose checked limit seats served error
 refused_as_named checked limit book seats seen served told error is same alike cause = record {
   book = book;
   is = is;
-  cause = subst (λ (list : List (List Note)). IsCause book list served error) same (subst (λ (list : List Served). IsCause book seen list error) alike cause);
+  cause = subst (λ (list : List (List Note)). IsCause book list served error) same
+      (subst (λ (list : List Served). IsCause book seen list error) alike cause);
 }
 
-pub memory_refused : {A : Type 0} (checked : CheckedOf) (limit : ℕ) (book : Book) (seats : List (List Note)) (served : List Served) (result : Result A CloseError) → IsBookOf checked limit book
+pub memory_refused : {A : Type 0} (checked : CheckedOf) (limit : ℕ) (book : Book) (seats : List (List Note))
+    (served : List Served) (result : Result A CloseError) → IsBookOf checked limit book
     → IsErrAnd result (λ error. error ≡ f.OutOfMemory) → IfErr result (RefusedClose checked limit seats served)
 memory_refused checked limit book seats served (Ok done) is memory = tt
 memory_refused checked limit book seats served (Err error) is memory =
-    subst (λ (other : CloseError). RefusedClose checked limit seats served other) (sym memory) (record { book = book; is = is; cause = tt })
+    subst (λ (other : CloseError). RefusedClose checked limit seats served other) (sym memory)
+        (record { book = book; is = is; cause = tt })

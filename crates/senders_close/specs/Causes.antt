@@ -15,13 +15,14 @@ use Rattle.publisher_desk.specs.Receipts.{ReceiptOf}
 use Rattle.publisher_desk.specs.declared.note.Note.{Note}
 use Rattle.senders_close.specs.Gathering.{all_receipts, all_readings, numbers_of, RiseTo, IsRising}
 use Rattle.senders_close.specs.Histories.{transaction_of, transactions_of, AreInOrder, IsRight}
-use Rattle.senders_close.specs.Taking.{IsTaken}
+use Rattle.senders_close.specs.TakenCommits.{IsTaken}
 use Rattle.senders_close.specs.declared.close_error.CloseError.{CloseError}
 use Rattle.senders_close.specs.declared.close_error.CloseError.TheVariants.{CountDiffers, ReceiptMissing, ReadingWrong, TakenDiffers, OutOfMemory}
 
 -- ---- a receipt that the log doesn't have
 
--- the commands of the receipts before this place are accepted one after another, and those of the receipt there are not accepted after them
+-- the commands of the receipts before this place are accepted one after another, and those of the receipt there are
+-- not accepted after them
 pub record HasRefused (setting : Setting) (order : List ReceiptOf) : Type 0 where
   pub place : ℕ
   pub receipt : ReceiptOf
@@ -36,7 +37,9 @@ pub record HasOther (setting : Setting) (log : List CommitOf) (order : List Rece
   pub at : slice_get order place ≡ Some receipt
   pub accepted : AreAccepted setting no_rows (transactions_of (take place order))
   pub taken : IsAccepted setting (after setting (transactions_of (take place order))) (transaction_of receipt)
-  pub other : slice_get log place ≢ Some (commit_of (place + 1) receipt.time (record_of setting (after setting (transactions_of (take place order))) receipt.commands))
+  pub other : slice_get log place ≢ Some
+      (commit_of (place + 1) receipt.time
+      (record_of setting (after setting (transactions_of (take place order))) receipt.commands))
 
 -- one of these is so
 pub data IsUnlike (setting : Setting) (log : List CommitOf) (order : List ReceiptOf) : Type 0 where
@@ -46,11 +49,14 @@ pub data IsUnlike (setting : Setting) (log : List CommitOf) (order : List Receip
 pub data IsMissing (setting : Setting) (log : List CommitOf) (seats : List (List Note)) : Type 0 where
   -- the numbers of a seat's receipts don't rise in its order, from 1 at least to the log's length at most
   IsFalling : ¬ All (IsRising (length log)) seats → IsMissing setting log seats
-  -- of the receipts of all seats, sorted by their numbers, one has the number 0, that of the one before it, or one above the log's length
-  IsRepeated : (sorted : List ReceiptOf) → IsPermutation (all_receipts seats) sorted → IsNonDecreasingBy (λ (receipt : ReceiptOf). receipt.number) sorted
+  -- of the receipts of all seats, sorted by their numbers, one has the number 0, that of the one before it, or one
+  -- above the log's length
+  IsRepeated : (sorted : List ReceiptOf) → IsPermutation (all_receipts seats) sorted
+      → IsNonDecreasingBy (λ (receipt : ReceiptOf). receipt.number) sorted
       → ¬ RiseTo (length log) 0 (numbers_of sorted) → IsMissing setting log seats
   -- one is refused, or isn't what the log has
-  IsNotLogged : (order : List ReceiptOf) → AreInOrder seats order → IsUnlike setting log order → IsMissing setting log seats
+  IsNotLogged : (order : List ReceiptOf) → AreInOrder seats order → IsUnlike setting log order
+      → IsMissing setting log seats
 
 -- ---- what holds where the receipts are those of the log
 
@@ -75,13 +81,16 @@ pub record HasOtherTaken (book : Book) (seats : List (List Note)) (served : List
 
 abbrev pub IsCause : Book → List (List Note) → List Served → CloseError → Type 0
 IsCause book seats served CountDiffers = length (book_log book) ≢ length (all_receipts seats)
-IsCause book seats served ReceiptMissing = (length (book_log book) ≡ length (all_receipts seats)) × IsMissing (book_setting book) (book_log book) seats
+IsCause book seats served ReceiptMissing = (length (book_log book) ≡ length (all_receipts seats))
+    × IsMissing (book_setting book) (book_log book) seats
 IsCause book seats served ReadingWrong = HasWrongReading book seats
 IsCause book seats served TakenDiffers = HasOtherTaken book seats served
 IsCause book seats served OutOfMemory = Unit {0}
 
--- The publisher's book is of the checked catalog, takes so many commits, is of some list of transactions, and is the cause of the refusal.
-pub record RefusedClose (checked : CheckedOf) (limit : ℕ) (seats : List (List Note)) (served : List Served) (error : CloseError) : Type 0 where
+-- The publisher's book is of the checked catalog, takes so many commits, is of some list of transactions, and is the
+-- cause of the refusal.
+pub record RefusedClose (checked : CheckedOf) (limit : ℕ) (seats : List (List Note)) (served : List Served)
+    (error : CloseError) : Type 0 where
   pub book : Book
   pub is : IsBookOf checked limit book
   pub cause : IsCause book seats served error

@@ -1,4 +1,5 @@
--- The one list of transactions that the receipts of all seats tell of, and what was read of it: PostgreSQL 15, 3.4. Transactions, and Chapter 7 Queries.
+-- The one list of transactions that the receipts of all seats tell of, and what was read of it: PostgreSQL 15, 3.4.
+-- Transactions, and Chapter 7 Queries.
 use Rattle.std.specs.Prelude.{◌≡◌, ◌≤◌, List, All, length, map, take}
 use Rattle.std.specs.List.{range_with_len}
 use Rattle.std.specs.List.Sorted.{IsPermutation}
@@ -15,7 +16,8 @@ transaction_of receipt = record { commands = receipt.commands; time = receipt.ti
 abbrev pub transactions_of : List ReceiptOf → List Transaction
 transactions_of receipts = map transaction_of receipts
 
--- These are the receipts of all seats in the order of their numbers, which are 1 to the number of receipts, each once. In each seat's order they rise.
+-- These are the receipts of all seats in the order of their numbers, which are 1 to the number of receipts, each
+-- once. In each seat's order they rise.
 pub record AreInOrder (seats : List (List Note)) (order : List ReceiptOf) : Type 0 where
   pub all : IsPermutation (all_receipts seats) order
   pub numbered : numbers_of order ≡ range_with_len 1 (length order)

@@ -3,4 +3,4 @@ pub mod Closing
 pub mod Gathering
 pub mod Histories
 pub mod Replays
-pub mod Taking
+pub mod TakenCommits

@@ -23,8 +23,10 @@ pub record IsAgain (book old new : Book) (receipt : ReceiptOf) : Type 0 where
 
 -- or they are refused, or it is another one
 pub data IsNotAgain (book old : Book) (receipt : ReceiptOf) : Type 0 where
-  IsRefusedNow : (error : CommitError) → error ≢ e.OutOfMemory → RefusedBy old receipt.commands error → IsNotAgain book old receipt
-  IsOtherNow : (new : Book) (number : ℕ) → Commits old new receipt.commands receipt.time number → entry_at (book_log book) number ≢ entry_at (book_log new) number → IsNotAgain book old receipt
+  IsRefusedNow : (error : CommitError) → error ≢ e.OutOfMemory → RefusedBy old receipt.commands error
+      → IsNotAgain book old receipt
+  IsOtherNow : (new : Book) (number : ℕ) → Commits old new receipt.commands receipt.time number
+      → entry_at (book_log book) number ≢ entry_at (book_log new) number → IsNotAgain book old receipt
 
 -- the fault of a receipt is `ReceiptMissing`, for a reason, or want of memory
 abbrev pub IsMissingFor : Type 0 → CloseError → Type 0
@@ -36,7 +38,8 @@ IsMissingFor reason OutOfMemory = Unit {0}
 
 -- ---- several
 
--- The fresh book has made the first of the receipts again, as many as its log has entries, and its log is the beginning of the first book's.
+-- The fresh book has made the first of the receipts again, as many as its log has entries, and its log is the
+-- beginning of the first book's.
 pub record Replays (book fresh : Book) (order : List ReceiptOf) : Type 0 where
   pub named : book_checked fresh ≡ book_checked book
   pub limited : book_limit fresh ≡ book_limit book

@@ -4,7 +4,7 @@ ghost use Rattle.std.specs.Prelude.{◌≡◌, ◌≢◌, ◌≤◌, ◌^◌, Al
 ghost use Rattle.std.specs.Arc.{arc_value};
 ghost use Rattle.copy_both.specs.VoiceLaws.{AreAt};
 ghost use Rattle.tables_log.specs.BookView.{book_log};
-ghost use Rattle.senders_close.specs.Taking.{first_of, taken_of, IsTaken};
+ghost use Rattle.senders_close.specs.TakenCommits.{first_of, taken_of, IsTaken};
 
 use served_connections::{End, Served};
 use std::alloc::Global;

@@ -6,13 +6,14 @@ use Rattle.clap.specs.declared.error.kind.ErrorKind.{ErrorKind}
 use Rattle.clap.specs.declared.error.kind.ErrorKind.TheVariants as kind
 use Rattle.serving.specs.CommandLine.{AsksHelp, IsAsking, IsFaulty, IsHelp, IsOfWords, IsRequest, serving}
 use Rattle.subcommands.specs.CommandLine.{IsHelpKind, IsLimit, IsOfError, IsWithin}
-use Rattle.serving.specs.declared.arguments.Asked.{Asked}
-use Rattle.serving.specs.declared.arguments.Asked.TheVariants.{Help, Serve}
+use Rattle.serving.specs.declared.arguments.ServeInvocation.{ServeInvocation}
+use Rattle.serving.specs.declared.arguments.ServeInvocation.TheVariants.{Help, Serve}
 use Rattle.serving.specs.declared.arguments.Service.{Service}
 use Rattle.subcommands.specs.declared.failure.Failure.{Failure}
 use Rattle.subcommands.specs.declared.failure.Failure.TheVariants as f
 
-module _ (words : List Text) (found : ErrorKind) (faults : (found ≡ kind.OutOfMemory) ⊎ IsAmong found (fault_of serving words)) where
+module _ (words : List Text) (found : ErrorKind)
+    (faults : (found ≡ kind.OutOfMemory) ⊎ IsAmong found (fault_of serving words)) where
   asks_help : IsHelpKind found → AsksHelp words
   asks_help help = elim faults [
     | inl memory ↦ elim help [
@@ -25,17 +26,19 @@ module _ (words : List Text) (found : ErrorKind) (faults : (found ≡ kind.OutOf
     ]
   ]
 
-  is_faulty : (found ≡ kind.OutOfMemory → ⊥) → (found ≡ kind.DisplayHelp → ⊥) → (found ≡ kind.DisplayVersion → ⊥) → IsFaulty words
+  is_faulty : (found ≡ kind.OutOfMemory → ⊥) → (found ≡ kind.DisplayHelp → ⊥) → (found ≡ kind.DisplayVersion → ⊥)
+      → IsFaulty words
   is_faulty no_memory no_help no_version = elim faults [
     | inl memory ↦ absurd (no_memory memory)
     | inr among ↦ record { found = found; is = among; no_help = no_help; no_version = no_version }
   ]
 
-  help_asked : (asked : Asked) → IsHelp asked → IsHelpKind found → IsAsking words asked
+  help_asked : (asked : ServeInvocation) → IsHelp asked → IsHelpKind found → IsAsking words asked
   help_asked (Help text) is help = asks_help help
   help_asked (Serve service) is help = absurd is
 
-  pub error_asks : (result : Result Asked Failure) → IfOk result (λ asked. IsHelp asked × IsHelpKind found) → IfOk result (IsAsking words)
+  pub error_asks : (result : Result ServeInvocation Failure) → IfOk result (λ asked. IsHelp asked × IsHelpKind found)
+      → IfOk result (IsAsking words)
   error_asks (Ok asked) is = help_asked asked is.0 is.1
   error_asks (Err failure) is = tt
 
@@ -45,7 +48,8 @@ module _ (words : List Text) (found : ErrorKind) (faults : (found ≡ kind.OutOf
   stopped (f.Input fault) is = absurd is
   stopped f.Output is = absurd is
 
-  pub error_stops : (result : Result Asked Failure) → IfErr result (IsOfError found) → IfErr result (IsOfWords words)
+  pub error_stops : (result : Result ServeInvocation Failure) → IfErr result (IsOfError found)
+      → IfErr result (IsOfWords words)
   error_stops (Ok asked) is = tt
   error_stops (Err failure) is = stopped failure is
 
@@ -54,4 +58,5 @@ limit_within None limit is = record { some = omega (arith, is); most = omega (ar
 limit_within (Some word) limit is = is.within
 
 pub asked_within : (words : List Text) (service : Service) → IsRequest words service → IsWithin service.limit
-asked_within words service asks = limit_within (first_of (codes "limit") asks.taken.found) service.limit asks.taken.arguments.limit
+asked_within words service asks =
+    limit_within (first_of (codes "limit") asks.taken.found) service.limit asks.taken.arguments.limit

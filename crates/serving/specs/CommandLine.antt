@@ -1,4 +1,6 @@
--- What the words of a command line of `serve` ask, as the crate `clap` reads words: the subcommand `serve`, and for it `--port` and a number, and `--limit` and `--connections` with a number each, or neither of these, in any order; or the help or the version.
+-- What the words of a command line of `serve` ask, as the crate `clap` reads words: the subcommand `serve`, and for
+-- it `--port` and a number, and `--limit` and `--connections` with a number each, or neither of these, in any order;
+-- or the help or the version.
 use Rattle.std.specs.Prelude.{◌≡◌, ◌≢◌, ◌≤◌, ◌⊎◌, ℕ, true, List, [], Option, Some, None, codes}
 use Rattle.std.specs.Str.Parse.{IsNumeral, digits_value, without_leading_plus}
 use Rattle.clap.specs.Words.{App, IsAmong, Row, Rule, Text, fault_of, first_of, new_app, new_rule, subcommand_of, with_rule, with_subcommand}
@@ -8,17 +10,19 @@ use Rattle.clap.specs.declared.error.kind.ErrorKind.TheVariants as kind
 use Rattle.subcommands.specs.CommandLine.{HasLimit, bare, limit_rule}
 use Rattle.subcommands.specs.declared.failure.Failure.{Failure}
 use Rattle.subcommands.specs.declared.failure.Failure.TheVariants as f
-use Rattle.serving.specs.declared.arguments.Asked.{Asked}
-use Rattle.serving.specs.declared.arguments.Asked.TheVariants.{Help, Serve}
+use Rattle.serving.specs.declared.arguments.ServeInvocation.{ServeInvocation}
+use Rattle.serving.specs.declared.arguments.ServeInvocation.TheVariants.{Help, Serve}
 use Rattle.serving.specs.declared.arguments.Service.{Service}
 
 -- ---- the command line, as clap is told of it
 
 abbrev pub port_rule : Rule
-port_rule = record (new_rule (codes "port")) { long = Some (codes "port"); value_names = 1; required = true; action = Some Set }
+port_rule = record (new_rule (codes "port"))
+    { long = Some (codes "port"); value_names = 1; required = true; action = Some Set }
 
 abbrev pub connections_rule : Rule
-connections_rule = record (new_rule (codes "connections")) { long = Some (codes "connections"); value_names = 1; action = Some Set }
+connections_rule = record (new_rule (codes "connections"))
+    { long = Some (codes "connections"); value_names = 1; action = Some Set }
 
 abbrev pub serve : App
 serve = with_rule (with_rule (with_rule (new_app (codes "serve")) port_rule) limit_rule) connections_rule
@@ -28,7 +32,8 @@ serving = with_subcommand bare serve.top
 
 -- ---- what is asked
 
--- the word spells this number, which is 1 at least and this one at most: decimal digits, with a plus before them or none, and nothing else
+-- the word spells this number, which is 1 at least and this one at most: decimal digits, with a plus before them or
+-- none, and nothing else
 pub record Spells (most : ℕ) (word : Text) (number : ℕ) : Type 0 where
   pub numeral : IsNumeral 10 (without_leading_plus word)
   pub is : number ≡ digits_value 10 (without_leading_plus word)
@@ -67,7 +72,8 @@ pub record IsRequest (words : List Text) (service : Service) : Type 0 where
 -- ---- what else the words may be
 
 abbrev pub AsksHelp : List Text → Type 0
-AsksHelp words = IsAmong kind.DisplayHelp (fault_of serving words) ⊎ IsAmong kind.DisplayVersion (fault_of serving words)
+AsksHelp words = IsAmong kind.DisplayHelp (fault_of serving words) ⊎ IsAmong kind.DisplayVersion
+    (fault_of serving words)
 
 -- clap finds this fault in the words, which is no call for the help or the version
 pub record IsFaulty (words : List Text) : Type 0 where
@@ -84,7 +90,7 @@ pub record AsksNothing (words : List Text) : Type 0 where
 abbrev pub IsMisworded : List Text → Type 0
 IsMisworded words = IsFaulty words ⊎ AsksNothing words
 
-abbrev pub IsAsking : List Text → Asked → Type 0
+abbrev pub IsAsking : List Text → ServeInvocation → Type 0
 IsAsking words (Help text) = AsksHelp words
 IsAsking words (Serve service) = IsRequest words service
 
@@ -95,6 +101,6 @@ IsOfWords words f.OutOfMemory = Unit {0}
 IsOfWords words _ = ⊥
 
 -- an error of clap is a call for the help or the version
-abbrev pub IsHelp : Asked → Type 0
+abbrev pub IsHelp : ServeInvocation → Type 0
 IsHelp (Help text) = Unit {0}
 IsHelp (Serve service) = ⊥

@@ -1,4 +1,5 @@
--- What a run of `serve` writes, and its exit status: an output that is right for the words of its command line and for its input, or where it stops the first bytes of one.
+-- What a run of `serve` writes, and its exit status: an output that is right for the words of its command line and
+-- for its input, or where it stops the first bytes of one.
 use Rattle.std.specs.Prelude.{◌≡◌, ℕ, ◌⊎◌, List, [], ◌∷◌, ◌++◌, Option, Result, Ok, Err, codes}
 use Rattle.std.specs.Io.KnownBytes.{Appends}
 use Rattle.subcommands.specs.Failures.{fault_line, number_of}
@@ -21,11 +22,13 @@ module _ (words : List (List ℕ)) (known : Option (List ℕ)) where
   -- Status 0 or 1: the answer. 0: some text, where the words ask for the help or the version. 2: a line, and some text.
   -- 3: the line of a fault of the input. 5: no line of the answer or its first ones, and the line of want of memory.
   pub data IsOutput : Status → List ℕ → Type 0 where
-    Answered : (lines : List (List ℕ)) (status : Status) → AnswersWords words known lines status → IsOutput status (text_of lines)
+    Answered : (lines : List (List ℕ)) (status : Status) → AnswersWords words known lines status
+        → IsOutput status (text_of lines)
     Shown : (text : List ℕ) → AsksHelp words → IsOutput Done text
     Misworded : (text : List ℕ) → IsMisworded words → IsOutput CommandLine (text_of (codes "command line" ∷ text ∷ []))
     Rejected : (fault : InputFault) → IsReason words known fault → IsOutput Input (text_of (fault_line fault ∷ []))
-    CutShort : (lines : List (List ℕ)) → IsCutShort lines → IsOutput OutOfMemory (text_of (lines ++ codes "out of memory" ∷ []))
+    CutShort : (lines : List (List ℕ)) → IsCutShort lines
+        → IsOutput OutOfMemory (text_of (lines ++ codes "out of memory" ∷ []))
 
   -- ---- what is written
 
@@ -40,7 +43,8 @@ module _ (words : List (List ℕ)) (known : Option (List ℕ)) where
     pub is : IsOutput status text
     pub first : WritesFirst text old new
 
-  -- where the writer or a socket fails, the first bytes of an output, and else the whole of one that is right for the status
+  -- where the writer or a socket fails, the first bytes of an output, and else the whole of one that is right for the
+  -- status
   abbrev pub IsOutcome : Option (List ℕ) → Option (List ℕ) → Status → Type 0
   IsOutcome old new Output = WritesFirstOutput old new
   IsOutcome old new Done = WritesOutput old new Done

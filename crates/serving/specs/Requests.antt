@@ -16,7 +16,8 @@ pub record IsAsked (words : List (List ℕ)) (known : Option (List ℕ)) (servic
   pub given : IsInput known input
 
 -- the lines answer what the words ask of the input
-pub record AnswersWords (words : List (List ℕ)) (known : Option (List ℕ)) (lines : List (List ℕ)) (status : Status) : Type 0 where
+pub record AnswersWords (words : List (List ℕ)) (known : Option (List ℕ)) (lines : List (List ℕ)) (status : Status) :
+    Type 0 where
   pub service : Service
   pub input : List ℕ
   pub asked : IsAsked words known service input
@@ -48,11 +49,13 @@ IsReason words known (i.Script error) = HasFault words known (i.Script error)
 -- ---- of a reader
 
 -- what the reader gave is served
-pub record ServesInput (service : Service) (known old new : Option (List ℕ)) (result : Result Status Failure) : Type 0 where
+pub record ServesInput (service : Service) (known old new : Option (List ℕ)) (result : Result Status Failure) : Type 0
+    where
   pub input : List ℕ
   pub given : IsInput known input
   pub ends : EndsService service input old new result
 
 -- or reading it stopped, and nothing is written
 abbrev pub ServesReader : Service → Option (List ℕ) → Option (List ℕ) → Option (List ℕ) → Result Status Failure → Type 0
-ServesReader service known old new result = ServesInput service known old new result ⊎ (IsErrAnd result IsOfReading × (new ≡ old))
+ServesReader service known old new result =
+    ServesInput service known old new result ⊎ (IsErrAnd result IsOfReading × (new ≡ old))

@@ -34,6 +34,7 @@ pub record HasOther (tables : List Table) (text : List ℕ) (error : ReadError) 
 
 -- reading the script stops for its fault, for another step than COMMIT, or for want of memory
 abbrev pub IsOfScript : List Table → List ℕ → Failure → Type 0
-IsOfScript tables text (f.Input (i.Script error)) = TellsScript (script_by tables text) error ⊎ HasOther tables text error
+IsOfScript tables text (f.Input (i.Script error)) =
+    TellsScript (script_by tables text) error ⊎ HasOther tables text error
 IsOfScript tables text f.OutOfMemory = Unit {0}
 IsOfScript tables text _ = ⊥

@@ -1,4 +1,6 @@
--- What `serve` answers: the first part of its input is a catalog, the second has the texts of the certificates of its tables, one a line, and the third is a script, each step of which is COMMIT. Where the sharding is sound, its subscribers are served. The format is this project's own.
+-- What `serve` answers: the first part of its input is a catalog, the second has the texts of the certificates of its
+-- tables, one a line, and the third is a script, each step of which is COMMIT. Where the sharding is sound, its
+-- subscribers are served. The format is this project's own.
 use Rattle.std.specs.Prelude.{◌≡◌, ◌⊎◌, ℕ, List, Option, Some, None, Ok, Result}
 use Rattle.filter_tree.specs.Expr.{Expr}
 use Rattle.pub_catalog.specs.Catalogs.{CatalogOf}
@@ -22,17 +24,20 @@ use Rattle.serving.specs.Telling as telling
 use Rattle.serving.specs.declared.arguments.Service.{Service}
 
 -- there is no reason to refuse the sharding, it is sound, and the lines are that it listens and how it ended
-pub record AreServed (port : ℕ) (catalog : CatalogOf Expr) (trees : List Tree) (lines : List (List ℕ)) (status : Status) : Type 0 where
+pub record AreServed (port : ℕ) (catalog : CatalogOf Expr) (trees : List Tree) (lines : List (List ℕ))
+    (status : Status) : Type 0 where
   pub sound : IsSound catalog
   pub unrefused : IsFirstRefusal catalog trees None
   pub told : telling.IsTold port lines status
 
 -- the line of the sharding's refusal
-pub record IsRefusal (catalog : CatalogOf Expr) (trees : List Tree) (lines : List (List ℕ)) (status : Status) : Type 0 where
+pub record IsRefusal (catalog : CatalogOf Expr) (trees : List Tree) (lines : List (List ℕ)) (status : Status) : Type 0
+    where
   pub refused : IsRefused catalog trees lines
   pub is : status ≡ Refused
 
--- The input has three parts, the first is a catalog, each line of the second is a certificate, and the third is a script of its tables that only commits.
+-- The input has three parts, the first is a catalog, each line of the second is a certificate, and the third is a
+-- script of its tables that only commits.
 pub record IsServing (service : Service) (input : List ℕ) (lines : List (List ℕ)) (status : Status) : Type 0 where
   pub cut : CutTwice
   pub catalog : CatalogOf Expr
@@ -40,9 +45,11 @@ pub record IsServing (service : Service) (input : List ℕ) (lines : List (List 
   pub reads : catalog_by as_filter cut.first ≡ Ok catalog
   pub certificates : text_fault 1 (lines_of cut.second) ≡ None
   pub script : Commits catalog.tables cut.third
-  pub result : AreServed service.port catalog (trees_in (lines_of cut.second)) lines status ⊎ IsRefusal catalog (trees_in (lines_of cut.second)) lines status
+  pub result : AreServed service.port catalog (trees_in (lines_of cut.second)) lines status ⊎ IsRefusal catalog
+      (trees_in (lines_of cut.second)) lines status
 
--- the first is a catalog, each line of the second is a certificate, and the third is a script of its tables, whose step at this place is the first that isn't COMMIT
+-- the first is a catalog, each line of the second is a certificate, and the third is a script of its tables, whose
+-- step at this place is the first that isn't COMMIT
 pub record IsOtherStep (input : List ℕ) (error : ReadError) : Type 0 where
   pub cut : CutTwice
   pub catalog : CatalogOf Expr
@@ -61,4 +68,5 @@ abbrev pub IsFault : List ℕ → InputFault → Type 0
 IsFault input fault = simulation.IsFault input fault ⊎ IsOther input fault
 
 abbrev pub EndsService : Service → List ℕ → Option (List ℕ) → Option (List ℕ) → Result Status Failure → Type 0
-EndsService service input old new result = Ends (IsServing service input) (telling.IsBegun service.port) (IsFault input) old new result
+EndsService service input old new result =
+    Ends (IsServing service input) (telling.IsBegun service.port) (IsFault input) old new result

@@ -1,4 +1,5 @@
--- The lines that `serve` writes where the sharding is accepted: one when it listens, and one at the end. The format is this program's own.
+-- The lines that `serve` writes where the sharding is accepted: one when it listens, and one at the end. The format
+-- is this program's own.
 use Rattle.std.specs.Prelude.{◌≡◌, ◌⊎◌, ℕ, List, [], ◌∷◌, ◌++◌, Option, Some, None, Result, codes}
 use Rattle.senders_close.specs.declared.close_error.CloseError.{CloseError}
 use Rattle.senders_close.specs.declared.close_error.CloseError.TheVariants as e
@@ -31,7 +32,8 @@ pub data IsLast : List ℕ → Status → Type 0 where
 
 -- this line alone is written, with this status
 abbrev pub Says : List ℕ → Status → Option (List ℕ) → Option (List ℕ) → Result Status Failure → Type 0
-Says line status old new result = Writes (λ lines told. (lines ≡ line ∷ []) × (told ≡ status)) (λ lines. lines ≡ []) old new result
+Says line status old new result =
+    Writes (λ lines told. (lines ≡ line ∷ []) × (told ≡ status)) (λ lines. lines ≡ []) old new result
 
 -- the lines are a last one alone
 pub record IsClosing (lines : List (List ℕ)) (status : Status) : Type 0 where

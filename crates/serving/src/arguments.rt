@@ -28,7 +28,7 @@ pub struct Service {
 
 /// What the words of a command line ask.
 #[derive(Debug, Drop)]
-pub enum Asked {
+pub enum ServeInvocation {
     /// The help or the version, which is this text.
     Help(String),
     Serve(Service),
@@ -121,14 +121,14 @@ fn rendered(alloc: Global, error: &clap::Error) -> Result<String, AllocError> {
 }
 
 /// What is asked by words that clap answers with an error.
-fn asked_by<'a>(alloc: Global, error: &clap::Error) -> Result<Asked, Failure<'a>>
+fn asked_by<'a>(alloc: Global, error: &clap::Error) -> Result<ServeInvocation, Failure<'a>>
     ensures help { IfOk result (λ asked. IsHelp asked × IsHelpKind (kind_of error.now)) }
     ensures stopped { IfErr result (IsOfError (kind_of error.now)) }
 {
     match error.kind() {
         ErrorKind::OutOfMemory => Err(Failure::OutOfMemory),
         ErrorKind::DisplayHelp | ErrorKind::DisplayVersion => {
-            Ok(Asked::Help(rendered(alloc, error)?))
+            Ok(ServeInvocation::Help(rendered(alloc, error)?))
         }
         _ => Err(Failure::CommandLine(rendered(alloc, error)?)),
     }
@@ -218,7 +218,7 @@ fn request_of<'a>(matches: &ArgMatches<'a>) -> Option<Service>
 /// `CommandLine`, with a text for the user, where the words are not `serve` with one `--port` of 1 to 65,535, at most
 /// one `--limit` of 1 to 1,000,000,000 and at most one `--connections` of 1 to 1,000, nor ask for the help or the
 /// version; `OutOfMemory`.
-pub fn parse<'a, S: AsStr>(alloc: Global, words: &'a [S]) -> Result<Asked, Failure<'a>>
+pub fn parse<'a, S: AsStr>(alloc: Global, words: &'a [S]) -> Result<ServeInvocation, Failure<'a>>
     ensures asked { IfOk result (IsAsking (map S.text words.entry.now)) }
     ensures stopped { IfErr result (IsOfWords (map S.text words.entry.now)) }
 {
@@ -228,7 +228,7 @@ pub fn parse<'a, S: AsStr>(alloc: Global, words: &'a [S]) -> Result<Asked, Failu
         Err(error) => return asked_by(alloc, &error),
     };
     match request_of(&matches) {
-        Some(service) => Ok(Asked::Serve(service)),
+        Some(service) => Ok(ServeInvocation::Serve(service)),
         None => Err(Failure::CommandLine(String::from_str(
             alloc,
             "expected a port of 1 to 65535, a limit of 1 to 1000000000, and 1 to 1000 connections",

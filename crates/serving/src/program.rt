@@ -12,7 +12,7 @@ ghost use Rattle.serving.specs.Outcomes.{IsEnding, IsOutcome, IsRun};
 ghost use Rattle.serving.specs.Requests.{ServesReader};
 ghost use Rattle.serving.specs.Words.{names_serve};
 
-use crate::arguments::{Asked, Service, parse};
+use crate::arguments::{ServeInvocation, Service, parse};
 use crate::serve::serve_input;
 use std::convert::AsStr;
 use std::io::{Read, Write};
@@ -82,8 +82,8 @@ fn answer_words<
         (W.contents writer.new) result }
 {
     match parse(rt.alloc(), words)? {
-        Asked::Help(text) => write_help(text, writer),
-        Asked::Serve(service) => serve_reader(rt, service, input, writer),
+        ServeInvocation::Help(text) => write_help(text, writer),
+        ServeInvocation::Serve(service) => serve_reader(rt, service, input, writer),
     }
 }
 

@@ -21,21 +21,27 @@ use Rattle.shard_checker.proofs.MaskLemmas.{step_before, parts_earlier}
 
 -- ---- the blocks of users
 
-listed_still : (old new : Users) (block : ℕ) (last : Step) → ListsParts old new block last → (earlier : ℕ) (step : Step) → AreListed old earlier step → AreListed new earlier step
+listed_still : (old new : Users) (block : ℕ) (last : Step) → ListsParts old new block last
+    → (earlier : ℕ) (step : Step) → AreListed old earlier step → AreListed new earlier step
 listed_still old new block last lists earlier (Const known) h = tt
 listed_still old new block last lists earlier (Atom place) h = lists.atoms_kept place earlier h
 listed_still old new block last lists earlier (Not part) h = lists.steps_kept part earlier h
-listed_still old new block last lists earlier (And left right) h = (lists.steps_kept left earlier h.0, lists.steps_kept right earlier h.1)
-listed_still old new block last lists earlier (Or left right) h = (lists.steps_kept left earlier h.0, lists.steps_kept right earlier h.1)
+listed_still old new block last lists earlier (And left right) h =
+    (lists.steps_kept left earlier h.0, lists.steps_kept right earlier h.1)
+listed_still old new block last lists earlier (Or left right) h =
+    (lists.steps_kept left earlier h.0, lists.steps_kept right earlier h.1)
 listed_still old new block last lists earlier (Is test part) h = lists.steps_kept part earlier h
 
-pub lists_within : (lists : Vec (Vec ℕ)) (old new : List (Vec ℕ)) (number block : ℕ) → old ≡ lists.items → Lists old new number block → Lists lists.items (with_items lists new).items number block
+pub lists_within : (lists : Vec (Vec ℕ)) (old new : List (Vec ℕ)) (number block : ℕ) → old ≡ lists.items
+    → Lists old new number block → Lists lists.items (with_items lists new).items number block
 lists_within lists old new number block is changed =
-    subst (λ (after : List (Vec ℕ)). Lists lists.items after number block) (sym (with_items_is lists new (changed.sized ∙ ap length is ∙ sym lists.ok.0)))
+    subst (λ (after : List (Vec ℕ)). Lists lists.items after number block)
+        (sym (with_items_is lists new (changed.sized ∙ ap length is ∙ sym lists.ok.0)))
     (subst (λ (before : List (Vec ℕ)). Lists before new number block) is changed)
 
 module _ (old new : Users) (block : ℕ) (step : Step) where
-  pub lists_atom : (place : ℕ) → step ≡ Atom place → Lists old.of_atoms.items new.of_atoms.items place block → new.of_steps.items ≡ old.of_steps.items → ListsParts old new block step
+  pub lists_atom : (place : ℕ) → step ≡ Atom place → Lists old.of_atoms.items new.of_atoms.items place block
+      → new.of_steps.items ≡ old.of_steps.items → ListsParts old new block step
   lists_atom place is lists others = record {
     listed = subst (λ s. AreListed new block s) (sym is) lists.listed;
     atoms_kept = lists.kept;
@@ -44,7 +50,8 @@ module _ (old new : Users) (block : ℕ) (step : Step) where
     steps_sized = ap length others;
   }
 
-  pub lists_part : (part : ℕ) → (step ≡ Not part) ⊎ ((test : Test) × (step ≡ Is test part)) → Lists old.of_steps.items new.of_steps.items part block
+  pub lists_part : (part : ℕ) → (step ≡ Not part) ⊎ ((test : Test) × (step ≡ Is test part))
+      → Lists old.of_steps.items new.of_steps.items part block
       → new.of_atoms.items ≡ old.of_atoms.items → ListsParts old new block step
   lists_part part is lists others = record {
     listed = elim is [
@@ -57,11 +64,14 @@ module _ (old new : Users) (block : ℕ) (step : Step) where
     steps_sized = lists.sized;
   }
 
-  pub lists_parts : (left right : ℕ) (middle : List (Vec ℕ)) → (step ≡ And left right) ⊎ (step ≡ Or left right) → Lists old.of_steps.items middle left block
-      → Lists middle new.of_steps.items right block → new.of_atoms.items ≡ old.of_atoms.items → ListsParts old new block step
+  pub lists_parts : (left right : ℕ) (middle : List (Vec ℕ)) → (step ≡ And left right) ⊎ (step ≡ Or left right)
+      → Lists old.of_steps.items middle left block
+      → Lists middle new.of_steps.items right block → new.of_atoms.items ≡ old.of_atoms.items
+      → ListsParts old new block step
   lists_parts left right middle is first second others = record {
     listed = elim is [
-      | inl is_and ↦ subst (λ s. AreListed new block s) (sym is_and) (second.kept left block first.listed, second.listed)
+      | inl is_and ↦ subst (λ s. AreListed new block s) (sym is_and)
+          (second.kept left block first.listed, second.listed)
       | inr is_or ↦ subst (λ s. AreListed new block s) (sym is_or) (second.kept left block first.listed, second.listed)
     ];
     atoms_kept = λ other earlier h. subst (λ (ls : List (Vec ℕ)). IsListed ls other earlier) (sym others) h;
@@ -73,20 +83,26 @@ module _ (old new : Users) (block : ℕ) (step : Step) where
 pub users_none : (steps : List Step) (users : Users) → AreUsersBefore 0 steps users
 users_none steps users = record { each = λ number step less h. absurd (omega arith) }
 
-pub users_more : (count next : ℕ) (steps : List Step) (old new : Users) (default : Step) → AreUsersBefore count steps old
-    → ListsParts old new (block_of count) (get_or steps count default) → count < length steps → next ≡ count + 1 → AreUsersBefore next steps new
+pub users_more : (count next : ℕ) (steps : List Step) (old new : Users) (default : Step)
+    → AreUsersBefore count steps old
+    → ListsParts old new (block_of count) (get_or steps count default) → count < length steps → next ≡ count + 1
+    → AreUsersBefore next steps new
 users_more count next steps old new default before lists within after = record {
   each = λ number step less h.
       elim (cases_eq number count) [
         | inl same ↦
             let at : slice_get steps count ≡ Some step = subst (λ k. slice_get steps k ≡ Some step) same h in
-            let found : get_or steps count default ≡ step = same_Some _ step (sym (slice_get-get_or steps count default within) ∙ at) in
-            subst (λ k. AreListed new (block_of k) step) (sym same) (subst (λ s. AreListed new (block_of count) s) found lists.listed)
-        | inr other ↦ listed_still old new (block_of count) (get_or steps count default) lists (block_of number) step (before.each number step (omega (arith, other)) h)
+            let found : get_or steps count default ≡ step =
+                same_Some _ step (sym (slice_get-get_or steps count default within) ∙ at) in
+            subst (λ k. AreListed new (block_of k) step) (sym same)
+                (subst (λ s. AreListed new (block_of count) s) found lists.listed)
+        | inr other ↦ listed_still old new (block_of count) (get_or steps count default) lists (block_of number) step
+            (before.each number step (omega (arith, other)) h)
       ];
 }
 
-pub users_all : (count : ℕ) (steps : List Step) (users : Users) → AreUsersBefore count steps users → length steps ≤ count
+pub users_all : (count : ℕ) (steps : List Step) (users : Users) → AreUsersBefore count steps users
+    → length steps ≤ count
     → length users.of_steps.items ≡ length steps → AreUsers steps users
 users_all count steps users before all sized = record {
   each = λ number step h. before.each number step (let within = slice_get_within steps number step h in omega arith) h;
@@ -103,83 +119,113 @@ follows_false : (x y : Bool) → (x ≡ true → y ≡ true) → y ≡ false →
 follows_false false y f e = refl
 follows_false true y f e = absurd (true_false y (f refl) e)
 
-fresh_before : (old new : List Bool) (blocks : List ℕ) → Marks old new blocks → (block : ℕ) → is_stale new block ≡ false → is_stale old block ≡ false
-fresh_before old new blocks marks block fresh = follows_false (is_stale old block) (is_stale new block) (marks.kept block) fresh
+fresh_before : (old new : List Bool) (blocks : List ℕ) → Marks old new blocks → (block : ℕ)
+    → is_stale new block ≡ false → is_stale old block ≡ false
+fresh_before old new blocks marks block fresh =
+    follows_false (is_stale old block) (is_stale new block) (marks.kept block) fresh
 
 -- a part of a step of a fresh block is none that has changed
-part_same : (lists : List (Vec ℕ)) (old new : List Bool) (number part block : ℕ) → IsListed lists part block → number < length lists → Marks old new (blocks_in lists number)
-    → is_stale new block ≡ false → (masks : List Mask) (mask : Mask) → mask_in (slice_set masks number mask) part ≡ mask_in masks part
+part_same : (lists : List (Vec ℕ)) (old new : List Bool) (number part block : ℕ) → IsListed lists part block
+    → number < length lists → Marks old new (blocks_in lists number)
+    → is_stale new block ≡ false → (masks : List Mask) (mask : Mask)
+    → mask_in (slice_set masks number mask) part ≡ mask_in masks part
 part_same lists old new number part block listed within marks fresh masks mask =
     elim (cases_eq part number) [
       | inl same ↦
-          let listed_there : Contains (blocks_in lists number) block = subst (λ k. IsListed lists k block) same listed within in
+          let listed_there : Contains (blocks_in lists number) block =
+              subst (λ k. IsListed lists k block) same listed within in
           absurd (true_false (is_stale new block) (marks.marked block listed_there) fresh)
       | inr other ↦ get_or-set_other masks number part mask _ other
     ]
 
 module _ (users : Users) (old new : List Bool) (number block : ℕ) (fresh : is_stale new block ≡ false) where
-  pub atom_changed : number < length users.of_atoms.items → Marks old new (blocks_in users.of_atoms.items number) → (step : Step) → AreListed users block step
-      → (atoms masks : List Mask) (mask : Mask) → step_mask (slice_set atoms number mask) masks step ≡ step_mask atoms masks step
+  pub atom_changed : number < length users.of_atoms.items → Marks old new (blocks_in users.of_atoms.items number)
+      → (step : Step) → AreListed users block step
+      → (atoms masks : List Mask) (mask : Mask)
+      → step_mask (slice_set atoms number mask) masks step ≡ step_mask atoms masks step
   atom_changed within marks (Const known) listed atoms masks mask = refl
-  atom_changed within marks (Atom place) listed atoms masks mask = part_same users.of_atoms.items old new number place block listed within marks fresh atoms mask
+  atom_changed within marks (Atom place) listed atoms masks mask =
+      part_same users.of_atoms.items old new number place block listed within marks fresh atoms mask
   atom_changed within marks (Not part) listed atoms masks mask = refl
   atom_changed within marks (And left right) listed atoms masks mask = refl
   atom_changed within marks (Or left right) listed atoms masks mask = refl
   atom_changed within marks (Is test part) listed atoms masks mask = refl
 
-  module _ (within : number < length users.of_steps.items) (marks : Marks old new (blocks_in users.of_steps.items number)) (atoms masks : List Mask) (mask : Mask) where
-    same : (part : ℕ) → IsListed users.of_steps.items part block → mask_in (slice_set masks number mask) part ≡ mask_in masks part
+  module _ (within : number < length users.of_steps.items)
+      (marks : Marks old new (blocks_in users.of_steps.items number)) (atoms masks : List Mask) (mask : Mask) where
+    same : (part : ℕ) → IsListed users.of_steps.items part block
+        → mask_in (slice_set masks number mask) part ≡ mask_in masks part
     same part listed = part_same users.of_steps.items old new number part block listed within marks fresh masks mask
 
-    pub step_changed : (step : Step) → AreListed users block step → step_mask atoms (slice_set masks number mask) step ≡ step_mask atoms masks step
+    pub step_changed : (step : Step) → AreListed users block step
+        → step_mask atoms (slice_set masks number mask) step ≡ step_mask atoms masks step
     step_changed (Const known) listed = refl
     step_changed (Atom place) listed = refl
     step_changed (Not part) listed = ap (lift_one not_of) (same part listed)
     step_changed (And left right) listed =
-        ap (λ m. lift_two and_of m (mask_in (slice_set masks number mask) right)) (same left listed.0) ∙ ap (lift_two and_of (mask_in masks left)) (same right listed.1)
+        ap (λ m. lift_two and_of m (mask_in (slice_set masks number mask) right)) (same left listed.0)
+            ∙ ap (lift_two and_of (mask_in masks left)) (same right listed.1)
     step_changed (Or left right) listed =
-        ap (λ m. lift_two or_of m (mask_in (slice_set masks number mask) right)) (same left listed.0) ∙ ap (lift_two or_of (mask_in masks left)) (same right listed.1)
+        ap (λ m. lift_two or_of m (mask_in (slice_set masks number mask) right)) (same left listed.0)
+            ∙ ap (lift_two or_of (mask_in masks left)) (same right listed.1)
     step_changed (Is test part) listed = ap (lift_one (is_of test)) (same part listed)
 
 -- ---- a step is computed again
 
-module _ (count : ℕ) (steps : List Step) (atoms : List Mask) (old : Masks) (step : Step) (mask : Mask) (ordered : IsOrdered steps) (before : IsSettledBut count steps atoms old)
+module _ (count : ℕ) (steps : List Step) (atoms : List Mask) (old : Masks) (step : Step) (mask : Mask)
+    (ordered : IsOrdered steps) (before : IsSettledBut count steps atoms old)
     (got : slice_get steps count ≡ Some step) (is : mask ≡ step_mask atoms old.list.items step) where
-  pub told_same : (next : ℕ) → mask_in old.list.items count ≡ mask → next ≡ count + 1 → IsSettledBut next steps atoms old
+  pub told_same : (next : ℕ) → mask_in old.list.items count ≡ mask → next ≡ count + 1
+      → IsSettledBut next steps atoms old
   told_same next same after = record {
     sized = before.sized;
     each = λ number found h case.
         elim (cases_eq number count) [
           | inl here ↦
               let at : slice_get steps count ≡ Some found = subst (λ k. slice_get steps k ≡ Some found) here h in
-              subst (λ k. mask_in old.list.items k ≡ step_mask atoms old.list.items found) (sym here) (same ∙ is ∙ ap (step_mask atoms old.list.items) (same_Some step found (sym got ∙ at)))
-          | inr other ↦ before.each number found h (elim case [ inl less ↦ inl (omega (arith, other)) | inr fresh ↦ inr fresh ])
+              subst (λ k. mask_in old.list.items k ≡ step_mask atoms old.list.items found) (sym here)
+                  (same ∙ is ∙ ap (step_mask atoms old.list.items) (same_Some step found (sym got ∙ at)))
+          | inr other ↦ before.each number found h
+              (elim case [ inl less ↦ inl (omega (arith, other)) | inr fresh ↦ inr fresh ])
         ];
   }
 
-  module _ (new : Masks) (users : Users) (are : AreUsers steps users) (put : new.list.items ≡ slice_set old.list.items count mask)
+  module _ (new : Masks) (users : Users) (are : AreUsers steps users)
+      (put : new.list.items ≡ slice_set old.list.items count mask)
       (marks : Marks old.stale.items new.stale.items (blocks_in users.of_steps.items count)) where
     within : count < length steps
     within = slice_get_within steps count step got
 
-    here_is : (number : ℕ) (found : Step) → slice_get steps number ≡ Some found → number ≡ count → mask_in (slice_set old.list.items count mask) number ≡ step_mask atoms (slice_set old.list.items count mask) found
+    here_is : (number : ℕ) (found : Step) → slice_get steps number ≡ Some found → number ≡ count
+        → mask_in (slice_set old.list.items count mask) number
+        ≡ step_mask atoms (slice_set old.list.items count mask) found
     here_is number found h here =
         let at : slice_get steps count ≡ Some found = subst (λ k. slice_get steps k ≡ Some found) here h in
-        subst (λ k. mask_in (slice_set old.list.items count mask) k ≡ step_mask atoms (slice_set old.list.items count mask) found) (sym here)
-        (get_or-set_same old.list.items count mask _ (omega (arith, before.sized, within)) ∙ is ∙ ap (step_mask atoms old.list.items) (same_Some step found (sym got ∙ at))
+        subst (λ k. mask_in (slice_set old.list.items count mask) k
+            ≡ step_mask atoms (slice_set old.list.items count mask) found) (sym here)
+        (get_or-set_same old.list.items count mask _ (omega (arith, before.sized, within)) ∙ is
+            ∙ ap (step_mask atoms old.list.items) (same_Some step found (sym got ∙ at))
         ∙ sym (step_before atoms old.list.items count mask found (ordered.each count found at)))
 
-    less_is : (number : ℕ) (found : Step) → slice_get steps number ≡ Some found → number ≢ count → number < count → mask_in (slice_set old.list.items count mask) number ≡ step_mask atoms (slice_set old.list.items count mask) found
+    less_is : (number : ℕ) (found : Step) → slice_get steps number ≡ Some found → number ≢ count → number < count
+        → mask_in (slice_set old.list.items count mask) number
+        ≡ step_mask atoms (slice_set old.list.items count mask) found
     less_is number found h other less =
         get_or-set_other old.list.items count number mask _ other ∙ before.each number found h (inl less)
-        ∙ sym (step_before atoms old.list.items count mask found (parts_earlier number count found (omega (arith, less)) (ordered.each number found h)))
+        ∙ sym (step_before atoms old.list.items count mask found
+            (parts_earlier number count found (omega (arith, less)) (ordered.each number found h)))
 
-    fresh_is : (number : ℕ) (found : Step) → slice_get steps number ≡ Some found → number ≢ count → is_stale new.stale.items (block_of number) ≡ false
-        → mask_in (slice_set old.list.items count mask) number ≡ step_mask atoms (slice_set old.list.items count mask) found
+    fresh_is : (number : ℕ) (found : Step) → slice_get steps number ≡ Some found → number ≢ count
+        → is_stale new.stale.items (block_of number) ≡ false
+        → mask_in (slice_set old.list.items count mask) number
+            ≡ step_mask atoms (slice_set old.list.items count mask) found
     fresh_is number found h other fresh =
         get_or-set_other old.list.items count number mask _ other
-        ∙ before.each number found h (inr (fresh_before old.stale.items new.stale.items (blocks_in users.of_steps.items count) marks (block_of number) fresh))
-        ∙ sym (step_changed users old.stale.items new.stale.items count (block_of number) fresh (omega (arith, are.sized, within)) marks atoms old.list.items mask found (are.each number found h))
+        ∙ before.each number found h
+            (inr (fresh_before old.stale.items new.stale.items (blocks_in users.of_steps.items count) marks
+            (block_of number) fresh))
+        ∙ sym (step_changed users old.stale.items new.stale.items count (block_of number) fresh
+            (omega (arith, are.sized, within)) marks atoms old.list.items mask found (are.each number found h))
 
     pub told_again : (next : ℕ) → next ≡ count + 1 → IsSettledBut next steps atoms new
     told_again next after = record {
@@ -188,7 +234,9 @@ module _ (count : ℕ) (steps : List Step) (atoms : List Mask) (old : Masks) (st
           subst (λ (masks : List Mask). mask_in masks number ≡ step_mask atoms masks found) (sym put)
           (elim (cases_eq number count) [
             | inl here ↦ here_is number found h here
-            | inr other ↦ elim case [ inl less ↦ less_is number found h other (omega (arith, other, less)) | inr fresh ↦ fresh_is number found h other fresh ]
+            | inr other ↦ elim case
+                [ inl less ↦ less_is number found h other (omega (arith, other, less)) | inr fresh ↦
+                fresh_is number found h other fresh ]
           ]);
     }
 
@@ -200,7 +248,8 @@ in_block number block h = (div-lt_iff_lt-mul {k = 8} {x = number} {y = block + 1
 block_is : (number block : ℕ) → block * 8 ≤ number → number < (block + 1) * 8 → number / 8 ≡ block
 block_is number block low high = div-eq_of_lt-le {k = block} 8 {m = number} low high
 
-pub told_skipped : (block : ℕ) (steps : List Step) (atoms : List Mask) (masks : Masks) → IsSettledBut (block * 8) steps atoms masks → is_stale masks.stale.items block ≡ false
+pub told_skipped : (block : ℕ) (steps : List Step) (atoms : List Mask) (masks : Masks)
+    → IsSettledBut (block * 8) steps atoms masks → is_stale masks.stale.items block ≡ false
     → IsSettledBut ((block + 1) * 8) steps atoms masks
 told_skipped block steps atoms masks before fresh = record {
   sized = before.sized;
@@ -209,13 +258,16 @@ told_skipped block steps atoms masks before fresh = record {
         | inr quiet ↦ inr quiet
         | inl less ↦ elim (cases_lt number (block * 8)) [
           | inl earlier ↦ inl earlier
-          | inr here ↦ inr (subst (λ b. is_stale masks.stale.items b ≡ false) (sym (block_is number block here less)) fresh)
+          | inr here ↦ inr (subst (λ b. is_stale masks.stale.items b ≡ false) (sym (block_is number block here less))
+              fresh)
         ]
       ]);
 }
 
-pub told_block : (block end : ℕ) (steps : List Step) (atoms : List Mask) (old new : Masks) → IsSettledBut end steps atoms old → min (length steps) ((block + 1) * 8) ≤ end
-    → new.list.items ≡ old.list.items → new.stale.items ≡ slice_set old.stale.items block false → IsSettledBut ((block + 1) * 8) steps atoms new
+pub told_block : (block end : ℕ) (steps : List Step) (atoms : List Mask) (old new : Masks)
+    → IsSettledBut end steps atoms old → min (length steps) ((block + 1) * 8) ≤ end
+    → new.list.items ≡ old.list.items → new.stale.items ≡ slice_set old.stale.items block false
+    → IsSettledBut ((block + 1) * 8) steps atoms new
 told_block block end steps atoms old new before far list_same put = record {
   sized = ap length list_same ∙ before.sized;
   each = λ number step h case.
@@ -228,18 +280,23 @@ told_block block end steps atoms old new before far list_same put = record {
         | inr fresh ↦ elim (cases_eq (number / 8) block) [
           | inl here ↦ told (in_block number block here)
           | inr other ↦ before.each number step h (inr (
-              sym (get_or-set_other old.stale.items block (number / 8) false _ other) ∙ ap (λ (stale : List Bool). is_stale stale (number / 8)) (sym put) ∙ fresh))
+              sym (get_or-set_other old.stale.items block (number / 8) false _ other)
+                  ∙ ap (λ (stale : List Bool). is_stale stale (number / 8)) (sym put) ∙ fresh))
         ]
       ]);
 }
 
-pub told_whole : (count : ℕ) (steps : List Step) (atoms : List Mask) (masks : Masks) → IsSettledBut count steps atoms masks → length steps ≤ count → IsSettled steps atoms masks.list.items
+pub told_whole : (count : ℕ) (steps : List Step) (atoms : List Mask) (masks : Masks)
+    → IsSettledBut count steps atoms masks → length steps ≤ count → IsSettled steps atoms masks.list.items
 told_whole count steps atoms masks before all = record {
-  each = λ number step h. before.each number step h (inl (let within = slice_get_within steps number step h in omega arith));
+  each = λ number step h. before.each number step h
+      (inl (let within = slice_get_within steps number step h in omega arith));
 }
 
-pub stays_settled : (steps : List Step) (atoms : List Mask) (masks : Masks) → IsSettled steps atoms masks.list.items → length masks.list.items ≡ length steps → IsSettledBut 0 steps atoms masks
-stays_settled steps atoms masks settled sized = record { each = λ number step h case. settled.each number step h; sized = sized }
+pub stays_settled : (steps : List Step) (atoms : List Mask) (masks : Masks) → IsSettled steps atoms masks.list.items
+    → length masks.list.items ≡ length steps → IsSettledBut 0 steps atoms masks
+stays_settled steps atoms masks settled sized =
+    record { each = λ number step h case. settled.each number step h; sized = sized }
 
 -- ---- before the first node
 
@@ -248,31 +305,40 @@ always_stale zero block = refl
 always_stale (suc count) zero = refl
 always_stale (suc count) (suc block) = always_stale count block
 
-pub begins_stale : (count : ℕ) (steps : List Step) (atoms : List Mask) (masks : Masks) → length masks.list.items ≡ length steps → masks.stale.items ≡ replicate count true → IsSettledBut 0 steps atoms masks
+pub begins_stale : (count : ℕ) (steps : List Step) (atoms : List Mask) (masks : Masks)
+    → length masks.list.items ≡ length steps → masks.stale.items ≡ replicate count true
+    → IsSettledBut 0 steps atoms masks
 begins_stale count steps atoms masks sized all = record {
   sized = sized;
   each = λ number step h case.
       elim case [
         | inl less ↦ absurd (omega (arith, less))
-        | inr fresh ↦ absurd (true_false (is_stale (replicate count true) (block_of number)) (always_stale count (block_of number))
+        | inr fresh ↦ absurd (true_false (is_stale (replicate count true) (block_of number))
+            (always_stale count (block_of number))
             (ap (λ (stale : List Bool). is_stale stale (block_of number)) (sym all) ∙ fresh))
       ];
 }
 
 -- ---- an atom is found to have a value, or no longer
 
-pub marked_atom : (number : ℕ) (steps : List Step) (atoms : List Mask) (mask : Mask) (users : Users) (old new : Masks) → AreUsers steps users → IsSettledBut 0 steps atoms old
-    → new.list.items ≡ old.list.items → Marks old.stale.items new.stale.items (blocks_in users.of_atoms.items number) → number < length users.of_atoms.items
+pub marked_atom : (number : ℕ) (steps : List Step) (atoms : List Mask) (mask : Mask) (users : Users) (old new : Masks)
+    → AreUsers steps users → IsSettledBut 0 steps atoms old
+    → new.list.items ≡ old.list.items → Marks old.stale.items new.stale.items (blocks_in users.of_atoms.items number)
+    → number < length users.of_atoms.items
     → IsSettledBut 0 steps (slice_set atoms number mask) new
 marked_atom number steps atoms mask users old new are before list_same marks within = record {
   sized = ap length list_same ∙ before.sized;
   each = λ number' step h case.
-      subst (λ (masks : List Mask). mask_in masks number' ≡ step_mask (slice_set atoms number mask) masks step) (sym list_same)
+      subst (λ (masks : List Mask). mask_in masks number' ≡ step_mask (slice_set atoms number mask) masks step)
+          (sym list_same)
       (elim case [
         | inl less ↦ absurd (omega (arith, less))
         | inr fresh ↦
-            before.each number' step h (inr (fresh_before old.stale.items new.stale.items (blocks_in users.of_atoms.items number) marks (block_of number') fresh))
-            ∙ sym (atom_changed users old.stale.items new.stale.items number (block_of number') fresh within marks step (are.each number' step h) atoms old.list.items mask)
+            before.each number' step h
+                (inr (fresh_before old.stale.items new.stale.items (blocks_in users.of_atoms.items number) marks
+                (block_of number') fresh))
+            ∙ sym (atom_changed users old.stale.items new.stale.items number (block_of number') fresh within marks
+                step (are.each number' step h) atoms old.list.items mask)
       ]);
 }
 

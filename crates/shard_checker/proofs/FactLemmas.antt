@@ -37,14 +37,16 @@ said_known : (atom : AtomOf) (value : Constant) → said_of atom (Known value) �
 said_known (Cmp term op constant) value = refl
 said_known (IsNull column) value = refl
 said_known (In term constants) value = refl
-said_known (Between term low high) value = both_known (compare_known Ge value (Number low)) (compare_known Le value (Number high))
+said_known (Between term low high) value =
+    both_known (compare_known Ge value (Number low)) (compare_known Le value (Number high))
 said_known (Distinct term constant) value = refl
 
 said_null : (atom : AtomOf) (value : Datum) → said_of atom value ≡ Null → value ≡ Missing
 said_null atom Missing h = refl
 said_null atom (Known value) h = absurd (known_tri (holds_of atom (Some value)) (sym (said_known atom value) ∙ h))
 
-told_null : (atom : AtomOf) (value : Datum) (found : Tri) → said_of atom value ≡ found → tells_null atom found ≡ true → value ≡ Missing
+told_null : (atom : AtomOf) (value : Datum) (found : Tri) → said_of atom value ≡ found → tells_null atom found ≡ true
+    → value ≡ Missing
 told_null (Cmp term op constant) value Null said tells = said_null (Cmp term op constant) value said
 told_null (Cmp term op constant) value found said tells = absurd cc
 told_null (In term constants) value Null said tells = said_null (In term constants) value said
@@ -79,11 +81,13 @@ remainder_missing (Known (Number n)) divisor h = absurd cc
 remainder_missing (Known (Truth b)) divisor h = absurd cc
 remainder_missing (Known (Bytes s)) divisor h = absurd cc
 
-term_missing : (term : Term) (row : List Datum) → term_value term row ≡ Missing → value_at row (column_of term) ≡ Missing
+term_missing : (term : Term) (row : List Datum) → term_value term row ≡ Missing
+    → value_at row (column_of term) ≡ Missing
 term_missing (Col column) row h = h
 term_missing (Mod column divisor) row h = remainder_missing (value_at row column) divisor h
 
-missing_term : (term : Term) (row : List Datum) → value_at row (column_of term) ≡ Missing → term_value term row ≡ Missing
+missing_term : (term : Term) (row : List Datum) → value_at row (column_of term) ≡ Missing
+    → term_value term row ≡ Missing
 missing_term (Col column) row h = h
 missing_term (Mod column divisor) row h = ap (λ value. remainder_of value divisor) h
 
@@ -94,7 +98,8 @@ says_null_is row column atom value meant says =
     subst (λ k. value_at row k ≡ Missing) (same_number (column_of (term_of atom)) column both.1)
     (term_missing (term_of atom) row (told_null atom (term_value (term_of atom) row) value meant both.0))
 
-pub null_is : (row : List Datum) (column : ℕ) (path : Path) → Agrees row path → is_null column path ≡ true → value_at row column ≡ Missing
+pub null_is : (row : List Datum) (column : ℕ) (path : Path) → Agrees row path → is_null column path ≡ true
+    → value_at row column ≡ Missing
 null_is row column [] agrees h = absurd cc
 null_is row column (entry ∷ path) agrees h =
     by_either (says_null column entry.0 entry.1) (is_null column path) h
@@ -105,17 +110,21 @@ says_present_is : (row : List Datum) (column : ℕ) (atom : AtomOf) (value : Tri
     → says_present column atom value ≡ true → value_at row column ≡ Missing → ⊥
 says_present_is row column atom value meant says missing =
     let both = both_true (tells_present atom value) (column_of (term_of atom) == column) says in
-    let there : value_at row (column_of (term_of atom)) ≡ Missing = subst (λ k. value_at row k ≡ Missing) (sym (same_number (column_of (term_of atom)) column both.1)) missing in
+    let there : value_at row (column_of (term_of atom)) ≡ Missing =
+        subst (λ k. value_at row k ≡ Missing) (sym (same_number (column_of (term_of atom)) column both.1)) missing in
     let gone : term_value (term_of atom) row ≡ Missing = missing_term (term_of atom) row there in
     never_present atom (subst (λ found. tells_present atom found ≡ true) (sym meant ∙ ap (said_of atom) gone) both.0)
 
-declared_in : (found : Option Column) (value : Datum) → IfSome found (λ column. MayHold column value) → not_null_in found ≡ true → value ≡ Missing → ⊥
+declared_in : (found : Option Column) (value : Datum) → IfSome found (λ column. MayHold column value)
+    → not_null_in found ≡ true → value ≡ Missing → ⊥
 declared_in None value fits declared missing = cc
 declared_in (Some column) Missing fits declared missing = clash column.not_null declared fits
 declared_in (Some column) (Known value) fits declared missing = cc
 
-pub declared_is : (columns : List Column) (row : List Datum) (column : ℕ) → IsTyped columns row → is_declared columns column ≡ true → value_at row column ≡ Missing → ⊥
-declared_is columns row column valid declared missing = declared_in (slice_get columns column) (value_at row column) (valid.fits column) declared missing
+pub declared_is : (columns : List Column) (row : List Datum) (column : ℕ) → IsTyped columns row
+    → is_declared columns column ≡ true → value_at row column ≡ Missing → ⊥
+declared_is columns row column valid declared missing =
+    declared_in (slice_get columns column) (value_at row column) (valid.fits column) declared missing
 
 some_present_is : (row : List Datum) (column : ℕ) (path : Path) → Agrees row path
     → list_any (λ entry. says_present column entry.0 entry.1) path ≡ true → value_at row column ≡ Missing → ⊥
@@ -125,7 +134,8 @@ some_present_is row column (entry ∷ path) agrees h missing =
     (λ here. says_present_is row column entry.0 entry.1 agrees.0 here missing)
     (λ there. some_present_is row column path agrees.1 there missing)
 
-pub present_is : (columns : List Column) (row : List Datum) (column : ℕ) (path : Path) → IsTyped columns row → Agrees row path
+pub present_is : (columns : List Column) (row : List Datum) (column : ℕ) (path : Path) → IsTyped columns row
+    → Agrees row path
     → is_present columns column path ≡ true → value_at row column ≡ Missing → ⊥
 present_is columns row column path valid agrees h missing =
     by_either (is_declared columns column) (list_any (λ entry. says_present column entry.0 entry.1) path) h
@@ -137,7 +147,8 @@ same_null Null h = refl
 same_null True h = absurd cc
 same_null False h = absurd cc
 
-has_null_is : (row : List Datum) (atom : AtomOf) (path : Path) → Agrees row path → has_null atom path ≡ true → atom_meaning atom row ≡ Null
+has_null_is : (row : List Datum) (atom : AtomOf) (path : Path) → Agrees row path → has_null atom path ≡ true
+    → atom_meaning atom row ≡ Null
 has_null_is row atom [] agrees h = absurd cc
 has_null_is row atom (entry ∷ path) agrees h =
     by_either (same_atom atom entry.0 && same_tri entry.1 Null) (has_null atom path) h
@@ -145,17 +156,22 @@ has_null_is row atom (entry ∷ path) agrees h =
     ap (λ c. atom_meaning c row) (same_atom_is atom entry.0 both.0) ∙ (agrees.0 ∙ same_null entry.1 both.1))
     (λ there. has_null_is row atom path agrees.1 there)
 
-null_atom : (columns : List Column) (row : List Datum) (atom : AtomOf) → IsTyped columns row → atom_meaning atom row ≡ Null
+null_atom : (columns : List Column) (row : List Datum) (atom : AtomOf) → IsTyped columns row
+    → atom_meaning atom row ≡ Null
     → (is_always_known atom || is_declared columns (column_of (term_of atom))) ≡ true → ⊥
-null_atom columns row atom valid null h = by_either (is_always_known atom) (is_declared columns (column_of (term_of atom))) h
+null_atom columns row atom valid null h =
+    by_either (is_always_known atom) (is_declared columns (column_of (term_of atom))) h
     (λ always. always_said atom (term_value (term_of atom) row) always null)
-    (λ declared. declared_is columns row (column_of (term_of atom)) valid declared (term_missing (term_of atom) row (said_null atom (term_value (term_of atom) row) null)))
+    (λ declared. declared_is columns row (column_of (term_of atom)) valid declared
+        (term_missing (term_of atom) row (said_null atom (term_value (term_of atom) row) null)))
 
 -- no row that fits the columns agrees with a path on which an atom is null that never is
-pub never_null_is : (columns : List Column) (row : List Datum) (atom : AtomOf) (path : Path) → IsTyped columns row → Agrees row path
+pub never_null_is : (columns : List Column) (row : List Datum) (atom : AtomOf) (path : Path) → IsTyped columns row
+    → Agrees row path
     → is_never_null columns atom path ≡ true → ⊥
 never_null_is columns row atom path valid agrees h =
-    let both = both_true (has_null atom path) (is_always_known atom || is_declared columns (column_of (term_of atom))) h in
+    let both = both_true (has_null atom path) (is_always_known atom || is_declared columns (column_of (term_of atom)))
+        h in
     null_atom columns row atom valid (has_null_is row atom path agrees both.0) both.1
 
 -- ---- values
@@ -180,11 +196,14 @@ about_is term (In other constants) about = same_term_is other term about
 about_is term (Between other low high) about = same_term_is other term about
 about_is term (Distinct other constant) about = same_term_is other term about
 
-meant_of : (row : List Datum) (term : Term) (value : Constant) (atom : AtomOf) → term_value term row ≡ Known value → is_about term atom ≡ true
+meant_of : (row : List Datum) (term : Term) (value : Constant) (atom : AtomOf) → term_value term row ≡ Known value
+    → is_about term atom ≡ true
     → atom_meaning atom row ≡ tri_of (holds_of atom (Some value))
-meant_of row term value atom is about = ap (λ t. said_of atom (term_value t row)) (about_is term atom about) ∙ ap (said_of atom) is ∙ said_known atom value
+meant_of row term value atom is about = ap (λ t. said_of atom (term_value t row)) (about_is term atom about)
+    ∙ ap (said_of atom) is ∙ said_known atom value
 
-leaves_found : (row : List Datum) (term : Term) (value : Constant) (atom : AtomOf) (found : Tri) → atom_meaning atom row ≡ found
+leaves_found : (row : List Datum) (term : Term) (value : Constant) (atom : AtomOf) (found : Tri)
+    → atom_meaning atom row ≡ found
     → term_value term row ≡ Known value → leaves term (Some value) atom found ≡ true
 leaves_found row term value atom True meant is = counts_where (is_about term atom) (holds_of atom (Some value))
     (λ about. tri_true (holds_of atom (Some value)) (sym (meant_of row term value atom is about) ∙ meant))
@@ -193,8 +212,10 @@ leaves_found row term value atom False meant is = counts_where (is_about term at
 leaves_found row term value atom Null meant is = refl
 
 -- the value that a term has on a row is left by what was found
-pub value_left : (row : List Datum) (term : Term) (value : Constant) (path : Path) → Agrees row path → term_value term row ≡ Known value
+pub value_left : (row : List Datum) (term : Term) (value : Constant) (path : Path) → Agrees row path
+    → term_value term row ≡ Known value
     → may_be term path (Some value) ≡ true
 value_left row term value [] agrees is = refl
 value_left row term value (entry ∷ path) agrees is =
-    two_true (leaves term (Some value) entry.0 entry.1) (may_be term path (Some value)) (leaves_found row term value entry.0 entry.1 agrees.0 is) (value_left row term value path agrees.1 is)
+    two_true (leaves term (Some value) entry.0 entry.1) (may_be term path (Some value))
+        (leaves_found row term value entry.0 entry.1 agrees.0 is) (value_left row term value path agrees.1 is)

@@ -10,7 +10,7 @@ use Rattle.filter_tree.specs.Same.{same_atom}
 use Rattle.filter_tree.specs.declared.tri.Tri.{Tri}
 use Rattle.filter_tree.specs.declared.tri.Tri.TheVariants.{True, False, Null}
 use Rattle.filter_tree.proofs.SameLemmas.{same_atom_is, same_atom_of_equal}
-use Rattle.shard_checker.specs.Knowing.{Differ, atom_mask, atom_masks, met, AreBefore, before_of, IsKnown, Learns, TakesBack}
+use Rattle.shard_checker.specs.KnownAtoms.{Differ, atom_mask, atom_masks, met, AreBefore, before_of, IsKnown, Learns, TakesBack}
 use Rattle.shard_checker.specs.Steps.{mask_in}
 use Rattle.shard_checker.specs.declared.known.Before.{Before}
 use Rattle.shard_checker.specs.declared.known.Known.{Known}
@@ -27,14 +27,17 @@ first_or : Option Tri → Option Tri → Option Tri
 first_or None next = next
 first_or (Some value) next = Some value
 
-first_more : (atom tested : AtomOf) (value : Tri) (path : Path) → first_value atom (path ++ (tested, value) ∷ []) ≡ first_or (first_value atom path) (if same_atom atom tested then Some value else None)
+first_more : (atom tested : AtomOf) (value : Tri) (path : Path)
+    → first_value atom (path ++ (tested, value) ∷ [])
+    ≡ first_or (first_value atom path) (if same_atom atom tested then Some value else None)
 unfolding first_or
 first_more atom tested value [] = refl
 first_more atom tested value (entry ∷ path) = by_test (same_atom atom entry.0)
     (λ here. rw here refl)
     (λ later. rw later (first_more atom tested value path))
 
-found_or_met : (found : Option Tri) (atom : AtomOf) (value : Tri) → known_or_open (first_or found (Some value)) atom ≡ met (known_or_open found atom) value
+found_or_met : (found : Option Tri) (atom : AtomOf) (value : Tri)
+    → known_or_open (first_or found (Some value)) atom ≡ met (known_or_open found atom) value
 unfolding first_or
 found_or_met None (Cmp term op constant) value = refl
 found_or_met None (IsNull column) value = refl
@@ -50,13 +53,15 @@ unfolding first_or
 found_or_none None = refl
 found_or_none (Some value) = refl
 
-mask_same : (atom tested : AtomOf) (value : Tri) (path : Path) → same_atom atom tested ≡ true → atom_mask (path ++ (tested, value) ∷ []) atom ≡ met (atom_mask path atom) value
+mask_same : (atom tested : AtomOf) (value : Tri) (path : Path) → same_atom atom tested ≡ true
+    → atom_mask (path ++ (tested, value) ∷ []) atom ≡ met (atom_mask path atom) value
 mask_same atom tested value path same =
     ap (λ found. known_or_open found atom) (first_more atom tested value path)
     ∙ ap (λ (b : Bool). known_or_open (first_or (first_value atom path) (if b then Some value else None)) atom) same
     ∙ found_or_met (first_value atom path) atom value
 
-mask_other : (atom tested : AtomOf) (value : Tri) (path : Path) → same_atom atom tested ≡ false → atom_mask (path ++ (tested, value) ∷ []) atom ≡ atom_mask path atom
+mask_other : (atom tested : AtomOf) (value : Tri) (path : Path) → same_atom atom tested ≡ false
+    → atom_mask (path ++ (tested, value) ∷ []) atom ≡ atom_mask path atom
 mask_other atom tested value path other =
     ap (λ found. known_or_open found atom) (first_more atom tested value path)
     ∙ ap (λ (b : Bool). known_or_open (first_or (first_value atom path) (if b then Some value else None)) atom) other
@@ -66,18 +71,22 @@ mask_other atom tested value path other =
 
 pub other_way : (one other : AtomOf) → same_atom one other ≡ false → same_atom other one ≡ false
 other_way one other h = by_test (same_atom other one)
-    (λ same. absurd (let found : same_atom one other ≡ true = same_atom_of_equal one other (sym (same_atom_is other one same)) in cc))
+    (λ same. absurd (let found : same_atom one other ≡ true =
+        same_atom_of_equal one other (sym (same_atom_is other one same)) in cc))
     (λ differs. differs)
 
-masks_other : (atoms : List AtomOf) (tested : AtomOf) (value : Tri) (path : Path) → list_any (same_atom tested) atoms ≡ false
+masks_other : (atoms : List AtomOf) (tested : AtomOf) (value : Tri) (path : Path)
+    → list_any (same_atom tested) atoms ≡ false
     → atom_masks atoms (path ++ (tested, value) ∷ []) ≡ atom_masks atoms path
 masks_other [] tested value path h = refl
 masks_other (atom ∷ atoms) tested value path h =
     let both = none_of (same_atom tested atom) (list_any (same_atom tested) atoms) h in
-    ap (λ m. m ∷ atom_masks atoms (path ++ (tested, value) ∷ [])) (mask_other atom tested value path (other_way tested atom both.0))
+    ap (λ m. m ∷ atom_masks atoms (path ++ (tested, value) ∷ []))
+        (mask_other atom tested value path (other_way tested atom both.0))
     ∙ ap (λ ms. atom_mask path atom ∷ ms) (masks_other atoms tested value path both.1)
 
-pub not_there : (test : AtomOf → Bool) (atoms : List AtomOf) (number : ℕ) (atom : AtomOf) → list_any test atoms ≡ false → slice_get atoms number ≡ Some atom → test atom ≡ false
+pub not_there : (test : AtomOf → Bool) (atoms : List AtomOf) (number : ℕ) (atom : AtomOf)
+    → list_any test atoms ≡ false → slice_get atoms number ≡ Some atom → test atom ≡ false
 not_there test [] number atom h there = absurd cc
 not_there test (first ∷ atoms) zero atom h there =
     let both = none_of (test first) (list_any test atoms) h in
@@ -85,19 +94,24 @@ not_there test (first ∷ atoms) zero atom h there =
 not_there test (first ∷ atoms) (suc number) atom h there =
     let both = none_of (test first) (list_any test atoms) h in not_there test atoms number atom both.1 there
 
-masks_learned : (atoms : List AtomOf) (number : ℕ) (atom : AtomOf) (value : Tri) (path : Path) → Differ atoms → slice_get atoms number ≡ Some atom
-    → slice_set (atom_masks atoms path) number (met (mask_in (atom_masks atoms path) number) value) ≡ atom_masks atoms (path ++ (atom, value) ∷ [])
+masks_learned : (atoms : List AtomOf) (number : ℕ) (atom : AtomOf) (value : Tri) (path : Path) → Differ atoms
+    → slice_get atoms number ≡ Some atom
+    → slice_set (atom_masks atoms path) number (met (mask_in (atom_masks atoms path) number) value)
+        ≡ atom_masks atoms (path ++ (atom, value) ∷ [])
 masks_learned [] number atom value path differ there = absurd cc
 masks_learned (first ∷ atoms) zero atom value path differ there =
     let same : first ≡ atom = same_Some first atom there in
-    subst (λ a. met (atom_mask path first) value ∷ atom_masks atoms path ≡ atom_masks (first ∷ atoms) (path ++ (a, value) ∷ [])) same
+    subst (λ a. met (atom_mask path first) value ∷ atom_masks atoms path
+        ≡ atom_masks (first ∷ atoms) (path ++ (a, value) ∷ [])) same
     (ap (λ m. m ∷ atom_masks atoms path) (sym (mask_same first first value path (same_atom_of_equal first first refl)))
     ∙ ap (λ ms. atom_mask (path ++ (first, value) ∷ []) first ∷ ms) (sym (masks_other atoms first value path differ.0)))
 masks_learned (first ∷ atoms) (suc number) atom value path differ there =
     ap (λ ms. atom_mask path first ∷ ms) (masks_learned atoms number atom value path differ.1 there)
-    ∙ ap (λ m. m ∷ atom_masks atoms (path ++ (atom, value) ∷ [])) (sym (mask_other first atom value path (not_there (same_atom first) atoms number atom differ.0 there)))
+    ∙ ap (λ m. m ∷ atom_masks atoms (path ++ (atom, value) ∷ []))
+        (sym (mask_other first atom value path (not_there (same_atom first) atoms number atom differ.0 there)))
 
-masks_taken_back : (atoms : List AtomOf) (number : ℕ) (atom : AtomOf) (value : Tri) (path : Path) → Differ atoms → slice_get atoms number ≡ Some atom
+masks_taken_back : (atoms : List AtomOf) (number : ℕ) (atom : AtomOf) (value : Tri) (path : Path) → Differ atoms
+    → slice_get atoms number ≡ Some atom
     → slice_set (atom_masks atoms (path ++ (atom, value) ∷ [])) number (atom_mask path atom) ≡ atom_masks atoms path
 masks_taken_back [] number atom value path differ there = absurd cc
 masks_taken_back (first ∷ atoms) zero atom value path differ there =
@@ -105,56 +119,75 @@ masks_taken_back (first ∷ atoms) zero atom value path differ there =
     subst (λ a. atom_mask path a ∷ atom_masks atoms (path ++ (a, value) ∷ []) ≡ atom_masks (first ∷ atoms) path) same
     (ap (λ ms. atom_mask path first ∷ ms) (masks_other atoms first value path differ.0))
 masks_taken_back (first ∷ atoms) (suc number) atom value path differ there =
-    ap (λ ms. atom_mask (path ++ (atom, value) ∷ []) first ∷ ms) (masks_taken_back atoms number atom value path differ.1 there)
-    ∙ ap (λ m. m ∷ atom_masks atoms path) (mask_other first atom value path (not_there (same_atom first) atoms number atom differ.0 there))
+    ap (λ ms. atom_mask (path ++ (atom, value) ∷ []) first ∷ ms)
+        (masks_taken_back atoms number atom value path differ.1 there)
+    ∙ ap (λ m. m ∷ atom_masks atoms path)
+        (mask_other first atom value path (not_there (same_atom first) atoms number atom differ.0 there))
 
 -- ---- what was there before
 
-before_more : (atoms : List AtomOf) (done : Path) (befores : List Before) (path : Path) (before : Before) (entry : AtomOf × Tri) → AreBefore atoms done befores path
-    → slice_get atoms before.number ≡ Some entry.0 → before.mask ≡ atom_mask (done ++ path) entry.0 → AreBefore atoms done (befores ++ before ∷ []) (path ++ entry ∷ [])
-before_more atoms done [] [] before entry h there was = ((there, was ∙ ap (λ (p : Path). atom_mask p entry.0) (append-nil done)), tt)
+before_more : (atoms : List AtomOf) (done : Path) (befores : List Before) (path : Path) (before : Before)
+    (entry : AtomOf × Tri) → AreBefore atoms done befores path
+    → slice_get atoms before.number ≡ Some entry.0 → before.mask ≡ atom_mask (done ++ path) entry.0
+    → AreBefore atoms done (befores ++ before ∷ []) (path ++ entry ∷ [])
+before_more atoms done [] [] before entry h there was =
+    ((there, was ∙ ap (λ (p : Path). atom_mask p entry.0) (append-nil done)), tt)
 before_more atoms done [] (e ∷ path) before entry h there was = absurd h
 before_more atoms done (b ∷ befores) [] before entry h there was = absurd h
 before_more atoms done (b ∷ befores) (e ∷ path) before entry h there was =
-    (h.0, before_more atoms (done ++ e ∷ []) befores path before entry h.1 there (was ∙ ap (λ (p : Path). atom_mask p entry.0) (sym (append_assoc done (e ∷ []) path))))
+    (h.0, before_more atoms (done ++ e ∷ []) befores path before entry h.1 there
+        (was ∙ ap (λ (p : Path). atom_mask p entry.0) (sym (append_assoc done (e ∷ []) path))))
 
-none_before : (atoms : List AtomOf) (done path : Path) (entry : AtomOf × Tri) → AreBefore atoms done [] (path ++ entry ∷ []) → ⊥
+none_before : (atoms : List AtomOf) (done path : Path) (entry : AtomOf × Tri)
+    → AreBefore atoms done [] (path ++ entry ∷ []) → ⊥
 none_before atoms done [] entry h = h
 none_before atoms done (e ∷ path) entry h = h
 
-none_on_path : (atoms : List AtomOf) (done : Path) (befores : List Before) (before : Before) → AreBefore atoms done (befores ++ before ∷ []) [] → ⊥
+none_on_path : (atoms : List AtomOf) (done : Path) (befores : List Before) (before : Before)
+    → AreBefore atoms done (befores ++ before ∷ []) [] → ⊥
 none_on_path atoms done [] before h = h
 none_on_path atoms done (b ∷ befores) before h = h
 
-before_less : (atoms : List AtomOf) (done : Path) (befores : List Before) (path : Path) (before : Before) (entry : AtomOf × Tri)
+before_less : (atoms : List AtomOf) (done : Path) (befores : List Before) (path : Path) (before : Before)
+    (entry : AtomOf × Tri)
     → AreBefore atoms done (befores ++ before ∷ []) (path ++ entry ∷ [])
-    → AreBefore atoms done befores path × ((slice_get atoms before.number ≡ Some entry.0) × (before.mask ≡ atom_mask (done ++ path) entry.0))
-before_less atoms done [] [] before entry h = (tt, (h.0.0, h.0.1 ∙ ap (λ (p : Path). atom_mask p entry.0) (sym (append-nil done))))
+    → AreBefore atoms done befores path
+        × ((slice_get atoms before.number ≡ Some entry.0) × (before.mask ≡ atom_mask (done ++ path) entry.0))
+before_less atoms done [] [] before entry h =
+    (tt, (h.0.0, h.0.1 ∙ ap (λ (p : Path). atom_mask p entry.0) (sym (append-nil done))))
 before_less atoms done [] (e ∷ path) before entry h = absurd (none_before atoms (done ++ e ∷ []) path entry h.1)
-before_less atoms done (b ∷ befores) [] before entry h = absurd (none_on_path atoms (done ++ entry ∷ []) befores before h.1)
+before_less atoms done (b ∷ befores) [] before entry h =
+    absurd (none_on_path atoms (done ++ entry ∷ []) befores before h.1)
 before_less atoms done (b ∷ befores) (e ∷ path) before entry h =
     let rest = before_less atoms (done ++ e ∷ []) befores path before entry h.1 in
     ((h.0, rest.0), (rest.1.0, rest.1.1 ∙ ap (λ (p : Path). atom_mask p entry.0) (append_assoc done (e ∷ []) path)))
 
 -- ---- what is known
 
-pub known_learned : (atoms : List AtomOf) (old new : Known) (path : Path) (number : ℕ) (atom : AtomOf) (value : Tri) → Differ atoms → IsKnown atoms old path
+pub known_learned : (atoms : List AtomOf) (old new : Known) (path : Path) (number : ℕ) (atom : AtomOf) (value : Tri)
+    → Differ atoms → IsKnown atoms old path
     → slice_get atoms number ≡ Some atom → Learns old new number value → IsKnown atoms new (path ++ (atom, value) ∷ [])
 known_learned atoms old new path number atom value differ known there learns = record {
-  masks = learns.masks ∙ ap (λ ms. slice_set ms number (met (mask_in ms number) value)) known.masks ∙ masks_learned atoms number atom value path differ there;
+  masks = learns.masks ∙ ap (λ ms. slice_set ms number (met (mask_in ms number) value)) known.masks
+      ∙ masks_learned atoms number atom value path differ there;
   befores = subst (λ bs. AreBefore atoms [] bs (path ++ (atom, value) ∷ [])) (sym learns.befores)
-      (before_more atoms [] old.befores.items path (before_of number (mask_in old.atoms.items number)) (atom, value) known.befores there
+      (before_more atoms [] old.befores.items path (before_of number (mask_in old.atoms.items number)) (atom, value)
+          known.befores there
       (ap (λ ms. mask_in ms number) known.masks ∙ atom_there atoms path number atom there));
 }
 
-module _ (atoms : List AtomOf) (old new : Known) (path : Path) (before : Before) (atom : AtomOf) (value : Tri) (known : IsKnown atoms old (path ++ (atom, value) ∷ []))
+module _ (atoms : List AtomOf) (old new : Known) (path : Path) (before : Before) (atom : AtomOf) (value : Tri)
+    (known : IsKnown atoms old (path ++ (atom, value) ∷ []))
     (takes : TakesBack old new before) where
-  parts : AreBefore atoms [] new.befores.items path × ((slice_get atoms before.number ≡ Some atom) × (before.mask ≡ atom_mask path atom))
-  parts = before_less atoms [] new.befores.items path before (atom, value) (subst (λ bs. AreBefore atoms [] bs (path ++ (atom, value) ∷ [])) takes.befores known.befores)
+  parts : AreBefore atoms [] new.befores.items path
+      × ((slice_get atoms before.number ≡ Some atom) × (before.mask ≡ atom_mask path atom))
+  parts = before_less atoms [] new.befores.items path before (atom, value)
+      (subst (λ bs. AreBefore atoms [] bs (path ++ (atom, value) ∷ [])) takes.befores known.befores)
 
   pub known_taken_back : Differ atoms → IsKnown atoms new path
   known_taken_back differ = record {
-    masks = takes.masks ∙ ap (λ ms. slice_set ms before.number before.mask) known.masks ∙ ap (slice_set (atom_masks atoms (path ++ (atom, value) ∷ [])) before.number) parts.1.1
+    masks = takes.masks ∙ ap (λ ms. slice_set ms before.number before.mask) known.masks
+        ∙ ap (slice_set (atom_masks atoms (path ++ (atom, value) ∷ [])) before.number) parts.1.1
         ∙ masks_taken_back atoms before.number atom value path differ parts.1.0;
     befores = parts.0;
   }

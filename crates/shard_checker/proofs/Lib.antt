@@ -15,7 +15,7 @@ pub mod OwnerLemmas
 pub mod PlaceLemmas
 pub mod PlanFacts
 pub mod RangeLemmas
-pub mod ReadyLemmas
+pub mod WalkInvariantLemmas
 pub mod ReasonLemmas
 pub mod RowLemmas
 pub mod ShardingLemmas

@@ -18,7 +18,7 @@ use Rattle.filter_tree.specs.declared.tri.Tri.TheVariants.{True, False, Null}
 use Rattle.filter_tree.proofs.SameLemmas.{both_true}
 use Rattle.shard_checker.specs.Domain.{range_of, IsIn, IsInDomain}
 use Rattle.shard_checker.specs.Facts.{compares, leaves, may_be}
-use Rattle.shard_checker.specs.Trying.{serves, list_of, list_or, first_list, is_tried, has_value}
+use Rattle.shard_checker.specs.Candidates.{serves, list_of, list_or, first_list, is_tried, has_value}
 use Rattle.shard_checker.specs.declared.domain.Range.{Range}
 use Rattle.shard_checker.proofs.ExistingLemmas.{HasConstant, value_exists}
 use Rattle.shard_checker.proofs.Testing.{by_test, by_either, two_true, left_true, right_true}
@@ -35,14 +35,19 @@ equal_is one other h = absurd cc
 number_left : (range : Range) (term : Term) (path : Path) (number : ℤ) → serves range term path number ≡ true
     → IsIn range number × (may_be term path (Some (Number number)) ≡ true)
 number_left range term path number h =
-    let both = both_true (int_le range.least number) (int_le number range.greatest && may_be term path (Some (Number number))) h in
+    let both = both_true (int_le range.least number)
+        (int_le number range.greatest && may_be term path (Some (Number number))) h in
     let rest = both_true (int_le number range.greatest) (may_be term path (Some (Number number))) both.1 in
     (record { above_least = test_le _ _ both.0; below_greatest = test_le _ _ rest.0 }, rest.1)
 
-tried_is_left : (kind : ColType) (term : Term) (path : Path) (constant : Constant) → is_tried kind term path constant ≡ true → has_value kind term path ≡ true
-tried_is_left SmallInt term path (Number n) h = let left = number_left (range_of SmallInt term) term path n h in value_found SmallInt term path (Number n) left.0 left.1
-tried_is_left Integer term path (Number n) h = let left = number_left (range_of Integer term) term path n h in value_found Integer term path (Number n) left.0 left.1
-tried_is_left BigInt term path (Number n) h = let left = number_left (range_of BigInt term) term path n h in value_found BigInt term path (Number n) left.0 left.1
+tried_is_left : (kind : ColType) (term : Term) (path : Path) (constant : Constant)
+    → is_tried kind term path constant ≡ true → has_value kind term path ≡ true
+tried_is_left SmallInt term path (Number n) h = let left = number_left (range_of SmallInt term) term path n h in
+    value_found SmallInt term path (Number n) left.0 left.1
+tried_is_left Integer term path (Number n) h = let left = number_left (range_of Integer term) term path n h in
+    value_found Integer term path (Number n) left.0 left.1
+tried_is_left BigInt term path (Number n) h = let left = number_left (range_of BigInt term) term path n h in
+    value_found BigInt term path (Number n) left.0 left.1
 tried_is_left Boolean term path (Truth t) h = value_found Boolean term path (Truth t) tt h
 tried_is_left Text term path (Bytes s) h = value_found Text term path (Bytes s) tt h
 tried_is_left Boolean term path (Number n) h = absurd cc
@@ -56,20 +61,24 @@ tried_is_left Integer term path (Bytes s) h = absurd cc
 tried_is_left BigInt term path (Bytes s) h = absurd cc
 tried_is_left Boolean term path (Bytes s) h = absurd cc
 
-some_tried_is_left : (kind : ColType) (term : Term) (path : Path) (constants : List Constant) → list_any (is_tried kind term path) constants ≡ true → has_value kind term path ≡ true
+some_tried_is_left : (kind : ColType) (term : Term) (path : Path) (constants : List Constant)
+    → list_any (is_tried kind term path) constants ≡ true → has_value kind term path ≡ true
 some_tried_is_left kind term path [] h = absurd cc
-some_tried_is_left kind term path (constant ∷ constants) h = by_either (is_tried kind term path constant) (list_any (is_tried kind term path) constants) h
+some_tried_is_left kind term path (constant ∷ constants) h =
+    by_either (is_tried kind term path constant) (list_any (is_tried kind term path) constants) h
     (λ here. tried_is_left kind term path constant here)
     (λ there. some_tried_is_left kind term path constants there)
 
 -- ---- a value that is left is one of the list
 
-number_tried : (range : Range) (term : Term) (path : Path) (number : ℤ) → IsIn range number → may_be term path (Some (Number number)) ≡ true → serves range term path number ≡ true
+number_tried : (range : Range) (term : Term) (path : Path) (number : ℤ) → IsIn range number
+    → may_be term path (Some (Number number)) ≡ true → serves range term path number ≡ true
 number_tried range term path number inside left =
     two_true (int_le range.least number) _ (le_test _ _ inside.above_least)
     (two_true (int_le number range.greatest) _ (le_test _ _ inside.below_greatest) left)
 
-left_is_tried : (kind : ColType) (term : Term) (path : Path) (constant : Constant) → IsInDomain kind term constant → may_be term path (Some constant) ≡ true → is_tried kind term path constant ≡ true
+left_is_tried : (kind : ColType) (term : Term) (path : Path) (constant : Constant) → IsInDomain kind term constant
+    → may_be term path (Some constant) ≡ true → is_tried kind term path constant ≡ true
 left_is_tried SmallInt term path (Number n) inside left = number_tried (range_of SmallInt term) term path n inside left
 left_is_tried Integer term path (Number n) inside left = number_tried (range_of Integer term) term path n inside left
 left_is_tried BigInt term path (Number n) inside left = number_tried (range_of BigInt term) term path n inside left
@@ -86,11 +95,14 @@ left_is_tried Integer term path (Bytes s) inside left = absurd inside
 left_is_tried BigInt term path (Bytes s) inside left = absurd inside
 left_is_tried Boolean term path (Bytes s) inside left = absurd inside
 
-listed_tried : (kind : ColType) (term : Term) (path : Path) (value : Constant) → is_tried kind term path value ≡ true → (constants : List Constant)
+listed_tried : (kind : ColType) (term : Term) (path : Path) (value : Constant) → is_tried kind term path value ≡ true
+    → (constants : List Constant)
     → list_any (compares Eq (Some value)) constants ≡ true → list_any (is_tried kind term path) constants ≡ true
 listed_tried kind term path value tried [] h = absurd cc
-listed_tried kind term path value tried (constant ∷ constants) h = by_either (compare_known Eq value constant) (list_any (compares Eq (Some value)) constants) h
-    (λ here. left_true (is_tried kind term path constant) _ (subst (λ k. is_tried kind term path k ≡ true) (equal_is value constant here) tried))
+listed_tried kind term path value tried (constant ∷ constants) h =
+    by_either (compare_known Eq value constant) (list_any (compares Eq (Some value)) constants) h
+    (λ here. left_true (is_tried kind term path constant) _
+        (subst (λ k. is_tried kind term path k ≡ true) (equal_is value constant here) tried))
     (λ there. right_true (is_tried kind term path constant) _ (listed_tried kind term path value tried constants there))
 
 -- a list that the path gives first has each value that is left
@@ -98,7 +110,8 @@ some_list : Option (List Constant) → Constant → Type 0
 some_list None value = Unit {0}
 some_list (Some constants) value = list_any (compares Eq (Some value)) constants ≡ true
 
-entry_lists : (term : Term) (value : Constant) (atom : AtomOf) (found : Tri) → leaves term (Some value) atom found ≡ true → some_list (list_of term atom found) value
+entry_lists : (term : Term) (value : Constant) (atom : AtomOf) (found : Tri)
+    → leaves term (Some value) atom found ≡ true → some_list (list_of term atom found) value
 unfolding some_list
 entry_lists term value (In other constants) True h = by_test (same_term other term)
     (λ same. let left : list_any (compares Eq (Some value)) constants ≡ true = rw same at h in
@@ -111,29 +124,36 @@ entry_lists term value (IsNull column) found h = tt
 entry_lists term value (Between other low high) found h = tt
 entry_lists term value (Distinct other constant) found h = tt
 
-or_lists : (value : Constant) (one later : Option (List Constant)) → some_list one value → some_list later value → some_list (list_or one later) value
+or_lists : (value : Constant) (one later : Option (List Constant)) → some_list one value → some_list later value
+    → some_list (list_or one later) value
 unfolding some_list
 or_lists value None later h k = k
 or_lists value (Some constants) later h k = h
 
-path_lists : (term : Term) (value : Constant) (path : Path) → may_be term path (Some value) ≡ true → some_list (first_list term path) value
+path_lists : (term : Term) (value : Constant) (path : Path) → may_be term path (Some value) ≡ true
+    → some_list (first_list term path) value
 unfolding some_list
 path_lists term value [] h = tt
 path_lists term value (entry ∷ path) h =
     let both = both_true (leaves term (Some value) entry.0 entry.1) (may_be term path (Some value)) h in
-    or_lists value (list_of term entry.0 entry.1) (first_list term path) (entry_lists term value entry.0 entry.1 both.0) (path_lists term value path both.1)
+    or_lists value (list_of term entry.0 entry.1) (first_list term path)
+        (entry_lists term value entry.0 entry.1 both.0) (path_lists term value path both.1)
 
-left_in_list : (kind : ColType) (term : Term) (path : Path) (constants : List Constant) → first_list term path ≡ Some constants
+left_in_list : (kind : ColType) (term : Term) (path : Path) (constants : List Constant)
+    → first_list term path ≡ Some constants
     → HasConstant kind term path → list_any (is_tried kind term path) constants ≡ true
 unfolding some_list
 left_in_list kind term path constants first has =
     let among = subst (λ found. some_list found has.value) first (path_lists term has.value path has.left) in
-    listed_tried kind term path has.value (left_is_tried kind term path has.value has.in_domain has.left) constants among
+    listed_tried kind term path has.value (left_is_tried kind term path has.value has.in_domain has.left) constants
+        among
 
-pub listed_alike : (kind : ColType) (term : Term) (path : Path) (constants : List Constant) → Some constants ≡ first_list term path
+pub listed_alike : (kind : ColType) (term : Term) (path : Path) (constants : List Constant)
+    → Some constants ≡ first_list term path
     → list_any (is_tried kind term path) constants ≡ has_value kind term path
 listed_alike kind term path constants first = by_test (list_any (is_tried kind term path) constants)
     (λ tried. tried ∙ sym (some_tried_is_left kind term path constants tried))
     (λ none. by_test (has_value kind term path)
-    (λ has. absurd (let tried = left_in_list kind term path constants (sym first) (value_exists kind term path has) in cc))
+    (λ has. absurd (let tried = left_in_list kind term path constants (sym first) (value_exists kind term path has) in
+        cc))
     (λ lacks. none ∙ sym lacks))

@@ -10,16 +10,18 @@ use Rattle.filter_tree.specs.Logic.{and_of, or_of, not_of, is_of}
 use Rattle.filter_tree.specs.Mask.{lift_one, lift_two}
 use Rattle.filter_tree.specs.Paths.{Path, possible_of}
 use Rattle.filter_tree.specs.declared.mask.Mask.{Mask}
-use Rattle.shard_checker.specs.Knowing.{atom_mask, atom_masks}
+use Rattle.shard_checker.specs.KnownAtoms.{atom_mask, atom_masks}
 use Rattle.shard_checker.specs.Steps.{Stands, IsFilter, PartsBefore, mask_in, step_mask, IsSettled}
 use Rattle.shard_checker.specs.declared.steps.Step.{Step}
 use Rattle.shard_checker.specs.declared.steps.Step.TheVariants.{Const, Atom, Not, And, Or, Is}
 
-set_other : (masks : List Mask) (number part : ℕ) (mask : Mask) → part < number → mask_in (slice_set masks number mask) part ≡ mask_in masks part
+set_other : (masks : List Mask) (number part : ℕ) (mask : Mask) → part < number
+    → mask_in (slice_set masks number mask) part ≡ mask_in masks part
 set_other masks number part mask h = get_or-set_other masks number part mask _ (omega arith)
 
 -- a step's set doesn't depend on those from its own on
-pub step_before : (atoms masks : List Mask) (number : ℕ) (mask : Mask) (step : Step) → PartsBefore number step → step_mask atoms (slice_set masks number mask) step ≡ step_mask atoms masks step
+pub step_before : (atoms masks : List Mask) (number : ℕ) (mask : Mask) (step : Step) → PartsBefore number step
+    → step_mask atoms (slice_set masks number mask) step ≡ step_mask atoms masks step
 step_before atoms masks number mask (Const known) h = refl
 step_before atoms masks number mask (Atom place) h = refl
 step_before atoms masks number mask (Not part) h = ap (lift_one not_of) (set_other masks number part mask h)
@@ -41,11 +43,16 @@ parts_earlier number count (Is test part) le h = omega arith
 
 -- ---- filters
 
-pub atom_there : (atoms : List AtomOf) (path : Path) (place : ℕ) (atom : AtomOf) → slice_get atoms place ≡ Some atom → mask_in (atom_masks atoms path) place ≡ atom_mask path atom
-atom_there atoms path place atom h = get_or_from_slice_get (atom_masks atoms path) place (atom_mask path atom) _ (slice_get-map (atom_mask path) atoms place ∙ ap (option_map (atom_mask path)) h)
+pub atom_there : (atoms : List AtomOf) (path : Path) (place : ℕ) (atom : AtomOf) → slice_get atoms place ≡ Some atom
+    → mask_in (atom_masks atoms path) place ≡ atom_mask path atom
+atom_there atoms path place atom h =
+    get_or_from_slice_get (atom_masks atoms path) place (atom_mask path atom) _
+    (slice_get-map (atom_mask path) atoms place ∙ ap (option_map (atom_mask path)) h)
 
-module _ (atoms : List AtomOf) (path : Path) (steps : List Step) (masks : List Mask) (settled : IsSettled steps (atom_masks atoms path) masks) where
-  stands_for : (number : ℕ) (filter : Expr) → Stands atoms steps number filter → mask_in masks number ≡ possible_of filter path
+module _ (atoms : List AtomOf) (path : Path) (steps : List Step) (masks : List Mask)
+    (settled : IsSettled steps (atom_masks atoms path) masks) where
+  stands_for : (number : ℕ) (filter : Expr) → Stands atoms steps number filter
+      → mask_in masks number ≡ possible_of filter path
   stands_for number (e.Const known) h = settled.each number _ h
   stands_for number (e.Atom atom) h = settled.each number _ h.1.0 ∙ atom_there atoms path h.0 atom h.1.1
   stands_for number (e.Not part) h = settled.each number _ h.1.0 ∙ ap (lift_one not_of) (stands_for h.0 part h.1.1)
@@ -55,7 +62,9 @@ module _ (atoms : List AtomOf) (path : Path) (steps : List Step) (masks : List M
   stands_for number (e.Or left right) h =
       settled.each number _ h.1.1.0 ∙ ap (λ m. lift_two or_of m (mask_in masks h.1.0)) (stands_for h.0 left h.1.1.1.0)
       ∙ ap (lift_two or_of (possible_of left path)) (stands_for h.1.0 right h.1.1.1.1)
-  stands_for number (e.Is test part) h = settled.each number _ h.1.0 ∙ ap (lift_one (is_of test)) (stands_for h.0 part h.1.1)
+  stands_for number (e.Is test part) h = settled.each number _ h.1.0
+      ∙ ap (lift_one (is_of test)) (stands_for h.0 part h.1.1)
 
-  pub filter_mask : (number : ℕ) (filter : Expr) → IsFilter atoms steps number filter → mask_in masks number ≡ possible_of filter path
+  pub filter_mask : (number : ℕ) (filter : Expr) → IsFilter atoms steps number filter
+      → mask_in masks number ≡ possible_of filter path
   filter_mask number filter h = stands_for number filter h.stands

@@ -10,7 +10,8 @@ pub onward_true : (path : Path) (atom : AtomOf) → onward (path ++ (atom, True)
 onward_true [] atom = refl
 onward_true (entry ∷ path) atom = ap (moved entry) (onward_true path atom)
 
-pub onward_false : (path : Path) (atom : AtomOf) → onward (path ++ (atom, False) ∷ []) ≡ Some (path ++ (atom, Null) ∷ [])
+pub onward_false : (path : Path) (atom : AtomOf)
+    → onward (path ++ (atom, False) ∷ []) ≡ Some (path ++ (atom, Null) ∷ [])
 onward_false [] atom = refl
 onward_false (entry ∷ path) atom = ap (moved entry) (onward_false path atom)
 

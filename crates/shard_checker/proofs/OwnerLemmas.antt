@@ -7,7 +7,8 @@ use Rattle.shard_checker.specs.Owners.{may_take, is_second}
 use Rattle.shard_checker.proofs.Testing.{by_test, clash, same_number}
 
 -- a share that may take a row, and isn't another's, is the owner's
-pub only_owner : (owner number : ℕ) (share : ShareOf) (path : Path) → is_second owner number share path ≡ false → may_take share path ≡ true → number ≡ owner
+pub only_owner : (owner number : ℕ) (share : ShareOf) (path : Path) → is_second owner number share path ≡ false
+    → may_take share path ≡ true → number ≡ owner
 only_owner owner number share path h may = by_test (number == owner)
     (λ same. same_number number owner same)
     (λ differs. absurd (let no : not (number == owner) ≡ true = rw differs refl in

@@ -21,10 +21,13 @@ right_false true q h = h
 right_false false q h = refl
 
 -- what one entry doesn't leave, the path doesn't
-pub last_leaves : (term : Term) (path : Path) (value : Option Constant) (place : ℕ) (atom : AtomOf) (found : Tri) → slice_get path place ≡ Some (atom, found)
+pub last_leaves : (term : Term) (path : Path) (value : Option Constant) (place : ℕ) (atom : AtomOf) (found : Tri)
+    → slice_get path place ≡ Some (atom, found)
     → leaves term value atom found ≡ false → may_be term path value ≡ false
 last_leaves term [] value place atom found there gone = absurd cc
 last_leaves term (entry ∷ path) value zero atom found there gone =
-    let first : leaves term value entry.0 entry.1 ≡ false = cc in left_false (leaves term value entry.0 entry.1) (may_be term path value) first
+    let first : leaves term value entry.0 entry.1 ≡ false = cc in
+        left_false (leaves term value entry.0 entry.1) (may_be term path value) first
 last_leaves term (entry ∷ path) value (suc place) atom found there gone =
-    right_false (leaves term value entry.0 entry.1) (may_be term path value) (last_leaves term path value place atom found there gone)
+    right_false (leaves term value entry.0 entry.1) (may_be term path value)
+        (last_leaves term path value place atom found there gone)

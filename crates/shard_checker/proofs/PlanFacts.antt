@@ -74,7 +74,8 @@ same_expr_self (Is t f) = ap (λ b. b && same_expr f f) (same_test_self t) ∙ s
 
 told_apart : (f g : Expr) (b : Bool) → same_expr f g ≡ b → Dec (f ≡ g)
 told_apart f g true h = yes (same_expr_is f g h)
-told_apart f g false h = no (λ e. let same : same_expr f g ≡ true = subst (λ x. same_expr f x ≡ true) e (same_expr_self f) in cc)
+told_apart f g false h =
+    no (λ e. let same : same_expr f g ≡ true = subst (λ x. same_expr f x ≡ true) e (same_expr_self f) in cc)
 
 Expr-discrete : Discrete Expr
 Expr-discrete f g = told_apart f g (same_expr f g) refl

@@ -28,9 +28,11 @@ may_hold : (column : Column) (value : Datum) → Fits column value → MayHold c
 may_hold column Missing fits = fits
 may_hold column (Known constant) fits = of_type column.kind constant fits
 
-in_place : (found : Option Column) (value : Datum) → IfSome found (λ column. Fits column value) → IfSome found (λ column. MayHold column value)
+in_place : (found : Option Column) (value : Datum) → IfSome found (λ column. Fits column value)
+    → IfSome found (λ column. MayHold column value)
 in_place None value fits = tt
 in_place (Some column) value fits = may_hold column value fits
 
 pub typed_of_valid : (columns : List Column) (row : List Datum) → IsValid columns row → IsTyped columns row
-typed_of_valid columns row valid = record { wide = valid.wide; fits = λ k. in_place (slice_get columns k) (value_at row k) (valid.fits k) }
+typed_of_valid columns row valid =
+    record { wide = valid.wide; fits = λ k. in_place (slice_get columns k) (value_at row k) (valid.fits k) }

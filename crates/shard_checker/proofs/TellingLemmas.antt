@@ -1,4 +1,5 @@
--- What the result of a check tells: what was found by the code's own test is found by each test that tells the same, memory is wanted where it may be, and what an error says is so.
+-- What the result of a check tells: what was found by the code's own test is found by each test that tells the same,
+-- memory is wanted where it may be, and what an error says is so.
 use Rattle.std.proofs.Common.{◌≡◌, ◌≢◌, ℕ, List, Result, Ok, Err, sym, subst}
 use Rattle.std.specs.Prelude.{Option, Some, OnOk}
 use Rattle.filter_tree.specs.Datum.{Datum}
@@ -18,7 +19,7 @@ use Rattle.shard_checker.specs.Owners.{HasOneOwner}
 use Rattle.shard_checker.specs.Refusal.{first_refusal}
 use Rattle.shard_checker.specs.Rows.{IsTyped}
 use Rattle.shard_checker.specs.Truth.{CertificateIsWrong}
-use Rattle.shard_checker.specs.Trying.{is_empty}
+use Rattle.shard_checker.specs.Candidates.{is_empty}
 use Rattle.shard_checker.specs.declared.error.CheckError.{CheckError}
 use Rattle.shard_checker.specs.declared.error.CheckError.TheVariants.{OutOfMemory}
 use Rattle.shard_checker.proofs.AnyTest.{sharding_by_any}
@@ -29,29 +30,38 @@ use Rattle.shard_checker.proofs.TruthLemmas.{certificate_wrong}
 -- ---- a certificate
 
 module _ (number : ℕ) (table : Table) (shares : List ShareOf) (tree : Tree) where
-  pub told_sound : (result : Result (Unit {0}) CheckError) → Checks (first_refusal is_empty number table shares tree) result
+  pub told_sound : (result : Result (Unit {0}) CheckError)
+      → Checks (first_refusal is_empty number table shares tree) result
       → OnOk result ((row : List Datum) → IsTyped table.columns row → HasOneOwner shares row)
   told_sound (Ok value) h = certificate_sound number table shares tree h
   told_sound (Err error) h = tt
 
-  pub told_wrong : (result : Result (Unit {0}) CheckError) → Checks (first_refusal is_empty number table shares tree) result
+  pub told_wrong : (result : Result (Unit {0}) CheckError)
+      → Checks (first_refusal is_empty number table shares tree) result
       → IfRefused result (CertificateIsWrong number table shares tree)
   told_wrong (Ok value) h = tt
   told_wrong (Err error) h = λ other. certificate_wrong number table shares tree error (h other)
 
 -- ---- a sharding: an error that was found is passed on
 
-module _ {A B : Type 0} (catalog : CatalogOf Expr) (plan : PlanOf) (trees : List Tree) (given : Result A CheckError) (found : CheckError) (result : Result B CheckError) (fails : given ≡ Err found) (told : result ≡ Err found) where
-  pub refused_by_any : Checks (sharding_refusal is_empty catalog plan trees) given → (test : Test) → IsEmptiness test → Checks (sharding_refusal test catalog plan trees) result
+module _ {A B : Type 0} (catalog : CatalogOf Expr) (plan : PlanOf) (trees : List Tree) (given : Result A CheckError)
+    (found : CheckError) (result : Result B CheckError) (fails : given ≡ Err found) (told : result ≡ Err found) where
+  pub refused_by_any : Checks (sharding_refusal is_empty catalog plan trees) given → (test : Test) → IsEmptiness test
+      → Checks (sharding_refusal test catalog plan trees) result
   refused_by_any h test tells =
       subst (λ (refusal : Option CheckError). Checks refusal result) (sharding_by_any test tells catalog plan trees)
-      (subst (Checks (sharding_refusal is_empty catalog plan trees)) (sym told) (subst (Checks (sharding_refusal is_empty catalog plan trees)) fails h))
+      (subst (Checks (sharding_refusal is_empty catalog plan trees)) (sym told)
+          (subst (Checks (sharding_refusal is_empty catalog plan trees)) fails h))
 
-  pub refused_memory : (Fact : Type 0) → NeedsMemoryOnlyIf OutOfMemory Fact given → NeedsMemoryOnlyIf OutOfMemory Fact result
-  refused_memory Fact h = subst (NeedsMemoryOnlyIf OutOfMemory Fact) (sym told) (subst (NeedsMemoryOnlyIf OutOfMemory Fact) fails h)
+  pub refused_memory : (Fact : Type 0) → NeedsMemoryOnlyIf OutOfMemory Fact given
+      → NeedsMemoryOnlyIf OutOfMemory Fact result
+  refused_memory Fact h =
+      subst (NeedsMemoryOnlyIf OutOfMemory Fact) (sym told) (subst (NeedsMemoryOnlyIf OutOfMemory Fact) fails h)
 
-  pub refused_wrong : AllCarryKnown catalog → Checks (sharding_refusal is_empty catalog plan trees) given → IfRefused result (ShardingIsWrong catalog plan trees)
+  pub refused_wrong : AllCarryKnown catalog → Checks (sharding_refusal is_empty catalog plan trees) given
+      → IfRefused result (ShardingIsWrong catalog plan trees)
   refused_wrong known h =
-      let refused : found ≢ OutOfMemory → sharding_refusal is_empty catalog plan trees ≡ Some found = subst (Checks (sharding_refusal is_empty catalog plan trees)) fails h in
+      let refused : found ≢ OutOfMemory → sharding_refusal is_empty catalog plan trees ≡ Some found =
+          subst (Checks (sharding_refusal is_empty catalog plan trees)) fails h in
       subst (λ (result : Result B CheckError). IfRefused result (ShardingIsWrong catalog plan trees)) (sym told)
       (λ other. sharding_wrong catalog plan trees found known (refused other))

@@ -20,7 +20,7 @@ use Rattle.filter_tree.specs.declared.tri.Tri.{Tri}
 use Rattle.filter_tree.specs.declared.tri.Tri.TheVariants.{True, False, Null}
 use Rattle.shard_checker.specs.Domain.{range_of, IsIn, IsInDomain}
 use Rattle.shard_checker.specs.Facts.{compares, holds_of, is_about, leaves, may_be}
-use Rattle.shard_checker.specs.Trying.{serves, serves_nearby, constants_of, gives_number, names_number, has_number, gives_text, names_text, has_text, has_value}
+use Rattle.shard_checker.specs.Candidates.{serves, serves_nearby, constants_of, gives_number, names_number, has_number, gives_text, names_text, has_text, has_value}
 use Rattle.shard_checker.specs.declared.domain.Range.{Range}
 use Rattle.shard_checker.proofs.Testing.{by_test, two_true, two_false, both_false, left_true, right_true, clash, not_true_false, from_test}
 
@@ -29,21 +29,26 @@ use Rattle.shard_checker.proofs.Testing.{by_test, two_true, two_false, both_fals
 -- each comparison with one of the constants says the same of both values
 abbrev AreAlike : Option Constant → Option Constant → List Constant → Type 0
 AreAlike one other [] = Unit {0}
-AreAlike one other (constant ∷ constants) = ((op : Op) → compares op one constant ≡ compares op other constant) × AreAlike one other constants
+AreAlike one other (constant ∷ constants) = ((op : Op) → compares op one constant ≡ compares op other constant)
+    × AreAlike one other constants
 
-among_alike : (one other : Option Constant) (constants : List Constant) → AreAlike one other constants → list_any (compares Eq one) constants ≡ list_any (compares Eq other) constants
+among_alike : (one other : Option Constant) (constants : List Constant) → AreAlike one other constants
+    → list_any (compares Eq one) constants ≡ list_any (compares Eq other) constants
 among_alike one other [] alike = refl
-among_alike one other (constant ∷ constants) alike = let here = alike.0 Eq in let there = among_alike one other constants alike.1 in cc
+among_alike one other (constant ∷ constants) alike = let here = alike.0 Eq in let there =
+    among_alike one other constants alike.1 in cc
 
 -- an atom says the same of both if each comparison with its constants does
-holds_alike : (one other : Option Constant) (atom : AtomOf) → AreAlike one other (constants_of atom) → holds_of atom one ≡ holds_of atom other
+holds_alike : (one other : Option Constant) (atom : AtomOf) → AreAlike one other (constants_of atom)
+    → holds_of atom one ≡ holds_of atom other
 holds_alike one other (Cmp term op constant) alike = alike.0 op
 holds_alike one other (IsNull column) alike = refl
 holds_alike one other (In term constants) alike = among_alike one other constants alike
 holds_alike one other (Between term low high) alike = let above = alike.0 Ge in let below = alike.1.0 Le in cc
 holds_alike one other (Distinct term constant) alike = alike.0 Ne
 
-leaves_alike : (term : Term) (one other : Option Constant) (atom : AtomOf) (found : Tri) → (is_about term atom ≡ true → holds_of atom one ≡ holds_of atom other)
+leaves_alike : (term : Term) (one other : Option Constant) (atom : AtomOf) (found : Tri)
+    → (is_about term atom ≡ true → holds_of atom one ≡ holds_of atom other)
     → leaves term one atom found ≡ leaves term other atom found
 leaves_alike term one other atom True alike = by_test (is_about term atom)
     (λ about. rw about (alike about))
@@ -72,13 +77,17 @@ le_test a b h = from_test _ h.le
 pub test_le : (a b : ℤ) → int_le a b ≡ true → a ≤ℤ b
 test_le a b h = le_z_yes (passes _ h)
 
-serves_when : (range : Range) (term : Term) (path : Path) (number : ℤ) → IsIn range number → may_be term path (Some (Number number)) ≡ true → serves range term path number ≡ true
+serves_when : (range : Range) (term : Term) (path : Path) (number : ℤ) → IsIn range number
+    → may_be term path (Some (Number number)) ≡ true → serves range term path number ≡ true
 serves_when range term path number inside left =
-    two_true (int_le range.least number) (int_le number range.greatest && may_be term path (Some (Number number))) (le_test range.least number inside.above_least)
-    (two_true (int_le number range.greatest) (may_be term path (Some (Number number))) (le_test number range.greatest inside.below_greatest) left)
+    two_true (int_le range.least number) (int_le number range.greatest && may_be term path (Some (Number number)))
+        (le_test range.least number inside.above_least)
+    (two_true (int_le number range.greatest) (may_be term path (Some (Number number)))
+        (le_test number range.greatest inside.below_greatest) left)
 
 -- a number and the one before compare alike with each other number
-same_side : (op : Op) (before number constant : ℤ) → number ≡ before +ℤ pos 1 → (constant ≡ number → ⊥) → (constant ≡ before → ⊥)
+same_side : (op : Op) (before number constant : ℤ) → number ≡ before +ℤ pos 1 → (constant ≡ number → ⊥)
+    → (constant ≡ before → ⊥)
     → compare_numbers_of op number constant ≡ compare_numbers_of op before constant
 same_side Eq before number constant e above below = grind (arith, ints)
 same_side Ne before number constant e above below = grind (arith, ints)
@@ -87,20 +96,27 @@ same_side Le before number constant e above below = grind (arith, ints)
 same_side Gt before number constant e above below = grind (arith, ints)
 same_side Ge before number constant e above below = grind (arith, ints)
 
--- the constants that neither serve nor come before a number that does tell a number that serves from the one before as little as others do
-numbers_alike : (range : Range) (term : Term) (path : Path) (before number : ℤ) → number ≡ before +ℤ pos 1 → serves range term path number ≡ true
-    → (constants : List Constant) → list_any (gives_number range term path) constants ≡ false → AreAlike (Some (Number number)) (Some (Number before)) constants
+-- the constants that neither serve nor come before a number that does tell a number that serves from the one before
+-- as little as others do
+numbers_alike : (range : Range) (term : Term) (path : Path) (before number : ℤ) → number ≡ before +ℤ pos 1
+    → serves range term path number ≡ true
+    → (constants : List Constant) → list_any (gives_number range term path) constants ≡ false
+    → AreAlike (Some (Number number)) (Some (Number before)) constants
 numbers_alike range term path before number e here [] none = tt
 numbers_alike range term path before number e here (Number k ∷ constants) none =
-    let both = both_false (serves range term path k || serves range term path (k +ℤ pos 1)) (list_any (gives_number range term path) constants) none in
+    let both = both_false (serves range term path k || serves range term path (k +ℤ pos 1))
+        (list_any (gives_number range term path) constants) none in
     let gone = both_false (serves range term path k) (serves range term path (k +ℤ pos 1)) both.0 in (
       (λ op. same_side op before number k e
           (λ is. clash _ (subst (λ n. serves range term path n ≡ true) (sym is) here) gone.0)
-          (λ is. clash _ (subst (λ n. serves range term path n ≡ true) (e ∙ ap (λ n. n +ℤ pos 1) (sym is)) here) gone.1)),
+          (λ is. clash _ (subst (λ n. serves range term path n ≡ true) (e ∙ ap (λ n. n +ℤ pos 1) (sym is)) here)
+              gone.1)),
       numbers_alike range term path before number e here constants both.1,
     )
-numbers_alike range term path before number e here (Truth b ∷ constants) none = ((λ op. refl), numbers_alike range term path before number e here constants none)
-numbers_alike range term path before number e here (Bytes s ∷ constants) none = ((λ op. refl), numbers_alike range term path before number e here constants none)
+numbers_alike range term path before number e here (Truth b ∷ constants) none =
+    ((λ op. refl), numbers_alike range term path before number e here constants none)
+numbers_alike range term path before number e here (Bytes s ∷ constants) none =
+    ((λ op. refl), numbers_alike range term path before number e here constants none)
 
 -- what is known to be false where another is true
 under : (p q : Bool) → (p && q) ≡ false → p ≡ true → q ≡ false
@@ -108,8 +124,10 @@ under true q h e = h
 under false q h e = absurd cc
 
 -- what leaves a number that is not named, nor comes after one that is, leaves the one before
-all_before : (range : Range) (term : Term) (path : Path) (before number : ℤ) → number ≡ before +ℤ pos 1 → serves range term path number ≡ true
-    → list_any (λ entry. names_number range term path entry.0) path ≡ false → may_be term path (Some (Number number)) ≡ may_be term path (Some (Number before))
+all_before : (range : Range) (term : Term) (path : Path) (before number : ℤ) → number ≡ before +ℤ pos 1
+    → serves range term path number ≡ true
+    → list_any (λ entry. names_number range term path entry.0) path ≡ false
+    → may_be term path (Some (Number number)) ≡ may_be term path (Some (Number before))
 all_before range term path before number e here none =
     all_alike term (Some (Number number)) (Some (Number before)) (names_number range term path)
     (λ atom unnamed about. holds_alike (Some (Number number)) (Some (Number before)) atom
@@ -118,12 +136,15 @@ all_before range term path before number e here none =
     path none
 
 -- down from a number that serves, to one that is tried
-descend : (range : Range) (term : Term) (path : Path) (steps : ℕ) (number : ℤ) → number ≡ range.least +ℤ pos steps → IsIn range number
+descend : (range : Range) (term : Term) (path : Path) (steps : ℕ) (number : ℤ) → number ≡ range.least +ℤ pos steps
+    → IsIn range number
     → may_be term path (Some (Number number)) ≡ true → has_number range term path ≡ true
 descend range term path zero number e inside left =
     let least : number ≡ range.least = omega (arith, ints) in
-    left_true (serves range term path range.least) _ (subst (λ n. serves range term path n ≡ true) least (serves_when range term path number inside left))
-descend range term path (suc steps) number e inside left = by_test (list_any (λ entry. names_number range term path entry.0) path)
+    left_true (serves range term path range.least) _
+        (subst (λ n. serves range term path n ≡ true) least (serves_when range term path number inside left))
+descend range term path (suc steps) number e inside left =
+    by_test (list_any (λ entry. names_number range term path entry.0) path)
     (λ named. right_true (serves range term path range.least) _ named)
     (λ unnamed. let before : ℤ = range.least +ℤ pos steps in
     let next : number ≡ before +ℤ pos 1 = omega (arith, ints) in
@@ -131,7 +152,8 @@ descend range term path (suc steps) number e inside left = by_test (list_any (λ
     let within : before ≤ℤ number = omega (arith, ints) in
     let high : before ≤ℤ range.greatest = omega (arith, ints, inside.below_greatest) in
     descend range term path steps before refl (record { above_least = low; below_greatest = high })
-    (sym (all_before range term path before number next (serves_when range term path number inside left) unnamed) ∙ left))
+    (sym (all_before range term path before number next (serves_when range term path number inside left) unnamed)
+        ∙ left))
 
 -- how far a number is above another
 distance : (low high : ℤ) → low ≤ℤ high → (steps : ℕ) × (high ≡ low +ℤ pos steps)
@@ -140,21 +162,24 @@ distance (pos a) (negsuc b) h = absurd (omega (arith, ints))
 distance (negsuc a) (pos b) h = (suc a + b, omega (arith, ints))
 distance (negsuc a) (negsuc b) h = (a - b, omega (arith, ints))
 
-number_found : (range : Range) (term : Term) (path : Path) (number : ℤ) → IsIn range number → may_be term path (Some (Number number)) ≡ true → has_number range term path ≡ true
+number_found : (range : Range) (term : Term) (path : Path) (number : ℤ) → IsIn range number
+    → may_be term path (Some (Number number)) ≡ true → has_number range term path ≡ true
 number_found range term path number inside left =
     let far = distance range.least number inside.above_least in
     descend range term path far.0 number far.1 inside left
 
 -- ---- texts
 
-text_apart : (term : Term) (path : Path) (text named : List ℕ) → may_be term path (Some (Bytes text)) ≡ true → may_be term path (Some (Bytes named)) ≡ false
+text_apart : (term : Term) (path : Path) (text named : List ℕ) → may_be term path (Some (Bytes text)) ≡ true
+    → may_be term path (Some (Bytes named)) ≡ false
     → bytes_eq text named ≡ false
 text_apart term path text named left gone = not_true_false (bytes_eq text named)
     (λ same. let e : text ≡ named = (bytes_eq-Decides text named).0 same in
     clash (may_be term path (Some (Bytes named))) (subst (λ t. may_be term path (Some (Bytes t)) ≡ true) e left) gone)
 
 -- a text that isn't the constant compares as any other such text
-unnamed_text : (op : Op) (text : List ℕ) (constant : Constant) → compares Eq (Some (Bytes text)) constant ≡ false → compares op (Some (Bytes text)) constant ≡ compares op None constant
+unnamed_text : (op : Op) (text : List ℕ) (constant : Constant) → compares Eq (Some (Bytes text)) constant ≡ false
+    → compares op (Some (Bytes text)) constant ≡ compares op None constant
 unnamed_text Eq text (Number k) apart = refl
 unnamed_text Ne text (Number k) apart = refl
 unnamed_text Lt text (Number k) apart = refl
@@ -174,10 +199,12 @@ unnamed_text Le text (Bytes named) apart = refl
 unnamed_text Gt text (Bytes named) apart = refl
 unnamed_text Ge text (Bytes named) apart = refl
 
-texts_alike : (text : List ℕ) (constants : List Constant) → list_any (compares Eq (Some (Bytes text))) constants ≡ false → AreAlike (Some (Bytes text)) None constants
+texts_alike : (text : List ℕ) (constants : List Constant)
+    → list_any (compares Eq (Some (Bytes text))) constants ≡ false → AreAlike (Some (Bytes text)) None constants
 texts_alike text [] apart = tt
 texts_alike text (constant ∷ constants) apart =
-    let both = both_false (compares Eq (Some (Bytes text)) constant) (list_any (compares Eq (Some (Bytes text))) constants) apart in
+    let both = both_false (compares Eq (Some (Bytes text)) constant)
+        (list_any (compares Eq (Some (Bytes text))) constants) apart in
     ((λ op. unnamed_text op text constant both.0), texts_alike text constants both.1)
 
 -- the atom names the text
@@ -185,37 +212,46 @@ abbrev pub has_constant : List ℕ → AtomOf → Bool
 has_constant text atom = list_any (compares Eq (Some (Bytes text))) (constants_of atom)
 
 -- what leaves a text that no atom names leaves each such text
-pub all_unnamed : (term : Term) (text : List ℕ) (test : AtomOf → Bool) → ((atom : AtomOf) → test atom ≡ false → is_about term atom ≡ true → has_constant text atom ≡ false)
-    → (path : Path) → list_any (λ entry. test entry.0) path ≡ false → may_be term path (Some (Bytes text)) ≡ may_be term path None
+pub all_unnamed : (term : Term) (text : List ℕ) (test : AtomOf → Bool)
+    → ((atom : AtomOf) → test atom ≡ false → is_about term atom ≡ true → has_constant text atom ≡ false)
+    → (path : Path) → list_any (λ entry. test entry.0) path ≡ false
+    → may_be term path (Some (Bytes text)) ≡ may_be term path None
 all_unnamed term text test apart path none =
     all_alike term (Some (Bytes text)) None test
-    (λ atom unnamed about. holds_alike (Some (Bytes text)) None atom (texts_alike text (constants_of atom) (apart atom unnamed about)))
+    (λ atom unnamed about. holds_alike (Some (Bytes text)) None atom
+        (texts_alike text (constants_of atom) (apart atom unnamed about)))
     path none
 
 -- constants that are not left differ from a text that is
 named_apart : (term : Term) (path : Path) (text : List ℕ) → may_be term path (Some (Bytes text)) ≡ true
-    → (constants : List Constant) → list_any (gives_text term path) constants ≡ false → list_any (compares Eq (Some (Bytes text))) constants ≡ false
+    → (constants : List Constant) → list_any (gives_text term path) constants ≡ false
+    → list_any (compares Eq (Some (Bytes text))) constants ≡ false
 named_apart term path text left [] none = refl
 named_apart term path text left (Bytes named ∷ constants) none =
     let both = both_false (may_be term path (Some (Bytes named))) (list_any (gives_text term path) constants) none in
-    two_false (bytes_eq text named) _ (text_apart term path text named left both.0) (named_apart term path text left constants both.1)
+    two_false (bytes_eq text named) _ (text_apart term path text named left both.0)
+        (named_apart term path text left constants both.1)
 named_apart term path text left (Number k ∷ constants) none = named_apart term path text left constants none
 named_apart term path text left (Truth b ∷ constants) none = named_apart term path text left constants none
 
-text_found : (term : Term) (path : Path) (text : List ℕ) → may_be term path (Some (Bytes text)) ≡ true → has_text term path ≡ true
+text_found : (term : Term) (path : Path) (text : List ℕ) → may_be term path (Some (Bytes text)) ≡ true
+    → has_text term path ≡ true
 text_found term path text left = by_test (list_any (λ entry. names_text term path entry.0) path)
     (λ named. right_true (may_be term path None) _ named)
     (λ unnamed. left_true (may_be term path None) _ (sym (all_unnamed term text (names_text term path)
-    (λ atom names about. named_apart term path text left (constants_of atom) (under (is_about term atom) (list_any (gives_text term path) (constants_of atom)) names about))
+    (λ atom names about. named_apart term path text left (constants_of atom)
+        (under (is_about term atom) (list_any (gives_text term path) (constants_of atom)) names about))
     path unnamed) ∙ left))
 
 -- ---- a value that is left is found
 
-truth_found : (term : Term) (path : Path) (truth : Bool) → may_be term path (Some (Truth truth)) ≡ true → has_value Boolean term path ≡ true
+truth_found : (term : Term) (path : Path) (truth : Bool) → may_be term path (Some (Truth truth)) ≡ true
+    → has_value Boolean term path ≡ true
 truth_found term path true left = left_true _ (may_be term path (Some (Truth false))) left
 truth_found term path false left = right_true (may_be term path (Some (Truth true))) _ left
 
-pub value_found : (kind : ColType) (term : Term) (path : Path) (value : Constant) → IsInDomain kind term value → may_be term path (Some value) ≡ true → has_value kind term path ≡ true
+pub value_found : (kind : ColType) (term : Term) (path : Path) (value : Constant) → IsInDomain kind term value
+    → may_be term path (Some value) ≡ true → has_value kind term path ≡ true
 value_found SmallInt term path (Number n) inside left = number_found (range_of SmallInt term) term path n inside left
 value_found Integer term path (Number n) inside left = number_found (range_of Integer term) term path n inside left
 value_found BigInt term path (Number n) inside left = number_found (range_of BigInt term) term path n inside left
@@ -234,7 +270,8 @@ value_found Text term path (Truth b) inside left = absurd inside
 
 -- ---- a number beside one that doesn't serve
 
-pub next_alone : (range : Range) (term : Term) (path : Path) (number : ℤ) {one next : Bool} {same before : ℤ} → one ≡ false → one ≡ serves range term path same → same ≡ number
+pub next_alone : (range : Range) (term : Term) (path : Path) (number : ℤ) {one next : Bool} {same before : ℤ}
+    → one ≡ false → one ≡ serves range term path same → same ≡ number
     → next ≡ serves range term path (before +ℤ pos 1) → before ≡ number → next ≡ serves_nearby range term path number
 next_alone range term path number none h same k before =
     let nothing : serves range term path number ≡ false = sym (h ∙ ap (serves range term path) same) ∙ none in

@@ -12,74 +12,107 @@ use Rattle.shard_checker.specs.declared.error.CheckError.TheVariants.{OutOfMemor
 
 -- ---- a node
 
-none_due : (is_empty : Test) (subject : Subject) (nodes : List Node) (number : ℕ) → walk is_empty subject nodes None number ≡ None
+none_due : (is_empty : Test) (subject : Subject) (nodes : List Node) (number : ℕ)
+    → walk is_empty subject nodes None number ≡ None
 none_due is_empty subject [] number = refl
 none_due is_empty subject (node ∷ nodes) number = refl
 
-pub over_passes : (is_empty : Test) (subject : Subject) (node : Node) (over : Bool) (path : Path) (number : ℕ) → over ≡ true
-    → Passes is_empty subject (node ∷ []) (place_at (path_unless over path) number) [] (place_at (path_unless over path) number)
-over_passes is_empty subject node true path number e = record { each = λ more. sym (none_due is_empty subject more number) }
+pub over_passes : (is_empty : Test) (subject : Subject) (node : Node) (over : Bool) (path : Path) (number : ℕ)
+    → over ≡ true
+    → Passes is_empty subject (node ∷ []) (place_at (path_unless over path) number) []
+        (place_at (path_unless over path) number)
+over_passes is_empty subject node true path number e =
+    record { each = λ more. sym (none_due is_empty subject more number) }
 over_passes is_empty subject node false path number e = absurd cc
 
-pub node_passes : (is_empty : Test) (subject : Subject) (node : Node) (over : Bool) (path : Path) (number : ℕ) (found : Option Path) (next : ℕ) → over ≡ false
-    → node_refusal is_empty subject node path number ≡ None → found ≡ path_after subject node path → next ≡ later number 1
+pub node_passes : (is_empty : Test) (subject : Subject) (node : Node) (over : Bool) (path : Path) (number : ℕ)
+    (found : Option Path) (next : ℕ) → over ≡ false
+    → node_refusal is_empty subject node path number ≡ None → found ≡ path_after subject node path
+    → next ≡ later number 1
     → Passes is_empty subject (node ∷ []) (place_at (path_unless over path) number) [] (place_at found next)
 node_passes is_empty subject node true path number found next e passed goes counts = absurd cc
 node_passes is_empty subject node false path number found next e passed goes counts = record {
   each = λ more.
-      ap (λ refusal. first_of refusal (walk is_empty subject more (path_after subject node path) (later number 1))) passed
-      ∙ ap (λ found. walk is_empty subject more found (later number 1)) (sym goes) ∙ ap (walk is_empty subject more found) (sym counts);
+      ap (λ refusal. first_of refusal (walk is_empty subject more (path_after subject node path) (later number 1)))
+          passed
+      ∙ ap (λ found. walk is_empty subject more found (later number 1)) (sym goes)
+      ∙ ap (walk is_empty subject more found) (sym counts);
 }
 
-pub node_stops : (is_empty : Test) (subject : Subject) (node : Node) (over : Bool) (path : Path) (number : ℕ) (error : CheckError) → over ≡ false
-    → node_refusal is_empty subject node path number ≡ Some error → Stops is_empty subject (node ∷ []) (place_at (path_unless over path) number) error
+pub node_stops : (is_empty : Test) (subject : Subject) (node : Node) (over : Bool) (path : Path) (number : ℕ)
+    (error : CheckError) → over ≡ false
+    → node_refusal is_empty subject node path number ≡ Some error
+    → Stops is_empty subject (node ∷ []) (place_at (path_unless over path) number) error
 node_stops is_empty subject node true path number error e refused = absurd cc
 node_stops is_empty subject node false path number error e refused = record {
   each = λ more.
-      ap (λ refusal. first_of refusal (walk is_empty subject more (path_after subject node path) (later number 1))) refused;
+      ap (λ refusal. first_of refusal (walk is_empty subject more (path_after subject node path) (later number 1)))
+          refused;
 }
 
 pub ruleset steps = (over_passes, node_passes, node_stops)
 
 -- ---- one after another
 
-module _ (is_empty : Test) (subject : Subject) (one two : List Node) (old middle : Place) (first : Passes is_empty subject one old [] middle) where
-  pub both_pass : (new : Place) → Passes is_empty subject two middle [] new → Passes is_empty subject (one ++ two) old [] new
-  both_pass new second = record { each = λ more. ap (λ nodes. walk_from is_empty subject nodes old) (append_assoc one two more) ∙ first.each (two ++ more) ∙ second.each more }
+module _ (is_empty : Test) (subject : Subject) (one two : List Node) (old middle : Place)
+    (first : Passes is_empty subject one old [] middle) where
+  pub both_pass : (new : Place) → Passes is_empty subject two middle [] new
+      → Passes is_empty subject (one ++ two) old [] new
+  both_pass new second =
+      record { each = λ more. ap (λ nodes. walk_from is_empty subject nodes old) (append_assoc one two more)
+      ∙ first.each (two ++ more) ∙ second.each more }
 
-  pub second_stops : (error : CheckError) → Stops is_empty subject two middle error → Stops is_empty subject (one ++ two) old error
-  second_stops error second = record { each = λ more. ap (λ nodes. walk_from is_empty subject nodes old) (append_assoc one two more) ∙ first.each (two ++ more) ∙ second.each more }
+  pub second_stops : (error : CheckError) → Stops is_empty subject two middle error
+      → Stops is_empty subject (one ++ two) old error
+  second_stops error second =
+      record { each = λ more. ap (λ nodes. walk_from is_empty subject nodes old) (append_assoc one two more)
+      ∙ first.each (two ++ more) ∙ second.each more }
 
-pub first_stops : (is_empty : Test) (subject : Subject) (one two : List Node) (old : Place) (error : CheckError) → Stops is_empty subject one old error → Stops is_empty subject (one ++ two) old error
-first_stops is_empty subject one two old error first = record { each = λ more. ap (λ nodes. walk_from is_empty subject nodes old) (append_assoc one two more) ∙ first.each (two ++ more) }
+pub first_stops : (is_empty : Test) (subject : Subject) (one two : List Node) (old : Place) (error : CheckError)
+    → Stops is_empty subject one old error → Stops is_empty subject (one ++ two) old error
+first_stops is_empty subject one two old error first =
+    record { each = λ more. ap (λ nodes. walk_from is_empty subject nodes old) (append_assoc one two more)
+    ∙ first.each (two ++ more) }
 
 -- a split's node, and its branches
 module _ (is_empty : Test) (subject : Subject) (node : Node) (nodes : List Node) (old : Place) where
-  pub root_passes : (middle new : Place) → Passes is_empty subject (node ∷ []) old [] middle → Passes is_empty subject nodes middle [] new → Passes is_empty subject (node ∷ nodes) old [] new
+  pub root_passes : (middle new : Place) → Passes is_empty subject (node ∷ []) old [] middle
+      → Passes is_empty subject nodes middle [] new → Passes is_empty subject (node ∷ nodes) old [] new
   root_passes middle new first second = both_pass is_empty subject (node ∷ []) nodes old middle first new second
 
-  pub branches_stop : (middle : Place) (error : CheckError) → Passes is_empty subject (node ∷ []) old [] middle → Stops is_empty subject nodes middle error → Stops is_empty subject (node ∷ nodes) old error
-  branches_stop middle error first second = second_stops is_empty subject (node ∷ []) nodes old middle first error second
+  pub branches_stop : (middle : Place) (error : CheckError) → Passes is_empty subject (node ∷ []) old [] middle
+      → Stops is_empty subject nodes middle error → Stops is_empty subject (node ∷ nodes) old error
+  branches_stop middle error first second =
+      second_stops is_empty subject (node ∷ []) nodes old middle first error second
 
-  pub root_stops : (error : CheckError) → Stops is_empty subject (node ∷ []) old error → Stops is_empty subject (node ∷ nodes) old error
+  pub root_stops : (error : CheckError) → Stops is_empty subject (node ∷ []) old error
+      → Stops is_empty subject (node ∷ nodes) old error
   root_stops error first = first_stops is_empty subject (node ∷ []) nodes old error first
 
 pub ruleset trees = (both_pass, second_stops, first_stops, root_passes, branches_stop, root_stops)
 
 -- ---- a text's nodes
 
-pub all_left : (is_empty : Test) (subject : Subject) (nodes : List Node) (place : Place) → Passes is_empty subject nodes place nodes place
+pub all_left : (is_empty : Test) (subject : Subject) (nodes : List Node) (place : Place)
+    → Passes is_empty subject nodes place nodes place
 all_left is_empty subject nodes place = record { each = λ more. refl }
 
-module _ (is_empty : Test) (subject : Subject) (nodes : List Node) (old : Place) (left : List Node) (here : Place) (so_far : Passes is_empty subject nodes old left here) where
+module _ (is_empty : Test) (subject : Subject) (nodes : List Node) (old : Place) (left : List Node) (here : Place)
+    (so_far : Passes is_empty subject nodes old left here) where
   pub none_left : left ≡ [] → Passes is_empty subject nodes old [] here
   none_left e = subst (λ left. Passes is_empty subject nodes old left here) e so_far
 
-  pub fewer_left : (node : Node) (rest : List Node) (new : Place) → left ≡ node ∷ rest → Passes is_empty subject (node ∷ []) here [] new → Passes is_empty subject nodes old rest new
-  fewer_left node rest new e step = record { each = λ more. so_far.each more ∙ ap (λ left. walk_from is_empty subject (left ++ more) here) e ∙ step.each (rest ++ more) }
+  pub fewer_left : (node : Node) (rest : List Node) (new : Place) → left ≡ node ∷ rest
+      → Passes is_empty subject (node ∷ []) here [] new → Passes is_empty subject nodes old rest new
+  fewer_left node rest new e step =
+      record { each = λ more. so_far.each more ∙ ap (λ left. walk_from is_empty subject (left ++ more) here) e
+      ∙ step.each (rest ++ more) }
 
-  pub stops_there : (node : Node) (rest : List Node) (error : CheckError) → left ≡ node ∷ rest → Stops is_empty subject (node ∷ []) here error → Stops is_empty subject nodes old error
-  stops_there node rest error e step = record { each = λ more. so_far.each more ∙ ap (λ left. walk_from is_empty subject (left ++ more) here) e ∙ step.each (rest ++ more) }
+  pub stops_there : (node : Node) (rest : List Node) (error : CheckError) → left ≡ node ∷ rest
+      → Stops is_empty subject (node ∷ []) here error → Stops is_empty subject nodes old error
+  stops_there node rest error e step =
+      record { each = λ more. so_far.each more ∙ ap (λ left. walk_from is_empty subject (left ++ more) here) e
+      ∙ step.each (rest ++ more) }
 
 pub ruleset texts = (all_left, none_left, fewer_left, stops_there)
 
@@ -89,10 +122,14 @@ module _ (is_empty : Test) (subject : Subject) (nodes : List Node) (old : Place)
   all_nodes : walk_from is_empty subject nodes old ≡ walk_from is_empty subject (nodes ++ []) old
   all_nodes = ap (λ nodes. walk_from is_empty subject nodes old) (sym (append-nil nodes))
 
-  pub whole_passes : (new : Place) → old ≡ beginning → Passes is_empty subject nodes old [] new → walk is_empty subject nodes (Some []) 0 ≡ None
+  pub whole_passes : (new : Place) → old ≡ beginning → Passes is_empty subject nodes old [] new
+      → walk is_empty subject nodes (Some []) 0 ≡ None
   whole_passes new begins passes = ap (walk_from is_empty subject nodes) (sym begins) ∙ all_nodes ∙ passes.each []
 
-  pub whole_stops : (error : CheckError) → old ≡ beginning → (error ≢ OutOfMemory → Stops is_empty subject nodes old error) → error ≢ OutOfMemory → walk is_empty subject nodes (Some []) 0 ≡ Some error
-  whole_stops error begins stops other = ap (walk_from is_empty subject nodes) (sym begins) ∙ all_nodes ∙ (stops other).each []
+  pub whole_stops : (error : CheckError) → old ≡ beginning
+      → (error ≢ OutOfMemory → Stops is_empty subject nodes old error) → error ≢ OutOfMemory
+      → walk is_empty subject nodes (Some []) 0 ≡ Some error
+  whole_stops error begins stops other = ap (walk_from is_empty subject nodes) (sym begins) ∙ all_nodes
+      ∙ (stops other).each []
 
 pub ruleset wholes = (whole_passes, whole_stops)

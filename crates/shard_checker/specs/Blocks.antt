@@ -1,4 +1,6 @@
--- Which steps have to be computed again once an atom or a step may be something else: those that it is a part of. Steps are computed again by blocks of eight. Certificates are this project's own, and restate no section of PostgreSQL's documentation.
+-- Which steps have to be computed again once an atom or a step may be something else: those that it is a part of.
+-- Steps are computed again by blocks of eight. Certificates are this project's own, and restate no section of
+-- PostgreSQL's documentation.
 use Rattle.std.specs.Prelude.{◌≡◌, ℕ, ◌/◌, ◌<◌, ◌⊎◌, Bool, true, false, List, [], length, Option, Some, None, Contains, slice_get, slice_index_or}
 use Rattle.std.specs.Global.{Vec}
 use Rattle.filter_tree.specs.declared.mask.Mask.{Mask}
@@ -31,13 +33,16 @@ abbrev pub AreListed : Users → ℕ → Step → Type 0
 AreListed users block (Const known) = Unit {0}
 AreListed users block (Atom place) = IsListed users.of_atoms.items place block
 AreListed users block (Not part) = IsListed users.of_steps.items part block
-AreListed users block (And left right) = IsListed users.of_steps.items left block × IsListed users.of_steps.items right block
-AreListed users block (Or left right) = IsListed users.of_steps.items left block × IsListed users.of_steps.items right block
+AreListed users block (And left right) = IsListed users.of_steps.items left block
+    × IsListed users.of_steps.items right block
+AreListed users block (Or left right) = IsListed users.of_steps.items left block
+    × IsListed users.of_steps.items right block
 AreListed users block (Is test part) = IsListed users.of_steps.items part block
 
 -- each block is listed for the parts of its steps before this number
 pub record AreUsersBefore (count : ℕ) (steps : List Step) (users : Users) : Type 0 where
-  pub each : (number : ℕ) (step : Step) → number < count → slice_get steps number ≡ Some step → AreListed users (block_of number) step
+  pub each : (number : ℕ) (step : Step) → number < count → slice_get steps number ≡ Some step
+      → AreListed users (block_of number) step
 
 -- there is a list for each step, and each block is listed for the parts of its steps
 pub record AreUsers (steps : List Step) (users : Users) : Type 0 where
@@ -53,8 +58,10 @@ pub record Lists (old new : List (Vec ℕ)) (number block : ℕ) : Type 0 where
 -- the block was listed for each part of the step, and all that were listed still are
 pub record ListsParts (old new : Users) (block : ℕ) (step : Step) : Type 0 where
   pub listed : AreListed new block step
-  pub atoms_kept : (other earlier : ℕ) → IsListed old.of_atoms.items other earlier → IsListed new.of_atoms.items other earlier
-  pub steps_kept : (other earlier : ℕ) → IsListed old.of_steps.items other earlier → IsListed new.of_steps.items other earlier
+  pub atoms_kept : (other earlier : ℕ) → IsListed old.of_atoms.items other earlier
+      → IsListed new.of_atoms.items other earlier
+  pub steps_kept : (other earlier : ℕ) → IsListed old.of_steps.items other earlier
+      → IsListed new.of_steps.items other earlier
   pub atoms_sized : length new.of_atoms.items ≡ length old.of_atoms.items
   pub steps_sized : length new.of_steps.items ≡ length old.of_steps.items
 
@@ -71,6 +78,7 @@ pub record Marks (old new : List Bool) (blocks : List ℕ) : Type 0 where
 
 -- each step that is before this number, or in a block that isn't stale, has the set that follows from its parts'
 pub record IsSettledBut (count : ℕ) (steps : List Step) (atoms : List Mask) (masks : Masks) : Type 0 where
-  pub each : (number : ℕ) (step : Step) → slice_get steps number ≡ Some step → (number < count) ⊎ (is_stale masks.stale.items (block_of number) ≡ false)
+  pub each : (number : ℕ) (step : Step) → slice_get steps number ≡ Some step
+      → (number < count) ⊎ (is_stale masks.stale.items (block_of number) ≡ false)
       → mask_in masks.list.items number ≡ step_mask atoms masks.list.items step
   pub sized : length masks.list.items ≡ length steps

@@ -1,4 +1,7 @@
--- Why a sharding is refused, of several reasons the first: a publication that is taken and doesn't publish an operation, a table whose replica identity doesn't tell its rows apart, a publication that is taken and has a filter that names a column outside the replica identity, too few or too many certificates, and then the certificates, table by table. PostgreSQL 15, "Logical Replication", 31.1 Publication.
+-- Why a sharding is refused, of several reasons the first: a publication that is taken and doesn't publish an
+-- operation, a table whose replica identity doesn't tell its rows apart, a publication that is taken and has a filter
+-- that names a column outside the replica identity, too few or too many certificates, and then the certificates,
+-- table by table. PostgreSQL 15, "Logical Replication", 31.1 Publication.
 use Rattle.std.specs.Prelude.{ℕ, ◌+◌, ◌==◌, if◌then◌else◌, List, [], ◌∷◌, length, Option, Some, None, slice_get}
 use Rattle.filter_tree.specs.Expr.{Expr}
 use Rattle.filter_tree.specs.Lists.{distinct_columns}
@@ -24,7 +27,9 @@ use Rattle.shard_checker.specs.declared.error.Operation.TheVariants.{Insert, Upd
 abbrev pub missing_operation : Operations → Option Operation
 missing_operation publishes =
     if publishes.insert
-    then (if publishes.update then (if publishes.delete then (if publishes.truncate then None else Some Truncate) else Some Delete) else Some Update)
+    then (if publishes.update then
+        (if publishes.delete then (if publishes.truncate then None else Some Truncate) else Some Delete)
+        else Some Update)
     else Some Insert
 
 abbrev pub missing_by : ℕ → Option Operation → Option CheckError
@@ -32,13 +37,15 @@ missing_by number None = None
 missing_by number (Some operation) = Some (PublishMissing number operation)
 
 abbrev pub publication_refusal : List Subscription → ℕ → Operations → Option CheckError
-publication_refusal subscriptions number publishes = if is_taken subscriptions number then missing_by number (missing_operation publishes) else None
+publication_refusal subscriptions number publishes = if is_taken subscriptions number then
+    missing_by number (missing_operation publishes) else None
 
 -- of the publications that begin at this number
 abbrev pub publishing_refusal : List Subscription → ℕ → List (PublicationOf Expr) → Option CheckError
 publishing_refusal subscriptions number [] = None
 publishing_refusal subscriptions number (publication ∷ publications) =
-    first_of (publication_refusal subscriptions number publication.publishes) (publishing_refusal subscriptions (number + 1) publications)
+    first_of (publication_refusal subscriptions number publication.publishes)
+        (publishing_refusal subscriptions (number + 1) publications)
 
 -- ---- what is recorded of old rows
 
@@ -56,11 +63,13 @@ identity_refusal number (table ∷ tables) = first_of (table_refusal number tabl
 abbrev pub column_refusal : ℕ → ℕ → Table → List ℕ → Option CheckError
 column_refusal publication number table [] = None
 column_refusal publication number table (column ∷ columns) =
-    if is_covered table column then column_refusal publication number table columns else Some (NotCovered publication number column)
+    if is_covered table column then
+        column_refusal publication number table columns else Some (NotCovered publication number column)
 
 abbrev pub filter_refusal : ℕ → ℕ → Table → Option Expr → Option CheckError
 filter_refusal publication number table None = None
-filter_refusal publication number table (Some filter) = column_refusal publication number table (distinct_columns filter)
+filter_refusal publication number table (Some filter) =
+    column_refusal publication number table (distinct_columns filter)
 
 -- of the table of this number; the entries of a catalog are for tables that are there
 abbrev pub carried_refusal : ℕ → ℕ → Option Table → Option Expr → Option CheckError
@@ -68,36 +77,43 @@ carried_refusal publication number None filter = None
 carried_refusal publication number (Some table) filter = filter_refusal publication number table filter
 
 abbrev pub entry_refusal : List Table → ℕ → EntryOf Expr → Option CheckError
-entry_refusal tables publication entry = carried_refusal publication entry.table (slice_get tables entry.table) entry.filter
+entry_refusal tables publication entry =
+    carried_refusal publication entry.table (slice_get tables entry.table) entry.filter
 
 abbrev pub entries_refusal : List Table → ℕ → List (EntryOf Expr) → Option CheckError
 entries_refusal tables publication [] = None
-entries_refusal tables publication (entry ∷ entries) = first_of (entry_refusal tables publication entry) (entries_refusal tables publication entries)
+entries_refusal tables publication (entry ∷ entries) =
+    first_of (entry_refusal tables publication entry) (entries_refusal tables publication entries)
 
 abbrev pub taken_refusal : List Table → List Subscription → ℕ → List (EntryOf Expr) → Option CheckError
-taken_refusal tables subscriptions number entries = if is_taken subscriptions number then entries_refusal tables number entries else None
+taken_refusal tables subscriptions number entries = if is_taken subscriptions number then
+    entries_refusal tables number entries else None
 
 -- of the publications that begin at this number
 abbrev pub covering_refusal : List Table → List Subscription → ℕ → List (PublicationOf Expr) → Option CheckError
 covering_refusal tables subscriptions number [] = None
 covering_refusal tables subscriptions number (publication ∷ publications) =
-    first_of (taken_refusal tables subscriptions number publication.entries) (covering_refusal tables subscriptions (number + 1) publications)
+    first_of (taken_refusal tables subscriptions number publication.entries)
+        (covering_refusal tables subscriptions (number + 1) publications)
 
 -- ---- certificates, where a test tells which terms have no value
 
 -- the shares of a table that subscribers take, who begin at this number
 abbrev pub table_shares : PlanOf → ℕ → ℕ → List Subscription → List ShareOf
 table_shares plan table number [] = []
-table_shares plan table number (subscription ∷ subscriptions) = share_at plan number table ∷ table_shares plan table (number + 1) subscriptions
+table_shares plan table number (subscription ∷ subscriptions) =
+    share_at plan number table ∷ table_shares plan table (number + 1) subscriptions
 
 -- of the certificate of the table of this number
 abbrev pub certificate_refusal : Test → PlanOf → List Subscription → ℕ → Table → Tree → Option CheckError
-certificate_refusal is_empty plan subscriptions number table tree = first_refusal is_empty number table (table_shares plan number 0 subscriptions) tree
+certificate_refusal is_empty plan subscriptions number table tree =
+    first_refusal is_empty number table (table_shares plan number 0 subscriptions) tree
 
 -- of the certificates of the tables that begin at this number
 abbrev pub certificates_refusal : Test → PlanOf → List Subscription → ℕ → List Table → List Tree → Option CheckError
 certificates_refusal is_empty plan subscriptions number (table ∷ tables) (tree ∷ trees) =
-    first_of (certificate_refusal is_empty plan subscriptions number table tree) (certificates_refusal is_empty plan subscriptions (number + 1) tables trees)
+    first_of (certificate_refusal is_empty plan subscriptions number table tree)
+        (certificates_refusal is_empty plan subscriptions (number + 1) tables trees)
 certificates_refusal is_empty plan subscriptions number tables trees = None
 
 abbrev pub count_refusal : ℕ → ℕ → Option CheckError
@@ -107,14 +123,17 @@ count_refusal tables certificates = if certificates == tables then None else Som
 
 -- of those that are told without a look at a filter or a certificate
 abbrev pub declared_refusal : CatalogOf Expr → Option CheckError
-declared_refusal catalog = first_of (publishing_refusal catalog.subscriptions 0 catalog.publications) (identity_refusal 0 catalog.tables)
+declared_refusal catalog =
+    first_of (publishing_refusal catalog.subscriptions 0 catalog.publications) (identity_refusal 0 catalog.tables)
 
 abbrev pub catalog_refusal : CatalogOf Expr → Option CheckError
 catalog_refusal catalog =
     first_of (publishing_refusal catalog.subscriptions 0 catalog.publications)
-    (first_of (identity_refusal 0 catalog.tables) (covering_refusal catalog.tables catalog.subscriptions 0 catalog.publications))
+    (first_of (identity_refusal 0 catalog.tables)
+        (covering_refusal catalog.tables catalog.subscriptions 0 catalog.publications))
 
 abbrev pub sharding_refusal : Test → CatalogOf Expr → PlanOf → List Tree → Option CheckError
 sharding_refusal is_empty catalog plan trees =
     first_of (catalog_refusal catalog)
-    (first_of (count_refusal (length catalog.tables) (length trees)) (certificates_refusal is_empty plan catalog.subscriptions 0 catalog.tables trees))
+    (first_of (count_refusal (length catalog.tables) (length trees))
+        (certificates_refusal is_empty plan catalog.subscriptions 0 catalog.tables trees))

@@ -1,4 +1,5 @@
--- What the first refusal of a sharding says of the publication, the table, the column or the certificate that it names: PostgreSQL 15, "Logical Replication", 31.1 Publication.
+-- What the first refusal of a sharding says of the publication, the table, the column or the certificate that it
+-- names: PostgreSQL 15, "Logical Replication", 31.1 Publication.
 use Rattle.std.specs.Prelude.{◌≡◌, ◌≢◌, ℕ, ◌<◌, Bool, true, false, List, length, Contains, Some, slice_get}
 use Rattle.filter_tree.specs.Expr.{Expr}
 use Rattle.filter_tree.specs.Lists.{distinct_columns}
@@ -35,7 +36,8 @@ pub record TellsNoRows (catalog : CatalogOf Expr) (number : ℕ) : Type 0 where
   pub there : slice_get catalog.tables number ≡ Some table
   pub untold : tells_rows_apart table ≡ false
 
--- the filter of an entry for the table of this number, which is there, names a column of it, and the table's replica identity lacks that
+-- the filter of an entry for the table of this number, which is there, names a column of it, and the table's replica
+-- identity lacks that
 pub record NamesUncovered (tables : List Table) (entry : EntryOf Expr) (number column : ℕ) : Type 0 where
   pub of_table : entry.table ≡ number
   pub table : Table
@@ -56,7 +58,8 @@ pub record HasUncovered (catalog : CatalogOf Expr) (number table column : ℕ) :
   pub uncovered : NamesUncovered catalog.tables entry table column
 
 -- the error says something of the certificate of the table of this number that is so
-pub record HasWrongCertificate (catalog : CatalogOf Expr) (plan : PlanOf) (trees : List Tree) (number : ℕ) (error : CheckError) : Type 0 where
+pub record HasWrongCertificate (catalog : CatalogOf Expr) (plan : PlanOf) (trees : List Tree) (number : ℕ)
+    (error : CheckError) : Type 0 where
   pub table : Table
   pub there : slice_get catalog.tables number ≡ Some table
   pub tree : Tree
@@ -69,9 +72,14 @@ ShardingIsWrong catalog plan trees (PublishMissing publication operation) = Does
 ShardingIsWrong catalog plan trees (NoIdentity table) = TellsNoRows catalog table
 ShardingIsWrong catalog plan trees (NotCovered publication table column) = HasUncovered catalog publication table column
 ShardingIsWrong catalog plan trees CertCount = length trees ≢ length catalog.tables
-ShardingIsWrong catalog plan trees (BadIndex table node) = HasWrongCertificate catalog plan trees table (BadIndex table node)
-ShardingIsWrong catalog plan trees (NotEmpty table node) = HasWrongCertificate catalog plan trees table (NotEmpty table node)
-ShardingIsWrong catalog plan trees (MayBeNull table node) = HasWrongCertificate catalog plan trees table (MayBeNull table node)
-ShardingIsWrong catalog plan trees (NotOwner table node) = HasWrongCertificate catalog plan trees table (NotOwner table node)
-ShardingIsWrong catalog plan trees (SecondOwner table node subscriber) = HasWrongCertificate catalog plan trees table (SecondOwner table node subscriber)
+ShardingIsWrong catalog plan trees (BadIndex table node) =
+    HasWrongCertificate catalog plan trees table (BadIndex table node)
+ShardingIsWrong catalog plan trees (NotEmpty table node) =
+    HasWrongCertificate catalog plan trees table (NotEmpty table node)
+ShardingIsWrong catalog plan trees (MayBeNull table node) =
+    HasWrongCertificate catalog plan trees table (MayBeNull table node)
+ShardingIsWrong catalog plan trees (NotOwner table node) =
+    HasWrongCertificate catalog plan trees table (NotOwner table node)
+ShardingIsWrong catalog plan trees (SecondOwner table node subscriber) =
+    HasWrongCertificate catalog plan trees table (SecondOwner table node subscriber)
 ShardingIsWrong catalog plan trees OutOfMemory = ⊥

@@ -1,4 +1,5 @@
--- What a check answers: nothing where there is no reason to refuse, and else the first reason. Certificates are this project's own, and restate no section of PostgreSQL's documentation.
+-- What a check answers: nothing where there is no reason to refuse, and else the first reason. Certificates are this
+-- project's own, and restate no section of PostgreSQL's documentation.
 use Rattle.std.specs.Prelude.{◌≡◌, ◌≢◌, Option, Some, None, Result, Ok, Err, IfErr}
 use Rattle.shard_checker.specs.declared.error.CheckError.{CheckError}
 use Rattle.shard_checker.specs.declared.error.CheckError.TheVariants.{OutOfMemory}

@@ -1,4 +1,5 @@
--- Which values a term has when its column isn't null: "8.1 Numeric Types" and the remainder of "9.3 Mathematical Functions and Operators", whose sign is that of the number.
+-- Which values a term has when its column isn't null: "8.1 Numeric Types" and the remainder of "9.3 Mathematical
+-- Functions and Operators", whose sign is that of the number.
 use Rattle.std.specs.Prelude.{ℕ, ◌-◌, ℤ, pos, negsuc, neg_ℤ, ◌≤ℤ◌, if◌then◌else◌, List, Option, Some, None, slice_get}
 use Rattle.std.specs.Int.{int_max, int_min}
 use Rattle.std.specs.Ordering.{int_eq}
@@ -31,12 +32,14 @@ whole_range kind = record { least = least_of kind; greatest = greatest_of kind }
 
 -- the numbers of the type that are at most so far from 0
 abbrev pub range_within : ColType → ℤ → Range
-range_within kind far = record { least = int_max (least_of kind) (neg_ℤ far); greatest = int_min (greatest_of kind) far }
+range_within kind far =
+    record { least = int_max (least_of kind) (neg_ℤ far); greatest = int_min (greatest_of kind) far }
 
 -- the remainder by 0 is the number itself
 abbrev pub range_of : ColType → Term → Range
 range_of kind (Col column) = whole_range kind
-range_of kind (Mod column divisor) = if int_eq divisor (pos 0) then whole_range kind else range_within kind (greatest_remainder divisor)
+range_of kind (Mod column divisor) = if int_eq divisor (pos 0) then
+    whole_range kind else range_within kind (greatest_remainder divisor)
 
 pub record IsIn (range : Range) (number : ℤ) : Type 0 where
   pub above_least : range.least ≤ℤ number

@@ -1,4 +1,6 @@
--- When a term has no value left at the end of a path, so that no row is there: "9.2 Comparison Functions and Operators", by which a comparison is null where its column is, and only there, and `IS DISTINCT FROM` is never null.
+-- When a term has no value left at the end of a path, so that no row is there: "9.2 Comparison Functions and
+-- Operators", by which a comparison is null where its column is, and only there, and `IS DISTINCT FROM` is never
+-- null.
 use Rattle.std.specs.Prelude.{◌≡◌, Bool, true, false, ◌↔◌, List, Some}
 use Rattle.filter_tree.specs.Datum.{Constant, Datum, Missing, Known}
 use Rattle.filter_tree.specs.Lists.{column_of}
@@ -8,7 +10,8 @@ use Rattle.filter_tree.specs.declared.table.Column.{Column}
 use Rattle.shard_checker.specs.Domain.{kind_at, IsInDomain}
 use Rattle.shard_checker.specs.Facts.{is_null, is_present, may_be}
 
--- the constant is left to the term: it is of the term's domain, nothing says that the column is null, and each test of the term that was found true or false is so of it
+-- the constant is left to the term: it is of the term's domain, nothing says that the column is null, and each test
+-- of the term that was found true or false is so of it
 pub record IsConstantLeft (columns : List Column) (term : Term) (path : Path) (constant : Constant) : Type 0 where
   pub in_domain : IsInDomain (kind_at columns (column_of term)) term constant
   pub may_be_known : is_null (column_of term) path ≡ false
@@ -30,8 +33,10 @@ Test = List Column → Term → Path → Bool
 
 -- the test holds exactly of the terms that have no value left
 pub record IsEmptiness (test : Test) : Type 0 where
-  pub empty : (columns : List Column) (term : Term) (path : Path) → (test columns term path ≡ true) ↔ (HasValue columns term path → ⊥)
-  pub others : (columns : List Column) (term : Term) (path : Path) → (test columns term path ≡ false) ↔ HasValue columns term path
+  pub empty : (columns : List Column) (term : Term) (path : Path) → (test columns term path ≡ true)
+      ↔ (HasValue columns term path → ⊥)
+  pub others : (columns : List Column) (term : Term) (path : Path) → (test columns term path ≡ false)
+      ↔ HasValue columns term path
 
 -- there is such a test
 pub record CanBeTold : Type 0 where

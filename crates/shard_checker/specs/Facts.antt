@@ -1,4 +1,6 @@
--- What the atoms that were found on the way to a node tell of a row there: that a column is null or isn't, and which constants a term may be. Restates "9.2 Comparison Functions and Operators" and IN of "9.24 Row and Array Comparisons": all of them but `IS NULL` and `IS DISTINCT FROM` are null where their column is, and only there.
+-- What the atoms that were found on the way to a node tell of a row there: that a column is null or isn't, and which
+-- constants a term may be. Restates "9.2 Comparison Functions and Operators" and IN of "9.24 Row and Array
+-- Comparisons": all of them but `IS NULL` and `IS DISTINCT FROM` are null where their column is, and only there.
 use Rattle.std.specs.Prelude.{ℕ, ◌==◌, Bool, true, false, not, ◌&&◌, ◌||◌, if◌then◌else◌, List, Option, Some, None, slice_get}
 use Rattle.std.specs.List.{list_any, list_all}
 use Rattle.filter_tree.specs.Datum.{Constant, Number, Bytes}
@@ -25,7 +27,8 @@ tells_null (In term constants) value = same_tri value Null
 tells_null (Between term low high) value = same_tri value Null
 tells_null (Distinct term constant) value = false
 
--- the atom has this value only where its column isn't null: `IS NULL` or `IS DISTINCT FROM` is false, or a comparison, IN or BETWEEN is known
+-- the atom has this value only where its column isn't null: `IS NULL` or `IS DISTINCT FROM` is false, or a
+-- comparison, IN or BETWEEN is known
 abbrev pub tells_present : AtomOf → Tri → Bool
 tells_present (Cmp term op constant) value = not (same_tri value Null)
 tells_present (IsNull column) value = same_tri value False
@@ -76,9 +79,11 @@ is_always_known (In term constants) = false
 is_always_known (Between term low high) = false
 is_always_known (Distinct term constant) = true
 
--- the atom was found to be null, which it can't be: it is an `IS NULL` or an `IS DISTINCT FROM`, or its column is declared NOT NULL
+-- the atom was found to be null, which it can't be: it is an `IS NULL` or an `IS DISTINCT FROM`, or its column is
+-- declared NOT NULL
 abbrev pub is_never_null : List Column → AtomOf → Path → Bool
-is_never_null columns atom path = has_null atom path && (is_always_known atom || is_declared columns (column_of (term_of atom)))
+is_never_null columns atom path =
+    has_null atom path && (is_always_known atom || is_declared columns (column_of (term_of atom)))
 
 -- ---- values
 

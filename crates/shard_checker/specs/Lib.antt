@@ -6,10 +6,10 @@ pub mod Checks
 pub mod Domain
 pub mod Emptiness
 pub mod Facts
-pub mod Knowing
+pub mod KnownAtoms
 pub mod Numbering
 pub mod Owners
-pub mod Ready
+pub mod WalkInvariants
 pub mod Refusal
 pub mod Rows
 pub mod Sound
@@ -17,4 +17,4 @@ pub mod Steps
 pub mod Texts
 pub mod Truth
 pub mod Walking
-pub mod Trying
+pub mod Candidates

@@ -1,4 +1,5 @@
--- How the certificates of a table number its atoms and terms: from 0, in the order in which the filters of the shares have them first. Certificates are this project's own, and restate no section of PostgreSQL's documentation.
+-- How the certificates of a table number its atoms and terms: from 0, in the order in which the filters of the shares
+-- have them first. Certificates are this project's own, and restate no section of PostgreSQL's documentation.
 use Rattle.std.specs.Prelude.{List, [], flat_map}
 use Rattle.filter_tree.specs.Expr.{AtomOf}
 use Rattle.filter_tree.specs.Lists.{distinct, distinct_atoms, distinct_terms}

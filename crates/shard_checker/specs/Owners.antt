@@ -1,4 +1,5 @@
--- What it is for a row to have one owner among the shares of a table, and what a path tells of a share: PostgreSQL 15, "Logical Replication", 31.3 Row Filters.
+-- What it is for a row to have one owner among the shares of a table, and what a path tells of a share: PostgreSQL
+-- 15, "Logical Replication", 31.3 Row Filters.
 use Rattle.std.specs.Prelude.{◌≡◌, ℕ, ◌+◌, ◌==◌, Bool, true, false, not, ◌&&◌, if◌then◌else◌, List, [], ◌∷◌, map, Option, Some, None, slice_index_or}
 use Rattle.std.specs.Borrow.{Bor}
 use Rattle.filter_tree.specs.Datum.{Datum}

@@ -1,4 +1,5 @@
--- The first node, in the order in which a certificate is written, at which it says something that isn't so. Certificates are this project's own, and restate no section of PostgreSQL's documentation.
+-- The first node, in the order in which a certificate is written, at which it says something that isn't so.
+-- Certificates are this project's own, and restate no section of PostgreSQL's documentation.
 use Rattle.std.specs.Prelude.{ℕ, ◌+◌, ◌-◌, ◌^◌, min, if◌then◌else◌, List, [], ◌∷◌, ◌++◌, Option, Some, None, slice_get}
 use Rattle.filter_tree.specs.Datum.{Datum}
 use Rattle.filter_tree.specs.Expr.{AtomOf}
@@ -19,7 +20,8 @@ use Rattle.shard_checker.specs.declared.error.CheckError.TheVariants.{BadIndex, 
 use Rattle.filter_tree.specs.Shape.{atoms_view}
 use Rattle.shard_checker.specs.declared.subject.Subject as d
 
--- what a certificate speaks of: a table, by its number, its columns, the share of each subscriber, and the atoms and terms that the certificate names by their numbers
+-- what a certificate speaks of: a table, by its number, its columns, the share of each subscriber, and the atoms and
+-- terms that the certificate names by their numbers
 pub record Subject : Type 0 where
   pub table : ℕ
   pub columns : List Column
@@ -28,7 +30,8 @@ pub record Subject : Type 0 where
   pub terms : List Term
 
 abbrev pub numbered_subject : ℕ → List Column → List ShareOf → List AtomOf → List Term → Subject
-numbered_subject table columns shares atoms terms = record { table = table; columns = columns; shares = shares; atoms = atoms; terms = terms }
+numbered_subject table columns shares atoms terms =
+    record { table = table; columns = columns; shares = shares; atoms = atoms; terms = terms }
 
 abbrev pub subject_of : ℕ → List Column → List ShareOf → Subject
 subject_of table columns shares = numbered_subject table columns shares (numbered_atoms shares) (numbered_terms shares)
@@ -36,9 +39,11 @@ subject_of table columns shares = numbered_subject table columns shares (numbere
 -- a subject of the code
 abbrev pub subject_view : {A : _} → d.Subject A → Subject
 subject_view subject =
-    record { table = subject.table; columns = subject.columns.now; shares = shares_view subject.shares.now; atoms = atoms_view subject.atoms.now; terms = subject.terms.now }
+    record { table = subject.table; columns = subject.columns.now; shares = shares_view subject.shares.now; atoms =
+        atoms_view subject.atoms.now; terms = subject.terms.now }
 
--- the number of a node that comes so many nodes later; the numbers end at the greatest of 64 bits, which all later nodes have
+-- the number of a node that comes so many nodes later; the numbers end at the greatest of 64 bits, which all later
+-- nodes have
 abbrev pub later : ℕ → ℕ → ℕ
 later node count = min (node + count) (2 ^ 64 - 1)
 
@@ -61,11 +66,13 @@ owner_refusal subject path node owner (Some share) =
 -- no value is left to the term, as a test tells
 abbrev pub empty_refusal : Test → Subject → Path → ℕ → Option Term → Option CheckError
 empty_refusal is_empty subject path node None = Some (BadIndex subject.table node)
-empty_refusal is_empty subject path node (Some term) = if is_empty subject.columns term path then None else Some (NotEmpty subject.table node)
+empty_refusal is_empty subject path node (Some term) = if is_empty subject.columns term path then
+    None else Some (NotEmpty subject.table node)
 
 abbrev pub never_null_refusal : Subject → Path → ℕ → Option AtomOf → Option CheckError
 never_null_refusal subject path node None = Some (BadIndex subject.table node)
-never_null_refusal subject path node (Some atom) = if is_never_null subject.columns atom path then None else Some (MayBeNull subject.table node)
+never_null_refusal subject path node (Some atom) = if is_never_null subject.columns atom path then
+    None else Some (MayBeNull subject.table node)
 
 -- ---- trees
 
@@ -74,26 +81,32 @@ first_of None next = next
 first_of (Some error) next = Some error
 
 -- the refusal of a split, from those of its branches, each with the path that it has by the value of the atom
-abbrev pub split_refusal : Subject → Path → ℕ → Option AtomOf → (Path → Option CheckError) → (Path → Option CheckError) → (Path → Option CheckError) → Option CheckError
+abbrev pub split_refusal : Subject → Path → ℕ → Option AtomOf → (Path → Option CheckError)
+    → (Path → Option CheckError) → (Path → Option CheckError) → Option CheckError
 split_refusal subject path node None if_true if_false if_null = Some (BadIndex subject.table node)
 split_refusal subject path node (Some atom) if_true if_false if_null =
-    first_of (if_true (path ++ (atom, True) ∷ [])) (first_of (if_false (path ++ (atom, False) ∷ [])) (if_null (path ++ (atom, Null) ∷ [])))
+    first_of (if_true (path ++ (atom, True) ∷ []))
+        (first_of (if_false (path ++ (atom, False) ∷ [])) (if_null (path ++ (atom, Null) ∷ [])))
 
--- the first refusal in a tree at the end of a path, whose first node has this number, where a test tells which terms have no value
+-- the first refusal in a tree at the end of a path, whose first node has this number, where a test tells which terms
+-- have no value
 abbrev pub refusal : Test → Subject → Tree → Path → ℕ → Option CheckError
 refusal is_empty subject (Split index if_true if_false if_null) path node =
     split_refusal subject path node (slice_get subject.atoms index)
     (λ longer. refusal is_empty subject if_true longer (later node 1))
     (λ longer. refusal is_empty subject if_false longer (later (later node 1) (nodes if_true)))
     (λ longer. refusal is_empty subject if_null longer (later (later (later node 1) (nodes if_true)) (nodes if_false)))
-refusal is_empty subject (Owner subscriber) path node = owner_refusal subject path node subscriber (slice_get subject.shares subscriber)
-refusal is_empty subject (Empty term) path node = empty_refusal is_empty subject path node (slice_get subject.terms term)
-refusal is_empty subject (NeverNull index) path node = never_null_refusal subject path node (slice_get subject.atoms index)
+refusal is_empty subject (Owner subscriber) path node =
+    owner_refusal subject path node subscriber (slice_get subject.shares subscriber)
+refusal is_empty subject (Empty term) path node =
+    empty_refusal is_empty subject path node (slice_get subject.terms term)
+refusal is_empty subject (NeverNull index) path node =
+    never_null_refusal subject path node (slice_get subject.atoms index)
 
 -- the first refusal in the certificate of the table of this number
 abbrev pub first_refusal : Test → ℕ → Table → List ShareOf → Tree → Option CheckError
 first_refusal is_empty number table shares tree = refusal is_empty (subject_of number table.columns shares) tree [] 0
 
 -- each row that may be in the columns and agrees with the path has one owner
-pub record IsSound (columns : List Column) (shares : List ShareOf) (path : Path) : Type 0 where
+pub record PathIsSound (columns : List Column) (shares : List ShareOf) (path : Path) : Type 0 where
   pub one_owner : (row : List Datum) → IsTyped columns row → Agrees row path → HasOneOwner shares row

@@ -1,4 +1,6 @@
--- When the sharding of a catalog is sound: each row that may be in its table passes to exactly one subscriber, the publications that are taken publish all four operations, and their filters name only columns of replica identities that tell rows apart. PostgreSQL 15, "Logical Replication", 31.1 Publication and 31.3 Row Filters.
+-- When the sharding of a catalog is sound: each row that may be in its table passes to exactly one subscriber, the
+-- publications that are taken publish all four operations, and their filters name only columns of replica identities
+-- that tell rows apart. PostgreSQL 15, "Logical Replication", 31.1 Publication and 31.3 Row Filters.
 use Rattle.std.specs.Prelude.{◌≡◌, ℕ, ◌==◌, Bool, true, false, List, Option, Some, None, IfSome, slice_get}
 use Rattle.std.specs.List.{list_any, list_all}
 use Rattle.filter_tree.specs.Datum.{Datum}
@@ -43,10 +45,15 @@ entry_is_covered tables entry = is_covered_by (slice_get tables entry.table) ent
 -- Tables and publications by their numbers.
 pub record IsSound (catalog : CatalogOf Expr) : Type 0 where
   -- each row that may be in a table passes to exactly one subscriber
-  pub one_owner : (number : ℕ) → IfSome (slice_get catalog.tables number) (λ table. (row : List Datum) → IsTyped table.columns row → RowHasOneOwner catalog number row)
+  pub one_owner : (number : ℕ)
+      → IfSome (slice_get catalog.tables number)
+      (λ table. (row : List Datum) → IsTyped table.columns row → RowHasOneOwner catalog number row)
   -- each publication that is taken publishes insert, update, delete and truncate
-  pub publishes : (number : ℕ) → is_taken catalog.subscriptions number ≡ true → IfSome (slice_get catalog.publications number) (λ publication. PublishesChanges publication.publishes)
+  pub publishes : (number : ℕ) → is_taken catalog.subscriptions number ≡ true
+      → IfSome (slice_get catalog.publications number) (λ publication. PublishesChanges publication.publishes)
   -- and carries only tables that are there, by filters that name only columns of their replica identities
-  pub covered : (number : ℕ) → is_taken catalog.subscriptions number ≡ true → IfSome (slice_get catalog.publications number) (λ publication. list_all (entry_is_covered catalog.tables) publication.entries ≡ true)
+  pub covered : (number : ℕ) → is_taken catalog.subscriptions number ≡ true
+      → IfSome (slice_get catalog.publications number)
+      (λ publication. list_all (entry_is_covered catalog.tables) publication.entries ≡ true)
   -- each table's replica identity tells its rows apart
   pub identified : (number : ℕ) → IfSome (slice_get catalog.tables number) (λ table. tells_rows_apart table ≡ true)

@@ -1,4 +1,5 @@
--- Filters as one list of steps, in which a step names its parts by their numbers, and the sets of truth values that each may have: the connectives of "9.1 Logical Operators", on sets.
+-- Filters as one list of steps, in which a step names its parts by their numbers, and the sets of truth values that
+-- each may have: the connectives of "9.1 Logical Operators", on sets.
 use Rattle.std.specs.Prelude.{◌≡◌, ℕ, ◌+◌, ◌<◌, ◌==◌, Bool, true, false, not, ◌&&◌, if◌then◌else◌, List, [], ◌∷◌, Option, Some, None, slice_get, slice_index_or, length}
 use Rattle.std.specs.List.{list_any}
 use Rattle.filter_tree.specs.Expr.{AtomOf, Expr}
@@ -26,13 +27,20 @@ names_only atoms (e.Is test part) = names_only atoms part
 -- the step of this number is the filter, and each part of the filter is a step too
 abbrev pub Stands : List AtomOf → List Step → ℕ → Expr → Type 0
 Stands atoms steps number (e.Const known) = slice_get steps number ≡ Some (Const known)
-Stands atoms steps number (e.Atom atom) = (place : ℕ) × ((slice_get steps number ≡ Some (Atom place)) × (slice_get atoms place ≡ Some atom))
-Stands atoms steps number (e.Not part) = (first : ℕ) × ((slice_get steps number ≡ Some (Not first)) × Stands atoms steps first part)
+Stands atoms steps number (e.Atom atom) = (place : ℕ)
+    × ((slice_get steps number ≡ Some (Atom place)) × (slice_get atoms place ≡ Some atom))
+Stands atoms steps number (e.Not part) = (first : ℕ)
+    × ((slice_get steps number ≡ Some (Not first)) × Stands atoms steps first part)
 Stands atoms steps number (e.And left right) =
-    (first : ℕ) × ((second : ℕ) × ((slice_get steps number ≡ Some (And first second)) × (Stands atoms steps first left × Stands atoms steps second right)))
+    (first : ℕ) × ((second : ℕ)
+        × ((slice_get steps number ≡ Some (And first second))
+        × (Stands atoms steps first left × Stands atoms steps second right)))
 Stands atoms steps number (e.Or left right) =
-    (first : ℕ) × ((second : ℕ) × ((slice_get steps number ≡ Some (Or first second)) × (Stands atoms steps first left × Stands atoms steps second right)))
-Stands atoms steps number (e.Is test part) = (first : ℕ) × ((slice_get steps number ≡ Some (Is test first)) × Stands atoms steps first part)
+    (first : ℕ) × ((second : ℕ)
+        × ((slice_get steps number ≡ Some (Or first second))
+        × (Stands atoms steps first left × Stands atoms steps second right)))
+Stands atoms steps number (e.Is test part) = (first : ℕ)
+    × ((slice_get steps number ≡ Some (Is test first)) × Stands atoms steps first part)
 
 pub record IsFilter (atoms : List AtomOf) (steps : List Step) (number : ℕ) (filter : Expr) : Type 0 where
   pub stands : Stands atoms steps number filter
@@ -83,7 +91,8 @@ step_mask atoms masks (Is test part) = lift_one (is_of test) (mask_in masks part
 
 -- each step has the set that follows from its parts'
 pub record IsSettled (steps : List Step) (atoms masks : List Mask) : Type 0 where
-  pub each : (number : ℕ) (step : Step) → slice_get steps number ≡ Some step → mask_in masks number ≡ step_mask atoms masks step
+  pub each : (number : ℕ) (step : Step) → slice_get steps number ≡ Some step
+      → mask_in masks number ≡ step_mask atoms masks step
 
 -- ---- the shares of a table
 
@@ -101,7 +110,8 @@ all_name_only atoms (share ∷ shares) = names_only atoms (filter_of share) && a
 -- the steps of these numbers are the filters of the shares, each in its place
 abbrev pub AreFilters : List AtomOf → List Step → List ℕ → List ShareOf → Type 0
 AreFilters atoms steps [] [] = Unit {0}
-AreFilters atoms steps (root ∷ roots) (share ∷ shares) = IsFilter atoms steps root (filter_of share) × AreFilters atoms steps roots shares
+AreFilters atoms steps (root ∷ roots) (share ∷ shares) = IsFilter atoms steps root (filter_of share)
+    × AreFilters atoms steps roots shares
 AreFilters atoms steps roots shares = ⊥
 
 -- the filters of the shares are among the steps
@@ -112,4 +122,5 @@ pub record IsCompiled (atoms : List AtomOf) (shares : List ShareOf) (formulas : 
 -- the least number of a share, other than the owner's, whose filter may be true
 abbrev pub second_among : ℕ → ℕ → List Mask → Option ℕ
 second_among owner number [] = None
-second_among owner number (mask ∷ masks) = if not (number == owner) && mask.truth then Some number else second_among owner (number + 1) masks
+second_among owner number (mask ∷ masks) = if not (number == owner) && mask.truth then
+    Some number else second_among owner (number + 1) masks

@@ -1,4 +1,5 @@
--- The check of a sharding by the texts of certificates, one for each table: the first text that isn't read goes before every refusal. Certificates are this project's own, and restate no section of PostgreSQL's documentation.
+-- The check of a sharding by the texts of certificates, one for each table: the first text that isn't read goes
+-- before every refusal. Certificates are this project's own, and restate no section of PostgreSQL's documentation.
 use Rattle.std.specs.Prelude.{◌≡◌, ◌≢◌, ℕ, ◌+◌, List, [], ◌∷◌, flat_map, map, Option, Some, None, Result, Ok, Err}
 use Rattle.std.specs.Borrow.{Bor}
 use Rattle.std.specs.Option.{option_map}
@@ -46,7 +47,8 @@ trees_in texts = flat_map (λ text. tree_in (certificate_of text)) texts
 
 -- the first text that isn't read, lines counted from 1, or else the first reason to refuse the sharding
 abbrev pub text_refusal : Test → CatalogOf Expr → PlanOf → List (List ℕ) → Option TextError
-text_refusal is_empty catalog plan texts = first_fault (text_fault 1 texts) (option_map Check (sharding_refusal is_empty catalog plan (trees_in texts)))
+text_refusal is_empty catalog plan texts =
+    first_fault (text_fault 1 texts) (option_map Check (sharding_refusal is_empty catalog plan (trees_in texts)))
 
 -- ---- what a call answers
 

@@ -1,4 +1,5 @@
--- What the first refusal in a certificate says of the node that it names. Certificates are this project's own, and restate no section of PostgreSQL's documentation.
+-- What the first refusal in a certificate says of the node that it names. Certificates are this project's own, and
+-- restate no section of PostgreSQL's documentation.
 use Rattle.std.specs.Prelude.{◌≡◌, ◌≢◌, ℕ, ◌<◌, true, false, ◌⊎◌, List, [], ◌∷◌, ◌++◌, Option, Some, None, slice_get}
 use Rattle.filter_tree.specs.Expr.{AtomOf}
 use Rattle.filter_tree.specs.Paths.{Path}
@@ -20,15 +21,18 @@ pub record IsLeastOther (shares : List ShareOf) (path : Path) (owner second : �
   pub may : may_take (share_in shares second) path ≡ true
   pub least : (number : ℕ) → number < second → may_take (share_in shares number) path ≡ true → number ≡ owner
 
--- what the error says of a node is so: it names the node, and the atom, the term or the share isn't there, or isn't as the node says
+-- what the error says of a node is so: it names the node, and the atom, the term or the share isn't there, or isn't
+-- as the node says
 
 abbrev pub EmptyIsWrong : Subject → Path → ℕ → Option Term → CheckError → Type 0
 EmptyIsWrong subject path node None error = error ≡ BadIndex subject.table node
-EmptyIsWrong subject path node (Some term) error = (error ≡ NotEmpty subject.table node) × HasValue subject.columns term path
+EmptyIsWrong subject path node (Some term) error = (error ≡ NotEmpty subject.table node)
+    × HasValue subject.columns term path
 
 abbrev pub NeverNullIsWrong : Subject → Path → ℕ → Option AtomOf → CheckError → Type 0
 NeverNullIsWrong subject path node None error = error ≡ BadIndex subject.table node
-NeverNullIsWrong subject path node (Some atom) error = (error ≡ MayBeNull subject.table node) × (is_never_null subject.columns atom path ≡ false)
+NeverNullIsWrong subject path node (Some atom) error = (error ≡ MayBeNull subject.table node)
+    × (is_never_null subject.columns atom path ≡ false)
 
 -- a second owner, by its number
 pub record HasSecond (subject : Subject) (path : Path) (node owner : ℕ) (error : CheckError) : Type 0 where
@@ -41,7 +45,8 @@ OwnerIsWrong subject path node owner None error = error ≡ BadIndex subject.tab
 OwnerIsWrong subject path node owner (Some share) error =
     ((error ≡ NotOwner subject.table node) × (must_take share path ≡ false)) ⊎ HasSecond subject path node owner error
 
-abbrev pub SplitIsWrong : Subject → Path → ℕ → Option AtomOf → (Path → Type 0) → (Path → Type 0) → (Path → Type 0) → CheckError → Type 0
+abbrev pub SplitIsWrong : Subject → Path → ℕ → Option AtomOf → (Path → Type 0) → (Path → Type 0) → (Path → Type 0)
+    → CheckError → Type 0
 SplitIsWrong subject path node None if_true if_false if_null error = error ≡ BadIndex subject.table node
 SplitIsWrong subject path node (Some atom) if_true if_false if_null error =
     if_true (path ++ (atom, True) ∷ []) ⊎ (if_false (path ++ (atom, False) ∷ []) ⊎ if_null (path ++ (atom, Null) ∷ []))
@@ -54,9 +59,11 @@ IsWrong subject (Split index if_true if_false if_null) path node error =
     (λ longer. IsWrong subject if_false longer (later (later node 1) (nodes if_true)) error)
     (λ longer. IsWrong subject if_null longer (later (later (later node 1) (nodes if_true)) (nodes if_false)) error)
     error
-IsWrong subject (Owner subscriber) path node error = OwnerIsWrong subject path node subscriber (slice_get subject.shares subscriber) error
+IsWrong subject (Owner subscriber) path node error =
+    OwnerIsWrong subject path node subscriber (slice_get subject.shares subscriber) error
 IsWrong subject (Empty term) path node error = EmptyIsWrong subject path node (slice_get subject.terms term) error
-IsWrong subject (NeverNull index) path node error = NeverNullIsWrong subject path node (slice_get subject.atoms index) error
+IsWrong subject (NeverNull index) path node error =
+    NeverNullIsWrong subject path node (slice_get subject.atoms index) error
 
 -- the error says something of the certificate of the table of this number that is so
 abbrev pub CertificateIsWrong : ℕ → Table → List ShareOf → Tree → CheckError → Type 0

@@ -1,4 +1,6 @@
--- The check of a certificate node by node, in the order in which it is written. What is still to come follows from the path: after a leaf, its last entry that isn't null has the next of its values. Certificates are this project's own, and restate no section of PostgreSQL's documentation.
+-- The check of a certificate node by node, in the order in which it is written. What is still to come follows from
+-- the path: after a leaf, its last entry that isn't null has the next of its values. Certificates are this project's
+-- own, and restate no section of PostgreSQL's documentation.
 use Rattle.std.specs.Prelude.{◌≡◌, ◌≢◌, ℕ, ◌+◌, Bool, true, false, List, [], ◌∷◌, ◌++◌, length, Option, Some, None, Result, Ok, Err, slice_get}
 use Rattle.std.specs.Option.{option_map}
 use Rattle.filter_tree.specs.Expr.{Expr, AtomOf}
@@ -57,9 +59,12 @@ known_atom subject node (Some atom) = None
 -- what is wrong with a node at the end of a path, a split's branches apart
 abbrev pub node_refusal : Test → Subject → Node → Path → ℕ → Option CheckError
 node_refusal is_empty subject (Split index) path node = known_atom subject node (slice_get subject.atoms index)
-node_refusal is_empty subject (Owner subscriber) path node = owner_refusal subject path node subscriber (slice_get subject.shares subscriber)
-node_refusal is_empty subject (Empty term) path node = empty_refusal is_empty subject path node (slice_get subject.terms term)
-node_refusal is_empty subject (NeverNull index) path node = never_null_refusal subject path node (slice_get subject.atoms index)
+node_refusal is_empty subject (Owner subscriber) path node =
+    owner_refusal subject path node subscriber (slice_get subject.shares subscriber)
+node_refusal is_empty subject (Empty term) path node =
+    empty_refusal is_empty subject path node (slice_get subject.terms term)
+node_refusal is_empty subject (NeverNull index) path node =
+    never_null_refusal subject path node (slice_get subject.atoms index)
 
 -- the path of the node after this one
 abbrev pub path_after : Subject → Node → Path → Option Path
@@ -75,14 +80,16 @@ abbrev pub walk : Test → Subject → List Node → Option Path → ℕ → Opt
 walk is_empty subject [] path node = None
 walk is_empty subject (first ∷ nodes) None node = None
 walk is_empty subject (first ∷ nodes) (Some path) node =
-    first_of (node_refusal is_empty subject first path node) (walk is_empty subject nodes (path_after subject first path) (later node 1))
+    first_of (node_refusal is_empty subject first path node)
+        (walk is_empty subject nodes (path_after subject first path) (later node 1))
 
 abbrev pub walk_from : Test → Subject → List Node → Place → Option CheckError
 walk_from is_empty subject nodes place = walk is_empty subject nodes place.path place.node
 
 -- the first refusal in the nodes of the certificate of the table of this number
 abbrev pub nodes_refusal : Test → ℕ → Table → List ShareOf → List Node → Option CheckError
-nodes_refusal is_empty number table shares nodes = walk is_empty (subject_of number table.columns shares) nodes (Some []) 0
+nodes_refusal is_empty number table shares nodes =
+    walk is_empty (subject_of number table.columns shares) nodes (Some []) 0
 
 -- the first refusal in the nodes of the certificates of the tables that begin at this number
 abbrev pub tables_refusal : Test → PlanOf → List Subscription → ℕ → List Table → List (List Node) → Option CheckError
@@ -95,7 +102,8 @@ tables_refusal is_empty plan subscriptions number tables certificates = None
 abbrev pub refusal_by_nodes : Test → CatalogOf Expr → PlanOf → List (List Node) → Option CheckError
 refusal_by_nodes is_empty catalog plan certificates =
     first_of (catalog_refusal catalog)
-    (first_of (count_refusal (length catalog.tables) (length certificates)) (tables_refusal is_empty plan catalog.subscriptions 0 catalog.tables certificates))
+    (first_of (count_refusal (length catalog.tables) (length certificates))
+        (tables_refusal is_empty plan catalog.subscriptions 0 catalog.tables certificates))
 
 -- ---- the code's walk
 
@@ -110,11 +118,14 @@ abbrev pub place_of : {A : _} → Walk A → Place
 place_of walk = place_at (path_of walk) walk.node
 
 -- from one place nodes are refused as those that are left are from another, whatever comes after them
-pub record Passes (is_empty : Test) (subject : Subject) (nodes : List Node) (old : Place) (left : List Node) (new : Place) : Type 0 where
-  pub each : (more : List Node) → walk_from is_empty subject (nodes ++ more) old ≡ walk_from is_empty subject (left ++ more) new
+pub record Passes (is_empty : Test) (subject : Subject) (nodes : List Node) (old : Place) (left : List Node)
+    (new : Place) : Type 0 where
+  pub each : (more : List Node)
+      → walk_from is_empty subject (nodes ++ more) old ≡ walk_from is_empty subject (left ++ more) new
 
 -- nodes are refused by this error, whatever comes after them
-pub record Stops (is_empty : Test) (subject : Subject) (nodes : List Node) (old : Place) (error : CheckError) : Type 0 where
+pub record Stops (is_empty : Test) (subject : Subject) (nodes : List Node) (old : Place) (error : CheckError) : Type 0
+    where
   pub each : (more : List Node) → walk_from is_empty subject (nodes ++ more) old ≡ Some error
 
 -- the result of a walk over nodes from one place to another; want of memory may come in place of any other error

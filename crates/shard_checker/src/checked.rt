@@ -29,7 +29,7 @@ impl Checked {
     ghost use Rattle.pub_catalog.specs.CatalogNames.{IsNamedCatalog};
     ghost use Rattle.pub_catalog.specs.CatalogView.{catalog_view};
     ghost use Rattle.replica_identity.specs.Plans.{TakesWhatPasses, plan_of, plan_view};
-    ghost use Rattle.table_changes.specs.Standing.{Covered, KeepsApart, Sound};
+    ghost use Rattle.table_changes.specs.Standing.{Covered, KeepsApart, DividesRows};
     ghost use Rattle.shard_checker.specs.CheckedView.{checked_of, checked_view, setting_in};
     ghost use Rattle.shard_checker.specs.Sound.{IsSound};
 
@@ -54,7 +54,7 @@ impl Checked {
         ensures sound { IsSound (catalog_view result.now) }
         ensures covered { Covered (setting_in (checked_view self.now)) }
         ensures apart { KeepsApart (setting_in (checked_view self.now)) }
-        ensures divided { Sound (setting_in (checked_view self.now)) }
+        ensures divided { DividesRows (setting_in (checked_view self.now)) }
     {
         &self.catalog
     }

@@ -2,7 +2,7 @@
 
 ghost use Rattle.std.specs.Prelude.{◌≡◌, [], IfOk, OnOk, MatchOption};
 ghost use Rattle.filter_tree.specs.Shape.{atom_view, atoms_view};
-ghost use Rattle.shard_checker.specs.Knowing as spec;
+ghost use Rattle.shard_checker.specs.KnownAtoms as spec;
 
 use crate::masks::{mask_at, put};
 use filter_tree::{Atom, Mask, Tri};

@@ -6,7 +6,7 @@ ghost use Rattle.std.specs.Option.{option_map};
 ghost use Rattle.filter_tree.specs.Paths.{path_view};
 ghost use Rattle.filter_tree.specs.Shape.{atom_view};
 ghost use Rattle.filter_tree.specs.Values.{constant_view};
-ghost use Rattle.shard_checker.specs.Trying as trying;
+ghost use Rattle.shard_checker.specs.Candidates as trying;
 
 use crate::domain::range_of;
 use crate::values::{has_tried_value, may_be, serves};

@@ -3,10 +3,10 @@
 ghost use Rattle.std.specs.Prelude.{◌≡◌, map, slice_get};
 ghost use Rattle.filter_tree.specs.Paths.{path_view};
 ghost use Rattle.shard_checker.specs.Checks.{Finds};
-ghost use Rattle.shard_checker.specs.Ready.{Ready};
+ghost use Rattle.shard_checker.specs.WalkInvariants.{WalkAgrees};
 ghost use Rattle.shard_checker.specs.Refusal.{second_refusal, subject_view};
 ghost use Rattle.shard_checker.specs.Steps.{IsSettled, mask_in, second_among};
-ghost use Rattle.shard_checker.specs.Trying as trying;
+ghost use Rattle.shard_checker.specs.Candidates as trying;
 ghost use Rattle.shard_checker.specs.Walking as spec;
 
 use crate::domain::kind_at;
@@ -76,7 +76,7 @@ pub fn check_never_null<A: Allocator>(
     walk: &Walk<'_, A>,
     number: u32,
 ) -> Result<(), CheckError>
-    requires { Ready subject.now walk.now }
+    requires { WalkAgrees subject.now walk.now }
     ensures { Finds
         (spec.node_refusal trying.is_empty (subject_view subject.now) (Node.NeverNull number)
         (path_view walk.now.path.items) walk.now.node) result }
@@ -110,13 +110,13 @@ fn check_others<A: Allocator>(
 }
 
 /// Checks a node that says that each row there passes to the subscriber, and to no other.
-#[tactic(auto, using(crate::proofs::ReadyLemmas::owning))]
+#[tactic(auto, using(crate::proofs::WalkInvariantLemmas::owning))]
 pub fn check_owner<A: Allocator>(
     subject: &Subject<'_, A>,
     walk: &Walk<'_, A>,
     number: u32,
 ) -> Result<(), CheckError>
-    requires ready { Ready subject.now walk.now }
+    requires ready { WalkAgrees subject.now walk.now }
     requires settled { IsSettled subject.now.formulas.now.steps.list.items walk.now.known.atoms.items
         walk.now.masks.list.items }
     ensures { Finds

@@ -4,8 +4,8 @@ ghost use Rattle.std.specs.Prelude.{◌≡◌, Some, slice_get};
 ghost use Rattle.filter_tree.specs.Paths.{path_view};
 ghost use Rattle.filter_tree.specs.Shape.{atom_view};
 ghost use Rattle.shard_checker.specs.Facts as spec;
-ghost use Rattle.shard_checker.specs.Knowing.{null_at};
-ghost use Rattle.shard_checker.specs.Ready.{Ready};
+ghost use Rattle.shard_checker.specs.KnownAtoms.{null_at};
+ghost use Rattle.shard_checker.specs.WalkInvariants.{WalkAgrees};
 ghost use Rattle.shard_checker.specs.Refusal.{subject_view};
 
 use crate::facts::cannot_be_null;
@@ -36,7 +36,7 @@ fn has_null<A: Allocator>(
     number: usize,
     atom: &Atom<A>,
 ) -> bool
-    requires ready { Ready subject.now walk.now }
+    requires ready { WalkAgrees subject.now walk.now }
     requires atom { slice_get (subject_view subject.now).atoms number ≡ Some (atom_view atom.now) }
     ensures { result ≡ spec.has_null (atom_view atom.now) (path_view walk.now.path.items) }
 {
@@ -55,7 +55,7 @@ pub fn is_never_null<A: Allocator>(
     number: usize,
     atom: &Atom<A>,
 ) -> bool
-    requires ready { Ready subject.now walk.now }
+    requires ready { WalkAgrees subject.now walk.now }
     requires atom { slice_get (subject_view subject.now).atoms number ≡ Some (atom_view atom.now) }
     ensures { result ≡ spec.is_never_null subject.now.columns.now (atom_view atom.now)
         (path_view walk.now.path.items) }

@@ -6,11 +6,11 @@ ghost use Rattle.split_cert.specs.Where.{tree_view};
 ghost use Rattle.shard_checker.specs.Checks.{Checks, IfRefused};
 ghost use Rattle.shard_checker.specs.Emptiness.{IsEmptiness, Test};
 ghost use Rattle.shard_checker.specs.Owners.{shares_view, HasOneOwner};
-ghost use Rattle.shard_checker.specs.Ready.{Prepared};
+ghost use Rattle.shard_checker.specs.WalkInvariants.{Prepared};
 ghost use Rattle.shard_checker.specs.Refusal as spec;
 ghost use Rattle.shard_checker.specs.Rows.{IsTyped};
 ghost use Rattle.shard_checker.specs.Refusal.{subject_view};
-ghost use Rattle.shard_checker.specs.Trying.{is_empty};
+ghost use Rattle.shard_checker.specs.Candidates.{is_empty};
 ghost use Rattle.shard_checker.specs.Truth.{CertificateIsWrong};
 ghost use Rattle.shard_checker.specs.Walking.{walk, nodes_refusal};
 

@@ -11,9 +11,9 @@ use std::alloc::Allocator;
 
 /// A certificate, which gives its nodes in the order in which it is written.
 pub trait Source {
-    ghost use Rattle.shard_checker.specs.Ready.{Ready};
+    ghost use Rattle.shard_checker.specs.WalkInvariants.{WalkAgrees};
     ghost use Rattle.shard_checker.specs.Refusal.{subject_view};
-    ghost use Rattle.shard_checker.specs.Trying.{is_empty};
+    ghost use Rattle.shard_checker.specs.Candidates.{is_empty};
     ghost use Rattle.shard_checker.specs.Walking.{Walks, place_of};
 
     ghost nodes: { Self → List Node };
@@ -24,7 +24,7 @@ pub trait Source {
         subject: &Subject<'a, A>,
         walk: &mut Walk<'a, A>,
     ) -> Result<(), CheckError>
-        requires { Ready subject.now walk.old }
+        requires { WalkAgrees subject.now walk.old }
         ensures { Walks is_empty (subject_view subject.now) (nodes self.now) (place_of walk.old)
             (place_of walk.new) result };
 }

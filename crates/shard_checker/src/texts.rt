@@ -5,7 +5,7 @@ ghost use Rattle.filter_tree.specs.Memory.{NeedsMemoryOnlyIf};
 ghost use Rattle.pub_catalog.specs.CatalogView.{catalog_view};
 ghost use Rattle.replica_identity.specs.Plans.{plan_of, plan_view};
 ghost use Rattle.replica_identity.specs.Setting.{setting_of};
-ghost use Rattle.table_changes.specs.Standing.{Covered, KeepsApart, Sound};
+ghost use Rattle.table_changes.specs.Standing.{Covered, KeepsApart, DividesRows};
 ghost use Rattle.split_cert.specs.Text.{certificate_of};
 ghost use Rattle.shard_checker.specs.CatalogRefusal.{declared_refusal, sharding_refusal};
 ghost use Rattle.shard_checker.specs.CatalogTruth.{ShardingIsWrong};
@@ -14,7 +14,7 @@ ghost use Rattle.shard_checker.specs.CheckedView.{checked_of, checked_view};
 ghost use Rattle.shard_checker.specs.Emptiness.{IsEmptiness, Test};
 ghost use Rattle.shard_checker.specs.Sound.{IsSound};
 ghost use Rattle.shard_checker.specs.Texts as spec;
-ghost use Rattle.shard_checker.specs.Trying.{is_empty};
+ghost use Rattle.shard_checker.specs.Candidates.{is_empty};
 
 use crate::checked::Checked;
 use crate::error::CheckError;
@@ -84,7 +84,7 @@ pub fn check_text(
     ensures sound { OnOk result (IsSound (catalog_view catalog)) }
     ensures covered { OnOk result (Covered (setting_of (catalog_view catalog) (plan_view plan))) }
     ensures apart { OnOk result (KeepsApart (setting_of (catalog_view catalog) (plan_view plan))) }
-    ensures divided { OnOk result (Sound (setting_of (catalog_view catalog) (plan_view plan))) }
+    ensures divided { OnOk result (DividesRows (setting_of (catalog_view catalog) (plan_view plan))) }
     ensures kept { IfOk result (λ checked. checked_view checked ≡ checked_of catalog plan) }
     ensures exact { (test : Test) → IsEmptiness test → spec.ChecksText
         (spec.text_refusal test (catalog_view catalog) (plan_view plan) (spec.texts_view texts.now)) result }

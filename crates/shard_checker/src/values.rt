@@ -8,8 +8,8 @@ ghost use Rattle.filter_tree.specs.Shape.{atom_view};
 ghost use Rattle.filter_tree.specs.Values.{constant_view};
 ghost use Rattle.filter_tree.specs.declared.filter.Op.TheVariants.{Eq, Le, Ge};
 ghost use Rattle.shard_checker.specs.Facts as spec;
-ghost use Rattle.shard_checker.specs.Trying as trying;
-ghost use Rattle.shard_checker.specs.Trying.{tried_view};
+ghost use Rattle.shard_checker.specs.Candidates as trying;
+ghost use Rattle.shard_checker.specs.Candidates.{tried_view};
 
 use crate::domain::{Range, range_of};
 use filter_tree::{Atom, ColType, Literal, Op, Term, Tri, compare_literals, same_term};

@@ -6,11 +6,11 @@ ghost use Rattle.filter_tree.specs.Paths.{path_view};
 ghost use Rattle.split_cert.specs.Nodes.{nodes_in, preorder};
 ghost use Rattle.split_cert.specs.Where.{tree_view};
 ghost use Rattle.shard_checker.specs.Checks.{Finds};
-ghost use Rattle.shard_checker.specs.Ready.{GoesBack, Prepared, Ready};
+ghost use Rattle.shard_checker.specs.WalkInvariants.{GoesBack, Prepared, WalkAgrees};
 ghost use Rattle.shard_checker.specs.Refusal as refusal;
 ghost use Rattle.shard_checker.specs.Steps.{IsSettled};
 ghost use Rattle.shard_checker.specs.Refusal.{subject_view};
-ghost use Rattle.shard_checker.specs.Trying.{is_empty};
+ghost use Rattle.shard_checker.specs.Candidates.{is_empty};
 ghost use Rattle.shard_checker.specs.Walking as spec;
 
 use crate::error::CheckError;
@@ -44,7 +44,7 @@ pub fn begin<'a, A: Allocator>(
 ) -> Result<Walk<'a, A>, AllocError>
     requires { Prepared subject.now }
     ensures place { IfOk result (λ walk. spec.place_of walk ≡ spec.beginning) }
-    ensures ready { IfOk result (λ walk. Ready subject.now walk) }
+    ensures ready { IfOk result (λ walk. WalkAgrees subject.now walk) }
 {
     Ok(Walk {
         path: Vec::new(alloc),
@@ -74,7 +74,7 @@ fn extend<'a, A: Allocator>(
 }
 
 /// Enters the branch of a split by the atom of this number where the atom has the value.
-#[tactic(auto, using(crate::proofs::ReadyLemmas::entering))]
+#[tactic(auto, using(crate::proofs::WalkInvariantLemmas::entering))]
 fn enter<'a, A: Allocator>(
     subject: &Subject<'a, A>,
     walk: &mut Walk<'a, A>,
@@ -82,12 +82,12 @@ fn enter<'a, A: Allocator>(
     value: Tri,
 ) -> Result<(), AllocError>
     requires due { walk.old.is_over ≡ false }
-    requires ready { Ready subject.now walk.old }
+    requires ready { WalkAgrees subject.now walk.old }
     ensures path { OnOk result (spec.path_of walk.new ≡ option_map
         (λ atom. path_view walk.old.path.items ++ (atom, value) ∷ [])
         (slice_get (subject_view subject.now).atoms number)) }
     ensures node { walk.new.node ≡ walk.old.node }
-    ensures ready { OnOk result (Ready subject.now walk.new) }
+    ensures ready { OnOk result (WalkAgrees subject.now walk.new) }
 {
     match atom_at(subject.atoms, number) {
         None => walk.is_over = true,
@@ -102,10 +102,10 @@ fn enter<'a, A: Allocator>(
 }
 
 /// Takes the last entry off the path, and gives its atom's number and its value.
-#[tactic(auto, using(crate::proofs::ReadyLemmas::returning))]
+#[tactic(auto, using(crate::proofs::WalkInvariantLemmas::returning))]
 fn go_back<'a, A: Allocator>(subject: &Subject<'a, A>, walk: &mut Walk<'a, A>) -> Option<(u32, Tri)>
-    requires { Ready subject.now walk.old }
-    ensures ready { Ready subject.now walk.new }
+    requires { WalkAgrees subject.now walk.old }
+    ensures ready { WalkAgrees subject.now walk.new }
     ensures path { MatchOption result (path_view walk.old.path.items ≡ [])
         (λ last. GoesBack (subject_view subject.now).atoms (path_view walk.old.path.items)
         (path_view walk.new.path.items) last.0 last.1) }
@@ -120,16 +120,16 @@ fn go_back<'a, A: Allocator>(subject: &Subject<'a, A>, walk: &mut Walk<'a, A>) -
 }
 
 /// Leaves a node that isn't a split: goes to the next branch of the last split that has one, or ends where none has.
-#[tactic(auto, using(crate::proofs::ReadyLemmas::leaving))]
+#[tactic(auto, using(crate::proofs::WalkInvariantLemmas::leaving))]
 fn leave<'a, A: Allocator>(
     subject: &Subject<'a, A>,
     walk: &mut Walk<'a, A>,
 ) -> Result<(), AllocError>
     requires due { walk.old.is_over ≡ false }
-    requires ready { Ready subject.now walk.old }
+    requires ready { WalkAgrees subject.now walk.old }
     ensures path { OnOk result (spec.path_of walk.new ≡ spec.onward (path_view walk.old.path.items)) }
     ensures node { walk.new.node ≡ walk.old.node }
-    ensures ready { OnOk result (Ready subject.now walk.new) }
+    ensures ready { OnOk result (WalkAgrees subject.now walk.new) }
 {
     while let Some((number, value)) = go_back(subject, walk) {
         match value {
@@ -149,11 +149,11 @@ fn step<'a, A: Allocator>(
     node: Node,
 ) -> Result<(), AllocError>
     requires due { walk.old.is_over ≡ false }
-    requires ready { Ready subject.now walk.old }
+    requires ready { WalkAgrees subject.now walk.old }
     ensures path { OnOk result (spec.path_of walk.new
         ≡ spec.path_after (subject_view subject.now) node (path_view walk.old.path.items)) }
     ensures node { walk.new.node ≡ walk.old.node }
-    ensures ready { OnOk result (Ready subject.now walk.new) }
+    ensures ready { OnOk result (WalkAgrees subject.now walk.new) }
 {
     match node {
         Node::Split(number) => enter(subject, walk, number, Tri::True),
@@ -163,10 +163,10 @@ fn step<'a, A: Allocator>(
 
 /// Tells of each step of the filters what it may be at the end of the path.
 fn settle<A: Allocator>(subject: &Subject<'_, A>, walk: &mut Walk<'_, A>)
-    requires { Ready subject.now walk.old }
+    requires { WalkAgrees subject.now walk.old }
     ensures settled { IsSettled subject.now.formulas.now.steps.list.items walk.new.known.atoms.items
         walk.new.masks.list.items }
-    ensures ready { Ready subject.now walk.new }
+    ensures ready { WalkAgrees subject.now walk.new }
     ensures path { walk.new.path.items ≡ walk.old.path.items }
     ensures node { walk.new.node ≡ walk.old.node }
     ensures due { walk.new.is_over ≡ walk.old.is_over }
@@ -185,10 +185,10 @@ fn check_node<A: Allocator>(
     walk: &mut Walk<'_, A>,
     node: Node,
 ) -> Result<(), CheckError>
-    requires { Ready subject.now walk.old }
+    requires { WalkAgrees subject.now walk.old }
     ensures refusal { Finds (spec.node_refusal is_empty (subject_view subject.now) node (path_view walk.old.path.items)
         walk.old.node) result }
-    ensures ready { Ready subject.now walk.new }
+    ensures ready { WalkAgrees subject.now walk.new }
     ensures path { walk.new.path.items ≡ walk.old.path.items }
     ensures node { walk.new.node ≡ walk.old.node }
     ensures due { walk.new.is_over ≡ walk.old.is_over }
@@ -211,10 +211,10 @@ fn visit<'a, A: Allocator>(
     walk: &mut Walk<'a, A>,
     node: Node,
 ) -> Result<(), CheckError>
-    requires { Ready subject.now walk.old }
+    requires { WalkAgrees subject.now walk.old }
     ensures walks { spec.Walks is_empty (subject_view subject.now) (node ∷ []) (spec.place_of walk.old)
         (spec.place_of walk.new) result }
-    ensures ready { OnOk result (Ready subject.now walk.new) }
+    ensures ready { OnOk result (WalkAgrees subject.now walk.new) }
 {
     if walk.is_over {
         return Ok(());
@@ -235,11 +235,11 @@ fn visit_branches<'a, A: Allocator, B: Allocator>(
     if_false: &Cert<B>,
     if_null: &Cert<B>,
 ) -> Result<(), CheckError>
-    requires { Ready subject.now walk.old }
+    requires { WalkAgrees subject.now walk.old }
     ensures walks { spec.Walks is_empty (subject_view subject.now)
         (preorder (tree_view if_true.now) ++ preorder (tree_view if_false.now) ++ preorder (tree_view if_null.now))
         (spec.place_of walk.old) (spec.place_of walk.new) result }
-    ensures ready { OnOk result (Ready subject.now walk.new) }
+    ensures ready { OnOk result (WalkAgrees subject.now walk.new) }
 {
     visit_tree(subject, walk, if_true)?;
     visit_tree(subject, walk, if_false)?;
@@ -255,10 +255,10 @@ pub fn visit_tree<'a, A: Allocator, B: Allocator>(
     walk: &mut Walk<'a, A>,
     tree: &Cert<B>,
 ) -> Result<(), CheckError>
-    requires { Ready subject.now walk.old }
+    requires { WalkAgrees subject.now walk.old }
     ensures walks { spec.Walks is_empty (subject_view subject.now) (preorder (tree_view tree.now))
         (spec.place_of walk.old) (spec.place_of walk.new) result }
-    ensures ready { OnOk result (Ready subject.now walk.new) }
+    ensures ready { OnOk result (WalkAgrees subject.now walk.new) }
 {
     match tree {
         Cert::Split(atom, if_true, if_false, if_null) => {
@@ -290,7 +290,7 @@ pub fn visit_text<'a, A: Allocator>(
     walk: &mut Walk<'a, A>,
     text: &str,
 ) -> Result<(), CheckError>
-    requires { Ready subject.now walk.old }
+    requires { WalkAgrees subject.now walk.old }
     ensures { spec.Walks is_empty (subject_view subject.now) (nodes_in text.now).nodes
         (spec.place_of walk.old) (spec.place_of walk.new) result }
 {

@@ -11,22 +11,24 @@ use Rattle.stream_laws.specs.Asking.{IsAsking}
 use Rattle.stream_laws.specs.Following.{IsPublished}
 use Rattle.shard_world.specs.Joined.{PeerOf, IsApart, IsLinked, IsAt}
 use Rattle.shard_world.specs.PeerSteps.{Case, IsCase, peer_of, StandsIn, source_of}
-use Rattle.stream_laws.specs.Sayable.{IsSayable}
+use Rattle.stream_laws.specs.LayoutRoom.{FitsLayouts}
 use Rattle.shard_world.specs.World.{Connection, position_now, machine_now}
 use Rattle.stream_laws.proofs.StartLengths.{subscribers_can_ask}
 use Rattle.shard_world.proofs.WorldLemmas.{all_timed, can_be_said, good_at, published}
 use Rattle.shard_world.proofs.WorldPeers.{IsGood, good_follows, FollowsIn}
 
 module _ (case : Case) (is : IsCase case) where
-  pub case_sayable : IsSayable case.checked case.world.transactions
+  pub case_sayable : FitsLayouts case.checked case.world.transactions
   case_sayable = can_be_said case.checked case.most is.publisher case.events is.times case.world is.leads
 
   pub case_published : IsPublished case.checked case.world.transactions
   case_published = published case.checked is.publisher.covered is.publisher.apart case.world
-      (good_at case.checked is.publisher.covered is.publisher.apart case.most case.events (all_timed case.events is.times) case.world is.leads case_sayable)
+      (good_at case.checked is.publisher.covered is.publisher.apart case.most case.events
+          (all_timed case.events is.times) case.world is.leads case_sayable)
 
   pub case_good : IsGood (source_of case) (peer_of case)
-  case_good = (good_at case.checked is.publisher.covered is.publisher.apart case.most case.events (all_timed case.events is.times) case.world is.leads case_sayable).peers case.number
+  case_good = (good_at case.checked is.publisher.covered is.publisher.apart case.most case.events
+      (all_timed case.events is.times) case.world is.leads case_sayable).peers case.number
 
   pub case_follows : FollowsIn (source_of case)
       (position_now (source_of case) (peer_of case)) (machine_now (source_of case) (peer_of case))
@@ -41,10 +43,12 @@ module _ (case : Case) (is : IsCase case) where
   pub case_asks : IsAsking case.checked.catalog case.number
   case_asks =
       subscribers_can_ask case.checked.catalog case.number is.publisher.limited is.publisher.named
-      (omega (arith, is.there, ap length is.publisher.own, length-map case.checked.catalog.subscriptions (shares_for case.checked.catalog)))
+      (omega (arith, is.there, ap length is.publisher.own,
+          length-map case.checked.catalog.subscriptions (shares_for case.checked.catalog)))
 
   pub now_small : position_now (source_of case) (peer_of case) < 2 ^ 64
-  now_small = small_position (position_now (source_of case) (peer_of case)) (machine_now (source_of case) (peer_of case)) case_follows
+  now_small = small_position (position_now (source_of case) (peer_of case))
+      (machine_now (source_of case) (peer_of case)) case_follows
 
 -- ---- with and without a connection
 
@@ -68,10 +72,14 @@ module _ (case : Case) (slots : List Slot) (subscriber : Subscriber) where
   open_at link None e at = absurd at
   open_at link (Some c) e at = record { c = c; some = e; linked = at }
 
-pub is_shut : (case : Case) (slots : List Slot) (code : PeerOf) → StandsIn case slots code → code.link ≡ None → Shut case slots code.subscriber
+pub is_shut : (case : Case) (slots : List Slot) (code : PeerOf) → StandsIn case slots code → code.link ≡ None
+    → Shut case slots code.subscriber
 is_shut case slots code stands none = shut_at case slots code.subscriber (peer_of case).connection refl
-    (subst (λ link. IsAt (source_of case) slots link code.subscriber (peer_of case) (peer_of case).connection) none stands.at)
+    (subst (λ link. IsAt (source_of case) slots link code.subscriber (peer_of case) (peer_of case).connection) none
+        stands.at)
 
-pub is_open : (case : Case) (slots : List Slot) (code : PeerOf) (link : Link) → StandsIn case slots code → code.link ≡ Some link → Open case slots link code.subscriber
+pub is_open : (case : Case) (slots : List Slot) (code : PeerOf) (link : Link) → StandsIn case slots code
+    → code.link ≡ Some link → Open case slots link code.subscriber
 is_open case slots code link stands some = open_at case slots code.subscriber link (peer_of case).connection refl
-    (subst (λ its. IsAt (source_of case) slots its code.subscriber (peer_of case) (peer_of case).connection) some stands.at)
+    (subst (λ its. IsAt (source_of case) slots its code.subscriber (peer_of case) (peer_of case).connection) some
+        stands.at)

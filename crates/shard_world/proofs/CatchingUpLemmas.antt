@@ -15,7 +15,7 @@ use Rattle.shard_world.specs.CatchingUp.{next_peer, sent_by, sent_to, take_many,
 use Rattle.stream_laws.specs.Cutting.{if_whole, whole_in}
 use Rattle.stream_laws.specs.Following.{raised_by, position_after, IsPublished}
 use Rattle.stream_laws.specs.Items.{Item, Response, Alive, spelled, stream_items}
-use Rattle.stream_laws.specs.Sayable.{IsSayable}
+use Rattle.stream_laws.specs.LayoutRoom.{FitsLayouts}
 use Rattle.shard_world.specs.World.{Up, Asks, Says, Connection, Peer, PeerEvent, Hear, Take, Keep, Deliver, Session, down_items, down_bytes, position_now, spelled_up, whole_up, ups_of, start_at, hear_up, newly, heard_of, hears, delivers, as_many, place_of, takes, take_step, keep_step, moves_on, open_step, peer_step, Source, up_bytes, down_of, log_in, asking_length}
 use Rattle.stream_laws.proofs.EntryLemmas.{entry_at, entries_length, past_end}
 use Rattle.stream_laws.proofs.FollowingLemmas.{first_sent}
@@ -25,10 +25,12 @@ use Rattle.shard_world.proofs.WorldSteps.{peer_good}
 
 -- ---- the command that starts the stream is heard
 
-pub start_stays : (now start : ℕ) (ups : List Up) (session : Session) → session.start ≡ Some start → (fold (hear_up now) session ups).start ≡ Some start
+pub start_stays : (now start : ℕ) (ups : List Up) (session : Session) → session.start ≡ Some start
+    → (fold (hear_up now) session ups).start ≡ Some start
 start_stays now start [] session h = h
 start_stays now start (Asks position ∷ ups) session h =
-    start_stays now start ups (record session { start = start_at session.start position session.confirmed }) (ap (λ o. start_at o position session.confirmed) h)
+    start_stays now start ups (record session { start = start_at session.start position session.confirmed })
+        (ap (λ o. start_at o position session.confirmed) h)
 start_stays now start (Says status ∷ ups) session h = start_stays now start ups (hear_up now session (Says status)) h
 
 pub record HasStart (start : Option ℕ) : Type 0 where
@@ -36,51 +38,70 @@ pub record HasStart (start : Option ℕ) : Type 0 where
   pub is : start ≡ Some at
 
 -- where the first of what is new asks for the stream
-pub starts_by : (now : ℕ) (position : ℕ) (ups : List Up) (session : Session) → HasStart (fold (hear_up now) session (Asks position ∷ ups)).start
+pub starts_by : (now : ℕ) (position : ℕ) (ups : List Up) (session : Session)
+    → HasStart (fold (hear_up now) session (Asks position ∷ ups)).start
 starts_by now position ups session = by_start session.start refl
   where
-    by_start : (start : Option ℕ) → session.start ≡ start → HasStart (fold (hear_up now) session (Asks position ∷ ups)).start
+    by_start : (start : Option ℕ) → session.start ≡ start
+        → HasStart (fold (hear_up now) session (Asks position ∷ ups)).start
     by_start None e = record {
       at = max position session.confirmed;
-      is = start_stays now (max position session.confirmed) ups (record session { start = start_at session.start position session.confirmed }) (ap (λ o. start_at o position session.confirmed) e);
+      is = start_stays now (max position session.confirmed) ups
+          (record session { start = start_at session.start position session.confirmed })
+          (ap (λ o. start_at o position session.confirmed) e);
     }
     by_start (Some start) e = record {
       at = start;
-      is = start_stays now start ups (record session { start = start_at session.start position session.confirmed }) (ap (λ o. start_at o position session.confirmed) e);
+      is = start_stays now start ups (record session { start = start_at session.start position session.confirmed })
+          (ap (λ o. start_at o position session.confirmed) e);
     }
 
 -- the command is whole among the bytes that are heard, or the stream has started
-pub hears_start : (source : Source) (now : ℕ) (peer : Peer) (c : Connection) (more : ℕ) → (c.start ≡ None → c.heard < asking_length source peer.position)
+pub hears_start : (source : Source) (now : ℕ) (peer : Peer) (c : Connection) (more : ℕ)
+    → (c.start ≡ None → c.heard < asking_length source peer.position)
     → asking_length source peer.position ≤ c.heard + more → HasStart (heard_of source now peer c more).start
 hears_start source now peer c more still whole = by_start c.start refl
   where
     by_start : (start : Option ℕ) → c.start ≡ start → HasStart (heard_of source now peer c more).start
     by_start (Some start) e = record {
       at = start;
-      is = start_stays now start (newly source peer c more) (record { confirmed = peer.confirmed; start = c.start; moves = c.moves }) e;
+      is = start_stays now start (newly source peer c more)
+          (record { confirmed = peer.confirmed; start = c.start; moves = c.moves }) e;
     }
     by_start None e =
-        subst (λ b. HasStart (fold (hear_up now) (record { confirmed = peer.confirmed; start = c.start; moves = c.moves })
-        (drop (length (if_whole b (Asks peer.position) (whole_up source.checked source.number (c.heard - asking_length source peer.position) (map Says c.reports))))
+        subst (λ b. HasStart (fold (hear_up now)
+            (record { confirmed = peer.confirmed; start = c.start; moves = c.moves })
+        (drop (length (if_whole b (Asks peer.position)
+            (whole_up source.checked source.number (c.heard - asking_length source peer.position)
+            (map Says c.reports))))
         (whole_up source.checked source.number (c.heard + more) (ups_of peer c)))).start)
         (sym (lt-leb (asking_length source peer.position) c.heard (still e)))
-        (subst (λ b. HasStart (fold (hear_up now) (record { confirmed = peer.confirmed; start = c.start; moves = c.moves })
-        (if_whole b (Asks peer.position) (whole_up source.checked source.number (c.heard + more - asking_length source peer.position) (map Says c.reports)))).start)
+        (subst (λ b. HasStart
+            (fold (hear_up now) (record { confirmed = peer.confirmed; start = c.start; moves = c.moves })
+        (if_whole b (Asks peer.position)
+            (whole_up source.checked source.number (c.heard + more - asking_length source peer.position)
+            (map Says c.reports)))).start)
         (sym (le-leb (asking_length source peer.position) (c.heard + more) whole))
-        (starts_by now peer.position (whole_up source.checked source.number (c.heard + more - asking_length source peer.position) (map Says c.reports))
+        (starts_by now peer.position
+            (whole_up source.checked source.number (c.heard + more - asking_length source peer.position)
+            (map Says c.reports))
         (record { confirmed = peer.confirmed; start = c.start; moves = c.moves })))
 
 -- ---- commits are taken up
 
 pub moved_append : (checked : CheckedOf) (log : List CommitOf) (place : Place) (moves : List Move) (move : Move)
-    → all_moved (telling_of checked) log place (moves ++ move ∷ []) ≡ moved (telling_of checked) log (all_moved (telling_of checked) log place moves) move
+    → all_moved (telling_of checked) log place (moves ++ move ∷ [])
+        ≡ moved (telling_of checked) log (all_moved (telling_of checked) log place moves) move
 moved_append checked log place [] move = refl
-moved_append checked log place (first ∷ moves) move = moved_append checked log (moved (telling_of checked) log place first) moves move
+moved_append checked log place (first ∷ moves) move =
+    moved_append checked log (moved (telling_of checked) log place first) moves move
 
 -- how many commits are counted by what was sent
 module _ (source : Source) (accepted : AreAccepted (setting_in source.checked) no_rows source.transactions) where
-  take_counts : (place : Place) (found : Option CommitOf) → slice_get (log_in source) place.done ≡ found → count_before place.sent ≡ place.done
-      → count_before (taken_place (telling_of source.checked) place found).sent ≡ (taken_place (telling_of source.checked) place found).done
+  take_counts : (place : Place) (found : Option CommitOf) → slice_get (log_in source) place.done ≡ found
+      → count_before place.sent ≡ place.done
+      → count_before (taken_place (telling_of source.checked) place found).sent
+          ≡ (taken_place (telling_of source.checked) place found).done
   take_counts place None e counts = counts
   take_counts place (Some commit) e counts =
       let entry = entry_at (setting_in source.checked) no_rows 1 source.transactions place.done commit accepted e in
@@ -88,20 +109,26 @@ module _ (source : Source) (accepted : AreAccepted (setting_in source.checked) n
       omega (arith, number)
 
   move_counts : (place : Place) (move : Move) → count_before place.sent ≡ place.done
-      → count_before (moved (telling_of source.checked) (log_in source) place move).sent ≡ (moved (telling_of source.checked) (log_in source) place move).done
+      → count_before (moved (telling_of source.checked) (log_in source) place move).sent
+          ≡ (moved (telling_of source.checked) (log_in source) place move).done
   move_counts place (s.Take clock) counts = take_counts place (slice_get (log_in source) place.done) refl counts
   move_counts place (s.Keep clock want) counts = counts
 
   moves_count : (moves : List Move) (place : Place) → count_before place.sent ≡ place.done
-      → count_before (all_moved (telling_of source.checked) (log_in source) place moves).sent ≡ (all_moved (telling_of source.checked) (log_in source) place moves).done
+      → count_before (all_moved (telling_of source.checked) (log_in source) place moves).sent
+          ≡ (all_moved (telling_of source.checked) (log_in source) place moves).done
   moves_count [] place counts = counts
-  moves_count (move ∷ moves) place counts = moves_count moves (moved (telling_of source.checked) (log_in source) place move) (move_counts place move counts)
+  moves_count (move ∷ moves) place counts =
+      moves_count moves (moved (telling_of source.checked) (log_in source) place move) (move_counts place move counts)
 
-  pub place_counts : (start : ℕ) (moves : List Move) → count_before (place_of source start moves).sent ≡ (place_of source start moves).done
-  place_counts start moves = moves_count moves (place_at source.number (length source.checked.catalog.tables) start) (first_sent start)
+  pub place_counts : (start : ℕ) (moves : List Move)
+      → count_before (place_of source start moves).sent ≡ (place_of source start moves).done
+  place_counts start moves =
+      moves_count moves (place_at source.number (length source.checked.catalog.tables) start) (first_sent start)
 
 -- what was sent is never 0
-move_sent : (checked : CheckedOf) (log : List CommitOf) (place : Place) (move : Move) → 1 ≤ place.sent → 1 ≤ (moved (telling_of checked) log place move).sent
+move_sent : (checked : CheckedOf) (log : List CommitOf) (place : Place) (move : Move) → 1 ≤ place.sent
+    → 1 ≤ (moved (telling_of checked) log place move).sent
 move_sent checked log place (s.Take clock) sent = by_found (slice_get log place.done)
   where
     by_found : (found : Option CommitOf) → 1 ≤ (taken_place (telling_of checked) place found).sent
@@ -109,13 +136,16 @@ move_sent checked log place (s.Take clock) sent = by_found (slice_get log place.
     by_found (Some commit) = omega arith
 move_sent checked log place (s.Keep clock want) sent = sent
 
-moves_sent : (checked : CheckedOf) (log : List CommitOf) (moves : List Move) (place : Place) → 1 ≤ place.sent → 1 ≤ (all_moved (telling_of checked) log place moves).sent
+moves_sent : (checked : CheckedOf) (log : List CommitOf) (moves : List Move) (place : Place) → 1 ≤ place.sent
+    → 1 ≤ (all_moved (telling_of checked) log place moves).sent
 moves_sent checked log [] place sent = sent
-moves_sent checked log (move ∷ moves) place sent = moves_sent checked log moves (moved (telling_of checked) log place move) (move_sent checked log place move sent)
+moves_sent checked log (move ∷ moves) place sent =
+    moves_sent checked log moves (moved (telling_of checked) log place move) (move_sent checked log place move sent)
 
 place_sent : (source : Source) (start : ℕ) (moves : List Move) → 1 ≤ (place_of source start moves).sent
 place_sent source start moves =
-    moves_sent source.checked (log_in source) moves (place_at source.number (length source.checked.catalog.tables) start) (first_some start)
+    moves_sent source.checked (log_in source) moves
+        (place_at source.number (length source.checked.catalog.tables) start) (first_some start)
   where
     not_zero : (p : ℕ) → (p == 0) ≡ false → 1 ≤ p
     not_zero zero h = absurd (let same : (0 == 0) ≡ true = refl in cc)
@@ -131,7 +161,9 @@ place_sent source start moves =
 whole_all : (items : List Item) → whole_in (length (flat_map spelled items)) items ≡ items
 whole_all [] = refl
 whole_all (item ∷ items) =
-    ap (λ b. if_whole b item (whole_in (length (spelled item ++ flat_map spelled items) - length (spelled item)) items)) (le-leb (length (spelled item)) (length (spelled item ++ flat_map spelled items)) first_fits)
+    ap (λ b. if_whole b item
+        (whole_in (length (spelled item ++ flat_map spelled items) - length (spelled item)) items))
+        (le-leb (length (spelled item)) (length (spelled item ++ flat_map spelled items)) first_fits)
     ∙ ap (λ n. item ∷ whole_in n items) left_is ∙ ap (λ others. item ∷ others) (whole_all items)
   where
     first_fits : length (spelled item) ≤ length (spelled item ++ flat_map spelled items)
@@ -140,7 +172,8 @@ whole_all (item ∷ items) =
     left_is : length (spelled item ++ flat_map spelled items) - length (spelled item) ≡ length (flat_map spelled items)
     left_is = omega (arith, length-append (spelled item) (flat_map spelled items))
 
-after_one : (position : ℕ) (items : List Item) (item : Item) → position_after position (items ++ item ∷ []) ≡ raised_by (position_after position items) item
+after_one : (position : ℕ) (items : List Item) (item : Item)
+    → position_after position (items ++ item ∷ []) ≡ raised_by (position_after position items) item
 after_one position [] item = refl
 after_one position (first ∷ items) item = after_one (raised_by position first) items item
 
@@ -157,46 +190,62 @@ pub record IsLeft (source : Source) (start count : ℕ) (peer : Peer) : Type 0 w
   pub running : IsRunning source start peer
   pub left : length (log_in source) ≤ (place_of source start running.c.moves).done + count
 
-module _ (source : Source) (published : IsPublished source.checked source.transactions) (sayable : IsSayable source.checked source.transactions) (now : ℕ) (timed : now < 2 ^ 64) where
+module _ (source : Source) (published : IsPublished source.checked source.transactions)
+    (sayable : FitsLayouts source.checked source.transactions) (now : ℕ) (timed : now < 2 ^ 64) where
   pub as_step : (event : PeerEvent) (peer : Peer) (c : Connection) → peer.connection ≡ Some c
       → next_peer source now event peer ≡ (open_step source now event peer c).1
   as_step event peer c is = ap (λ connection. (peer_step source now event peer connection).1) is
 
-  pub next_good : (event : PeerEvent) (peer : Peer) → IsGood source peer → IsGood source (next_peer source now event peer)
+  pub next_good : (event : PeerEvent) (peer : Peer) → IsGood source peer
+      → IsGood source (next_peer source now event peer)
   next_good event peer good = peer_good source published sayable now timed event peer peer.connection refl good
 
-  pub take_next : (start count : ℕ) (peer : Peer) → IsLeft source start (suc count) peer → IsLeft source start count (next_peer source now Take peer)
+  pub take_next : (start count : ℕ) (peer : Peer) → IsLeft source start (suc count) peer
+      → IsLeft source start count (next_peer source now Take peer)
   take_next start count peer h =
       subst (IsLeft source start count)
-      (sym (as_step Take peer h.running.c h.running.is ∙ ap (λ from. (take_step source now peer h.running.c from).1) h.running.start_is))
+      (sym (as_step Take peer h.running.c h.running.is
+          ∙ ap (λ from. (take_step source now peer h.running.c from).1) h.running.start_is))
       (by_found (slice_get (log_in source) (place_of source start h.running.c.moves).done) refl
       (subst (IsGood source)
-      (as_step Take peer h.running.c h.running.is ∙ ap (λ from. (take_step source now peer h.running.c from).1) h.running.start_is)
+      (as_step Take peer h.running.c h.running.is
+          ∙ ap (λ from. (take_step source now peer h.running.c from).1) h.running.start_is)
       (next_good Take peer h.running.good)))
     where
-      by_found : (found : Option CommitOf) → slice_get (log_in source) (place_of source start h.running.c.moves).done ≡ found
+      by_found : (found : Option CommitOf)
+          → slice_get (log_in source) (place_of source start h.running.c.moves).done ≡ found
           → IsGood source (takes source.checked now peer h.running.c (place_of source start h.running.c.moves)
           (slice_get (log_in source) (place_of source start h.running.c.moves).done)).1
-          → IsLeft source start count (takes source.checked now peer h.running.c (place_of source start h.running.c.moves)
+          → IsLeft source start count
+              (takes source.checked now peer h.running.c (place_of source start h.running.c.moves)
           (slice_get (log_in source) (place_of source start h.running.c.moves).done)).1
       by_found None e good =
-          subst (λ found. IsLeft source start count (takes source.checked now peer h.running.c (place_of source start h.running.c.moves) found).1) (sym e)
+          subst (λ found. IsLeft source start count
+              (takes source.checked now peer h.running.c (place_of source start h.running.c.moves) found).1) (sym e)
           (record {
             running = h.running;
-            left = let end = past_end (log_in source) (place_of source start h.running.c.moves).done e in omega (arith, end);
+            left = let end = past_end (log_in source) (place_of source start h.running.c.moves).done e in
+                omega (arith, end);
           })
       by_found (Some commit) e good =
-          subst (λ found. IsLeft source start count (takes source.checked now peer h.running.c (place_of source start h.running.c.moves) found).1) (sym e)
+          subst (λ found. IsLeft source start count
+              (takes source.checked now peer h.running.c (place_of source start h.running.c.moves) found).1) (sym e)
           (record {
             running = record {
               c = record h.running.c { moves = h.running.c.moves ++ s.Take now ∷ [] };
               is = refl;
               start_is = h.running.start_is;
-              good = subst (λ found. IsGood source (takes source.checked now peer h.running.c (place_of source start h.running.c.moves) found).1) e good;
+              good = subst (λ found. IsGood source
+                  (takes source.checked now peer h.running.c (place_of source start h.running.c.moves) found).1) e
+                  good;
             };
             left =
-                let further : (place_of source start (h.running.c.moves ++ s.Take now ∷ [])).done ≡ (place_of source start h.running.c.moves).done + 1 =
-                ap (λ (at : Place). at.done) (moved_append source.checked (log_in source) (place_at source.number (length source.checked.catalog.tables) start) h.running.c.moves (s.Take now)
+                let further : (place_of source start (h.running.c.moves ++ s.Take now ∷ [])).done
+                    ≡ (place_of source start h.running.c.moves).done + 1 =
+                ap (λ (at : Place). at.done)
+                    (moved_append source.checked (log_in source)
+                    (place_at source.number (length source.checked.catalog.tables) start) h.running.c.moves
+                    (s.Take now)
                 ∙ ap (taken_place (telling_of source.checked) (place_of source start h.running.c.moves)) e) in
                 omega (arith, further, h.left);
           })
@@ -204,13 +253,15 @@ module _ (source : Source) (published : IsPublished source.checked source.transa
   take_all : (start count : ℕ) (peer : Peer) → IsLeft source start count peer
       → IsLeft source start 0 (take_many source now count peer)
   take_all start zero peer h = h
-  take_all start (suc count) peer h = take_all start count (next_peer source now Take peer) (take_next start count peer h)
+  take_all start (suc count) peer h =
+      take_all start count (next_peer source now Take peer) (take_next start count peer h)
 
   -- ---- all is delivered
 
   pub keeps_on : (start : ℕ) (peer : Peer) (c : Connection) → peer.connection ≡ Some c → c.start ≡ Some start
       → next_peer source now (Keep false) peer ≡ moves_on peer c (s.Keep now false)
-  keeps_on start peer c is start_is = as_step (Keep false) peer c is ∙ ap (λ from. (keep_step now false peer c from).1) start_is
+  keeps_on start peer c is start_is = as_step (Keep false) peer c is
+      ∙ ap (λ from. (keep_step now false peer c from).1) start_is
 
   delivers_on : (peer : Peer) (c : Connection) → peer.connection ≡ Some c
       → delivered_all source now peer
@@ -225,8 +276,10 @@ module _ (source : Source) (published : IsPublished source.checked source.transa
     pub all : length (log_in source) ≤ count_before position
     pub some : 1 ≤ position
 
-  pub reaches_end : (start : ℕ) (position : ℕ) (c : Connection) → c.start ≡ Some start → length (log_in source) ≤ (place_of source start c.moves).done + 0
-      → (delivered : ℕ) → delivered ≤ length (flat_map spelled (down_items source c.start (c.moves ++ s.Keep now false ∷ [])))
+  pub reaches_end : (start : ℕ) (position : ℕ) (c : Connection) → c.start ≡ Some start
+      → length (log_in source) ≤ (place_of source start c.moves).done + 0
+      → (delivered : ℕ) → delivered ≤ length
+          (flat_map spelled (down_items source c.start (c.moves ++ s.Keep now false ∷ [])))
       → CountsAll (position_after position (whole_in
       (delivered + as_many (length (down_bytes source c.start (c.moves ++ s.Keep now false ∷ [])))
       (length (down_bytes source c.start (c.moves ++ s.Keep now false ∷ []))) delivered)
@@ -236,18 +289,24 @@ module _ (source : Source) (published : IsPublished source.checked source.transa
       ∙ after_one position (stream_items source.checked (log_in source) source.number start c.moves)
       (Alive (record { position = (place_of source start c.moves).sent; clock = now; wants_reply = false }))))
       (record {
-        all = at_least (position_after position (stream_items source.checked (log_in source) source.number start c.moves));
-        some = at_some (position_after position (stream_items source.checked (log_in source) source.number start c.moves));
+        all = at_least (position_after position
+            (stream_items source.checked (log_in source) source.number start c.moves));
+        some = at_some (position_after position
+            (stream_items source.checked (log_in source) source.number start c.moves));
       })
     where
       items_are : down_items source c.start (c.moves ++ s.Keep now false ∷ [])
           ≡ stream_items source.checked (log_in source) source.number start c.moves
           ++ Alive (record { position = (place_of source start c.moves).sent; clock = now; wants_reply = false }) ∷ []
       items_are = ap (λ from. down_items source from (c.moves ++ s.Keep now false ∷ [])) start_is
-          ∙ ap (λ items. Response ∷ items) (items_append source.checked (log_in source) (place_at source.number (length source.checked.catalog.tables) start) c.moves (s.Keep now false))
+          ∙ ap (λ items. Response ∷ items)
+              (items_append source.checked (log_in source)
+              (place_at source.number (length source.checked.catalog.tables) start) c.moves (s.Keep now false))
 
-      whole : (items : List Item) (count done : ℕ) → count ≡ length (flat_map spelled items) → done ≤ count → whole_in (done + as_many count count done) items ≡ items
-      whole items count done e h = subst (λ n. whole_in n items ≡ items) (sym (all_of count done h ∙ e)) (whole_all items)
+      whole : (items : List Item) (count done : ℕ) → count ≡ length (flat_map spelled items) → done ≤ count
+          → whole_in (done + as_many count count done) items ≡ items
+      whole items count done e h =
+          subst (λ n. whole_in n items ≡ items) (sym (all_of count done h ∙ e)) (whole_all items)
         where
           all_of : (count done : ℕ) → done ≤ count → done + as_many count count done ≡ count
           all_of count done h = omega (arith, h)
@@ -288,16 +347,20 @@ module _ (source : Source) (published : IsPublished source.checked source.transa
     pub some : 1 ≤ position_now source final
     pub good : IsGood source final
 
-  pub catches_up : (peer : Peer) (c : Connection) → peer.connection ≡ Some c → (c.start ≡ None → c.heard < asking_length source peer.position)
+  pub catches_up : (peer : Peer) (c : Connection) → peer.connection ≡ Some c
+      → (c.start ≡ None → c.heard < asking_length source peer.position)
       → IsGood source peer → CatchesUp (caught_up source now peer)
   catches_up peer c is still good =
       let heard_good = next_good (Hear (sent_by source peer peer.connection)) peer good in
       let start = hears_start source now peer c
       (as_many (length (up_bytes source peer c)) (length (up_bytes source peer c)) c.heard) still
       (all_of (length (up_bytes source peer c)) (asking_length source peer.position) c.heard
-      (omega (arith, length-append (spelled_up source.checked source.number (Asks peer.position)) (flat_map (spelled_up source.checked source.number) (map Says c.reports))))) in
-      let count : length (log_in source) ≡ length source.transactions = entries_length (setting_in source.checked) no_rows 1 source.transactions in
-      let first : IsLeft source start.at (length source.transactions) (next_peer source now (Hear (sent_by source peer peer.connection)) peer) =
+      (omega (arith, length-append (spelled_up source.checked source.number (Asks peer.position))
+          (flat_map (spelled_up source.checked source.number) (map Says c.reports))))) in
+      let count : length (log_in source) ≡ length source.transactions =
+          entries_length (setting_in source.checked) no_rows 1 source.transactions in
+      let first : IsLeft source start.at (length source.transactions)
+          (next_peer source now (Hear (sent_by source peer peer.connection)) peer) =
       subst (IsLeft source start.at (length source.transactions)) (sym (hears_all peer c is)) (record {
         running = record {
           c = _;
@@ -307,10 +370,13 @@ module _ (source : Source) (published : IsPublished source.checked source.transa
         };
         left = omega (arith, count);
       }) in
-      let taken = take_all start.at (length source.transactions) (next_peer source now (Hear (sent_by source peer peer.connection)) peer) first in
-      let final_good : IsGood source (caught_up source now peer) = next_good (Deliver _) _ (next_good (Keep false) _ taken.running.good) in
+      let taken = take_all start.at (length source.transactions)
+          (next_peer source now (Hear (sent_by source peer peer.connection)) peer) first in
+      let final_good : IsGood source (caught_up source now peer) =
+          next_good (Deliver _) _ (next_good (Keep false) _ taken.running.good) in
       both (caught_up source now peer) count
-      (lower (take_many source now (length source.transactions) (next_peer source now (Hear (sent_by source peer peer.connection)) peer)) start.at taken)
+      (lower (take_many source now (length source.transactions)
+          (next_peer source now (Hear (sent_by source peer peer.connection)) peer)) start.at taken)
       final_good (good_follows source published sayable (caught_up source now peer) final_good).within
     where
       all_of : (total first heard : ℕ) → first ≤ total → first ≤ heard + as_many total total heard
@@ -323,9 +389,14 @@ module _ (source : Source) (published : IsPublished source.checked source.transa
           let kept_good = subst (IsGood source) kept (next_good (Keep false) at taken.running.good) in
           subst (λ q. CountsAll (position_now source q))
           (sym (ap (delivered_all source now) kept
-          ∙ delivers_on (moves_on at taken.running.c (s.Keep now false)) (record taken.running.c { moves = taken.running.c.moves ++ s.Keep now false ∷ [] }) refl))
-          (reaches_end start at.position taken.running.c taken.running.start_is taken.left taken.running.c.delivered kept_good.connected.1.delivered)
+          ∙ delivers_on (moves_on at taken.running.c (s.Keep now false))
+              (record taken.running.c { moves = taken.running.c.moves ++ s.Keep now false ∷ [] }) refl))
+          (reaches_end start at.position taken.running.c taken.running.start_is taken.left taken.running.c.delivered
+              kept_good.connected.1.delivered)
 
-      both : (final : Peer) → length (log_in source) ≡ length source.transactions → CountsAll (position_now source final)
-          → IsGood source final → count_before (position_now source final) ≤ length source.transactions → CatchesUp final
-      both final e low good high = let all = low.all in record { counts = omega (arith, e, all, high); some = low.some; good = good }
+      both : (final : Peer) → length (log_in source) ≡ length source.transactions
+          → CountsAll (position_now source final)
+          → IsGood source final → count_before (position_now source final) ≤ length source.transactions
+          → CatchesUp final
+      both final e low good high = let all = low.all in
+          record { counts = omega (arith, e, all, high); some = low.some; good = good }

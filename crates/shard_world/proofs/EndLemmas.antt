@@ -59,7 +59,8 @@ ItemTellsEnd Response = Unit {0}
 ItemTellsEnd (Carries head message) = TellsEnd message
 ItemTellsEnd (Alive keepalive) = IsEnd keepalive.position
 
-message_end : (position : ℕ) (message : Msg) → TellsEnd message → IsEnd position → IsEnd (raised_by_message position message)
+message_end : (position : ℕ) (message : Msg) → TellsEnd message → IsEnd position
+    → IsEnd (raised_by_message position message)
 message_end position (m.Begin final_lsn time xid) tells h = h
 message_end position (m.Commit lsn end_lsn time) tells h = greater_end position end_lsn h tells
 message_end position (m.Relation relation) tells h = h
@@ -73,19 +74,23 @@ item_end position Response tells h = h
 item_end position (Carries head message) tells h = message_end position message tells h
 item_end position (Alive keepalive) tells h = greater_end position keepalive.position h tells
 
-items_end : (position : ℕ) (items : List Item) → All ItemTellsEnd items → IsEnd position → IsEnd (position_after position items)
+items_end : (position : ℕ) (items : List Item) → All ItemTellsEnd items → IsEnd position
+    → IsEnd (position_after position items)
 items_end position [] tells h = h
 items_end position (item ∷ items) tells h =
-    items_end (raised_by position item) items (All-tail ItemTellsEnd item items tells) (item_end position item (All-head ItemTellsEnd item items tells) h)
+    items_end (raised_by position item) items (All-tail ItemTellsEnd item items tells)
+        (item_end position item (All-head ItemTellsEnd item items tells) h)
 
-if_end : (whole : Bool) (item : Item) (others : List Item) → ItemTellsEnd item → All ItemTellsEnd others → All ItemTellsEnd (if_whole whole item others)
+if_end : (whole : Bool) (item : Item) (others : List Item) → ItemTellsEnd item → All ItemTellsEnd others
+    → All ItemTellsEnd (if_whole whole item others)
 if_end true item others first later = All-cons ItemTellsEnd item others first later
 if_end false item others first later = All-nil ItemTellsEnd
 
 whole_end : (count : ℕ) (items : List Item) → All ItemTellsEnd items → All ItemTellsEnd (whole_in count items)
 whole_end count [] tells = All-nil ItemTellsEnd
 whole_end count (item ∷ items) tells =
-    if_end (nat_le (length (spelled item)) count) item (whole_in (count - length (spelled item)) items) (All-head ItemTellsEnd item items tells)
+    if_end (nat_le (length (spelled item)) count) item (whole_in (count - length (spelled item)) items)
+        (All-head ItemTellsEnd item items tells)
     (whole_end (count - length (spelled item)) items (All-tail ItemTellsEnd item items tells))
 
 -- ---- messages of a commit
@@ -99,11 +104,13 @@ module _ (P : ℕ → Type 0) where
   once_by tables true number = All-nil (TellsBy P)
   once_by tables false number = found_by number (slice_get tables number)
 
-  relations_by : (tables : List Table) (told : List Bool) (numbers : List ℕ) → All (TellsBy P) (relations_of tables told numbers)
+  relations_by : (tables : List Table) (told : List Bool) (numbers : List ℕ)
+      → All (TellsBy P) (relations_of tables told numbers)
   unfolding relations_of relation_once
   relations_by tables told [] = All-nil (TellsBy P)
   relations_by tables told (number ∷ numbers) =
-      All-append (TellsBy P) (introduced tables (slice_index_or told number false) number) (relations_of tables (told_one told number) numbers)
+      All-append (TellsBy P) (introduced tables (slice_index_or told number false) number)
+          (relations_of tables (told_one told number) numbers)
       (once_by tables (slice_index_or told number false) number) (relations_by tables (told_one told number) numbers)
 
   own_by : (change : r.ChangeOf) → All (TellsBy P) (message_of change)
@@ -113,50 +120,68 @@ module _ (P : ℕ → Type 0) where
   own_by (r.Delete table (Some part)) = All-cons (TellsBy P) (m.Delete _ _) [] tt (All-nil (TellsBy P))
   own_by (r.Truncate numbers) = All-cons (TellsBy P) (m.Truncate _ _) [] tt (All-nil (TellsBy P))
 
-  change_by : (tables : List Table) (told : List Bool) (change : Option r.ChangeOf) → All (TellsBy P) (said tables told change)
+  change_by : (tables : List Table) (told : List Bool) (change : Option r.ChangeOf)
+      → All (TellsBy P) (said tables told change)
   unfolding said
   change_by tables told None = All-nil (TellsBy P)
-  change_by tables told (Some change) = All-append (TellsBy P) (relations_of tables told (named_in change)) (message_of change) (relations_by tables told (named_in change)) (own_by change)
+  change_by tables told (Some change) =
+      All-append (TellsBy P) (relations_of tables told (named_in change)) (message_of change)
+      (relations_by tables told (named_in change)) (own_by change)
 
-  said_by : (checked : CheckedOf) (subscriber : ℕ) (told : List Bool) (changes : List r.ChangeOf) → All (TellsBy P) (said_each checked subscriber told changes)
+  said_by : (checked : CheckedOf) (subscriber : ℕ) (told : List Bool) (changes : List r.ChangeOf)
+      → All (TellsBy P) (said_each checked subscriber told changes)
   unfolding said_each
   said_by checked subscriber told [] = All-nil (TellsBy P)
   said_by checked subscriber told (change ∷ changes) =
-      All-append (TellsBy P) (said checked.catalog.tables told (got (setting_in checked) subscriber change)) (said_each checked subscriber (told_by told (got (setting_in checked) subscriber change)) changes)
-      (change_by checked.catalog.tables told (got (setting_in checked) subscriber change)) (said_by checked subscriber (told_by told (got (setting_in checked) subscriber change)) changes)
+      All-append (TellsBy P) (said checked.catalog.tables told (got (setting_in checked) subscriber change))
+          (said_each checked subscriber (told_by told (got (setting_in checked) subscriber change)) changes)
+      (change_by checked.catalog.tables told (got (setting_in checked) subscriber change))
+          (said_by checked subscriber (told_by told (got (setting_in checked) subscriber change)) changes)
 
-  enclosed_by : (commit : CommitOf) → P (end_of commit.number) → (messages : List Msg) → All (TellsBy P) messages → All (TellsBy P) (enclosed commit messages)
+  enclosed_by : (commit : CommitOf) → P (end_of commit.number) → (messages : List Msg) → All (TellsBy P) messages
+      → All (TellsBy P) (enclosed commit messages)
   enclosed_by commit here [] all = All-nil (TellsBy P)
   enclosed_by commit here (first ∷ others) all =
       All-cons (TellsBy P) (begin_of commit) ((first ∷ others) ++ commit_of commit ∷ []) tt
-      (All-append (TellsBy P) (first ∷ others) (commit_of commit ∷ []) all (All-cons (TellsBy P) (commit_of commit) [] here (All-nil (TellsBy P))))
+      (All-append (TellsBy P) (first ∷ others) (commit_of commit ∷ []) all
+          (All-cons (TellsBy P) (commit_of commit) [] here (All-nil (TellsBy P))))
 
-  pub messages_tell : (checked : CheckedOf) (subscriber : ℕ) (told : List Bool) (commit : CommitOf) → P (end_of commit.number) → All (TellsBy P) (messages_for checked subscriber told commit)
-  messages_tell checked subscriber told commit here = enclosed_by commit here (said_each checked subscriber told commit.changes) (said_by checked subscriber told commit.changes)
+  pub messages_tell : (checked : CheckedOf) (subscriber : ℕ) (told : List Bool) (commit : CommitOf)
+      → P (end_of commit.number) → All (TellsBy P) (messages_for checked subscriber told commit)
+  messages_tell checked subscriber told commit here =
+      enclosed_by commit here (said_each checked subscriber told commit.changes)
+      (said_by checked subscriber told commit.changes)
 
 -- ---- items of a stream
 
-carried_end : (number clock : ℕ) (messages : List Msg) (rest : List Item) → All TellsEnd messages → All ItemTellsEnd rest → All ItemTellsEnd (map (Carries (head_of number clock)) messages ++ rest)
+carried_end : (number clock : ℕ) (messages : List Msg) (rest : List Item) → All TellsEnd messages
+    → All ItemTellsEnd rest → All ItemTellsEnd (map (Carries (head_of number clock)) messages ++ rest)
 carried_end number clock [] rest all later = later
 carried_end number clock (message ∷ messages) rest all later =
-    All-cons ItemTellsEnd (Carries (head_of number clock) message) (map (Carries (head_of number clock)) messages ++ rest) (All-head TellsEnd message messages all)
+    All-cons ItemTellsEnd (Carries (head_of number clock) message)
+        (map (Carries (head_of number clock)) messages ++ rest) (All-head TellsEnd message messages all)
     (carried_end number clock messages rest (All-tail TellsEnd message messages all) later)
 
 module _ (checked : CheckedOf) (log : List CommitOf) where
   take_end : (moves : List Move) (place : Place) (clock : ℕ) (found : Option CommitOf) → IsEnd place.sent
       → ((at : Place) → IsEnd at.sent → All ItemTellsEnd (all_items checked log at moves))
-      → All ItemTellsEnd (take_items checked place found clock ++ all_items checked log (taken_place (telling_of checked) place found) moves)
+      → All ItemTellsEnd (take_items checked place found clock
+          ++ all_items checked log (taken_place (telling_of checked) place found) moves)
   take_end moves place clock None sent later = later place sent
   take_end moves place clock (Some commit) sent later =
-      carried_end commit.number clock (messages_for checked place.slot place.told commit) (all_items checked log (place_after (telling_of checked) place commit) moves)
+      carried_end commit.number clock (messages_for checked place.slot place.told commit)
+          (all_items checked log (place_after (telling_of checked) place commit) moves)
       (messages_tell IsEnd checked place.slot place.told commit (end_is commit.number))
       (later (place_after (telling_of checked) place commit) (end_is commit.number))
 
-  moves_end : (moves : List Move) (place : Place) → IsEnd place.sent → All ItemTellsEnd (all_items checked log place moves)
+  moves_end : (moves : List Move) (place : Place) → IsEnd place.sent
+      → All ItemTellsEnd (all_items checked log place moves)
   moves_end [] place sent = All-nil ItemTellsEnd
-  moves_end (s.Take clock ∷ moves) place sent = take_end moves place clock (slice_get log place.done) sent (λ at tells. moves_end moves at tells)
+  moves_end (s.Take clock ∷ moves) place sent =
+      take_end moves place clock (slice_get log place.done) sent (λ at tells. moves_end moves at tells)
   moves_end (s.Keep clock want ∷ moves) place sent =
-      All-cons ItemTellsEnd (Alive (record { position = place.sent; clock = clock; wants_reply = want })) (all_items checked log place moves) sent (moves_end moves place sent)
+      All-cons ItemTellsEnd (Alive (record { position = place.sent; clock = clock; wants_reply = want }))
+          (all_items checked log place moves) sent (moves_end moves place sent)
 
 first_end : (position : ℕ) → IsEnd position → IsEnd (if position == 0 then 64 else position)
 first_end position h = by_test (position == 0)
@@ -164,10 +189,13 @@ first_end position h = by_test (position == 0)
     (λ more. subst IsEnd (sym (ap (λ b. if b then 64 else position) more)) h)
 
 -- the position after the items of a stream that are whole in some bytes
-pub stream_end : (checked : CheckedOf) (log : List CommitOf) (subscriber start : ℕ) (moves : List Move) (count position : ℕ) → IsEnd start → IsEnd position
+pub stream_end : (checked : CheckedOf) (log : List CommitOf) (subscriber start : ℕ) (moves : List Move)
+    (count position : ℕ) → IsEnd start → IsEnd position
     → IsEnd (position_after position (whole_in count (stream_items checked log subscriber start moves)))
 stream_end checked log subscriber start moves count position begins h =
     items_end position (whole_in count (stream_items checked log subscriber start moves))
     (whole_end count (stream_items checked log subscriber start moves)
-    (All-cons ItemTellsEnd Response (all_items checked log (place_at subscriber (length checked.catalog.tables) start) moves) tt
-    (moves_end checked log moves (place_at subscriber (length checked.catalog.tables) start) (first_end start begins)))) h
+    (All-cons ItemTellsEnd Response
+        (all_items checked log (place_at subscriber (length checked.catalog.tables) start) moves) tt
+    (moves_end checked log moves (place_at subscriber (length checked.catalog.tables) start)
+        (first_end start begins)))) h

@@ -49,17 +49,21 @@ pub ok_of : {A E : Type 0} (one other : A) → ◌≡◌ {A = Result A E} (Ok on
 ok_of one other e = cc
 
 -- a step on a connection of this kind, and what it leaves
-pub steps_to : (case : Case) (event : PeerEvent) (answer : Answer) (slots : List Slot) (code : PeerOf) (connection : Option Connection) → (peer_of case).connection ≡ connection
+pub steps_to : (case : Case) (event : PeerEvent) (answer : Answer) (slots : List Slot) (code : PeerOf)
+    (connection : Option Connection) → (peer_of case).connection ≡ connection
     → answer ≡ (peer_step (source_of case) case.now event (peer_of case) connection).0
     → PeerIs (source_of case) slots code (peer_step (source_of case) case.now event (peer_of case) connection).1
     → StepsTo case event answer slots code
 steps_to case event answer slots code connection is answer_is peer_is = record {
   answer_is = answer_is ∙ ap (λ its. (peer_step (source_of case) case.now event (peer_of case) its).0) (sym is);
-  peer_is = subst (λ its. PeerIs (source_of case) slots code (peer_step (source_of case) case.now event (peer_of case) its).1) (sym is) peer_is;
+  peer_is = subst (λ its. PeerIs (source_of case) slots code
+      (peer_step (source_of case) case.now event (peer_of case) its).1) (sym is) peer_is;
 }
 
-pub still_named : (case : Case) (before after : Subscriber) → IsNamed case.checked case.number before → SameNames before after → IsNamed case.checked case.number after
-still_named case before after named same = record { slot = same.slot ∙ named.slot; publications = same.publications ∙ named.publications }
+pub still_named : (case : Case) (before after : Subscriber) → IsNamed case.checked case.number before
+    → SameNames before after → IsNamed case.checked case.number after
+still_named case before after named same =
+    record { slot = same.slot ∙ named.slot; publications = same.publications ∙ named.publications }
 
 -- ---- open
 
@@ -69,16 +73,22 @@ query_fits text fits = by_test (nat_lt 65531 (length text))
     (λ long. absurd (omega (arith, fits, ltb-true 65531 (length text) long)))
     (λ short. rw short refl)
 
-pub asked_bytes : (case : Case) → IsCase case → (before : Subscriber) → IsNamed case.checked case.number before → StaysAlike (sub_machine before) (peer_of case).machine
-    → start_query (sub_slot before) (sub_publications before) (sub_machine before).position ≡ Ok (spelled_up case.checked case.number (w.Asks (peer_of case).position))
+pub asked_bytes : (case : Case) → IsCase case → (before : Subscriber) → IsNamed case.checked case.number before
+    → StaysAlike (sub_machine before) (peer_of case).machine
+    → start_query (sub_slot before) (sub_publications before) (sub_machine before).position
+        ≡ Ok (spelled_up case.checked case.number (w.Asks (peer_of case).position))
 asked_bytes case is before named stays =
-    let at : (sub_machine before).position ≡ (peer_of case).position = stays.position ∙ (case_good case is).follows.position_is in
+    let at : (sub_machine before).position ≡ (peer_of case).position = stays.position
+        ∙ (case_good case is).follows.position_is in
     ap (λ slot. start_query slot (sub_publications before) (sub_machine before).position) named.slot
-    ∙ ap (λ names. start_query (w.subscription_name (slice_get case.checked.catalog.subscriptions case.number)) names (sub_machine before).position) named.publications
+    ∙ ap (λ names. start_query (w.subscription_name (slice_get case.checked.catalog.subscriptions case.number)) names
+        (sub_machine before).position) named.publications
     ∙ ap (λ position. query_of (start_of case.checked.catalog case.number position)) at
-    ∙ query_fits (start_of case.checked.catalog case.number (peer_of case).position) ((case_asks case is).fits (peer_of case).position (opened_small case is))
+    ∙ query_fits (start_of case.checked.catalog case.number (peer_of case).position)
+        ((case_asks case is).fits (peer_of case).position (opened_small case is))
 
-asks_ok : (answer : Result (List ℕ) SubFault) (bytes old new : List ℕ) → answer ≡ Ok bytes → Asks answer old new → new ≡ old ++ bytes
+asks_ok : (answer : Result (List ℕ) SubFault) (bytes old new : List ℕ) → answer ≡ Ok bytes → Asks answer old new
+    → new ≡ old ++ bytes
 asks_ok (Ok found) bytes old new e asks = asks ∙ ap (λ more. old ++ more) (ok_of found bytes e)
 asks_ok (Err fault) bytes old new e asks = absurd asks
 
@@ -91,10 +101,12 @@ opens case is slots old link after stands none new opened_is =
       at = record {
         heard = omega arith;
         delivered = omega arith;
-        sends = asks_ok _ (spelled_up case.checked case.number (w.Asks (peer_of case).position)) [] (sub_output after) (asked_bytes case is old.subscriber stands.named apart.machine) opened_is.output
+        sends = asks_ok _ (spelled_up case.checked case.number (w.Asks (peer_of case).position)) [] (sub_output after)
+            (asked_bytes case is old.subscriber stands.named apart.machine) opened_is.output
             ∙ sym (append-nil (spelled_up case.checked case.number (w.Asks (peer_of case).position)));
         held = opened_is.held ∙ sym (ap rest_of (cut_nothing limit));
-        machine = subst (λ all. AlikeBut (sub_machine after) (hear_cut all (opened (peer_of case).machine)).machine) (sym (cut_nothing limit)) (record {
+        machine = subst (λ all. AlikeBut (sub_machine after) (hear_cut all (opened (peer_of case).machine)).machine)
+            (sym (cut_nothing limit)) (record {
           phase = opened_is.machine.phase;
           position = opened_is.machine.position ∙ apart.machine.position;
           kept = λ oid. opened_is.machine.kept oid ∙ apart.machine.kept oid;
@@ -120,11 +132,15 @@ opens case is slots old link after stands none new opened_is =
 
 -- what a status adds to what is sent
 ups_more : (case : Case) (c : Connection) (status : Status)
-    → up_bytes (source_of case) (peer_of case) (record c { reports = c.reports ++ status ∷ [] }) ≡ up_bytes (source_of case) (peer_of case) c ++ spelled_up case.checked case.number (w.Says status)
+    → up_bytes (source_of case) (peer_of case) (record c { reports = c.reports ++ status ∷ [] })
+        ≡ up_bytes (source_of case) (peer_of case) c ++ spelled_up case.checked case.number (w.Says status)
 ups_more case c status =
-    ap (λ ups. flat_map (spelled_up case.checked case.number) (w.Asks (peer_of case).position ∷ ups)) (map-append w.Says c.reports (status ∷ []))
-    ∙ flat_map-append (spelled_up case.checked case.number) (w.Asks (peer_of case).position ∷ map w.Says c.reports) (w.Says status ∷ [])
-    ∙ ap (λ more. up_bytes (source_of case) (peer_of case) c ++ more) (append-nil (spelled_up case.checked case.number (w.Says status)))
+    ap (λ ups. flat_map (spelled_up case.checked case.number) (w.Asks (peer_of case).position ∷ ups))
+        (map-append w.Says c.reports (status ∷ []))
+    ∙ flat_map-append (spelled_up case.checked case.number) (w.Asks (peer_of case).position ∷ map w.Says c.reports)
+        (w.Says status ∷ [])
+    ∙ ap (λ more. up_bytes (source_of case) (peer_of case) c ++ more)
+        (append-nil (spelled_up case.checked case.number (w.Says status)))
 
 pub reports : ReportsStep
 reports case is slots old link after want stands some reported_is =
@@ -132,19 +148,28 @@ reports case is slots old link after want stands some reported_is =
     let linked = here.linked in
     let c = here.c in
     let at : (sub_machine old.subscriber).position ≡ position_now (source_of case) (peer_of case) =
-    linked.machine.position ∙ ap (λ connection. (w.machine_in (source_of case) (peer_of case) connection).position) (sym here.some) ∙ (case_follows case is).position_is in
+    linked.machine.position
+        ∙ ap (λ connection. (w.machine_in (source_of case) (peer_of case) connection).position) (sym here.some)
+        ∙ (case_follows case is).position_is in
     let status : Status = status_at (position_now (source_of case) (peer_of case)) case.now want in
     let more = ups_more case c status in
-    steps_to case (w.Report want) Reported slots (record { link = old.link; subscriber = after }) (Some c) here.some refl (record {
+    steps_to case (w.Report want) Reported slots (record { link = old.link; subscriber = after }) (Some c) here.some
+        refl (record {
       named = still_named case old.subscriber after stands.named reported_is.names;
-      at = subst (λ its. IsAt (source_of case) slots its after (with_connection (peer_of case) (record c { reports = c.reports ++ status ∷ [] })) (Some (record c { reports = c.reports ++ status ∷ [] }))) (sym some) (record {
+      at = subst (λ its. IsAt (source_of case) slots its after
+          (with_connection (peer_of case) (record c { reports = c.reports ++ status ∷ [] }))
+          (Some (record c { reports = c.reports ++ status ∷ [] }))) (sym some) (record {
         heard = subst (λ bytes. c.heard ≤ length bytes) (sym more)
-            (omega (arith, linked.heard, length-append (up_bytes (source_of case) (peer_of case) c) (spelled_up case.checked case.number (w.Says status))));
+            (omega (arith, linked.heard,
+                length-append (up_bytes (source_of case) (peer_of case) c)
+                (spelled_up case.checked case.number (w.Says status))));
         delivered = linked.delivered;
         sends = reported_is.output
-            ∙ ap (λ position. sub_output old.subscriber ++ spelled_up case.checked case.number (w.Says (status_at position case.now want))) at
+            ∙ ap (λ position. sub_output old.subscriber
+                ++ spelled_up case.checked case.number (w.Says (status_at position case.now want))) at
             ∙ ap (λ bytes. bytes ++ spelled_up case.checked case.number (w.Says status)) linked.sends
-            ∙ sym (drop-append-le c.heard (up_bytes (source_of case) (peer_of case) c) (spelled_up case.checked case.number (w.Says status)) linked.heard)
+            ∙ sym (drop-append-le c.heard (up_bytes (source_of case) (peer_of case) c)
+                (spelled_up case.checked case.number (w.Says status)) linked.heard)
             ∙ ap (drop c.heard) (sym more);
         held = reported_is.held ∙ linked.held;
         machine = record {
@@ -162,8 +187,13 @@ reports case is slots old link after want stands some reported_is =
           started = linked.hears.started;
           asked = linked.hears.asked;
           statuses = All-append IsOneStatus c.reports (status ∷ []) linked.hears.statuses
-              (All-cons IsOneStatus status [] (record { written = refl; applied = refl; timed = is.timed }) (All-nil IsOneStatus));
-          held = linked.hears.held ∙ ap (λ bytes. rest_of (cut 65536 bytes)) (sym (ap (take c.heard) more ∙ take-append-le c.heard (up_bytes (source_of case) (peer_of case) c) (spelled_up case.checked case.number (w.Says status)) linked.heard));
+              (All-cons IsOneStatus status [] (record { written = refl; applied = refl; timed = is.timed })
+                  (All-nil IsOneStatus));
+          held = linked.hears.held
+              ∙ ap (λ bytes. rest_of (cut 65536 bytes))
+              (sym (ap (take c.heard) more
+              ∙ take-append-le c.heard (up_bytes (source_of case) (peer_of case) c)
+              (spelled_up case.checked case.number (w.Says status)) linked.heard));
         };
         speaks = linked.speaks;
         slot = linked.slot;
@@ -188,7 +218,8 @@ stream_grows case start moves move =
           ∙ ap (λ bytes. bytes ++ flat_map spelled grown.more) (sym (bytes_of_items (source_of case) start moves));
     }
 
-pub same_ear : (case : Case) (c : Connection) (old new : Link) → Hears (source_of case) old (peer_of case) c → IsSameEar (link_ear old) (link_ear new)
+pub same_ear : (case : Case) (c : Connection) (old new : Link) → Hears (source_of case) old (peer_of case) c
+    → IsSameEar (link_ear old) (link_ear new)
     → Hears (source_of case) new (peer_of case) c
 same_ear case c old new hears same = record {
   checked_is = same.checked ∙ hears.checked_is;
@@ -200,21 +231,27 @@ same_ear case c old new hears same = record {
 }
 
 -- a move more, and a subscriber that was fed nothing
-moves_linked : (case : Case) (slots : List Slot) (old new : Link) (subscriber : Subscriber) (c : Connection) (move : Move) (start : ℕ) → c.start ≡ Some start
+moves_linked : (case : Case) (slots : List Slot) (old new : Link) (subscriber : Subscriber) (c : Connection)
+    (move : Move) (start : ℕ) → c.start ≡ Some start
     → IsLinked (source_of case) slots old subscriber (peer_of case) c
     → IsSameEar (link_ear old) (link_ear new) → link_checked new ≡ case.checked
     → Speaks (source_of case) new (c.moves ++ move ∷ []) c.delivered (Some start)
-    → IsLinked (source_of case) slots new subscriber (moves_on (peer_of case) c move) (record c { moves = c.moves ++ move ∷ [] })
+    → IsLinked (source_of case) slots new subscriber (moves_on (peer_of case) c move)
+        (record c { moves = c.moves ++ move ∷ [] })
 moves_linked case slots old new subscriber c move start at linked same checked_is speaks =
     let grown = stream_grows case c.start c.moves move in
-    let first : take c.delivered (down_bytes (source_of case) c.start (c.moves ++ move ∷ [])) ≡ take c.delivered (down_of (source_of case) c) =
-    ap (take c.delivered) grown.is ∙ take-append-le c.delivered (down_of (source_of case) c) grown.more linked.delivered in
+    let first : take c.delivered (down_bytes (source_of case) c.start (c.moves ++ move ∷ []))
+        ≡ take c.delivered (down_of (source_of case) c) =
+    ap (take c.delivered) grown.is
+        ∙ take-append-le c.delivered (down_of (source_of case) c) grown.more linked.delivered in
     record {
       heard = linked.heard;
-      delivered = subst (λ bytes. c.delivered ≤ length bytes) (sym grown.is) (omega (arith, linked.delivered, length-append (down_of (source_of case) c) grown.more));
+      delivered = subst (λ bytes. c.delivered ≤ length bytes) (sym grown.is)
+          (omega (arith, linked.delivered, length-append (down_of (source_of case) c) grown.more));
       sends = linked.sends;
       held = linked.held ∙ ap (λ bytes. rest_of (cut limit bytes)) (sym first);
-      machine = subst (λ bytes. AlikeBut (sub_machine subscriber) (hear_cut (cut limit bytes) (opened (peer_of case).machine)).machine) (sym first) linked.machine;
+      machine = subst (λ bytes. AlikeBut (sub_machine subscriber)
+          (hear_cut (cut limit bytes) (opened (peer_of case).machine)).machine) (sym first) linked.machine;
       checked_is = checked_is;
       hears = record {
         checked_is = same.checked ∙ linked.hears.checked_is;
@@ -230,21 +267,25 @@ moves_linked case slots old new subscriber c move start at linked same checked_i
 
 -- ---- keepalives
 
-run_more : (case : Case) (start : ℕ) (moves : List Move) (delivered : ℕ) (move : Move) → delivered ≤ length (down_bytes (source_of case) (Some start) moves)
+run_more : (case : Case) (start : ℕ) (moves : List Move) (delivered : ℕ) (move : Move)
+    → delivered ≤ length (down_bytes (source_of case) (Some start) moves)
     → record (run_of (source_of case) start moves delivered) { moves = moves ++ move ∷ [] }
     ≡ run_of (source_of case) start (moves ++ move ∷ []) delivered
 run_more case start moves delivered move within =
     let grown = stream_grows case (Some start) moves move in
     ap (λ passed. record (run_of (source_of case) start (moves ++ move ∷ []) delivered) { passed = passed })
-    (sym (ap (take delivered) grown.is ∙ take-append-le delivered (down_bytes (source_of case) (Some start) moves) grown.more within))
+    (sym (ap (take delivered) grown.is
+        ∙ take-append-le delivered (down_bytes (source_of case) (Some start) moves) grown.more within))
 
 -- where a connection with a start is
 pub record Streaming (case : Case) (link : Link) (c : Connection) (start : ℕ) : Type 0 where
   pub at : c.start ≡ Some start
   pub within : c.delivered ≤ length (down_bytes (source_of case) (Some start) c.moves)
-  pub streams : IsStreaming link (run_of (source_of case) start c.moves c.delivered) (place_of (source_of case) start c.moves)
+  pub streams : IsStreaming link (run_of (source_of case) start c.moves c.delivered)
+      (place_of (source_of case) start c.moves)
 
-streaming : (case : Case) (slots : List Slot) (link : Link) (subscriber : Subscriber) (c : Connection) (start : ℕ) → c.start ≡ Some start
+streaming : (case : Case) (slots : List Slot) (link : Link) (subscriber : Subscriber) (c : Connection) (start : ℕ)
+    → c.start ≡ Some start
     → IsLinked (source_of case) slots link subscriber (peer_of case) c → Streaming case link c start
 streaming case slots link subscriber c start at linked = record {
   at = at;
@@ -256,19 +297,25 @@ streaming case slots link subscriber c start at linked = record {
 abbrev pub with_link : PeerOf → Link → PeerOf
 with_link code link = record code { link = Some link }
 
-moved_peer : (case : Case) (slots : List Slot) (old : PeerOf) (link new : Link) (c : Connection) (move : Move) (start : ℕ) → IsNamed case.checked case.number old.subscriber → c.start ≡ Some start
-    → IsLinked (source_of case) slots link old.subscriber (peer_of case) c → IsSameEar (link_ear link) (link_ear new) → link_checked new ≡ case.checked
+moved_peer : (case : Case) (slots : List Slot) (old : PeerOf) (link new : Link) (c : Connection) (move : Move)
+    (start : ℕ) → IsNamed case.checked case.number old.subscriber → c.start ≡ Some start
+    → IsLinked (source_of case) slots link old.subscriber (peer_of case) c → IsSameEar (link_ear link) (link_ear new)
+    → link_checked new ≡ case.checked
     → IsStreaming new (record (run_of (source_of case) start c.moves c.delivered) { moves = c.moves ++ move ∷ [] })
     (place_of (source_of case) start (c.moves ++ move ∷ []))
     → PeerIs (source_of case) slots (with_link old new) (moves_on (peer_of case) c move)
 moved_peer case slots old link new c move start named at linked same checked_is streams = record {
   named = named;
   at = moves_linked case slots link new old.subscriber c move start at linked same checked_is
-      (subst (λ run. IsStreaming new run (place_of (source_of case) start (c.moves ++ move ∷ []))) (run_more case start c.moves c.delivered move (streaming case slots link old.subscriber c start at linked).within) streams);
+      (subst (λ run. IsStreaming new run (place_of (source_of case) start (c.moves ++ move ∷ [])))
+          (run_more case start c.moves c.delivered move
+          (streaming case slots link old.subscriber c start at linked).within) streams);
 }
 
-still_linked : (case : Case) (slots : List Slot) (link new : Link) (subscriber : Subscriber) (c : Connection) → IsLinked (source_of case) slots link subscriber (peer_of case) c
-    → IsSameEar (link_ear link) (link_ear new) → link_checked new ≡ case.checked → Speaks (source_of case) new c.moves c.delivered c.start
+still_linked : (case : Case) (slots : List Slot) (link new : Link) (subscriber : Subscriber) (c : Connection)
+    → IsLinked (source_of case) slots link subscriber (peer_of case) c
+    → IsSameEar (link_ear link) (link_ear new) → link_checked new ≡ case.checked
+    → Speaks (source_of case) new c.moves c.delivered c.start
     → IsLinked (source_of case) slots new subscriber (peer_of case) c
 still_linked case slots link new subscriber c linked same checked_is speaks = record {
   heard = linked.heard;
@@ -282,23 +329,29 @@ still_linked case slots link new subscriber c linked same checked_is speaks = re
   slot = linked.slot;
 }
 
-keeps_by : (case : Case) (slots : List Slot) (old : PeerOf) (link new : Link) (c : Connection) (want : Bool) (start : Option ℕ) → IsNamed case.checked case.number old.subscriber
-    → (peer_of case).connection ≡ Some c → c.start ≡ start → IsLinked (source_of case) slots link old.subscriber (peer_of case) c
-    → LinkSays link new (kept_bytes (link_stage link) case.now want) (link_stage link) → (said : Bool) → Ok said ≡ keep_answer (link_stage link)
+keeps_by : (case : Case) (slots : List Slot) (old : PeerOf) (link new : Link) (c : Connection) (want : Bool)
+    (start : Option ℕ) → IsNamed case.checked case.number old.subscriber
+    → (peer_of case).connection ≡ Some c → c.start ≡ start
+    → IsLinked (source_of case) slots link old.subscriber (peer_of case) c
+    → LinkSays link new (kept_bytes (link_stage link) case.now want) (link_stage link) → (said : Bool)
+    → Ok said ≡ keep_answer (link_stage link)
     → StepsTo case (w.Keep want) (kept_or_not said) slots (with_link old new)
 keeps_by case slots old link new c want None named some at linked says said answer =
     let silent : IsSilent link c.moves = subst (Speaks (source_of case) link c.moves c.delivered) at linked.speaks in
     let not : said ≡ false = ok_of said false (answer ∙ ap keep_answer silent.stage_is) in
-    let nothing : kept_bytes (link_stage link) case.now want ≡ [] = ap (λ stage. kept_bytes stage case.now want) silent.stage_is in
+    let nothing : kept_bytes (link_stage link) case.now want ≡ [] =
+        ap (λ stage. kept_bytes stage case.now want) silent.stage_is in
     steps_to case (w.Keep want) (kept_or_not said) slots (with_link old new) (Some c) some
     (ap kept_or_not not ∙ sym (ap (λ its. (keep_step case.now want (peer_of case) c its).0) at))
-    (subst (λ its. PeerIs (source_of case) slots (with_link old new) (keep_step case.now want (peer_of case) c its).1) (sym at) (record {
+    (subst (λ its. PeerIs (source_of case) slots (with_link old new) (keep_step case.now want (peer_of case) c its).1)
+        (sym at) (record {
       named = named;
       at = subst (IsAt (source_of case) slots (Some new) old.subscriber (peer_of case)) (sym some)
           (still_linked case slots link new old.subscriber c linked says.ear (says.voice.checked ∙ linked.checked_is)
           (subst (Speaks (source_of case) new c.moves c.delivered) (sym at) (record {
             stage_is = says.voice.stage_is ∙ silent.stage_is;
-            output = says.voice.output ∙ ap (λ bytes. link_output link ++ bytes) nothing ∙ append-nil (link_output link) ∙ silent.output;
+            output = says.voice.output ∙ ap (λ bytes. link_output link ++ bytes) nothing
+                ∙ append-nil (link_output link) ∙ silent.output;
             none = silent.none;
           })));
     }))
@@ -307,10 +360,15 @@ keeps_by case slots old link new c want (Some start) named some at linked says s
     let does : said ≡ true = ok_of said true (answer ∙ ap keep_answer streams.streams.stage_is) in
     steps_to case (w.Keep want) (kept_or_not said) slots (with_link old new) (Some c) some
     (ap kept_or_not does ∙ sym (ap (λ its. (keep_step case.now want (peer_of case) c its).0) at))
-    (subst (λ its. PeerIs (source_of case) slots (with_link old new) (keep_step case.now want (peer_of case) c its).1) (sym at)
-    (moved_peer case slots old link new c (s.Keep case.now want) start named at linked says.ear (says.voice.checked ∙ linked.checked_is)
-    (subst (IsStreaming new _) (sym (moved_append case.checked (log_in (source_of case)) (place_at case.number (length case.checked.catalog.tables) start) c.moves (s.Keep case.now want)))
-    (keeps_on link new (run_of (source_of case) start c.moves c.delivered) (place_of (source_of case) start c.moves) case.now want streams.streams says))))
+    (subst (λ its. PeerIs (source_of case) slots (with_link old new) (keep_step case.now want (peer_of case) c its).1)
+        (sym at)
+    (moved_peer case slots old link new c (s.Keep case.now want) start named at linked says.ear
+        (says.voice.checked ∙ linked.checked_is)
+    (subst (IsStreaming new _)
+        (sym (moved_append case.checked (log_in (source_of case))
+        (place_at case.number (length case.checked.catalog.tables) start) c.moves (s.Keep case.now want)))
+    (keeps_on link new (run_of (source_of case) start c.moves c.delivered) (place_of (source_of case) start c.moves)
+        case.now want streams.streams says))))
 
 pub keeps : KeepsStep
 keeps case slots old link new want stands some says said answer =
@@ -319,72 +377,109 @@ keeps case slots old link new want stands some says said answer =
 
 -- ---- commits
 
-took_is : (number : ℕ) (messages : List Msg) → answer_of (taken_of number (map spelling_of messages)) ≡ took number messages
+took_is : (number : ℕ) (messages : List Msg)
+    → answer_of (taken_of number (map spelling_of messages)) ≡ took number messages
 took_is number [] = refl
 took_is number (message ∷ messages) = refl
 
-takes_by : (case : Case) (slots : List Slot) (old : PeerOf) (link new : Link) (c : Connection) (start : ℕ) → IsNamed case.checked case.number old.subscriber
-    → (peer_of case).connection ≡ Some c → c.start ≡ Some start → IsLinked (source_of case) slots link old.subscriber (peer_of case) c
-    → LinkSays link new (next_bytes (link_checked link) (link_stage link) (log_in (source_of case)) case.now) (next_stage (link_checked link) (link_stage link) (log_in (source_of case)) case.now)
+takes_by : (case : Case) (slots : List Slot) (old : PeerOf) (link new : Link) (c : Connection) (start : ℕ)
+    → IsNamed case.checked case.number old.subscriber
+    → (peer_of case).connection ≡ Some c → c.start ≡ Some start
+    → IsLinked (source_of case) slots link old.subscriber (peer_of case) c
+    → LinkSays link new (next_bytes (link_checked link) (link_stage link) (log_in (source_of case)) case.now)
+        (next_stage (link_checked link) (link_stage link) (log_in (source_of case)) case.now)
     → (found : Taken) → Ok found ≡ next_answer (link_checked link) (link_stage link) (log_in (source_of case))
-    → (next : Option CommitOf) → slice_get (log_in (source_of case)) (place_of (source_of case) start c.moves).done ≡ next
+    → (next : Option CommitOf)
+    → slice_get (log_in (source_of case)) (place_of (source_of case) start c.moves).done ≡ next
     → StepsTo case w.Take (answer_of found) slots (with_link old new)
 takes_by case slots old link new c start named some at linked says found answer next is =
     let log = log_in (source_of case) in
     let place = place_of (source_of case) start c.moves in
     let streams = streaming case slots link old.subscriber c start at linked in
-    let goes = takes_on link new (run_of (source_of case) start c.moves c.delivered) place case.now streams.streams says in
+    let goes = takes_on link new (run_of (source_of case) start c.moves c.delivered) place case.now streams.streams
+        says in
     let told : Ok found ≡ found_answer case.checked place next =
-    answer ∙ ap (λ checked. next_answer checked (link_stage link) log) linked.checked_is ∙ ap (λ stage. next_answer case.checked stage log) streams.streams.stage_is
+    answer ∙ ap (λ checked. next_answer checked (link_stage link) log) linked.checked_is
+        ∙ ap (λ stage. next_answer case.checked stage log) streams.streams.stage_is
     ∙ ap (found_answer case.checked place) is in
     steps_to case w.Take (answer_of found) slots (with_link old new) (Some c) some
-    (answered next told ∙ sym (ap (λ its. (take_step (source_of case) case.now (peer_of case) c its).0) at ∙ ap (λ its. (w.takes case.checked case.now (peer_of case) c place its).0) is))
-    (subst (λ its. PeerIs (source_of case) slots (with_link old new) (take_step (source_of case) case.now (peer_of case) c its).1) (sym at)
-    (subst (λ its. PeerIs (source_of case) slots (with_link old new) (w.takes case.checked case.now (peer_of case) c place its).1) (sym is)
+    (answered next told ∙ sym
+        (ap (λ its. (take_step (source_of case) case.now (peer_of case) c its).0) at
+        ∙ ap (λ its. (w.takes case.checked case.now (peer_of case) c place its).0) is))
+    (subst (λ its. PeerIs (source_of case) slots (with_link old new)
+        (take_step (source_of case) case.now (peer_of case) c its).1) (sym at)
+    (subst (λ its. PeerIs (source_of case) slots (with_link old new)
+        (w.takes case.checked case.now (peer_of case) c place its).1) (sym is)
     (left next is goes)))
   where
-    answered : (its : Option CommitOf) → Ok found ≡ found_answer case.checked (place_of (source_of case) start c.moves) its
-        → answer_of found ≡ (w.takes case.checked case.now (peer_of case) c (place_of (source_of case) start c.moves) its).0
+    answered : (its : Option CommitOf)
+        → Ok found ≡ found_answer case.checked (place_of (source_of case) start c.moves) its
+        → answer_of found ≡ (w.takes case.checked case.now (peer_of case) c (place_of (source_of case) start c.moves)
+            its).0
     answered None e = ap answer_of (ok_of found taken.Idle e)
     answered (Some commit) e =
         let place = place_of (source_of case) start c.moves in
         ap answer_of (ok_of found (taken_of commit.number (spelled_for case.checked place.slot place.told commit)) e)
         ∙ took_is commit.number (messages_for case.checked place.slot place.told commit)
 
-    left : (its : Option CommitOf) → slice_get (log_in (source_of case)) (place_of (source_of case) start c.moves).done ≡ its
-        → IsStreaming new (with_moves (run_of (source_of case) start c.moves c.delivered) (links.took (slice_get (log_in (source_of case)) (place_of (source_of case) start c.moves).done) case.now))
-        (moved (telling_of case.checked) (log_in (source_of case)) (place_of (source_of case) start c.moves) (s.Take case.now))
-        → PeerIs (source_of case) slots (with_link old new) (w.takes case.checked case.now (peer_of case) c (place_of (source_of case) start c.moves) its).1
+    left : (its : Option CommitOf)
+        → slice_get (log_in (source_of case)) (place_of (source_of case) start c.moves).done ≡ its
+        → IsStreaming new (with_moves (run_of (source_of case) start c.moves c.delivered)
+            (links.took (slice_get (log_in (source_of case)) (place_of (source_of case) start c.moves).done)
+            case.now))
+        (moved (telling_of case.checked) (log_in (source_of case)) (place_of (source_of case) start c.moves)
+            (s.Take case.now))
+        → PeerIs (source_of case) slots (with_link old new)
+            (w.takes case.checked case.now (peer_of case) c (place_of (source_of case) start c.moves) its).1
     left None e goes = record {
       named = named;
       at = subst (IsAt (source_of case) slots (Some new) old.subscriber (peer_of case)) (sym some)
           (still_linked case slots link new old.subscriber c linked says.ear (says.voice.checked ∙ linked.checked_is)
           (subst (Speaks (source_of case) new c.moves c.delivered) (sym at)
-          (subst (λ moves. IsStreaming new (record (run_of (source_of case) start c.moves c.delivered) { moves = moves }) (place_of (source_of case) start c.moves)) (append-nil c.moves)
-          (subst (λ found. IsStreaming new (with_moves (run_of (source_of case) start c.moves c.delivered) (links.took found case.now)) (taken_place (telling_of case.checked) (place_of (source_of case) start c.moves) found)) e goes))));
+          (subst (λ moves. IsStreaming new
+              (record (run_of (source_of case) start c.moves c.delivered) { moves = moves })
+              (place_of (source_of case) start c.moves)) (append-nil c.moves)
+          (subst (λ found. IsStreaming new
+              (with_moves (run_of (source_of case) start c.moves c.delivered) (links.took found case.now))
+              (taken_place (telling_of case.checked) (place_of (source_of case) start c.moves) found)) e goes))));
     }
     left (Some commit) e goes =
-        moved_peer case slots old link new c (s.Take case.now) start named at linked says.ear (says.voice.checked ∙ linked.checked_is)
-        (subst (IsStreaming new _) (sym (moved_append case.checked (log_in (source_of case)) (place_at case.number (length case.checked.catalog.tables) start) c.moves (s.Take case.now)))
-        (subst (λ found. IsStreaming new (with_moves (run_of (source_of case) start c.moves c.delivered) (links.took found case.now))
-        (moved (telling_of case.checked) (log_in (source_of case)) (place_of (source_of case) start c.moves) (s.Take case.now))) e goes))
+        moved_peer case slots old link new c (s.Take case.now) start named at linked says.ear
+            (says.voice.checked ∙ linked.checked_is)
+        (subst (IsStreaming new _)
+            (sym (moved_append case.checked (log_in (source_of case))
+            (place_at case.number (length case.checked.catalog.tables) start) c.moves (s.Take case.now)))
+        (subst (λ found. IsStreaming new
+            (with_moves (run_of (source_of case) start c.moves c.delivered) (links.took found case.now))
+        (moved (telling_of case.checked) (log_in (source_of case)) (place_of (source_of case) start c.moves)
+            (s.Take case.now))) e goes))
 
-takes_before : (case : Case) (slots : List Slot) (old : PeerOf) (link new : Link) (c : Connection) → IsNamed case.checked case.number old.subscriber
-    → (peer_of case).connection ≡ Some c → c.start ≡ None → IsLinked (source_of case) slots link old.subscriber (peer_of case) c
-    → LinkSays link new (next_bytes (link_checked link) (link_stage link) (log_in (source_of case)) case.now) (next_stage (link_checked link) (link_stage link) (log_in (source_of case)) case.now)
-    → (found : Taken) → Ok found ≡ next_answer (link_checked link) (link_stage link) (log_in (source_of case)) → StepsTo case w.Take (answer_of found) slots (with_link old new)
+takes_before : (case : Case) (slots : List Slot) (old : PeerOf) (link new : Link) (c : Connection)
+    → IsNamed case.checked case.number old.subscriber
+    → (peer_of case).connection ≡ Some c → c.start ≡ None
+    → IsLinked (source_of case) slots link old.subscriber (peer_of case) c
+    → LinkSays link new (next_bytes (link_checked link) (link_stage link) (log_in (source_of case)) case.now)
+        (next_stage (link_checked link) (link_stage link) (log_in (source_of case)) case.now)
+    → (found : Taken) → Ok found ≡ next_answer (link_checked link) (link_stage link) (log_in (source_of case))
+    → StepsTo case w.Take (answer_of found) slots (with_link old new)
 takes_before case slots old link new c named some at linked says found answer =
     let log = log_in (source_of case) in
     let silent : IsSilent link c.moves = subst (Speaks (source_of case) link c.moves c.delivered) at linked.speaks in
     steps_to case w.Take (answer_of found) slots (with_link old new) (Some c) some
-    (ap answer_of (ok_of found taken.NotStarted (answer ∙ ap (λ stage. next_answer (link_checked link) stage log) silent.stage_is)) ∙ sym (ap (λ its. (take_step (source_of case) case.now (peer_of case) c its).0) at))
-    (subst (λ its. PeerIs (source_of case) slots (with_link old new) (take_step (source_of case) case.now (peer_of case) c its).1) (sym at) (record {
+    (ap answer_of (ok_of found taken.NotStarted
+        (answer ∙ ap (λ stage. next_answer (link_checked link) stage log) silent.stage_is))
+        ∙ sym (ap (λ its. (take_step (source_of case) case.now (peer_of case) c its).0) at))
+    (subst (λ its. PeerIs (source_of case) slots (with_link old new)
+        (take_step (source_of case) case.now (peer_of case) c its).1) (sym at) (record {
       named = named;
       at = subst (IsAt (source_of case) slots (Some new) old.subscriber (peer_of case)) (sym some)
           (still_linked case slots link new old.subscriber c linked says.ear (says.voice.checked ∙ linked.checked_is)
           (subst (Speaks (source_of case) new c.moves c.delivered) (sym at) (record {
-            stage_is = says.voice.stage_is ∙ ap (λ stage. next_stage (link_checked link) stage log case.now) silent.stage_is;
-            output = says.voice.output ∙ ap (λ stage. link_output link ++ next_bytes (link_checked link) stage log case.now) silent.stage_is ∙ append-nil (link_output link) ∙ silent.output;
+            stage_is = says.voice.stage_is
+                ∙ ap (λ stage. next_stage (link_checked link) stage log case.now) silent.stage_is;
+            output = says.voice.output
+                ∙ ap (λ stage. link_output link ++ next_bytes (link_checked link) stage log case.now) silent.stage_is
+                ∙ append-nil (link_output link) ∙ silent.output;
             none = silent.none;
           })));
     }))
@@ -393,6 +488,9 @@ pub takes : TakesStep
 takes case slots old link new stands some says found answer =
     let here = is_open case slots old link stands some in by_start here here.c.start refl
   where
-    by_start : (here : Open case slots link old.subscriber) → (start : Option ℕ) → here.c.start ≡ start → StepsTo case w.Take (answer_of found) slots (with_link old new)
-    by_start here None e = takes_before case slots old link new here.c stands.named here.some e here.linked says found answer
-    by_start here (Some start) e = takes_by case slots old link new here.c start stands.named here.some e here.linked says found answer _ refl
+    by_start : (here : Open case slots link old.subscriber) → (start : Option ℕ) → here.c.start ≡ start
+        → StepsTo case w.Take (answer_of found) slots (with_link old new)
+    by_start here None e =
+        takes_before case slots old link new here.c stands.named here.some e here.linked says found answer
+    by_start here (Some start) e =
+        takes_by case slots old link new here.c start stands.named here.some e here.linked says found answer _ refl

@@ -5,13 +5,13 @@ pub mod CatchingUpLemmas
 pub mod DividedLemmas
 pub mod EndLemmas
 pub mod EndSteps
-pub mod JoinedEar
+pub mod JoinedPieces
 pub mod JoinedFeeding
 pub mod JoinedHearing
 pub mod JoinedLoss
 pub mod JoinedSteps
 pub mod NeedsLemmas
-pub mod OpeningLemmas
+pub mod FirstPeerLemmas
 pub mod PrefixLemmas
 pub mod PublisherLemmas
 pub mod PumpEndLemmas
@@ -26,7 +26,7 @@ pub mod RunLemmas
 pub mod SentLemmas
 pub mod SlotLemmas
 pub mod StopLemmas
-pub mod UpsHeardLemmas
+pub mod SubscriberFrameLemmas
 pub mod ViewLemmas
 pub mod WantsLemmas
 pub mod WorldCallLemmas

@@ -16,43 +16,57 @@ use Rattle.shard_world.proofs.CaseLemmas.{is_open, is_shut}
 
 -- by the connection of the subscriber, if it has one
 needs_by : (case : Case) (event : PeerEvent) (connection : Option Connection) → (peer_of case).connection ≡ connection
-    → AsksMemory (peer_step (source_of case) case.now event (peer_of case) connection).0 → AsksMemory (stepped case event).0
+    → AsksMemory (peer_step (source_of case) case.now event (peer_of case) connection).0
+    → AsksMemory (stepped case event).0
 needs_by case event connection is needs =
     subst (λ its. AsksMemory (peer_step (source_of case) case.now event (peer_of case) its).0) (sym is) needs
 
-pub open_needs : (case : Case) (slots : List Slot) (old : PeerOf) → StandsIn case slots old → old.link ≡ None → AsksMemory (stepped case Open).0
+pub open_needs : (case : Case) (slots : List Slot) (old : PeerOf) → StandsIn case slots old → old.link ≡ None
+    → AsksMemory (stepped case Open).0
 open_needs case slots old stands none = needs_by case Open None (is_shut case slots old stands none).none tt
 
 module _ (case : Case) (slots : List Slot) (old : PeerOf) (link : Link) where
-  pub hear_needs : (count : ℕ) → StandsIn case slots old → old.link ≡ Some link → AsksMemory (stepped case (Hear count)).0
-  hear_needs count stands some = let here = is_open case slots old link stands some in needs_by case (Hear count) (Some here.c) here.some tt
+  pub hear_needs : (count : ℕ) → StandsIn case slots old → old.link ≡ Some link
+      → AsksMemory (stepped case (Hear count)).0
+  hear_needs count stands some = let here = is_open case slots old link stands some in
+      needs_by case (Hear count) (Some here.c) here.some tt
 
-  pub deliver_needs : (count : ℕ) → StandsIn case slots old → old.link ≡ Some link → AsksMemory (stepped case (Deliver count)).0
-  deliver_needs count stands some = let here = is_open case slots old link stands some in needs_by case (Deliver count) (Some here.c) here.some tt
+  pub deliver_needs : (count : ℕ) → StandsIn case slots old → old.link ≡ Some link
+      → AsksMemory (stepped case (Deliver count)).0
+  deliver_needs count stands some = let here = is_open case slots old link stands some in
+      needs_by case (Deliver count) (Some here.c) here.some tt
 
-  pub report_needs : (want : Bool) → StandsIn case slots old → old.link ≡ Some link → AsksMemory (stepped case (Report want)).0
-  report_needs want stands some = let here = is_open case slots old link stands some in needs_by case (Report want) (Some here.c) here.some tt
+  pub report_needs : (want : Bool) → StandsIn case slots old → old.link ≡ Some link
+      → AsksMemory (stepped case (Report want)).0
+  report_needs want stands some = let here = is_open case slots old link stands some in
+      needs_by case (Report want) (Some here.c) here.some tt
 
-  pub keep_needs : (want : Bool) → StandsIn case slots old → old.link ≡ Some link → IsStarted (link_stage link) → AsksMemory (stepped case (Keep want)).0
+  pub keep_needs : (want : Bool) → StandsIn case slots old → old.link ≡ Some link → IsStarted (link_stage link)
+      → AsksMemory (stepped case (Keep want)).0
   keep_needs want stands some started =
-      let here = is_open case slots old link stands some in needs_by case (Keep want) (Some here.c) here.some (by_start here.c here.c.start here.linked.speaks)
+      let here = is_open case slots old link stands some in
+          needs_by case (Keep want) (Some here.c) here.some (by_start here.c here.c.start here.linked.speaks)
     where
       by_start : (c : Connection) (start : Option ℕ) → Speaks (source_of case) link c.moves c.delivered start
           → AsksMemory (keep_step case.now want (peer_of case) c start).0
       by_start c None silent = absurd (subst IsStarted silent.stage_is started)
       by_start c (Some start) streams = tt
 
-  pub take_needs : StandsIn case slots old → old.link ≡ Some link → HasNext (link_stage link) (log_in (source_of case)) → AsksMemory (stepped case Take).0
+  pub take_needs : StandsIn case slots old → old.link ≡ Some link
+      → HasNext (link_stage link) (log_in (source_of case)) → AsksMemory (stepped case Take).0
   take_needs stands some next =
-      let here = is_open case slots old link stands some in needs_by case Take (Some here.c) here.some (by_start here.c here.c.start here.linked.speaks)
+      let here = is_open case slots old link stands some in
+          needs_by case Take (Some here.c) here.some (by_start here.c here.c.start here.linked.speaks)
     where
       took_asks : (number : ℕ) (messages : List Msg) → AsksMemory (took number messages)
       took_asks number [] = tt
       took_asks number (message ∷ messages) = tt
 
-      found : (c : Connection) (place : Place) (its : Option CommitOf) → IsSome its → AsksMemory (takes case.checked case.now (peer_of case) c place its).0
+      found : (c : Connection) (place : Place) (its : Option CommitOf) → IsSome its
+          → AsksMemory (takes case.checked case.now (peer_of case) c place its).0
       found c place None there = absurd cc
-      found c place (Some commit) there = took_asks commit.number (messages_for case.checked place.slot place.told commit)
+      found c place (Some commit) there =
+          took_asks commit.number (messages_for case.checked place.slot place.told commit)
 
       by_start : (c : Connection) (start : Option ℕ) → Speaks (source_of case) link c.moves c.delivered start
           → AsksMemory (take_step (source_of case) case.now (peer_of case) c start).0

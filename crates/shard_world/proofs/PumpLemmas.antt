@@ -14,15 +14,18 @@ use Rattle.shard_world.proofs.RunLemmas.{runs_none, runs_more}
 
 -- ---- runs after one another
 
-runs_append : (checked : CheckedOf) (most : ℕ) (asked more : List (ℕ × Event)) (answers later : List Answer) (world between next : w.World) → Runs checked most asked answers world between
+runs_append : (checked : CheckedOf) (most : ℕ) (asked more : List (ℕ × Event)) (answers later : List Answer)
+    (world between next : w.World) → Runs checked most asked answers world between
     → Runs checked most more later between next → Runs checked most (asked ++ more) (answers ++ later) world next
-runs_append checked most [] more [] later world between next runs then = subst (λ from. Runs checked most more later from next) runs then
+runs_append checked most [] more [] later world between next runs then =
+    subst (λ from. Runs checked most more later from next) runs then
 runs_append checked most (first ∷ asked) more (one ∷ answers) later world between next runs then =
     (runs.0, runs.1, runs_append checked most asked more answers later runs.0 between next runs.2 then)
 runs_append checked most [] more (one ∷ answers) later world between next runs then = absurd runs
 runs_append checked most (first ∷ asked) more [] later world between next runs then = absurd runs
 
-runs_then : (before between after : World) (asked more : List (ℕ × Event)) (answers later : List Answer) → RunsOn before between asked answers → RunsOn between after more later
+runs_then : (before between after : World) (asked more : List (ℕ × Event)) (answers later : List Answer)
+    → RunsOn before between asked answers → RunsOn between after more later
     → RunsOn before after (asked ++ more) (answers ++ later)
 runs_then before between after asked more answers later runs then most events world is =
     let first : RunsInto before between most events world asked answers = runs most events world is in
@@ -52,11 +55,15 @@ module _ (now subscriber : ℕ) where
   pub walks_none : (world : World) → WalksAll world world now subscriber []
   walks_none world = record { answers = []; go_on = All-nil GoesOn; runs = runs_none world }
 
-  one_more : (answers : List Answer) (answer : Answer) → All GoesOn answers → GoesOn answer → All GoesOn (answers ++ answer ∷ [])
-  one_more answers answer all one = All-append GoesOn answers (answer ∷ []) all (All-cons GoesOn answer [] one (All-nil GoesOn))
+  one_more : (answers : List Answer) (answer : Answer) → All GoesOn answers → GoesOn answer
+      → All GoesOn (answers ++ answer ∷ [])
+  one_more answers answer all one =
+      All-append GoesOn answers (answer ∷ []) all (All-cons GoesOn answer [] one (All-nil GoesOn))
 
-  pub walks_more : (before between after : World) (events : List PeerEvent) (event : PeerEvent) (answer : Answer) → WalksAll before between now subscriber events
-      → GoesOn answer → StepsOn between after now (w.On subscriber event) answer → WalksAll before after now subscriber (events ++ event ∷ [])
+  pub walks_more : (before between after : World) (events : List PeerEvent) (event : PeerEvent) (answer : Answer)
+      → WalksAll before between now subscriber events
+      → GoesOn answer → StepsOn between after now (w.On subscriber event) answer
+      → WalksAll before after now subscriber (events ++ event ∷ [])
   walks_more before between after events event answer walks goes steps = record {
     answers = walks.answers ++ answer ∷ [];
     go_on = one_more walks.answers answer walks.go_on goes;
@@ -64,8 +71,10 @@ module _ (now subscriber : ℕ) where
         (runs_more before between after (on events) walks.answers now (w.On subscriber event) answer walks.runs steps);
   }
 
-  pub walks_end : (before between after : World) (events others : List PeerEvent) (event : PeerEvent) (answer : Answer) → WalksAll before between now subscriber events
-      → EndsWalk answer → StepsOn between after now (w.On subscriber event) answer → WalksSome before after now subscriber (events ++ event ∷ others) answer
+  pub walks_end : (before between after : World) (events others : List PeerEvent) (event : PeerEvent)
+      (answer : Answer) → WalksAll before between now subscriber events
+      → EndsWalk answer → StepsOn between after now (w.On subscriber event) answer
+      → WalksSome before after now subscriber (events ++ event ∷ others) answer
   walks_end before between after events others event answer walks ends steps = record {
     done = events ++ event ∷ [];
     others = others;
@@ -77,7 +86,8 @@ module _ (now subscriber : ℕ) where
         (runs_more before between after (on events) walks.answers now (w.On subscriber event) answer walks.runs steps);
   }
 
-  walks_then : (before between after : World) (events more : List PeerEvent) → WalksAll before between now subscriber events → WalksAll between after now subscriber more
+  walks_then : (before between after : World) (events more : List PeerEvent)
+      → WalksAll before between now subscriber events → WalksAll between after now subscriber more
       → WalksAll before after now subscriber (events ++ more)
   walks_then before between after events more walks then = record {
     answers = walks.answers ++ then.answers;
@@ -86,7 +96,8 @@ module _ (now subscriber : ℕ) where
         (runs_then before between after (on events) (on more) walks.answers then.answers walks.runs then.runs);
   }
 
-  walks_stop : (before between after : World) (events more : List PeerEvent) (answer : Answer) → WalksAll before between now subscriber events → WalksSome between after now subscriber more answer
+  walks_stop : (before between after : World) (events more : List PeerEvent) (answer : Answer)
+      → WalksAll before between now subscriber events → WalksSome between after now subscriber more answer
       → WalksSome before after now subscriber (events ++ more) answer
   walks_stop before between after events more answer walks then = record {
     done = events ++ then.done;
@@ -95,13 +106,18 @@ module _ (now subscriber : ℕ) where
     answers = walks.answers ++ then.answers;
     go_on = All-append GoesOn walks.answers then.answers walks.go_on then.go_on;
     ends = then.ends;
-    runs = subst (λ asked. RunsOn before after asked ((walks.answers ++ then.answers) ++ answer ∷ [])) (on_append events then.done)
-        (subst (RunsOn before after (on events ++ on then.done)) (sym (append_assoc walks.answers then.answers (answer ∷ [])))
-        (runs_then before between after (on events) (on then.done) walks.answers (then.answers ++ answer ∷ []) walks.runs then.runs));
+    runs = subst (λ asked. RunsOn before after asked ((walks.answers ++ then.answers) ++ answer ∷ []))
+        (on_append events then.done)
+        (subst (RunsOn before after (on events ++ on then.done))
+            (sym (append_assoc walks.answers then.answers (answer ∷ [])))
+        (runs_then before between after (on events) (on then.done) walks.answers (then.answers ++ answer ∷ [])
+            walks.runs then.runs));
   }
 
   -- and others would follow
-  stops_before : (before after : World) (events more : List PeerEvent) (answer : Answer) → WalksSome before after now subscriber events answer → WalksSome before after now subscriber (events ++ more) answer
+  stops_before : (before after : World) (events more : List PeerEvent) (answer : Answer)
+      → WalksSome before after now subscriber events answer
+      → WalksSome before after now subscriber (events ++ more) answer
   stops_before before after events more answer walks = record {
     done = walks.done;
     others = walks.others ++ more;
@@ -121,12 +137,16 @@ module _ (now subscriber : ℕ) where
   one_more_take zero = refl
   one_more_take (suc takes) = ap (λ rest. Take ∷ rest) (one_more_take takes)
 
-  pub takes_more : (before between after : World) (takes : ℕ) (answer : Answer) → WalksAll before between now subscriber (replicate takes Take)
-      → GoesOn answer → StepsOn between after now (w.On subscriber Take) answer → WalksAll before after now subscriber (replicate (suc takes) Take)
+  pub takes_more : (before between after : World) (takes : ℕ) (answer : Answer)
+      → WalksAll before between now subscriber (replicate takes Take)
+      → GoesOn answer → StepsOn between after now (w.On subscriber Take) answer
+      → WalksAll before after now subscriber (replicate (suc takes) Take)
   takes_more before between after takes answer walks goes steps =
-      subst (WalksAll before after now subscriber) (one_more_take takes) (walks_more before between after (replicate takes Take) Take answer walks goes steps)
+      subst (WalksAll before after now subscriber) (one_more_take takes)
+          (walks_more before between after (replicate takes Take) Take answer walks goes steps)
 
-  pub takes_idle : (before between after : World) (takes : ℕ) → WalksAll before between now subscriber (replicate takes Take)
+  pub takes_idle : (before between after : World) (takes : ℕ)
+      → WalksAll before between now subscriber (replicate takes Take)
       → StepsOn between after now (w.On subscriber Take) Idle → TakesAll before after now subscriber
   takes_idle before between after takes walks steps = record {
     takes = suc takes;
@@ -134,38 +154,50 @@ module _ (now subscriber : ℕ) where
       answers = walks.answers ++ Idle ∷ [];
       go_on = one_more walks.answers Idle walks.go_on tt;
       runs = subst (λ events. RunsOn before after (on events) (walks.answers ++ Idle ∷ [])) (one_more_take takes)
-          (subst (λ asked. RunsOn before after asked (walks.answers ++ Idle ∷ [])) (on_append (replicate takes Take) (Take ∷ []))
-          (runs_more before between after (on (replicate takes Take)) walks.answers now (w.On subscriber Take) Idle walks.runs steps));
+          (subst (λ asked. RunsOn before after asked (walks.answers ++ Idle ∷ []))
+              (on_append (replicate takes Take) (Take ∷ []))
+          (runs_more before between after (on (replicate takes Take)) walks.answers now (w.On subscriber Take) Idle
+              walks.runs steps));
     };
     enough = inl (record { earlier = walks.answers; are = refl });
   }
 
-  pub takes_enough : (before after : World) (takes : ℕ) → length (book_log (world_book before)) < takes → WalksAll before after now subscriber (replicate takes Take)
+  pub takes_enough : (before after : World) (takes : ℕ) → length (book_log (world_book before)) < takes
+      → WalksAll before after now subscriber (replicate takes Take)
       → TakesAll before after now subscriber
   takes_enough before after takes many walks = record { takes = takes; walks = walks; enough = inr many }
 
-  pub takes_end : (before between after : World) (takes : ℕ) (answer : Answer) → WalksAll before between now subscriber (replicate takes Take)
-      → EndsWalk answer → StepsOn between after now (w.On subscriber Take) answer → TakesSome before after now subscriber answer
+  pub takes_end : (before between after : World) (takes : ℕ) (answer : Answer)
+      → WalksAll before between now subscriber (replicate takes Take)
+      → EndsWalk answer → StepsOn between after now (w.On subscriber Take) answer
+      → TakesSome before after now subscriber answer
   takes_end before between after takes answer walks ends steps = record {
     takes = suc takes;
-    some = subst (λ events. WalksSome before after now subscriber events answer) (one_more_take takes) (walks_end before between after (replicate takes Take) [] Take answer walks ends steps);
+    some = subst (λ events. WalksSome before after now subscriber events answer) (one_more_take takes)
+        (walks_end before between after (replicate takes Take) [] Take answer walks ends steps);
   }
 
   -- ---- a pump
 
-  pub pump_ends_hearing : (before after : World) (answer : Answer) → WalksSome before after now subscriber (Hear all_bytes ∷ []) answer → PumpsSome before after now subscriber answer
-  pump_ends_hearing before after answer walks = record { takes = 0; some = stops_before before after (Hear all_bytes ∷ []) last_events answer walks }
+  pub pump_ends_hearing : (before after : World) (answer : Answer)
+      → WalksSome before after now subscriber (Hear all_bytes ∷ []) answer
+      → PumpsSome before after now subscriber answer
+  pump_ends_hearing before after answer walks =
+      record { takes = 0; some = stops_before before after (Hear all_bytes ∷ []) last_events answer walks }
 
-  pub pump_ends_taking : (before between after : World) (answer : Answer) → WalksAll before between now subscriber (Hear all_bytes ∷ []) → TakesSome between after now subscriber answer
+  pub pump_ends_taking : (before between after : World) (answer : Answer)
+      → WalksAll before between now subscriber (Hear all_bytes ∷ []) → TakesSome between after now subscriber answer
       → PumpsSome before after now subscriber answer
   pump_ends_taking before between after answer hears takes = record {
     takes = takes.takes;
-    some = subst (λ events. WalksSome before after now subscriber events answer) (append_assoc (Hear all_bytes ∷ []) (replicate takes.takes Take) last_events)
+    some = subst (λ events. WalksSome before after now subscriber events answer)
+        (append_assoc (Hear all_bytes ∷ []) (replicate takes.takes Take) last_events)
         (stops_before before after (Hear all_bytes ∷ replicate takes.takes Take) last_events answer
         (walks_stop before between after (Hear all_bytes ∷ []) (replicate takes.takes Take) answer hears takes.some));
   }
 
-  pub pump_ends_late : (before between later after : World) (answer : Answer) → WalksAll before between now subscriber (Hear all_bytes ∷ []) → TakesAll between later now subscriber
+  pub pump_ends_late : (before between later after : World) (answer : Answer)
+      → WalksAll before between now subscriber (Hear all_bytes ∷ []) → TakesAll between later now subscriber
       → WalksSome later after now subscriber last_events answer → PumpsSome before after now subscriber answer
   pump_ends_late before between later after answer hears takes walks = record {
     takes = takes.takes;
@@ -173,7 +205,8 @@ module _ (now subscriber : ℕ) where
         (walks_then before between later (Hear all_bytes ∷ []) (replicate takes.takes Take) hears takes.walks) walks;
   }
 
-  pub pump_goes_through : (before between later after : World) → WalksAll before between now subscriber (Hear all_bytes ∷ []) → (takes : TakesAll between later now subscriber)
+  pub pump_goes_through : (before between later after : World)
+      → WalksAll before between now subscriber (Hear all_bytes ∷ []) → (takes : TakesAll between later now subscriber)
       → WalksAll later after now subscriber last_events → WalksAll before after now subscriber (pump_events takes.takes)
   unfolding walks_then
   pump_goes_through before between later after hears takes walks =
@@ -181,7 +214,12 @@ module _ (now subscriber : ℕ) where
       (walks_then before between later (Hear all_bytes ∷ []) (replicate takes.takes Take) hears takes.walks) walks
 
   -- as they are answered one after another
-  pub pump_answers : (before between later after : World) (hears : WalksAll before between now subscriber (Hear all_bytes ∷ [])) (takes : TakesAll between later now subscriber)
-      (walks : WalksAll later after now subscriber last_events) → (pump_goes_through before between later after hears takes walks).answers ≡ hears.answers ++ (takes.walks.answers ++ walks.answers)
+  pub pump_answers : (before between later after : World)
+      (hears : WalksAll before between now subscriber (Hear all_bytes ∷ []))
+      (takes : TakesAll between later now subscriber)
+      (walks : WalksAll later after now subscriber last_events)
+          → (pump_goes_through before between later after hears takes walks).answers ≡ hears.answers
+          ++ (takes.walks.answers ++ walks.answers)
   unfolding walks_then pump_goes_through
-  pump_answers before between later after hears takes walks = append_assoc hears.answers takes.walks.answers walks.answers
+  pump_answers before between later after hears takes walks =
+      append_assoc hears.answers takes.walks.answers walks.answers

@@ -29,7 +29,7 @@ use Rattle.shard_world.specs.Refusals.{IsAnswered, HearsAreAnswered, KeepsAreAns
 use Rattle.shard_world.specs.World as w
 use Rattle.shard_world.specs.World.{Connection, place_of, spelled_up, down_of, log_in}
 use Rattle.shard_world.proofs.CaseLemmas.{is_open, is_shut}
-use Rattle.shard_world.proofs.JoinedEar.{commits, connection, heard_all, heard_before, heard_is, linked, more, not_over, piece, start_view}
+use Rattle.shard_world.proofs.JoinedPieces.{commits, connection, heard_all, heard_before, heard_is, linked, more, not_over, piece, start_view}
 use Rattle.shard_world.proofs.JoinedHearing.{heard_after}
 use Rattle.shard_world.proofs.JoinedSteps.{asked_bytes}
 
@@ -38,13 +38,15 @@ use Rattle.shard_world.proofs.JoinedSteps.{asked_bytes}
 pub opens_are_answered : OpensAreAnswered
 opens_are_answered case is slots old stands none =
     let shut = is_shut case slots old stands none in
-    record { value = spelled_up case.checked case.number (w.Asks (peer_of case).position); is = asked_bytes case is old.subscriber stands.named shut.is_apart.machine }
+    record { value = spelled_up case.checked case.number (w.Asks (peer_of case).position); is =
+        asked_bytes case is old.subscriber stands.named shut.is_apart.machine }
 
 pub keeps_are_answered : KeepsAreAnswered
 keeps_are_answered case slots old link stands some =
     let here = is_open case slots old link stands some in by_start here.c here.c.start here.linked.speaks
   where
-    by_start : (c : Connection) (start : Option ℕ) → Speaks (source_of case) link c.moves c.delivered start → IsAnswered (keep_answer (link_stage link))
+    by_start : (c : Connection) (start : Option ℕ) → Speaks (source_of case) link c.moves c.delivered start
+        → IsAnswered (keep_answer (link_stage link))
     by_start c None silent = record { value = false; is = ap keep_answer silent.stage_is }
     by_start c (Some start) streams = record { value = true; is = ap keep_answer streams.stage_is }
 
@@ -53,16 +55,21 @@ keeps_are_answered case slots old link stands some =
 pub takes_are_answered : TakesAreAnswered
 takes_are_answered case is slots old link stands some =
     let here = is_open case slots old link stands some in
-    subst (λ checked. IsAnswered (next_answer checked (link_stage link) (log_in (source_of case)))) (sym here.linked.checked_is)
+    subst (λ checked. IsAnswered (next_answer checked (link_stage link) (log_in (source_of case))))
+        (sym here.linked.checked_is)
     (by_start here.c here.c.start here.linked.speaks)
   where
-    found : (place : Place) (its : Option CommitOf) → slice_get (log_in (source_of case)) place.done ≡ its → IsAnswered (found_answer case.checked place its)
+    found : (place : Place) (its : Option CommitOf) → slice_get (log_in (source_of case)) place.done ≡ its
+        → IsAnswered (found_answer case.checked place its)
     found place None e = record { value = taken.Idle; is = refl }
-    found place (Some commit) e = record { value = taken_of commit.number (spelled_for case.checked place.slot place.told commit); is = refl }
+    found place (Some commit) e =
+        record { value = taken_of commit.number (spelled_for case.checked place.slot place.told commit); is = refl }
 
     by_start : (c : Connection) (start : Option ℕ) → Speaks (source_of case) link c.moves c.delivered start
         → IsAnswered (next_answer case.checked (link_stage link) (log_in (source_of case)))
-    by_start c None silent = record { value = taken.NotStarted; is = ap (λ stage. next_answer case.checked stage (log_in (source_of case))) silent.stage_is }
+    by_start c None silent =
+        record { value = taken.NotStarted; is =
+        ap (λ stage. next_answer case.checked stage (log_in (source_of case))) silent.stage_is }
     by_start c (Some start) streams =
         let place = place_of (source_of case) start c.moves in
         subst (λ stage. IsAnswered (next_answer case.checked stage (log_in (source_of case)))) (sym streams.stage_is)
@@ -71,10 +78,12 @@ takes_are_answered case is slots old link stands some =
 -- ---- report
 
 -- there is a connection
-pub linked_open : (case : Case) (slots : List Slot) (link : Link) (subscriber : Subscriber) (c : Connection) → IsLinked (source_of case) slots link subscriber (peer_of case) c
+pub linked_open : (case : Case) (slots : List Slot) (link : Link) (subscriber : Subscriber) (c : Connection)
+    → IsLinked (source_of case) slots link subscriber (peer_of case) c
     → IsOpen (sub_machine subscriber).phase
 linked_open case slots link subscriber c linked =
-    subst IsOpen (sym linked.machine.phase) (cut_open (cut limit (take c.delivered (down_of (source_of case) c))) (opened (peer_of case).machine) tt)
+    subst IsOpen (sym linked.machine.phase)
+        (cut_open (cut limit (take c.delivered (down_of (source_of case) c))) (opened (peer_of case).machine) tt)
 
 status_answered : (phase : Phase) → IsOpen phase → IsAnswered (status_answer phase)
 status_answered Shut opens = absurd opens
@@ -84,7 +93,9 @@ status_answered (Busy begin) opens = record { value = tt; is = refl }
 
 pub reports_are_answered : ReportsAreAnswered
 reports_are_answered case slots old link stands some =
-    let here = is_open case slots old link stands some in status_answered (sub_machine old.subscriber).phase (linked_open case slots link old.subscriber here.c here.linked)
+    let here = is_open case slots old link stands some in
+        status_answered (sub_machine old.subscriber).phase
+        (linked_open case slots link old.subscriber here.c here.linked)
 
 -- ---- hear
 
@@ -92,16 +103,21 @@ pub hears_are_answered : HearsAreAnswered
 hears_are_answered case is book old link count log stands some =
     let all = heard_all case is book book old link count log stands some in
     let at = is_open case (book_slots book) old link stands some in
-    let known = heard_after case is (connection case is book book old link count log stands some) (commits case is book book old link count log stands some)
-    (start_view case is book book old link count log stands some) (heard_before case is book book old link count log stands some) (more case is book book old link count log stands some) in
+    let known = heard_after case is (connection case is book book old link count log stands some)
+        (commits case is book book old link count log stands some)
+    (start_view case is book book old link count log stands some)
+        (heard_before case is book book old link count log stands some)
+        (more case is book book old link count log stands some) in
     record {
       value = heard_told all.heard;
-      is = ap (λ phase. answer_in phase (link_heard link book (piece case is book book old link count log stands some))) at.linked.hears.phase_is
+      is = ap (λ phase. answer_in phase
+          (link_heard link book (piece case is book book old link count log stands some))) at.linked.hears.phase_is
           ∙ ap answer_of (heard_is case is book book old link count log stands some) ∙ not_over all known.hears.goes_on;
     }
 
 -- an error says that memory was refused
-pub only_memory : {A : Type 0} (error : LinkFault) (answer : Result A LinkFault) → TellsFault (told_fault error) answer → IsAnswered answer → error ≡ fault.OutOfMemory
+pub only_memory : {A : Type 0} (error : LinkFault) (answer : Result A LinkFault)
+    → TellsFault (told_fault error) answer → IsAnswered answer → error ≡ fault.OutOfMemory
 only_memory fault.OutOfMemory answer tells good = refl
 only_memory fault.FrameTooLong answer tells good = absurd (let e = sym tells ∙ good.is in cc)
 only_memory fault.BadLength answer tells good = absurd (let e = sym tells ∙ good.is in cc)

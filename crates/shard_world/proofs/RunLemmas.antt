@@ -7,8 +7,10 @@ use Rattle.shard_world.specs.World.{Answer, Event, Steps}
 use Rattle.shard_world.specs.WorldCalls.{IsWorld, StepsInto, StepsOn, Runs, RunsInto, RunsOn, world_checked}
 use Rattle.shard_world.specs.declared.world.World.{World}
 
-runs_one_more : (checked : CheckedOf) (most : ℕ) (asked : List (ℕ × Event)) (answers : List Answer) (world between next : w.World) (event : ℕ × Event) (answer : Answer)
-    → Runs checked most asked answers world between → Steps checked most between event.0 event.1 answer next → Runs checked most (asked ++ event ∷ []) (answers ++ answer ∷ []) world next
+runs_one_more : (checked : CheckedOf) (most : ℕ) (asked : List (ℕ × Event)) (answers : List Answer)
+    (world between next : w.World) (event : ℕ × Event) (answer : Answer)
+    → Runs checked most asked answers world between → Steps checked most between event.0 event.1 answer next
+    → Runs checked most (asked ++ event ∷ []) (answers ++ answer ∷ []) world next
 runs_one_more checked most [] [] world between next event answer runs steps =
     (next, subst (λ from. Steps checked most from event.0 event.1 answer next) runs steps, refl)
 runs_one_more checked most (first ∷ asked) (one ∷ answers) world between next event answer runs steps =
@@ -24,7 +26,8 @@ runs_none code most events world is = record {
   checked = refl;
 }
 
-pub runs_more : (before between after : World) (asked : List (ℕ × Event)) (answers : List Answer) (now : ℕ) (event : Event) (answer : Answer) → RunsOn before between asked answers
+pub runs_more : (before between after : World) (asked : List (ℕ × Event)) (answers : List Answer) (now : ℕ)
+    (event : Event) (answer : Answer) → RunsOn before between asked answers
     → StepsOn between after now event answer → RunsOn before after (asked ++ (now, event) ∷ []) (answers ++ answer ∷ [])
 runs_more before between after asked answers now event answer runs steps most events world is =
     let first : RunsInto before between most events world asked answers = runs most events world is in
@@ -32,7 +35,8 @@ runs_more before between after asked answers now event answer runs steps most ev
     steps most (events ++ asked) first.next first.is in
     record {
       next = then.next;
-      runs = runs_one_more (world_checked before) most asked answers world first.next then.next (now, event) answer first.runs
+      runs = runs_one_more (world_checked before) most asked answers world first.next then.next (now, event) answer
+          first.runs
           (subst (λ checked. Steps checked most first.next now event answer then.next) first.checked then.steps);
       is = subst (λ all. IsWorld after most all then.next) (append_assoc events asked ((now, event) ∷ [])) then.is;
       checked = then.checked ∙ first.checked;

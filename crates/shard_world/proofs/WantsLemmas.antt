@@ -37,43 +37,55 @@ then_wants wants (Ok machine) = Ok (with_wants wants machine)
 then_wants wants (Err fault) = Err fault
 
 module _ (wants : Bool) where
-  staged_wants : (machine : Machine) (oid : ℕ) (found : Result Found SubFault) → staged (with_wants wants machine) oid found ≡ then_wants wants (staged machine oid found)
+  staged_wants : (machine : Machine) (oid : ℕ) (found : Result Found SubFault)
+      → staged (with_wants wants machine) oid found ≡ then_wants wants (staged machine oid found)
   staged_wants machine oid (Ok found) = refl
   staged_wants machine oid (Err fault) = refl
 
   change_of_wants : (shape : Option TableShape) (found : Found) (oid : ℕ) (change : Change) (machine : Machine)
-      → change_of shape found oid change (with_wants wants machine) ≡ then_wants wants (change_of shape found oid change machine)
+      → change_of shape found oid change (with_wants wants machine)
+          ≡ then_wants wants (change_of shape found oid change machine)
   change_of_wants None found oid change machine = refl
   change_of_wants (Some shape) found oid change machine = staged_wants machine oid (change shape found)
 
-  change_wants : (oid : ℕ) (change : Change) (machine : Machine) → change_in oid change (with_wants wants machine) ≡ then_wants wants (change_in oid change machine)
+  change_wants : (oid : ℕ) (change : Change) (machine : Machine)
+      → change_in oid change (with_wants wants machine) ≡ then_wants wants (change_in oid change machine)
   change_wants oid change machine = change_of_wants (table_of machine oid) (machine.work oid) oid change machine
 
   rest_wants : (oids : List ℕ) (outcome : Outcome)
-      → ((machine : Machine) → hear_truncate oids (with_wants wants machine) ≡ then_wants wants (hear_truncate oids machine))
-      → empty_rest (then_wants wants outcome) (hear_truncate oids) ≡ then_wants wants (empty_rest outcome (hear_truncate oids))
+      → ((machine : Machine)
+      → hear_truncate oids (with_wants wants machine) ≡ then_wants wants (hear_truncate oids machine))
+      → empty_rest (then_wants wants outcome) (hear_truncate oids)
+          ≡ then_wants wants (empty_rest outcome (hear_truncate oids))
   rest_wants oids (Ok machine) later = later machine
   rest_wants oids (Err fault) later = refl
 
-  truncate_wants : (oids : List ℕ) (machine : Machine) → hear_truncate oids (with_wants wants machine) ≡ then_wants wants (hear_truncate oids machine)
+  truncate_wants : (oids : List ℕ) (machine : Machine)
+      → hear_truncate oids (with_wants wants machine) ≡ then_wants wants (hear_truncate oids machine)
   unfolding hear_truncate
   truncate_wants [] machine = refl
   truncate_wants (oid ∷ oids) machine =
       ap (λ outcome. empty_rest outcome (hear_truncate oids)) (change_wants oid emptied machine)
       ∙ rest_wants oids (hear_empty oid machine) (λ next. truncate_wants oids next)
 
-  learn_wants : (shape : Option TableShape) (oid : ℕ) (machine : Machine) → learn_new shape oid (with_wants wants machine) ≡ then_wants wants (learn_new shape oid machine)
+  learn_wants : (shape : Option TableShape) (oid : ℕ) (machine : Machine)
+      → learn_new shape oid (with_wants wants machine) ≡ then_wants wants (learn_new shape oid machine)
   learn_wants None oid machine = refl
   learn_wants (Some shape) oid machine = refl
 
-  relation_wants : (kept : Option TableShape) (relation : Relation) (machine : Machine) → learn_as kept relation (with_wants wants machine) ≡ then_wants wants (learn_as kept relation machine)
+  relation_wants : (kept : Option TableShape) (relation : Relation) (machine : Machine)
+      → learn_as kept relation (with_wants wants machine) ≡ then_wants wants (learn_as kept relation machine)
   relation_wants None relation machine = learn_wants (shape_of relation) relation.oid machine
-  relation_wants (Some shape) relation machine = by_test (same_relation shape.relation relation) (λ same. rw same refl) (λ differs. rw differs refl)
+  relation_wants (Some shape) relation machine =
+      by_test (same_relation shape.relation relation) (λ same. rw same refl) (λ differs. rw differs refl)
 
-  commit_wants : (begin lsn end_lsn : ℕ) (machine : Machine) → hear_commit begin lsn end_lsn (with_wants wants machine) ≡ then_wants wants (hear_commit begin lsn end_lsn machine)
+  commit_wants : (begin lsn end_lsn : ℕ) (machine : Machine)
+      → hear_commit begin lsn end_lsn (with_wants wants machine)
+      ≡ then_wants wants (hear_commit begin lsn end_lsn machine)
   commit_wants begin lsn end_lsn machine = by_test (lsn == begin) (λ same. rw same refl) (λ differs. rw differs refl)
 
-  message_wants : (phase : Phase) (message : Msg) (machine : Machine) → hear_in phase message (with_wants wants machine) ≡ then_wants wants (hear_in phase message machine)
+  message_wants : (phase : Phase) (message : Msg) (machine : Machine)
+      → hear_in phase message (with_wants wants machine) ≡ then_wants wants (hear_in phase message machine)
   message_wants Shut message machine = refl
   message_wants Waiting message machine = refl
   message_wants Idle (m.Begin final_lsn time xid) machine = refl
@@ -99,10 +111,14 @@ SameBut (Err one) (Err other) = one ≡ other
 SameBut one other = ⊥
 
 alike_self : (machine : Machine) → AlikeBut machine machine
-alike_self machine = record { phase = refl; position = refl; kept = λ oid. refl; known = λ oid. refl; rows = λ oid key. refl; work = λ oid key. refl }
+alike_self machine = record
+    { phase = refl; position = refl; kept = λ oid. refl; known = λ oid. refl; rows = λ oid key. refl; work =
+    λ oid key. refl }
 
 same_wants : (wants : Bool) (outcome : Outcome) → SameBut (then_wants wants outcome) outcome
-same_wants wants (Ok machine) = record { phase = refl; position = refl; kept = λ oid. refl; known = λ oid. refl; rows = λ oid key. refl; work = λ oid key. refl }
+same_wants wants (Ok machine) =
+    record { phase = refl; position = refl; kept = λ oid. refl; known = λ oid. refl; rows = λ oid key. refl; work =
+    λ oid key. refl }
 same_wants wants (Err fault) = refl
 
 pub same_then : (one other last : Outcome) → SameOutcome one other → SameBut other last → SameBut one last
@@ -122,23 +138,32 @@ same_then (Err one) (Ok other) last first second = absurd first
 
 -- ---- frames
 
-response_wants : (wants : Bool) (body : List ℕ) (machine : Machine) → SameBut (hear_response body (with_wants wants machine)) (hear_response body machine)
-response_wants wants body machine = by_test (bytes_eq body (0 ∷ 0 ∷ 0 ∷ [])) (λ is. rw is (same_wants wants (Ok _))) (λ differs. rw differs refl)
+response_wants : (wants : Bool) (body : List ℕ) (machine : Machine)
+    → SameBut (hear_response body (with_wants wants machine)) (hear_response body machine)
+response_wants wants body machine =
+    by_test (bytes_eq body (0 ∷ 0 ∷ 0 ∷ [])) (λ is. rw is (same_wants wants (Ok _))) (λ differs. rw differs refl)
 
-keepalive_wants : (wants : Bool) (found : Option Keepalive) (machine : Machine) → SameBut (hear_keepalive found (with_wants wants machine)) (hear_keepalive found machine)
+keepalive_wants : (wants : Bool) (found : Option Keepalive) (machine : Machine)
+    → SameBut (hear_keepalive found (with_wants wants machine)) (hear_keepalive found machine)
 keepalive_wants wants None machine = refl
-keepalive_wants wants (Some keepalive) machine = record { phase = refl; position = refl; kept = λ oid. refl; known = λ oid. refl; rows = λ oid key. refl; work = λ oid key. refl }
+keepalive_wants wants (Some keepalive) machine =
+    record { phase = refl; position = refl; kept = λ oid. refl; known = λ oid. refl; rows = λ oid key. refl; work =
+    λ oid key. refl }
 
-decoded_wants : (wants : Bool) (read : Result Msg MsgError) (machine : Machine) → SameBut (hear_decoded read (with_wants wants machine)) (hear_decoded read machine)
+decoded_wants : (wants : Bool) (read : Result Msg MsgError) (machine : Machine)
+    → SameBut (hear_decoded read (with_wants wants machine)) (hear_decoded read machine)
 decoded_wants wants (Err fault) machine = refl
 decoded_wants wants (Ok message) machine =
-    subst (λ outcome. SameBut outcome (hear message machine)) (sym (message_wants wants machine.phase message machine)) (same_wants wants (hear message machine))
+    subst (λ outcome. SameBut outcome (hear message machine))
+        (sym (message_wants wants machine.phase message machine)) (same_wants wants (hear message machine))
 
-data_wants : (wants : Bool) (found : Option (XLogData × List ℕ)) (machine : Machine) → SameBut (hear_data found (with_wants wants machine)) (hear_data found machine)
+data_wants : (wants : Bool) (found : Option (XLogData × List ℕ)) (machine : Machine)
+    → SameBut (hear_data found (with_wants wants machine)) (hear_data found machine)
 data_wants wants None machine = refl
 data_wants wants (Some read) machine = decoded_wants wants (decoded read.1) machine
 
-content_wants : (wants : Bool) (body : List ℕ) (machine : Machine) → SameBut (hear_content body (with_wants wants machine)) (hear_content body machine)
+content_wants : (wants : Bool) (body : List ℕ) (machine : Machine)
+    → SameBut (hear_content body (with_wants wants machine)) (hear_content body machine)
 content_wants wants body machine = by_test (length body == 0)
     (λ empty. rw empty refl)
     (λ some. rw some (by_test (slice_index body 0 == 119)
@@ -147,15 +172,19 @@ content_wants wants body machine = by_test (length body == 0)
     (λ is. rw is (keepalive_wants wants (keepalive_in body) machine))
     (λ apart. rw apart refl)))))
 
-stream_wants : (wants : Bool) (frame : Frame) (machine : Machine) → SameBut (hear_stream frame (with_wants wants machine)) (hear_stream frame machine)
-stream_wants wants frame machine = by_test (frame.kind == 100) (λ is. rw is (content_wants wants frame.body machine)) (λ differs. rw differs refl)
+stream_wants : (wants : Bool) (frame : Frame) (machine : Machine)
+    → SameBut (hear_stream frame (with_wants wants machine)) (hear_stream frame machine)
+stream_wants wants frame machine =
+    by_test (frame.kind == 100) (λ is. rw is (content_wants wants frame.body machine)) (λ differs. rw differs refl)
 
-start_wants : (wants : Bool) (frame : Frame) (machine : Machine) → SameBut (hear_start frame (with_wants wants machine)) (hear_start frame machine)
+start_wants : (wants : Bool) (frame : Frame) (machine : Machine)
+    → SameBut (hear_start frame (with_wants wants machine)) (hear_start frame machine)
 start_wants wants frame machine = by_test (frame.kind == 87)
     (λ is. rw is (response_wants wants frame.body machine))
     (λ differs. rw differs (by_test (frame.kind == 69) (λ is. rw is refl) (λ apart. rw apart refl)))
 
-in_wants : (wants : Bool) (phase : Phase) (frame : Frame) (machine : Machine) → SameBut (hear_frame_in phase frame (with_wants wants machine)) (hear_frame_in phase frame machine)
+in_wants : (wants : Bool) (phase : Phase) (frame : Frame) (machine : Machine)
+    → SameBut (hear_frame_in phase frame (with_wants wants machine)) (hear_frame_in phase frame machine)
 in_wants wants Shut frame machine = refl
 in_wants wants Waiting frame machine = start_wants wants frame machine
 in_wants wants Idle frame machine = stream_wants wants frame machine
@@ -163,9 +192,11 @@ in_wants wants (Busy begin) frame machine = stream_wants wants frame machine
 
 as_other : (one other : Machine) → AlikeBut one other → Alike one (with_wants one.wants_reply other)
 as_other one other alike =
-    record { phase = alike.phase; position = alike.position; wants_reply = refl; kept = alike.kept; known = alike.known; rows = alike.rows; work = alike.work }
+    record { phase = alike.phase; position = alike.position; wants_reply = refl; kept = alike.kept; known =
+        alike.known; rows = alike.rows; work = alike.work }
 
-pub frame_but : (frame : Frame) (one other : Machine) → AlikeBut one other → SameBut (hear_frame frame one) (hear_frame frame other)
+pub frame_but : (frame : Frame) (one other : Machine) → AlikeBut one other
+    → SameBut (hear_frame frame one) (hear_frame frame other)
 frame_but frame one other alike =
     same_then (hear_frame frame one) (hear_frame frame (with_wants one.wants_reply other)) (hear_frame frame other)
     (frame_alike frame one (with_wants one.wants_reply other) (as_other one other alike))
@@ -177,8 +208,10 @@ pub record HeardBut (one other : Heard) : Type 0 where
   pub fault : one.fault ≡ other.fault
   pub machine : AlikeBut one.machine other.machine
 
-then_but : (one other : Machine) (left right : Outcome) (more : Machine → Heard) → AlikeBut one other → SameBut left right
-    → ((a b : Machine) → AlikeBut a b → HeardBut (more a) (more b)) → HeardBut (heard_then one left more) (heard_then other right more)
+then_but : (one other : Machine) (left right : Outcome) (more : Machine → Heard) → AlikeBut one other
+    → SameBut left right
+    → ((a b : Machine) → AlikeBut a b → HeardBut (more a) (more b))
+    → HeardBut (heard_then one left more) (heard_then other right more)
 then_but one other (Ok left) (Ok right) more alike same later = later left right same
 then_but one other (Err left) (Err right) more alike same later = record { fault = ap Some same; machine = alike }
 then_but one other (Ok left) (Err right) more alike same later = absurd same
@@ -188,4 +221,5 @@ pub cut_but : (cut : Cut) (one other : Machine) → AlikeBut one other → Heard
 cut_but (Rest bytes) one other alike = record { fault = refl; machine = alike }
 cut_but (Bad fault bytes) one other alike = record { fault = refl; machine = alike }
 cut_but (Then frame more) one other alike =
-    then_but one other (hear_frame frame one) (hear_frame frame other) (hear_cut more) alike (frame_but frame one other alike) (λ a b h. cut_but more a b h)
+    then_but one other (hear_frame frame one) (hear_frame frame other) (hear_cut more) alike
+        (frame_but frame one other alike) (λ a b h. cut_but more a b h)

@@ -29,8 +29,10 @@ use Rattle.shard_world.proofs.WorldPeers.{StartsAt, IsConnected, IsConnectedAt, 
 
 -- ---- one event more
 
-pub leads_one_more : (checked : CheckedOf) (most : ℕ) (events : List (ℕ × Event)) (first world : w.World) (now : ℕ) (event : Event) (answer : Answer) (next : w.World)
-    → Leads checked most events first world → Steps checked most world now event answer next → Leads checked most (events ++ (now, event) ∷ []) first next
+pub leads_one_more : (checked : CheckedOf) (most : ℕ) (events : List (ℕ × Event)) (first world : w.World) (now : ℕ)
+    (event : Event) (answer : Answer) (next : w.World)
+    → Leads checked most events first world → Steps checked most world now event answer next
+    → Leads checked most (events ++ (now, event) ∷ []) first next
 leads_one_more checked most [] first world now event answer next leads steps =
     (answer, next, subst (λ from. Steps checked most from now event answer next) leads steps, refl)
 leads_one_more checked most (one ∷ events) first world now event answer next leads steps =
@@ -38,8 +40,10 @@ leads_one_more checked most (one ∷ events) first world now event answer next l
 
 -- ---- another slot changes
 
-module _ (source : Source) (before after : List Slot) (same : slice_get after source.number ≡ slice_get before source.number) where
-  at_elsewhere : (link : Option Link) (subscriber : Subscriber) (peer : w.Peer) (connection : Option Connection) → IsAt source before link subscriber peer connection
+module _ (source : Source) (before after : List Slot)
+    (same : slice_get after source.number ≡ slice_get before source.number) where
+  at_elsewhere : (link : Option Link) (subscriber : Subscriber) (peer : w.Peer) (connection : Option Connection)
+      → IsAt source before link subscriber peer connection
       → IsAt source after link subscriber peer connection
   at_elsewhere None subscriber peer None at = record { machine = at.machine; slot = same ∙ at.slot }
   at_elsewhere (Some link) subscriber peer (Some c) at = record {
@@ -57,11 +61,13 @@ module _ (source : Source) (before after : List Slot) (same : slice_get after so
   at_elsewhere (Some link) subscriber peer None at = absurd at
 
   pub is_elsewhere : (code : PeerOf) (peer : w.Peer) → PeerIs source before code peer → PeerIs source after code peer
-  is_elsewhere code peer is = record { named = is.named; at = at_elsewhere code.link code.subscriber peer peer.connection is.at }
+  is_elsewhere code peer is =
+      record { named = is.named; at = at_elsewhere code.link code.subscriber peer peer.connection is.at }
 
 -- ---- the log grows
 
-all_moved_longer : (checked : CheckedOf) (log more : List CommitOf) (place : Place) (moves : List Move) → AllThere (telling_of checked) log place moves
+all_moved_longer : (checked : CheckedOf) (log more : List CommitOf) (place : Place) (moves : List Move)
+    → AllThere (telling_of checked) log place moves
     → all_moved (telling_of checked) (log ++ more) place moves ≡ all_moved (telling_of checked) log place moves
 all_moved_longer checked log more place [] there = refl
 all_moved_longer checked log more place (move ∷ moves) there =
@@ -70,7 +76,8 @@ all_moved_longer checked log more place (move ∷ moves) there =
 
 module _ (source : Source) (more : List Transaction) (position : ℕ) where
   abbrev IsThereAt : List Move → Type 0
-  IsThereAt moves = AllThere (telling_of source.checked) (log_in source) (place_at source.number (length source.checked.catalog.tables) position) moves
+  IsThereAt moves = AllThere (telling_of source.checked) (log_in source)
+      (place_at source.number (length source.checked.catalog.tables) position) moves
 
   bytes_longer : (start : Option ℕ) → StartsAt position start → (moves : List Move) → IsThereAt moves
       → down_bytes (with_more source more) start moves ≡ down_bytes source start moves
@@ -83,27 +90,39 @@ module _ (source : Source) (more : List Transaction) (position : ℕ) where
       → place_of (with_more source more) start moves ≡ place_of source start moves
   place_longer start at moves there =
       let on = log_goes_on source.checked source.transactions more in
-      ap (λ log. all_moved (telling_of source.checked) log (place_at source.number (length source.checked.catalog.tables) start) moves) on.is
-      ∙ all_moved_longer source.checked (log_in source) on.others (place_at source.number (length source.checked.catalog.tables) start) moves
-      (subst (λ p. AllThere (telling_of source.checked) (log_in source) (place_at source.number (length source.checked.catalog.tables) p) moves) (sym at) there)
+      ap (λ log. all_moved (telling_of source.checked) log
+          (place_at source.number (length source.checked.catalog.tables) start) moves) on.is
+      ∙ all_moved_longer source.checked (log_in source) on.others
+          (place_at source.number (length source.checked.catalog.tables) start) moves
+      (subst (λ p. AllThere (telling_of source.checked) (log_in source)
+          (place_at source.number (length source.checked.catalog.tables) p) moves) (sym at) there)
 
   abbrev run_with : ℕ → List Move → List CommitOf → List ℕ → Run
   run_with start moves log passed = record (run_of source start moves 0) { log = log; passed = passed }
 
-  speaks_longer : (link : Link) (moves : List Move) (delivered : ℕ) → IsThereAt moves → (start : Option ℕ) → StartsAt position start
+  speaks_longer : (link : Link) (moves : List Move) (delivered : ℕ) → IsThereAt moves → (start : Option ℕ)
+      → StartsAt position start
       → Speaks source link moves delivered start → Speaks (with_more source more) link moves delivered start
   speaks_longer link moves delivered there None at speaks = speaks
   speaks_longer link moves delivered there (Some start) at speaks =
       let on = log_goes_on source.checked source.transactions more in
       let place : Place = place_of source start moves in
-      let grown : IsStreaming link (run_with start moves (log_in source ++ on.others) (take delivered (down_bytes source (Some start) moves))) place =
+      let grown : IsStreaming link
+          (run_with start moves (log_in source ++ on.others) (take delivered (down_bytes source (Some start) moves)))
+          place =
       log_grows link (run_of source start moves delivered) place on.others speaks in
-      subst (IsStreaming link (run_of (with_more source more) start moves delivered)) (sym (place_longer start at moves there))
-      (subst (λ bytes. IsStreaming link (run_with start moves (log_of source.checked (source.transactions ++ more)) (take delivered bytes)) place) (sym (bytes_longer (Some start) at moves there))
-      (subst (λ log. IsStreaming link (run_with start moves log (take delivered (down_bytes source (Some start) moves))) place) (sym on.is) grown))
+      subst (IsStreaming link (run_of (with_more source more) start moves delivered))
+          (sym (place_longer start at moves there))
+      (subst (λ bytes. IsStreaming link
+          (run_with start moves (log_of source.checked (source.transactions ++ more)) (take delivered bytes)) place)
+          (sym (bytes_longer (Some start) at moves there))
+      (subst (λ log. IsStreaming link
+          (run_with start moves log (take delivered (down_bytes source (Some start) moves))) place) (sym on.is)
+          grown))
 
 module _ (source : Source) (more : List Transaction) where
-  linked_longer : (slots : List Slot) (link : Link) (subscriber : Subscriber) (peer : w.Peer) (reached : ℕ) (c : Connection) → IsConnected source peer.position peer.confirmed reached c
+  linked_longer : (slots : List Slot) (link : Link) (subscriber : Subscriber) (peer : w.Peer) (reached : ℕ)
+      (c : Connection) → IsConnected source peer.position peer.confirmed reached c
       → IsLinked source slots link subscriber peer c → IsLinked (with_more source more) slots link subscriber peer c
   linked_longer slots link subscriber peer reached c connected linked =
       let same = bytes_longer source more peer.position c.start connected.started c.moves connected.there in
@@ -112,7 +131,8 @@ module _ (source : Source) (more : List Transaction) where
         delivered = subst (λ bytes. c.delivered ≤ length bytes) (sym same) linked.delivered;
         sends = linked.sends;
         held = linked.held ∙ ap (λ bytes. rest_of (cut limit (take c.delivered bytes))) (sym same);
-        machine = subst (λ bytes. AlikeBut (sub_machine subscriber) (hear_cut (cut limit (take c.delivered bytes)) (opened peer.machine)).machine) (sym same) linked.machine;
+        machine = subst (λ bytes. AlikeBut (sub_machine subscriber)
+            (hear_cut (cut limit (take c.delivered bytes)) (opened peer.machine)).machine) (sym same) linked.machine;
         checked_is = linked.checked_is;
         hears = record {
           checked_is = linked.hears.checked_is;
@@ -122,17 +142,24 @@ module _ (source : Source) (more : List Transaction) where
           statuses = linked.hears.statuses;
           held = linked.hears.held;
         };
-        speaks = speaks_longer source more peer.position link c.moves c.delivered connected.there c.start connected.started linked.speaks;
+        speaks = speaks_longer source more peer.position link c.moves c.delivered connected.there c.start
+            connected.started linked.speaks;
         slot = linked.slot;
       }
 
-  at_longer : (slots : List Slot) (link : Option Link) (subscriber : Subscriber) (peer : w.Peer) (connection : Option Connection) → IsConnectedAt source peer connection
-      → IsAt source slots link subscriber peer connection → IsAt (with_more source more) slots link subscriber peer connection
+  at_longer : (slots : List Slot) (link : Option Link) (subscriber : Subscriber) (peer : w.Peer)
+      (connection : Option Connection) → IsConnectedAt source peer connection
+      → IsAt source slots link subscriber peer connection
+      → IsAt (with_more source more) slots link subscriber peer connection
   at_longer slots None subscriber peer None good at = record { machine = at.machine; slot = at.slot }
-  at_longer slots (Some link) subscriber peer (Some c) good at = linked_longer slots link subscriber peer good.0 c good.1 at
+  at_longer slots (Some link) subscriber peer (Some c) good at =
+      linked_longer slots link subscriber peer good.0 c good.1 at
   at_longer slots None subscriber peer (Some c) good at = absurd at
   at_longer slots (Some link) subscriber peer None good at = absurd at
 
-  pub is_longer : (slots : List Slot) (code : PeerOf) (peer : w.Peer) → IsGood source peer → PeerIs source slots code peer
+  pub is_longer : (slots : List Slot) (code : PeerOf) (peer : w.Peer) → IsGood source peer
+      → PeerIs source slots code peer
       → PeerIs (with_more source more) slots code peer
-  is_longer slots code peer good is = record { named = is.named; at = at_longer slots code.link code.subscriber peer peer.connection good.connected is.at }
+  is_longer slots code peer good is =
+      record { named = is.named; at =
+      at_longer slots code.link code.subscriber peer peer.connection good.connected is.at }

@@ -26,38 +26,51 @@ abbrev pub IsFair : ℕ → ℕ → Up → Type 0
 IsFair position reached (Asks asked) = asked ≡ position
 IsFair position reached (Says status) = status.flushed ≤ reached
 
-ups_fair : (position reached : ℕ) (reports : List Status) → All (IsReported reached) reports → All (IsFair position reached) (Asks position ∷ map Says reports)
+ups_fair : (position reached : ℕ) (reports : List Status) → All (IsReported reached) reports
+    → All (IsFair position reached) (Asks position ∷ map Says reports)
 ups_fair position reached reports low =
-    All-cons (IsFair position reached) (Asks position) (map Says reports) refl (All-map (IsFair position reached) Says reports low)
+    All-cons (IsFair position reached) (Asks position) (map Says reports) refl
+        (All-map (IsFair position reached) Says reports low)
 
-if_fair : (P : Up → Type 0) (whole : Bool) (up : Up) (others : List Up) → P up → All P others → All P (if_whole whole up others)
+if_fair : (P : Up → Type 0) (whole : Bool) (up : Up) (others : List Up) → P up → All P others
+    → All P (if_whole whole up others)
 if_fair P true up others here later = All-cons P up others here later
 if_fair P false up others here later = All-nil P
 
-whole_fair : (checked : CheckedOf) (subscriber : ℕ) (P : Up → Type 0) (count : ℕ) (ups : List Up) → All P ups → All P (whole_up checked subscriber count ups)
+whole_fair : (checked : CheckedOf) (subscriber : ℕ) (P : Up → Type 0) (count : ℕ) (ups : List Up) → All P ups
+    → All P (whole_up checked subscriber count ups)
 whole_fair checked subscriber P count [] fair = All-nil P
 whole_fair checked subscriber P count (up ∷ ups) fair =
-    if_fair P (nat_le (length (spelled_up checked subscriber up)) count) up (whole_up checked subscriber (count - length (spelled_up checked subscriber up)) ups)
-    (All-head P up ups fair) (whole_fair checked subscriber P (count - length (spelled_up checked subscriber up)) ups (All-tail P up ups fair))
+    if_fair P (nat_le (length (spelled_up checked subscriber up)) count) up
+        (whole_up checked subscriber (count - length (spelled_up checked subscriber up)) ups)
+    (All-head P up ups fair)
+        (whole_fair checked subscriber P (count - length (spelled_up checked subscriber up)) ups
+        (All-tail P up ups fair))
 
 -- ---- one command or status
 
-module _ (source : Source) (position reached now : ℕ) (timed : now < 2 ^ 64) (reports : List Status) (heard delivered : ℕ) where
+module _ (source : Source) (position reached now : ℕ) (timed : now < 2 ^ 64) (reports : List Status)
+    (heard delivered : ℕ) where
   -- the connection that a session makes
   abbrev IsHeardTo : Session → Type 0
   IsHeardTo session = IsConnected source position session.confirmed reached
       (record { start = session.start; moves = session.moves; reports = reports; heard = heard; delivered = delivered })
 
-  asks_connected : (confirmed : ℕ) (start : Option ℕ) (moves : List Move) → IsHeardTo (record { confirmed = confirmed; start = start; moves = moves })
+  asks_connected : (confirmed : ℕ) (start : Option ℕ) (moves : List Move)
+      → IsHeardTo (record { confirmed = confirmed; start = start; moves = moves })
       → IsHeardTo (record { confirmed = confirmed; start = start_at start position confirmed; moves = moves })
   asks_connected confirmed (Some start) moves connected = connected
   asks_connected confirmed None moves connected = record {
     started = greatest confirmed (subst (λ n. confirmed ≤ n) (sym connected.reached_is) connected.confirmed_is);
     there = connected.there;
     clocked = connected.clocked;
-    delivered = at_most delivered (length (flat_map spelled (down_items source (Some (max position confirmed)) moves))) connected.delivered;
-    reached_is = subst (λ n. position_after position (whole_in n (down_items source (Some (max position confirmed)) moves)) ≡ reached) (zero_is delivered connected.delivered)
-        (ap (position_after position) (none_in_nothing (down_items source (Some (max position confirmed)) moves)) ∙ connected.reached_is);
+    delivered = at_most delivered
+        (length (flat_map spelled (down_items source (Some (max position confirmed)) moves))) connected.delivered;
+    reached_is = subst (λ n. position_after position
+        (whole_in n (down_items source (Some (max position confirmed)) moves)) ≡ reached)
+        (zero_is delivered connected.delivered)
+        (ap (position_after position) (none_in_nothing (down_items source (Some (max position confirmed)) moves))
+            ∙ connected.reached_is);
     confirmed_is = connected.confirmed_is;
     reports = connected.reports;
   }
@@ -71,15 +84,19 @@ module _ (source : Source) (position reached now : ℕ) (timed : now < 2 ^ 64) (
       zero_is : (a : ℕ) → a ≤ 0 → 0 ≡ a
       zero_is a h = omega (arith, h)
 
-  replies_connected : (confirmed : ℕ) (start : Option ℕ) (moves : List Move) (wants : Bool) → IsHeardTo (record { confirmed = confirmed; start = start; moves = moves })
+  replies_connected : (confirmed : ℕ) (start : Option ℕ) (moves : List Move) (wants : Bool)
+      → IsHeardTo (record { confirmed = confirmed; start = start; moves = moves })
       → IsHeardTo (record { confirmed = confirmed; start = start; moves = moves ++ replied wants now })
   replies_connected confirmed start moves true connected =
       moves_connected source position confirmed reached
-      (record { start = start; moves = moves; reports = reports; heard = heard; delivered = delivered }) (Keep now false) connected timed tt
+      (record { start = start; moves = moves; reports = reports; heard = heard; delivered = delivered })
+          (Keep now false) connected timed tt
   replies_connected confirmed start moves false connected =
-      subst (λ all. IsHeardTo (record { confirmed = confirmed; start = start; moves = all })) (sym (append-nil moves)) connected
+      subst (λ all. IsHeardTo (record { confirmed = confirmed; start = start; moves = all })) (sym (append-nil moves))
+          connected
 
-  says_connected : (confirmed flushed : ℕ) (start : Option ℕ) (moves : List Move) → flushed ≤ reached → IsHeardTo (record { confirmed = confirmed; start = start; moves = moves })
+  says_connected : (confirmed flushed : ℕ) (start : Option ℕ) (moves : List Move) → flushed ≤ reached
+      → IsHeardTo (record { confirmed = confirmed; start = start; moves = moves })
       → IsHeardTo (record { confirmed = max confirmed flushed; start = start; moves = moves })
   says_connected confirmed flushed start moves low connected = record {
     started = connected.started;
@@ -94,28 +111,38 @@ module _ (source : Source) (position reached now : ℕ) (timed : now < 2 ^ 64) (
       both_low : (a b : ℕ) → a ≤ reached → b ≤ reached → max a b ≤ reached
       both_low a b h k = omega (arith, h, k)
 
-  up_connected : (session : Session) (up : Up) → IsFair position reached up → IsHeardTo session → IsHeardTo (hear_up now session up)
+  up_connected : (session : Session) (up : Up) → IsFair position reached up → IsHeardTo session
+      → IsHeardTo (hear_up now session up)
   up_connected session (Asks asked) fair connected =
-      subst (λ p. IsHeardTo (record { confirmed = session.confirmed; start = start_at session.start p session.confirmed; moves = session.moves })) (sym fair)
+      subst (λ p. IsHeardTo
+          (record { confirmed = session.confirmed; start = start_at session.start p session.confirmed; moves =
+          session.moves })) (sym fair)
       (asks_connected session.confirmed session.start session.moves connected)
   up_connected session (Says status) fair connected =
       replies_connected (max session.confirmed status.flushed) session.start session.moves status.wants_reply
       (says_connected session.confirmed status.flushed session.start session.moves fair connected)
 
-  pub ups_connected : (ups : List Up) (session : Session) → All (IsFair position reached) ups → IsHeardTo session → IsHeardTo (fold (hear_up now) session ups)
+  pub ups_connected : (ups : List Up) (session : Session) → All (IsFair position reached) ups → IsHeardTo session
+      → IsHeardTo (fold (hear_up now) session ups)
   ups_connected [] session fair connected = connected
   ups_connected (up ∷ ups) session fair connected =
-      ups_connected ups (hear_up now session up) (All-tail (IsFair position reached) up ups fair) (up_connected session up (All-head (IsFair position reached) up ups fair) connected)
+      ups_connected ups (hear_up now session up) (All-tail (IsFair position reached) up ups fair)
+          (up_connected session up (All-head (IsFair position reached) up ups fair) connected)
 
 -- where a connection hears more bytes
 heard_connected : (source : Source) (now : ℕ) → now < 2 ^ 64 → (peer : Peer) (c : Connection) (more : ℕ)
     → (good : IsGood source (record peer { connection = Some c }))
     → IsConnected source peer.position (heard_of source now peer c more).confirmed good.connected.0
-    (record c { start = (heard_of source now peer c more).start; moves = (heard_of source now peer c more).moves; heard = c.heard + more })
+    (record c { start = (heard_of source now peer c more).start; moves =
+        (heard_of source now peer c more).moves; heard = c.heard + more })
 heard_connected source now timed peer c more good =
-    let fair = All-drop (IsFair peer.position good.connected.0) (length (whole_up source.checked source.number c.heard (ups_of peer c))) (whole_up source.checked source.number (c.heard + more) (ups_of peer c))
-    (whole_fair source.checked source.number (IsFair peer.position good.connected.0) (c.heard + more) (ups_of peer c) (ups_fair peer.position good.connected.0 c.reports good.connected.1.reports)) in
-    ups_connected source peer.position good.connected.0 now timed c.reports (c.heard + more) c.delivered (newly source peer c more)
+    let fair = All-drop (IsFair peer.position good.connected.0)
+        (length (whole_up source.checked source.number c.heard (ups_of peer c)))
+        (whole_up source.checked source.number (c.heard + more) (ups_of peer c))
+    (whole_fair source.checked source.number (IsFair peer.position good.connected.0) (c.heard + more) (ups_of peer c)
+        (ups_fair peer.position good.connected.0 c.reports good.connected.1.reports)) in
+    ups_connected source peer.position good.connected.0 now timed c.reports (c.heard + more) c.delivered
+        (newly source peer c more)
     (record { confirmed = peer.confirmed; start = c.start; moves = c.moves }) fair
     (record {
       started = good.connected.1.started;
@@ -141,28 +168,37 @@ hears_stay source now timed peer c more good =
 
 -- ---- the log grows
 
-one_there : (log more : List CommitOf) (place : Place) (move : Move) → IsThere log place move → IsThere (log ++ more) place move
+one_there : (log more : List CommitOf) (place : Place) (move : Move) → IsThere log place move
+    → IsThere (log ++ more) place move
 one_there log more place (Take clock) there = omega (arith, there, length-append log more)
 one_there log more place (Keep clock want) there = tt
 
-there_longer : (checked : CheckedOf) (log more : List CommitOf) (place : Place) (moves : List Move) → AllThere (telling_of checked) log place moves
+there_longer : (checked : CheckedOf) (log more : List CommitOf) (place : Place) (moves : List Move)
+    → AllThere (telling_of checked) log place moves
     → AllThere (telling_of checked) (log ++ more) place moves
 there_longer checked log more place [] there = tt
 there_longer checked log more place (move ∷ moves) there = (
   one_there log more place move there.0,
-  subst (λ at. AllThere (telling_of checked) (log ++ more) at moves) (sym (moved_longer checked log more place move there.0))
+  subst (λ at. AllThere (telling_of checked) (log ++ more) at moves)
+      (sym (moved_longer checked log more place move there.0))
       (there_longer checked log more (moved (telling_of checked) log place move) moves there.1),
 )
 
-pub down_longer : (source : Source) (more : List Transaction) (position : ℕ) (start : Option ℕ) → StartsAt position start → (moves : List Move)
-    → AllThere (telling_of source.checked) (log_in source) (place_at source.number (length source.checked.catalog.tables) position) moves
+pub down_longer : (source : Source) (more : List Transaction) (position : ℕ) (start : Option ℕ)
+    → StartsAt position start → (moves : List Move)
+    → AllThere (telling_of source.checked) (log_in source)
+        (place_at source.number (length source.checked.catalog.tables) position) moves
     → down_items (with_more source more) start moves ≡ down_items source start moves
 down_longer source more position None at moves there = refl
 down_longer source more position (Some start) at moves there =
     let on = log_goes_on source.checked source.transactions more in
-    let there_at = subst (λ p. AllThere (telling_of source.checked) (log_in source) (place_at source.number (length source.checked.catalog.tables) p) moves) (sym at) there in
-    ap (λ log. Response ∷ all_items source.checked log (place_at source.number (length source.checked.catalog.tables) start) moves) on.is
-    ∙ ap (λ items. Response ∷ items) (items_longer source.checked (log_in source) on.others (place_at source.number (length source.checked.catalog.tables) start) moves there_at)
+    let there_at = subst (λ p. AllThere (telling_of source.checked) (log_in source)
+        (place_at source.number (length source.checked.catalog.tables) p) moves) (sym at) there in
+    ap (λ log. Response ∷ all_items source.checked log
+        (place_at source.number (length source.checked.catalog.tables) start) moves) on.is
+    ∙ ap (λ items. Response ∷ items)
+        (items_longer source.checked (log_in source) on.others
+        (place_at source.number (length source.checked.catalog.tables) start) moves there_at)
 
 longer_connected : (source : Source) (more : List Transaction) (position confirmed reached : ℕ) (c : Connection)
     → IsConnected source position confirmed reached c → IsConnected (with_more source more) position confirmed reached c
@@ -171,8 +207,10 @@ longer_connected source more position confirmed reached c connected =
     let same = down_longer source more position c.start connected.started c.moves connected.there in
     record {
       started = connected.started;
-      there = subst (λ log. AllThere (telling_of source.checked) log (place_at source.number (length source.checked.catalog.tables) position) c.moves) (sym on.is)
-          (there_longer source.checked (log_in source) on.others (place_at source.number (length source.checked.catalog.tables) position) c.moves connected.there);
+      there = subst (λ log. AllThere (telling_of source.checked) log
+          (place_at source.number (length source.checked.catalog.tables) position) c.moves) (sym on.is)
+          (there_longer source.checked (log_in source) on.others
+              (place_at source.number (length source.checked.catalog.tables) position) c.moves connected.there);
       clocked = connected.clocked;
       delivered = subst (λ items. c.delivered ≤ length (flat_map spelled items)) (sym same) connected.delivered;
       reached_is = ap (λ items. position_after position (whole_in c.delivered items)) same ∙ connected.reached_is;
@@ -189,6 +227,7 @@ longer_at source more peer (Some c) connected =
 pub longer_good : (source : Source) (more : List Transaction) (peer : Peer) → IsGood source peer
     → IsGood (with_more source more) peer
 longer_good source more peer good = record {
-  follows = follows_longer source.checked source.transactions more source.number peer.position peer.machine good.follows;
+  follows = follows_longer source.checked source.transactions more source.number peer.position peer.machine
+      good.follows;
   connected = longer_at source more peer peer.connection good.connected;
 }

@@ -21,7 +21,7 @@ use Rattle.copy_both.specs.Tellings.{telling_of}
 use Rattle.stream_laws.specs.Cutting.{if_whole, whole_in}
 use Rattle.stream_laws.specs.Following.{raised_by_message, raised_by, position_after, log_of}
 use Rattle.stream_laws.specs.Items.{Item, Response, Carries, Alive, spelled, take_items, move_items, all_items}
-use Rattle.stream_laws.specs.Sayable.{IsSayable}
+use Rattle.stream_laws.specs.LayoutRoom.{FitsLayouts}
 use Rattle.shard_world.specs.World.{Source}
 
 -- ---- items that are whole
@@ -32,18 +32,22 @@ long_item item = omega arith
 pub none_in_nothing : (items : List Item) → whole_in 0 items ≡ []
 none_in_nothing [] = refl
 none_in_nothing (item ∷ items) = by_test (nat_le (length (spelled item)) 0)
-    (λ fits. let short : length (spelled item) ≤ 0 = leb-true (length (spelled item)) 0 fits in absurd (omega (arith, short, long_item item)))
+    (λ fits. let short : length (spelled item) ≤ 0 = leb-true (length (spelled item)) 0 fits in
+        absurd (omega (arith, short, long_item item)))
     (λ over. ap (λ b. if_whole b item (whole_in (0 - length (spelled item)) items)) over)
 
 -- more items change nothing of the bytes of those that are there
-pub whole_more : (count : ℕ) (items more : List Item) → count ≤ length (flat_map spelled items) → whole_in count (items ++ more) ≡ whole_in count items
+pub whole_more : (count : ℕ) (items more : List Item) → count ≤ length (flat_map spelled items)
+    → whole_in count (items ++ more) ≡ whole_in count items
 whole_more count [] more h = subst (λ n. whole_in n more ≡ []) (sym nothing) (none_in_nothing more)
   where
     nothing : count ≡ 0
     nothing = omega (arith, h)
 whole_more count (item ∷ items) more h = by_test (nat_le (length (spelled item)) count)
     (λ fits. ap (λ b. if_whole b item (whole_in (count - length (spelled item)) (items ++ more))) fits
-    ∙ ap (λ others. item ∷ others) (whole_more (count - length (spelled item)) items more (omega (arith, h, length-append (spelled item) (flat_map spelled items))))
+    ∙ ap (λ others. item ∷ others)
+        (whole_more (count - length (spelled item)) items more
+        (omega (arith, h, length-append (spelled item) (flat_map spelled items))))
     ∙ ap (λ b. if_whole b item (whole_in (count - length (spelled item)) items)) (sym fits))
     (λ over. ap (λ b. if_whole b item (whole_in (count - length (spelled item)) (items ++ more))) over
     ∙ ap (λ b. if_whole b item (whole_in (count - length (spelled item)) items)) (sym over))
@@ -68,29 +72,40 @@ pub items_raise : (position : ℕ) (items : List Item) → position ≤ position
 items_raise position [] = omega arith
 items_raise position (item ∷ items) =
     let first = item_raises position item in
-    let others : raised_by position item ≤ position_after (raised_by position item) items = items_raise (raised_by position item) items in
+    let others : raised_by position item ≤ position_after (raised_by position item) items =
+        items_raise (raised_by position item) items in
     omega (arith, first, others)
 
-pub more_raise : (position count more : ℕ) (items : List Item) → count ≤ more → position_after position (whole_in count items) ≤ position_after position (whole_in more items)
+pub more_raise : (position count more : ℕ) (items : List Item) → count ≤ more
+    → position_after position (whole_in count items) ≤ position_after position (whole_in more items)
 more_raise position count more [] h = omega arith
 more_raise position count more (item ∷ items) h = by_test (nat_le (length (spelled item)) count)
     (λ fits. by_test (nat_le (length (spelled item)) more)
-    (λ also. subst (λ b. position_after position (if_whole b item (whole_in (count - length (spelled item)) items)) ≤ position_after position (whole_in more (item ∷ items))) (sym fits)
-    (subst (λ b. position_after (raised_by position item) (whole_in (count - length (spelled item)) items) ≤ position_after position (if_whole b item (whole_in (more - length (spelled item)) items))) (sym also)
-    (more_raise (raised_by position item) (count - length (spelled item)) (more - length (spelled item)) items (omega (arith, h)))))
-    (λ over. absurd (let small = leb-true (length (spelled item)) count fits in let big = leb-false (length (spelled item)) more over in omega (arith, small, big, h))))
-    (λ over. subst (λ b. position_after position (if_whole b item (whole_in (count - length (spelled item)) items)) ≤ position_after position (whole_in more (item ∷ items))) (sym over)
+    (λ also. subst (λ b. position_after position (if_whole b item (whole_in (count - length (spelled item)) items)) ≤
+        position_after position (whole_in more (item ∷ items))) (sym fits)
+    (subst (λ b. position_after (raised_by position item) (whole_in (count - length (spelled item)) items) ≤
+        position_after position (if_whole b item (whole_in (more - length (spelled item)) items))) (sym also)
+    (more_raise (raised_by position item) (count - length (spelled item)) (more - length (spelled item)) items
+        (omega (arith, h)))))
+    (λ over. absurd (let small = leb-true (length (spelled item)) count fits in let big =
+        leb-false (length (spelled item)) more over in omega (arith, small, big, h))))
+    (λ over. subst (λ b. position_after position (if_whole b item (whole_in (count - length (spelled item)) items)) ≤
+        position_after position (whole_in more (item ∷ items))) (sym over)
     (items_raise position (whole_in more (item ∷ items))))
 
 -- ---- one move more
 
 pub items_append : (checked : CheckedOf) (log : List CommitOf) (place : Place) (moves : List Move) (move : Move)
-    → all_items checked log place (moves ++ move ∷ []) ≡ all_items checked log place moves ++ move_items checked log (all_moved (telling_of checked) log place moves) move
+    → all_items checked log place (moves ++ move ∷ []) ≡ all_items checked log place moves
+        ++ move_items checked log (all_moved (telling_of checked) log place moves) move
 items_append checked log place [] move = append-nil (move_items checked log place move)
 items_append checked log place (first ∷ moves) move =
-    ap (λ later. move_items checked log place first ++ later) (items_append checked log (moved (telling_of checked) log place first) moves move)
-    ∙ sym (append_assoc (move_items checked log place first) (all_items checked log (moved (telling_of checked) log place first) moves)
-    (move_items checked log (all_moved (telling_of checked) log (moved (telling_of checked) log place first) moves) move))
+    ap (λ later. move_items checked log place first ++ later)
+        (items_append checked log (moved (telling_of checked) log place first) moves move)
+    ∙ sym (append_assoc (move_items checked log place first)
+        (all_items checked log (moved (telling_of checked) log place first) moves)
+    (move_items checked log (all_moved (telling_of checked) log (moved (telling_of checked) log place first) moves)
+        move))
 
 -- ---- a longer log
 
@@ -104,30 +119,39 @@ got_longer (first ∷ log) more (suc n) less = got_longer log more n (omega (ari
 
 move_longer : (checked : CheckedOf) (log more : List CommitOf) (place : Place) (move : Move) → IsThere log place move
     → move_items checked (log ++ more) place move ≡ move_items checked log place move
-move_longer checked log more place (Take clock) there = ap (λ found. take_items checked place found clock) (got_longer log more place.done there)
+move_longer checked log more place (Take clock) there =
+    ap (λ found. take_items checked place found clock) (got_longer log more place.done there)
 move_longer checked log more place (Keep clock want) there = refl
 
-pub moved_longer : (checked : CheckedOf) (log more : List CommitOf) (place : Place) (move : Move) → IsThere log place move
+pub moved_longer : (checked : CheckedOf) (log more : List CommitOf) (place : Place) (move : Move)
+    → IsThere log place move
     → moved (telling_of checked) (log ++ more) place move ≡ moved (telling_of checked) log place move
-moved_longer checked log more place (Take clock) there = ap (taken_place (telling_of checked) place) (got_longer log more place.done there)
+moved_longer checked log more place (Take clock) there =
+    ap (taken_place (telling_of checked) place) (got_longer log more place.done there)
 moved_longer checked log more place (Keep clock want) there = refl
 
-pub items_longer : (checked : CheckedOf) (log more : List CommitOf) (place : Place) (moves : List Move) → AllThere (telling_of checked) log place moves
+pub items_longer : (checked : CheckedOf) (log more : List CommitOf) (place : Place) (moves : List Move)
+    → AllThere (telling_of checked) log place moves
     → all_items checked (log ++ more) place moves ≡ all_items checked log place moves
 items_longer checked log more place [] there = refl
 items_longer checked log more place (move ∷ moves) there =
-    ap (λ at. move_items checked (log ++ more) place move ++ all_items checked (log ++ more) at moves) (moved_longer checked log more place move there.0)
-    ∙ ap (λ items. items ++ all_items checked (log ++ more) (moved (telling_of checked) log place move) moves) (move_longer checked log more place move there.0)
-    ∙ ap (λ later. move_items checked log place move ++ later) (items_longer checked log more (moved (telling_of checked) log place move) moves there.1)
+    ap (λ at. move_items checked (log ++ more) place move ++ all_items checked (log ++ more) at moves)
+        (moved_longer checked log more place move there.0)
+    ∙ ap (λ items. items ++ all_items checked (log ++ more) (moved (telling_of checked) log place move) moves)
+        (move_longer checked log more place move there.0)
+    ∙ ap (λ later. move_items checked log place move ++ later)
+        (items_longer checked log more (moved (telling_of checked) log place move) moves there.1)
 
 entries_append : (setting : Setting) (tables : Tables) (number : ℕ) (transactions more : List Transaction)
     → entries_from setting tables number (transactions ++ more)
-    ≡ entries_from setting tables number transactions ++ entries_from setting (fold (left_by setting) tables transactions) (number + length transactions) more
+    ≡ entries_from setting tables number transactions
+        ++ entries_from setting (fold (left_by setting) tables transactions) (number + length transactions) more
 entries_append setting tables number [] more = ap (λ n. entries_from setting tables n more) (sym (add-zero number))
 entries_append setting tables number (transaction ∷ transactions) more =
     ap (λ others. log.commit_of number transaction.time (record_of setting tables transaction.commands) ∷ others)
     (entries_append setting (left_by setting tables transaction) (number + 1) transactions more
-    ∙ ap (λ n. entries_from setting (left_by setting tables transaction) (number + 1) transactions ++ entries_from setting (fold (left_by setting) (left_by setting tables transaction) transactions) n more)
+    ∙ ap (λ n. entries_from setting (left_by setting tables transaction) (number + 1) transactions
+        ++ entries_from setting (fold (left_by setting) (left_by setting tables transaction) transactions) n more)
     (at_later number (length transactions)))
   where
     at_later : (n count : ℕ) → n + 1 + count ≡ n + suc count
@@ -140,16 +164,20 @@ pub record GoesOn (checked : CheckedOf) (transactions more : List Transaction) :
 
 pub log_goes_on : (checked : CheckedOf) (transactions more : List Transaction) → GoesOn checked transactions more
 log_goes_on checked transactions more = record {
-  others = entries_from (setting_in checked) (fold (left_by (setting_in checked)) no_rows transactions) (1 + length transactions) more;
+  others = entries_from (setting_in checked) (fold (left_by (setting_in checked)) no_rows transactions)
+      (1 + length transactions) more;
   is = entries_append (setting_in checked) no_rows 1 transactions more;
 }
 
 -- what can be said of more transactions can be said of the first ones
-pub sayable_first : (checked : CheckedOf) (transactions more : List Transaction) → IsSayable checked (transactions ++ more) → IsSayable checked transactions
+pub sayable_first : (checked : CheckedOf) (transactions more : List Transaction)
+    → FitsLayouts checked (transactions ++ more) → FitsLayouts checked transactions
 sayable_first checked transactions more h =
     let on = log_goes_on checked transactions more in
     record {
       few = omega (arith, h.few, length-append transactions more);
       said = λ subscriber told place commit at. h.said subscriber told place commit
-          (ap (λ all. slice_get all place) on.is ∙ got_longer (log_of checked transactions) on.others place (slice_get_within (log_of checked transactions) place commit at) ∙ at);
+          (ap (λ all. slice_get all place) on.is
+              ∙ got_longer (log_of checked transactions) on.others place
+              (slice_get_within (log_of checked transactions) place commit at) ∙ at);
     }

@@ -18,14 +18,14 @@ use Rattle.stream_laws.specs.Cutting.{whole_in}
 use Rattle.stream_laws.specs.Following.{position_after, Follows, IsPublished, IsSentItem}
 use Rattle.stream_laws.specs.FollowingBytes.{IsFollowed}
 use Rattle.stream_laws.specs.Items.{Item, Response, spelled, move_items}
-use Rattle.stream_laws.specs.Sayable.{IsSayable}
+use Rattle.stream_laws.specs.LayoutRoom.{FitsLayouts}
 use Rattle.shard_world.specs.World.{Connection, Peer, down_items, down_bytes, position_in, machine_in, position_now, machine_now, loses, Source, log_in}
 pub use Rattle.shard_world.specs.WorldLaws.{StartsAt}
 use Rattle.stream_laws.proofs.CuttingLemmas.{cut_nothing}
 use Rattle.stream_laws.proofs.FollowingBytesLemmas.{follows_alike, opened_followed}
 use Rattle.stream_laws.proofs.ItemLemmas.{streams_are_items}
 use Rattle.shard_world.proofs.WorldItems.{whole_more, more_raise, items_append}
-use Rattle.stream_laws.specs.Sayable.{IsClocked}
+use Rattle.stream_laws.specs.LayoutRoom.{IsClocked}
 use Rattle.stream_laws.proofs.SentItems.{stream_sent}
 
 -- ---- what is so of a connection
@@ -37,10 +37,12 @@ FollowsIn source position machine = Follows source.checked source.transactions s
 abbrev pub IsReported : ℕ → Status → Type 0
 IsReported reached status = status.flushed ≤ reached
 
--- Its stream starts where it was opened, takes commits that are there, and was delivered so far; it reached this position, and nothing beyond it was reported or confirmed.
+-- Its stream starts where it was opened, takes commits that are there, and was delivered so far; it reached this
+-- position, and nothing beyond it was reported or confirmed.
 pub record IsConnected (source : Source) (position confirmed reached : ℕ) (c : Connection) : Type 0 where
   pub started : StartsAt position c.start
-  pub there : AllThere (telling_of source.checked) (log_in source) (place_at source.number (length source.checked.catalog.tables) position) c.moves
+  pub there : AllThere (telling_of source.checked) (log_in source)
+      (place_at source.number (length source.checked.catalog.tables) position) c.moves
   pub clocked : All IsClocked c.moves
   pub delivered : c.delivered ≤ length (flat_map spelled (down_items source c.start c.moves))
   pub reached_is : position_after position (whole_in c.delivered (down_items source c.start c.moves)) ≡ reached
@@ -68,25 +70,31 @@ bytes_of_items source (Some start) moves = streams_are_items source.checked (log
 no_bytes : List ℕ
 no_bytes = []
 
-module _ (source : Source) (published : IsPublished source.checked source.transactions) (sayable : IsSayable source.checked source.transactions) where
+module _ (source : Source) (published : IsPublished source.checked source.transactions)
+    (sayable : FitsLayouts source.checked source.transactions) where
   -- what it sends can be said
-  pub down_sent : (position : ℕ) (machine : Machine) → FollowsIn source position machine → (start : Option ℕ) → StartsAt position start
+  pub down_sent : (position : ℕ) (machine : Machine) → FollowsIn source position machine → (start : Option ℕ)
+      → StartsAt position start
       → (moves : List Move) → All IsClocked moves → All IsSentItem (down_items source start moves)
   down_sent position machine follows None at moves clocked = All-nil IsSentItem
   down_sent position machine follows (Some start) at moves clocked =
       subst (λ p. All IsSentItem (down_items source (Some p) moves)) (sym at)
-      (stream_sent source.checked source.transactions published.accepted sayable source.number position moves follows.within clocked)
+      (stream_sent source.checked source.transactions published.accepted sayable source.number position moves
+          follows.within clocked)
 
   -- and is heard with no fault
-  pub delivered_followed : (position : ℕ) (machine : Machine) → FollowsIn source position machine → (start : Option ℕ) → StartsAt position start
-      → (moves : List Move) → All IsClocked moves → (delivered : ℕ) → delivered ≤ length (flat_map spelled (down_items source start moves))
+  pub delivered_followed : (position : ℕ) (machine : Machine) → FollowsIn source position machine → (start : Option ℕ)
+      → StartsAt position start
+      → (moves : List Move) → All IsClocked moves → (delivered : ℕ)
+      → delivered ≤ length (flat_map spelled (down_items source start moves))
       → IsFollowedIn source (position_after position (whole_in delivered (down_items source start moves)))
       (hear_cut (cut limit (take delivered (down_bytes source start moves))) (opened machine))
   delivered_followed position machine follows None at moves clocked delivered within =
       subst (λ n. IsFollowedIn source position (hear_cut (cut limit (take n [])) (opened machine))) zero_is
       (subst (λ all. IsFollowedIn source position (hear_cut all (opened machine))) (sym (cut_nothing limit)) (record {
         no_fault = refl;
-        follows = follows_alike source.checked source.transactions source.number position machine (opened machine) follows refl (λ oid key. refl) (λ oid. refl);
+        follows = follows_alike source.checked source.transactions source.number position machine (opened machine)
+            follows refl (λ oid key. refl) (λ oid. refl);
       }))
     where
       zero_is : 0 ≡ delivered
@@ -95,10 +103,14 @@ module _ (source : Source) (published : IsPublished source.checked source.transa
       subst (λ p. IsFollowedIn source (position_after position (whole_in delivered (down_items source (Some p) moves)))
       (hear_cut (cut limit (take delivered (down_bytes source (Some p) moves))) (opened machine))) (sym at)
       (by_length (length (take delivered (down_bytes source (Some position) moves))) long
-      (opened_followed source.checked source.transactions published source.number (opened machine) (record { waits = refl; known = λ oid. refl; work_is = λ oid key. refl }) position
-      (follows_alike source.checked source.transactions source.number position machine (opened machine) follows refl (λ oid key. refl) (λ oid. refl)) moves
-      (stream_sent source.checked source.transactions published.accepted sayable source.number position moves follows.within clocked)
-      (take delivered (down_bytes source (Some position) moves)) (drop delivered (down_bytes source (Some position) moves))
+      (opened_followed source.checked source.transactions published source.number (opened machine)
+          (record { waits = refl; known = λ oid. refl; work_is = λ oid key. refl }) position
+      (follows_alike source.checked source.transactions source.number position machine (opened machine) follows refl
+          (λ oid key. refl) (λ oid. refl)) moves
+      (stream_sent source.checked source.transactions published.accepted sayable source.number position moves
+          follows.within clocked)
+      (take delivered (down_bytes source (Some position) moves))
+          (drop delivered (down_bytes source (Some position) moves))
       (take-append-drop delivered (down_bytes source (Some position) moves))))
     where
       moved_within : delivered ≤ length (flat_map spelled (down_items source (Some position) moves))
@@ -113,43 +125,54 @@ module _ (source : Source) (published : IsPublished source.checked source.transa
           (hear_cut (cut limit (take delivered (down_bytes source (Some position) moves))) (opened machine))
           → IsFollowedIn source (position_after position (whole_in delivered (down_items source (Some position) moves)))
           (hear_cut (cut limit (take delivered (down_bytes source (Some position) moves))) (opened machine))
-      by_length count e h = subst (λ n. IsFollowedIn source (position_after position (whole_in n (down_items source (Some position) moves)))
+      by_length count e h =
+          subst (λ n. IsFollowedIn source
+          (position_after position (whole_in n (down_items source (Some position) moves)))
           (hear_cut (cut limit (take delivered (down_bytes source (Some position) moves))) (opened machine))) e h
 
-  follows_at : (peer : Peer) (connection : Option Connection) → FollowsIn source peer.position peer.machine → IsConnectedAt source peer connection
+  follows_at : (peer : Peer) (connection : Option Connection) → FollowsIn source peer.position peer.machine
+      → IsConnectedAt source peer connection
       → FollowsIn source (position_in source peer connection) (machine_in source peer connection)
   follows_at peer None follows connected = follows
   follows_at peer (Some c) follows connected =
-      (delivered_followed peer.position peer.machine follows c.start connected.1.started c.moves connected.1.clocked c.delivered connected.1.delivered).follows
+      (delivered_followed peer.position peer.machine follows c.start connected.1.started c.moves connected.1.clocked
+          c.delivered connected.1.delivered).follows
 
   pub good_follows : (peer : Peer) → IsGood source peer
       → FollowsIn source (position_now source peer) (machine_now source peer)
   good_follows peer good = follows_at peer peer.connection good.follows good.connected
 
   -- a connection that is lost
-  confirmed_below : (peer : Peer) (connection : Option Connection) → IsConnectedAt source peer connection → peer.confirmed ≤ position_in source peer connection
+  confirmed_below : (peer : Peer) (connection : Option Connection) → IsConnectedAt source peer connection
+      → peer.confirmed ≤ position_in source peer connection
   confirmed_below peer None connected = connected
-  confirmed_below peer (Some c) connected = subst (λ n. peer.confirmed ≤ n) (sym connected.1.reached_is) connected.1.confirmed_is
+  confirmed_below peer (Some c) connected =
+      subst (λ n. peer.confirmed ≤ n) (sym connected.1.reached_is) connected.1.confirmed_is
 
   pub loses_good : (peer : Peer) → IsGood source peer → IsGood source (loses source peer)
   loses_good peer good = record {
-    follows = follows_alike source.checked source.transactions source.number (position_now source peer) (machine_now source peer)
+    follows = follows_alike source.checked source.transactions source.number (position_now source peer)
+        (machine_now source peer)
         (lost (machine_now source peer)) (good_follows peer good) refl (λ oid key. refl) (λ oid. refl);
     connected = confirmed_below peer peer.connection good.connected;
   }
 
 -- ---- one move more
 
-there_append : (checked : CheckedOf) (log : List CommitOf) (place : Place) (moves : List Move) (move : Move) → AllThere (telling_of checked) log place moves
-    → IsThere log (all_moved (telling_of checked) log place moves) move → AllThere (telling_of checked) log place (moves ++ move ∷ [])
+there_append : (checked : CheckedOf) (log : List CommitOf) (place : Place) (moves : List Move) (move : Move)
+    → AllThere (telling_of checked) log place moves
+    → IsThere log (all_moved (telling_of checked) log place moves) move
+    → AllThere (telling_of checked) log place (moves ++ move ∷ [])
 there_append checked log place [] move there here = (here, tt)
-there_append checked log place (first ∷ moves) move there here = (there.0, there_append checked log (moved (telling_of checked) log place first) moves move there.1 here)
+there_append checked log place (first ∷ moves) move there here =
+    (there.0, there_append checked log (moved (telling_of checked) log place first) moves move there.1 here)
 
 spelled_longer : (xs ys : List Item) → length (flat_map spelled xs) ≤ length (flat_map spelled (xs ++ ys))
 spelled_longer [] ys = omega arith
 spelled_longer (x ∷ xs) ys =
     let later = spelled_longer xs ys in
-    omega (arith, later, length-append (spelled x) (flat_map spelled xs), length-append (spelled x) (flat_map spelled (xs ++ ys)))
+    omega (arith, later, length-append (spelled x) (flat_map spelled xs),
+        length-append (spelled x) (flat_map spelled (xs ++ ys)))
 
 pub record Grows (source : Source) (start : Option ℕ) (moves : List Move) (move : Move) : Type 0 where
   pub more : List Item
@@ -158,25 +181,37 @@ pub record Grows (source : Source) (start : Option ℕ) (moves : List Move) (mov
 pub grows : (source : Source) (start : Option ℕ) (moves : List Move) (move : Move) → Grows source start moves move
 grows source None moves move = record { more = []; is = refl }
 grows source (Some start) moves move = record {
-  more = move_items source.checked (log_in source) (all_moved (telling_of source.checked) (log_in source) (place_at source.number (length source.checked.catalog.tables) start) moves) move;
-  is = ap (λ items. Response ∷ items) (items_append source.checked (log_in source) (place_at source.number (length source.checked.catalog.tables) start) moves move);
+  more = move_items source.checked (log_in source)
+      (all_moved (telling_of source.checked) (log_in source)
+      (place_at source.number (length source.checked.catalog.tables) start) moves) move;
+  is = ap (λ items. Response ∷ items)
+      (items_append source.checked (log_in source)
+      (place_at source.number (length source.checked.catalog.tables) start) moves move);
 }
 
 module _ (source : Source) (position confirmed reached : ℕ) where
-  pub moves_connected : (c : Connection) (move : Move) → IsConnected source position confirmed reached c → IsClocked move
-      → IsThere (log_in source) (all_moved (telling_of source.checked) (log_in source) (place_at source.number (length source.checked.catalog.tables) position) c.moves) move
+  pub moves_connected : (c : Connection) (move : Move) → IsConnected source position confirmed reached c
+      → IsClocked move
+      → IsThere (log_in source)
+          (all_moved (telling_of source.checked) (log_in source)
+          (place_at source.number (length source.checked.catalog.tables) position) c.moves) move
       → IsConnected source position confirmed reached (record c { moves = c.moves ++ move ∷ [] })
   moves_connected c move connected clock here =
       let grown = grows source c.start c.moves move in
       record {
         started = connected.started;
-        there = there_append source.checked (log_in source) (place_at source.number (length source.checked.catalog.tables) position) c.moves move connected.there here;
-        clocked = All-append IsClocked c.moves (move ∷ []) connected.clocked (All-cons IsClocked move [] clock (All-nil IsClocked));
+        there = there_append source.checked (log_in source)
+            (place_at source.number (length source.checked.catalog.tables) position) c.moves move connected.there
+            here;
+        clocked = All-append IsClocked c.moves (move ∷ []) connected.clocked
+            (All-cons IsClocked move [] clock (All-nil IsClocked));
         delivered = subst (λ items. c.delivered ≤ length (flat_map spelled items)) (sym grown.is)
             (longer c.delivered (length (flat_map spelled (down_items source c.start c.moves))) _ connected.delivered
             (spelled_longer (down_items source c.start c.moves) grown.more));
         reached_is = ap (λ items. position_after position (whole_in c.delivered items)) grown.is
-            ∙ ap (position_after position) (whole_more c.delivered (down_items source c.start c.moves) grown.more connected.delivered) ∙ connected.reached_is;
+            ∙ ap (position_after position)
+                (whole_more c.delivered (down_items source c.start c.moves) grown.more connected.delivered)
+                ∙ connected.reached_is;
         confirmed_is = connected.confirmed_is;
         reports = connected.reports;
       }
@@ -190,7 +225,10 @@ module _ (source : Source) (position confirmed reached : ℕ) where
   delivers_connected c more connected within =
       let items = down_items source c.start c.moves in
       let raised = more_raise position c.delivered (c.delivered + more) items (omega arith) in
-      let above : reached ≤ position_after position (whole_in (c.delivered + more) (down_items source c.start c.moves)) = subst (λ n. n ≤ position_after position (whole_in (c.delivered + more) (down_items source c.start c.moves))) connected.reached_is raised in (
+      let above : reached ≤ position_after position
+          (whole_in (c.delivered + more) (down_items source c.start c.moves)) =
+          subst (λ n. n ≤ position_after position (whole_in (c.delivered + more) (down_items source c.start c.moves)))
+          connected.reached_is raised in (
         position_after position (whole_in (c.delivered + more) (down_items source c.start c.moves)),
         record {
           started = connected.started;
@@ -199,19 +237,24 @@ module _ (source : Source) (position confirmed reached : ℕ) where
           delivered = within;
           reached_is = refl;
           confirmed_is = omega (arith, connected.confirmed_is, above);
-          reports = reports_below c.reports (position_after position (whole_in (c.delivered + more) (down_items source c.start c.moves))) above connected.reports;
+          reports = reports_below c.reports
+              (position_after position (whole_in (c.delivered + more) (down_items source c.start c.moves))) above
+              connected.reports;
         },
       )
     where
-      reports_below : (reports : List Status) (further : ℕ) → reached ≤ further → All (IsReported reached) reports → All (IsReported further) reports
+      reports_below : (reports : List Status) (further : ℕ) → reached ≤ further → All (IsReported reached) reports
+          → All (IsReported further) reports
       reports_below [] further above h = All-nil (IsReported further)
       reports_below (report ∷ reports) further above h = All-cons (IsReported further) report reports
-          (at_most report.flushed further above (All-head (IsReported reached) report reports h)) (reports_below reports further above (All-tail (IsReported reached) report reports h))
+          (at_most report.flushed further above (All-head (IsReported reached) report reports h))
+              (reports_below reports further above (All-tail (IsReported reached) report reports h))
         where
           at_most : (n further : ℕ) → reached ≤ further → n ≤ reached → n ≤ further
           at_most n further above low = omega (arith, above, low)
 
-  pub reports_connected : (c : Connection) (status : Status) → status.flushed ≤ reached → IsConnected source position confirmed reached c
+  pub reports_connected : (c : Connection) (status : Status) → status.flushed ≤ reached
+      → IsConnected source position confirmed reached c
       → IsConnected source position confirmed reached (record c { reports = c.reports ++ status ∷ [] })
   reports_connected c status low connected = record {
     started = connected.started;
@@ -220,5 +263,6 @@ module _ (source : Source) (position confirmed reached : ℕ) where
     delivered = connected.delivered;
     reached_is = connected.reached_is;
     confirmed_is = connected.confirmed_is;
-    reports = All-append (IsReported reached) c.reports (status ∷ []) connected.reports (All-cons (IsReported reached) status [] low (All-nil (IsReported reached)));
+    reports = All-append (IsReported reached) c.reports (status ∷ []) connected.reports
+        (All-cons (IsReported reached) status [] low (All-nil (IsReported reached)));
   }

@@ -12,9 +12,9 @@ use Rattle.stream_laws.specs.Following.{IsPublished}
 use Rattle.stream_laws.specs.Items.{spelled}
 use Rattle.shard_world.specs.World.{Connection, Peer, PeerEvent, Open, Hear, Take, Keep, Deliver, Report, Lose, down_items, down_bytes, ups_of, spelled_up, as_many, hears, delivers, moves_on, place_of, take_step, keep_step, open_step, shut_step, peer_step, broken, Source, up_bytes, down_of, in_part, log_in}
 use Rattle.shard_world.specs.World as w
-use Rattle.stream_laws.specs.Sayable.{IsSayable}
+use Rattle.stream_laws.specs.LayoutRoom.{FitsLayouts}
 use Rattle.shard_world.proofs.WorldHearing.{hears_good}
-use Rattle.stream_laws.specs.Sayable.{IsClocked}
+use Rattle.stream_laws.specs.LayoutRoom.{IsClocked}
 use Rattle.shard_world.proofs.WorldPeers.{StartsAt, IsReported, IsConnectedAt, IsGood, bytes_of_items, loses_good, moves_connected, delivers_connected, reports_connected}
 
 -- ---- a step on a connection
@@ -28,46 +28,57 @@ pub as_open : {source : Source} (peer : Peer) (c : Connection) → peer.connecti
 as_open {source = source} peer c is good =
     record { follows = good.follows; connected = subst (IsConnectedAt source peer) is good.connected }
 
-module _ (source : Source) (published : IsPublished source.checked source.transactions) (sayable : IsSayable source.checked source.transactions) (now : ℕ) (timed : now < 2 ^ 64) where
+module _ (source : Source) (published : IsPublished source.checked source.transactions)
+    (sayable : FitsLayouts source.checked source.transactions) (now : ℕ) (timed : now < 2 ^ 64) where
   pub delivers_good : (peer : Peer) (c : Connection) (asked : ℕ) → IsGood source (record peer { connection = Some c })
       → IsGood source (delivers peer c (as_many asked (length (down_of source c)) c.delivered))
   delivers_good peer c asked good = record {
     follows = good.follows;
-    connected = delivers_connected source peer.position peer.confirmed good.connected.0 c (as_many asked (length (down_of source c)) c.delivered)
+    connected = delivers_connected source peer.position peer.confirmed good.connected.0 c
+        (as_many asked (length (down_of source c)) c.delivered)
         good.connected.1
-        (subst (λ bytes. c.delivered + as_many asked (length bytes) c.delivered ≤ length (flat_map spelled (down_items source c.start c.moves)))
+        (subst (λ bytes. c.delivered + as_many asked (length bytes) c.delivered ≤ length
+            (flat_map spelled (down_items source c.start c.moves)))
         (sym (bytes_of_items source c.start c.moves))
-        (stays_within asked (length (flat_map spelled (down_items source c.start c.moves))) c.delivered good.connected.1.delivered));
+        (stays_within asked (length (flat_map spelled (down_items source c.start c.moves))) c.delivered
+            good.connected.1.delivered));
   }
 
-  moves_good : (peer : Peer) (c : Connection) (move : Move) → IsGood source (record peer { connection = Some c }) → IsClocked move
+  moves_good : (peer : Peer) (c : Connection) (move : Move) → IsGood source (record peer { connection = Some c })
+      → IsClocked move
       → IsThere (log_in source) (place_of source peer.position c.moves) move
       → IsGood source (moves_on peer c move)
   moves_good peer c move good clock here = record {
     follows = good.follows;
-    connected = (good.connected.0, moves_connected source peer.position peer.confirmed good.connected.0 c move good.connected.1 clock here);
+    connected = (good.connected.0,
+        moves_connected source peer.position peer.confirmed good.connected.0 c move good.connected.1 clock here);
   }
 
-  takes_good : (peer : Peer) (c : Connection) (place : Place) (found : Option CommitOf) → slice_get (log_in source) place.done ≡ found
+  takes_good : (peer : Peer) (c : Connection) (place : Place) (found : Option CommitOf)
+      → slice_get (log_in source) place.done ≡ found
       → place ≡ place_of source peer.position c.moves
-      → (connection : Option Connection) → peer.connection ≡ connection → IsGood source peer → IsGood source (record peer { connection = Some c })
+      → (connection : Option Connection) → peer.connection ≡ connection → IsGood source peer
+      → IsGood source (record peer { connection = Some c })
       → IsGood source (w.takes source.checked now peer c place found).1
   takes_good peer c place None e at connection is whole good = whole
   takes_good peer c place (Some commit) e at connection is whole good =
       moves_good peer c (s.Take now) good timed
       (subst (λ p. p.done < length (log_in source)) at (slice_get_within (log_in source) place.done commit e))
 
-  take_good : (peer : Peer) (c : Connection) (start : Option ℕ) → c.start ≡ start → IsGood source peer → IsGood source (record peer { connection = Some c })
+  take_good : (peer : Peer) (c : Connection) (start : Option ℕ) → c.start ≡ start → IsGood source peer
+      → IsGood source (record peer { connection = Some c })
       → IsGood source (take_step source now peer c start).1
   take_good peer c None e whole good = whole
   take_good peer c (Some start) e whole good =
-      takes_good peer c (place_of source start c.moves) (slice_get (log_in source) (place_of source start c.moves).done) refl
+      takes_good peer c (place_of source start c.moves)
+          (slice_get (log_in source) (place_of source start c.moves).done) refl
       (ap (λ p. place_of source p c.moves) at) peer.connection refl whole good
     where
       at : start ≡ peer.position
       at = subst (StartsAt peer.position) e good.connected.1.started
 
-  keep_good : (want : Bool) (peer : Peer) (c : Connection) (start : Option ℕ) → IsGood source peer → IsGood source (record peer { connection = Some c })
+  keep_good : (want : Bool) (peer : Peer) (c : Connection) (start : Option ℕ) → IsGood source peer
+      → IsGood source (record peer { connection = Some c })
       → IsGood source (keep_step now want peer c start).1
   keep_good want peer c None whole good = whole
   keep_good want peer c (Some start) whole good = moves_good peer c (s.Keep now want) good timed tt
@@ -76,7 +87,8 @@ module _ (source : Source) (published : IsPublished source.checked source.transa
       → IsGood source (open_step source now event peer c).1
   open_good Open peer c is good = good
   open_good (Hear count) peer c is good =
-      hears_good source now timed peer c (as_many count (length (up_bytes source peer c)) c.heard) (as_open peer c is good)
+      hears_good source now timed peer c (as_many count (length (up_bytes source peer c)) c.heard)
+          (as_open peer c is good)
   open_good Take peer c is good = take_good peer c c.start refl good (as_open peer c is good)
   open_good (Keep want) peer c is good = keep_good want peer c c.start good (as_open peer c is good)
   open_good (Deliver count) peer c is good = delivers_good peer c count (as_open peer c is good)
@@ -87,13 +99,15 @@ module _ (source : Source) (published : IsPublished source.checked source.transa
         connected = (
           opened_good.connected.0,
           reports_connected source peer.position peer.confirmed opened_good.connected.0 c _
-              (subst (λ n. n ≤ opened_good.connected.0) (sym (ap (w.position_in source peer) is ∙ opened_good.connected.1.reached_is)) (omega arith))
+              (subst (λ n. n ≤ opened_good.connected.0)
+                  (sym (ap (w.position_in source peer) is ∙ opened_good.connected.1.reached_is)) (omega arith))
               opened_good.connected.1,
         );
       }
   open_good Lose peer c is good = loses_good source published sayable peer good
 
-  shut_good : (event : PeerEvent) (peer : Peer) → peer.connection ≡ None → IsGood source peer → IsGood source (shut_step event peer).1
+  shut_good : (event : PeerEvent) (peer : Peer) → peer.connection ≡ None → IsGood source peer
+      → IsGood source (shut_step event peer).1
   shut_good Open peer is good = record {
     follows = good.follows;
     connected = (
@@ -116,15 +130,18 @@ module _ (source : Source) (published : IsPublished source.checked source.transa
   shut_good (Report want) peer is good = good
   shut_good Lose peer is good = good
 
-  pub peer_good : (event : PeerEvent) (peer : Peer) (connection : Option Connection) → peer.connection ≡ connection → IsGood source peer
+  pub peer_good : (event : PeerEvent) (peer : Peer) (connection : Option Connection) → peer.connection ≡ connection
+      → IsGood source peer
       → IsGood source (peer_step source now event peer connection).1
   peer_good event peer None is good = shut_good event peer is good
   peer_good event peer (Some c) is good = open_good event peer c is good
 
   -- where memory was refused
-  pub in_part_good : (event : PeerEvent) (peer : Peer) (some : ℕ) (c : Connection) → peer.connection ≡ Some c → IsGood source peer → IsGood source (in_part source now event peer some c)
+  pub in_part_good : (event : PeerEvent) (peer : Peer) (some : ℕ) (c : Connection) → peer.connection ≡ Some c
+      → IsGood source peer → IsGood source (in_part source now event peer some c)
   in_part_good (Hear count) peer some c is good =
-      hears_good source now timed peer c (as_many (min some count) (length (up_bytes source peer c)) c.heard) (as_open peer c is good)
+      hears_good source now timed peer c (as_many (min some count) (length (up_bytes source peer c)) c.heard)
+          (as_open peer c is good)
   in_part_good (Deliver count) peer some c is good = delivers_good peer c (min some count) (as_open peer c is good)
   in_part_good Open peer some c is good = good
   in_part_good Take peer some c is good = good
@@ -132,8 +149,10 @@ module _ (source : Source) (published : IsPublished source.checked source.transa
   in_part_good (Report want) peer some c is good = good
   in_part_good Lose peer some c is good = good
 
-  pub broken_good : (event : PeerEvent) (peer : Peer) (some : ℕ) (connection : Option Connection) → peer.connection ≡ connection → IsGood source peer
+  pub broken_good : (event : PeerEvent) (peer : Peer) (some : ℕ) (connection : Option Connection)
+      → peer.connection ≡ connection → IsGood source peer
       → IsGood source (broken source now event peer some connection)
   broken_good event peer some None is good = good
   broken_good event peer some (Some c) is good =
-      loses_good source published sayable (in_part source now event peer some c) (in_part_good event peer some c is good)
+      loses_good source published sayable (in_part source now event peer some c)
+          (in_part_good event peer some c is good)

@@ -1,4 +1,5 @@
--- That a subscriber can be brought up to the end of the log: what it sends is heard, the commits that are left are taken up, a keepalive is sent, and all is delivered: PostgreSQL 15, 55.4. Streaming Replication Protocol.
+-- That a subscriber can be brought up to the end of the log: what it sends is heard, the commits that are left are
+-- taken up, a keepalive is sent, and all is delivered: PostgreSQL 15, 55.4. Streaming Replication Protocol.
 use Rattle.std.specs.Prelude.{◌≡◌, ◌<◌, ◌^◌, ℕ, zero, suc, false, List, All, length, Option, Some, None}
 use Rattle.shard_checker.specs.CheckedView.{CheckedOf}
 use Rattle.copy_both.specs.Streams.{end_of}
@@ -29,10 +30,16 @@ delivered_all source now peer = next_peer source now (Deliver (sent_to source pe
 abbrev pub caught_up : Source → ℕ → Peer → Peer
 caught_up source now peer =
     delivered_all source now (next_peer source now (Keep false)
-    (take_many source now (length source.transactions) (next_peer source now (Hear (sent_by source peer peer.connection)) peer)))
+    (take_many source now (length source.transactions)
+        (next_peer source now (Hear (sent_by source peer peer.connection)) peer)))
 
--- Each subscriber with a connection, in each world that events lead to, is where the last commit of the log ends afterwards, so that it has applied all of them.
+-- Each subscriber with a connection, in each world that events lead to, is where the last commit of the log ends
+-- afterwards, so that it has applied all of them.
 abbrev pub SubscribersCatchUp : Type 0
-SubscribersCatchUp = (checked : CheckedOf) (most : ℕ) → IsPublisher checked most → (events : List (ℕ × Event)) → All IsTimedEvent events
-    → (world : World) → Leads checked most events first_world world → (subscriber now : ℕ) → now < 2 ^ 64 → (c : Connection) → (world.peers subscriber).connection ≡ Some c
-    → position_now (source_in checked world subscriber) (caught_up (source_in checked world subscriber) now (world.peers subscriber)) ≡ end_of (length world.transactions)
+SubscribersCatchUp = (checked : CheckedOf) (most : ℕ) → IsPublisher checked most → (events : List (ℕ × Event))
+    → All IsTimedEvent events
+    → (world : World) → Leads checked most events first_world world → (subscriber now : ℕ) → now < 2 ^ 64
+    → (c : Connection) → (world.peers subscriber).connection ≡ Some c
+    → position_now (source_in checked world subscriber)
+        (caught_up (source_in checked world subscriber) now (world.peers subscriber))
+        ≡ end_of (length world.transactions)

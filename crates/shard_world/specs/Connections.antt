@@ -1,4 +1,5 @@
--- That what the calls of a subscriber and of the publisher's end of its connection leave is what the steps of the world leave: PostgreSQL 15, 31.2. Subscription, and 55.4. Streaming Replication Protocol.
+-- That what the calls of a subscriber and of the publisher's end of its connection leave is what the steps of the
+-- world leave: PostgreSQL 15, 31.2. Subscription, and 55.4. Streaming Replication Protocol.
 use Rattle.std.specs.Prelude.{◌≡◌, ℕ, Bool, if◌then◌else◌, List, length, min, take, Some, None, Ok}
 use Rattle.tables_log.specs.BookView.{book_slots}
 use Rattle.tables_log.specs.declared.book.Book.{Book}
@@ -34,8 +35,10 @@ kept_or_not said = if said then Kept else NotStarted
 -- ---- a subscriber without a connection opens one
 
 abbrev pub OpensStep : Type 0
-OpensStep = (case : Case) → IsCase case → (slots : List Slot) (old : PeerOf) (link : Link) (after : Subscriber) → StandsIn case slots old → old.link ≡ None
-    → IsNewLink link case.checked → Opens old.subscriber after → StepsTo case Open Opened slots (record { link = Some link; subscriber = after })
+OpensStep = (case : Case) → IsCase case → (slots : List Slot) (old : PeerOf) (link : Link) (after : Subscriber)
+    → StandsIn case slots old → old.link ≡ None
+    → IsNewLink link case.checked → Opens old.subscriber after
+    → StepsTo case Open Opened slots (record { link = Some link; subscriber = after })
 
 -- ---- with a connection
 
@@ -45,17 +48,21 @@ pub record HearsOn (case : Case) (count heard : ℕ) (before after : Book) (code
   pub own : ChangesOwn case.number before after
 
 abbrev pub HearsStep : Type 0
-HearsStep = (case : Case) → IsCase case → (before after : Book) (old : PeerOf) (link : Link) (count : ℕ) → HasLog case before → StandsIn case (book_slots before) old → old.link ≡ Some link
+HearsStep = (case : Case) → IsCase case → (before after : Book) (old : PeerOf) (link : Link) (count : ℕ)
+    → HasLog case before → StandsIn case (book_slots before) old → old.link ≡ Some link
     → (new : Link) (subscriber : Subscriber) (heard : h.Heard)
     → Ok heard ≡ hear_answer (link_ear link) before (front_of count (sub_output old.subscriber)) (link_sent link)
-    → HearLeaves (ear_phase (link_ear link)) (link_ear link) (link_ear new) before after (front_of count (sub_output old.subscriber)) (link_sent link) (Ok heard)
+    → HearLeaves (ear_phase (link_ear link)) (link_ear link) (link_ear new) before after
+        (front_of count (sub_output old.subscriber)) (link_sent link) (Ok heard)
     → HearSays link new (link_heard link before (front_of count (sub_output old.subscriber))) case.now (Ok heard)
     → Passes old.subscriber (length (front_of count (sub_output old.subscriber))) subscriber
-    → HearsOn case count (length (front_of count (sub_output old.subscriber))) before after (record { link = Some new; subscriber = subscriber })
+    → HearsOn case count (length (front_of count (sub_output old.subscriber))) before after
+        (record { link = Some new; subscriber = subscriber })
 
 -- the next commit is taken up
 abbrev pub TakesStep : Type 0
-TakesStep = (case : Case) (slots : List Slot) (old : PeerOf) (link new : Link) → StandsIn case slots old → old.link ≡ Some link
+TakesStep = (case : Case) (slots : List Slot) (old : PeerOf) (link new : Link) → StandsIn case slots old
+    → old.link ≡ Some link
     → LinkSays link new (next_bytes (link_checked link) (link_stage link) (log_in (source_of case)) case.now)
     (next_stage (link_checked link) (link_stage link) (log_in (source_of case)) case.now)
     → (found : Taken) → Ok found ≡ next_answer (link_checked link) (link_stage link) (log_in (source_of case))
@@ -63,20 +70,29 @@ TakesStep = (case : Case) (slots : List Slot) (old : PeerOf) (link new : Link) �
 
 -- a keepalive is said
 abbrev pub KeepsStep : Type 0
-KeepsStep = (case : Case) (slots : List Slot) (old : PeerOf) (link new : Link) (want : Bool) → StandsIn case slots old → old.link ≡ Some link
-    → LinkSays link new (kept_bytes (link_stage link) case.now want) (link_stage link) → (said : Bool) → Ok said ≡ keep_answer (link_stage link)
+KeepsStep = (case : Case) (slots : List Slot) (old : PeerOf) (link new : Link) (want : Bool) → StandsIn case slots old
+    → old.link ≡ Some link
+    → LinkSays link new (kept_bytes (link_stage link) case.now want) (link_stage link) → (said : Bool)
+    → Ok said ≡ keep_answer (link_stage link)
     → StepsTo case (Keep want) (kept_or_not said) slots (record { link = Some new; subscriber = old.subscriber })
 
 -- some of what waits at the publisher's end comes to the subscriber
 abbrev pub DeliversStep : Type 0
-DeliversStep = (case : Case) → IsCase case → (slots : List Slot) (old : PeerOf) (link new : Link) (after : Subscriber) (count : ℕ) → StandsIn case slots old → old.link ≡ Some link
-    → Feeds old.subscriber (front_of count (link_output link)) after → LinkPasses link new (length (front_of count (link_output link)))
-    → StepsTo case (Deliver count) (Delivered (length (front_of count (link_output link)))) slots (record { link = Some new; subscriber = after })
+DeliversStep = (case : Case) → IsCase case
+    → (slots : List Slot) (old : PeerOf) (link new : Link) (after : Subscriber) (count : ℕ) → StandsIn case slots old
+    → old.link ≡ Some link
+    → Feeds old.subscriber (front_of count (link_output link)) after
+    → LinkPasses link new (length (front_of count (link_output link)))
+    → StepsTo case (Deliver count) (Delivered (length (front_of count (link_output link)))) slots
+        (record { link = Some new; subscriber = after })
 
 -- the subscriber says how far it is
 abbrev pub ReportsStep : Type 0
-ReportsStep = (case : Case) → IsCase case → (slots : List Slot) (old : PeerOf) (link : Link) (after : Subscriber) (want : Bool) → StandsIn case slots old → old.link ≡ Some link
-    → Reports old.subscriber case.now want after → StepsTo case (Report want) Reported slots (record { link = old.link; subscriber = after })
+ReportsStep = (case : Case) → IsCase case
+    → (slots : List Slot) (old : PeerOf) (link : Link) (after : Subscriber) (want : Bool) → StandsIn case slots old
+    → old.link ≡ Some link
+    → Reports old.subscriber case.now want after
+    → StepsTo case (Report want) Reported slots (record { link = old.link; subscriber = after })
 
 -- the connection is lost
 pub record LosesOn (case : Case) (before after : Book) (code : PeerOf) : Type 0 where
@@ -84,5 +100,7 @@ pub record LosesOn (case : Case) (before after : Book) (code : PeerOf) : Type 0 
   pub own : ChangesOwn case.number before after
 
 abbrev pub LosesStep : Type 0
-LosesStep = (case : Case) (before after : Book) (old : PeerOf) (link new : Link) (subscriber : Subscriber) → StandsIn case (book_slots before) old → old.link ≡ Some link
-    → LinkLoses link new before after → Loses old.subscriber subscriber → LosesOn case before after (record { link = None; subscriber = subscriber })
+LosesStep = (case : Case) (before after : Book) (old : PeerOf) (link new : Link) (subscriber : Subscriber)
+    → StandsIn case (book_slots before) old → old.link ≡ Some link
+    → LinkLoses link new before after → Loses old.subscriber subscriber
+    → LosesOn case before after (record { link = None; subscriber = subscriber })

@@ -1,4 +1,5 @@
--- When a subscriber of a program and its connection match those of the world: PostgreSQL 15, "Logical Replication", 31.2 Subscription, and 55.4. Streaming Replication Protocol.
+-- When a subscriber of a program and its connection match those of the world: PostgreSQL 15, "Logical Replication",
+-- 31.2 Subscription, and 55.4. Streaming Replication Protocol.
 use Rattle.std.specs.Prelude.{◌≡◌, ◌<◌, ◌≤◌, ◌^◌, ℕ, Bool, false, is_some, List, [], All, drop, length, map, slice_get, take, Option, Some, None}
 use Rattle.filter_tree.specs.Datum.{Datum}
 use Rattle.shard_checker.specs.CheckedView.{CheckedOf}
@@ -101,7 +102,8 @@ pub record Hears (source : Source) (link : Link) (peer : w.Peer) (c : Connection
   pub held : ear_held (link_ear link) ≡ rest_of (cut 65536 (take c.heard (up_bytes source peer c)))
 
 -- with a connection: what waits is what was not heard and not delivered, and what is held is no whole frame
-pub record IsLinked (source : Source) (slots : List Slot) (link : Link) (subscriber : Subscriber) (peer : w.Peer) (c : Connection) : Type 0 where
+pub record IsLinked (source : Source) (slots : List Slot) (link : Link) (subscriber : Subscriber) (peer : w.Peer)
+    (c : Connection) : Type 0 where
   pub heard : c.heard ≤ length (up_bytes source peer c)
   pub delivered : c.delivered ≤ length (down_of source c)
   pub sends : sub_output subscriber ≡ drop c.heard (up_bytes source peer c)

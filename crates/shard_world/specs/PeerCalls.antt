@@ -1,4 +1,5 @@
--- What calls on a subscriber and its connection do, in each world that they match at a time: PostgreSQL 15, 31.2. Subscription, and 55.4. Streaming Replication Protocol.
+-- What calls on a subscriber and its connection do, in each world that they match at a time: PostgreSQL 15, 31.2.
+-- Subscription, and 55.4. Streaming Replication Protocol.
 use Rattle.std.specs.Prelude.{◌≡◌, ◌<◌, ◌⊎◌, ◌^◌, ℕ, Option, Some, None}
 use Rattle.shard_checker.specs.CheckedView.{CheckedOf}
 use Rattle.tables_log.specs.BookView.{book_slots}
@@ -28,7 +29,8 @@ pub record Made (case : Case) (event : PeerEvent) (answer : Answer) (before afte
   pub own : ChangesOwn case.number before after
 
 abbrev pub Makes : CheckedOf → ℕ → PeerEvent → Book → Book → PeerOf → PeerOf → Answer → Type 0
-Makes checked now event before after old new answer = (case : Case) → Stands checked now before old case → Made case event answer before after new
+Makes checked now event before after old new answer = (case : Case) → Stands checked now before old case
+    → Made case event answer before after new
 
 -- ---- memory is refused
 
@@ -43,7 +45,8 @@ pub record StopsIn (case : Case) (event : PeerEvent) (before after : Book) (new 
   pub stopped : IsStopped case event before after new new.link
 
 abbrev pub Stops : CheckedOf → ℕ → PeerEvent → Book → Book → PeerOf → PeerOf → Type 0
-Stops checked now event before after old new = (case : Case) → Stands checked now before old case → StopsIn case event before after new
+Stops checked now event before after old new = (case : Case) → Stands checked now before old case
+    → StopsIn case event before after new
 
 -- the connection's end at the publisher is lost
 pub record LosesLink (link : Link) (before after : Book) : Type 0 where
@@ -62,14 +65,16 @@ pub record Drops (old new : PeerOf) (before after : Book) : Type 0 where
 
 -- ---- the step of the world, or what want of memory leaves
 
-pub record Breaks (case : Case) (event : PeerEvent) (answer : Answer) (before after : Book) (new : PeerOf) : Type 0 where
+pub record Breaks (case : Case) (event : PeerEvent) (answer : Answer) (before after : Book) (new : PeerOf) : Type 0
+    where
   pub needed : AsksMemory (stepped case event).0
   pub answer_is : answer ≡ OutOfMemory
   pub on : BreaksOn case event before after new
 
 abbrev pub Moves : CheckedOf → ℕ → PeerEvent → Book → Book → PeerOf → PeerOf → Answer → Type 0
 Moves checked now event before after old new answer =
-    (case : Case) → Stands checked now before old case → Made case event answer before after new ⊎ Breaks case event answer before after new
+    (case : Case) → Stands checked now before old case
+        → Made case event answer before after new ⊎ Breaks case event answer before after new
 
 -- ---- how many bytes can be heard or delivered at once
 

@@ -1,4 +1,5 @@
--- One step on the connection of a subscriber, in a world that events lead to: PostgreSQL 15, 55.4. Streaming Replication Protocol.
+-- One step on the connection of a subscriber, in a world that events lead to: PostgreSQL 15, 55.4. Streaming
+-- Replication Protocol.
 use Rattle.std.specs.Prelude.{◌≡◌, ◌≢◌, ◌<◌, ◌^◌, ℕ, false, is_some, List, All, length, slice_get, Option, Some, None}
 use Rattle.shard_checker.specs.CheckedView.{CheckedOf}
 use Rattle.tables_log.specs.BookView.{book_checked, book_log, book_slots}
@@ -56,7 +57,8 @@ abbrev pub stepped : Case → PeerEvent → Answer × w.Peer
 stepped case event = step_in case.checked case.world case.number case.now event
 
 -- it answers what the world's step answers, and leaves what matches what that leaves
-pub record StepsTo (case : Case) (event : PeerEvent) (answer : Answer) (slots : List Slot) (code : PeerOf) : Type 0 where
+pub record StepsTo (case : Case) (event : PeerEvent) (answer : Answer) (slots : List Slot) (code : PeerOf) : Type 0
+    where
   pub answer_is : answer ≡ (stepped case event).0
   pub peer_is : PeerIs (source_of case) slots code (stepped case event).1
 
@@ -87,11 +89,13 @@ HasStreamBy slots number confirmed None = HasSlot slots number confirmed false
 HasStreamBy slots number confirmed (Some link) = HasStream slots number confirmed link
 
 -- what stays over connections is that of this subscriber of the world
-pub record IsHalf (case : Case) (slots : List Slot) (link : Option Link) (subscriber : Subscriber) (peer : w.Peer) : Type 0 where
+pub record IsHalf (case : Case) (slots : List Slot) (link : Option Link) (subscriber : Subscriber) (peer : w.Peer) :
+    Type 0 where
   pub named : IsNamed case.checked case.number subscriber
   pub machine : StaysAlike (sub_machine subscriber) (machine_now (source_of case) peer)
   pub stream : HasStreamBy slots case.number peer.confirmed link
 
 pub record Halts (case : Case) (event : PeerEvent) (slots : List Slot) (code : PeerOf) : Type 0 where
   pub some : ℕ
-  pub half : IsHalf case slots code.link code.subscriber (before_loss case event some (peer_of case) (peer_of case).connection)
+  pub half : IsHalf case slots code.link code.subscriber
+      (before_loss case event some (peer_of case) (peer_of case).connection)

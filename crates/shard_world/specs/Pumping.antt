@@ -1,4 +1,5 @@
--- What a pump makes happen on the connection of a subscriber, so that it gets all that was committed and says so: PostgreSQL 15, 55.4. Streaming Replication Protocol.
+-- What a pump makes happen on the connection of a subscriber, so that it gets all that was committed and says so:
+-- PostgreSQL 15, 55.4. Streaming Replication Protocol.
 use Rattle.std.specs.Prelude.{◌≡◌, ◌<◌, ◌⊎◌, ℕ, ◌-◌, ◌^◌, false, List, [], ◌∷◌, ◌++◌, All, length, map, replicate, Some, Result, Ok, Err}
 use Rattle.copy_both.specs.Streams.{end_of}
 use Rattle.tables_log.specs.BookView.{book_log}
@@ -38,7 +39,8 @@ pub record WalksAll (before after : World) (now subscriber : ℕ) (events : List
   pub runs : RunsOn before after (map (on_clock now subscriber) events) answers
 
 -- the first of them happen, the last of these is answered so, and no more happens
-pub record WalksSome (before after : World) (now subscriber : ℕ) (events : List PeerEvent) (answer : Answer) : Type 0 where
+pub record WalksSome (before after : World) (now subscriber : ℕ) (events : List PeerEvent) (answer : Answer) : Type 0
+    where
   pub done : List PeerEvent
   pub others : List PeerEvent
   pub are : done ++ others ≡ events
@@ -72,17 +74,21 @@ Takes before after now subscriber (Err answer) = TakesSome before after now subs
 
 -- ---- a pump
 
--- all that was sent is heard, so many commits are taken up, a keepalive is said, all is delivered, and a status is said and heard
+-- all that was sent is heard, so many commits are taken up, a keepalive is said, all is delivered, and a status is
+-- said and heard
 abbrev pub pump_events : ℕ → List PeerEvent
-pump_events takes = Hear all_bytes ∷ (replicate takes Take ++ Keep false ∷ Deliver all_bytes ∷ Report false ∷ Hear all_bytes ∷ [])
+pump_events takes = Hear all_bytes
+    ∷ (replicate takes Take ++ Keep false ∷ Deliver all_bytes ∷ Report false ∷ Hear all_bytes ∷ [])
 
 -- where a subscriber is in each world that the program's matches
 abbrev pub IsPosition : World → ℕ → ℕ → Type 0
 IsPosition code subscriber position =
-    subscriber < length (world_checked code).plan → (most : ℕ) (events : List (ℕ × Event)) (world : w.World) → IsWorld code most events world
+    subscriber < length (world_checked code).plan → (most : ℕ) (events : List (ℕ × Event)) (world : w.World)
+        → IsWorld code most events world
     → position ≡ position_of (world_checked code) world subscriber
 
--- after what was heard is answered, the answers to so many takes: the last says that there is no further commit, or there are more takes than commits
+-- after what was heard is answered, the answers to so many takes: the last says that there is no further commit, or
+-- there are more takes than commits
 pub record TakesEnough (takes commits : ℕ) (answers : List Answer) : Type 0 where
   pub heard : List Answer
   pub taken : List Answer
@@ -95,7 +101,8 @@ pub record TakesEnough (takes commits : ℕ) (answers : List Answer) : Type 0 wh
 -- in each world that the program's matches, and which has this subscriber
 abbrev pub InEach : World → ℕ → (ℕ → w.World → Type 0) → Type 0
 InEach before subscriber Holds =
-    subscriber < length (world_checked before).plan → (most : ℕ) (events : List (ℕ × Event)) (world : w.World) → IsWorld before most events world → Holds most world
+    subscriber < length (world_checked before).plan → (most : ℕ) (events : List (ℕ × Event)) (world : w.World)
+        → IsWorld before most events world → Holds most world
 
 pub record PumpsAll (before after : World) (now subscriber : ℕ) : Type 0 where
   pub takes : ℕ
@@ -118,22 +125,28 @@ pub record IsAtEnd (before after : World) (subscriber count most : ℕ) : Type 0
 
 -- where the log ends
 abbrev pub ReachesEnd : World → World → ℕ → Type 0
-ReachesEnd before after subscriber = InEach before subscriber (λ most world. IsAtEnd before after subscriber (length world.transactions) most)
+ReachesEnd before after subscriber =
+    InEach before subscriber (λ most world. IsAtEnd before after subscriber (length world.transactions) most)
 
 abbrev pub IsEndOfLog : World → ℕ → ℕ → Type 0
-IsEndOfLog before subscriber position = InEach before subscriber (λ most world. position ≡ end_of (length world.transactions))
+IsEndOfLog before subscriber position =
+    InEach before subscriber (λ most world. position ≡ end_of (length world.transactions))
 
 -- a subscriber that has a connection loses it by want of memory, and in no other way
 abbrev pub WantsMemory : World → ℕ → Answer → Type 0
 WantsMemory before subscriber answer =
-    InEach before subscriber (λ most world. (c : Connection) → (world.peers subscriber).connection ≡ Some c → answer ≡ OutOfMemory)
+    InEach before subscriber
+        (λ most world. (c : Connection) → (world.peers subscriber).connection ≡ Some c → answer ≡ OutOfMemory)
 
 abbrev pub PumpsThrough : World → World → ℕ → ℕ → Result (Unit {0}) Answer → Type 0
-PumpsThrough before after now subscriber (Ok done) = PumpsAll before after now subscriber × ReachesEnd before after subscriber
+PumpsThrough before after now subscriber (Ok done) = PumpsAll before after now subscriber
+    × ReachesEnd before after subscriber
 PumpsThrough before after now subscriber (Err answer) = PumpsSome before after now subscriber answer
 
 -- it is answered by the subscriber's position, or else by the answer that ends it
 pub data PumpsOn (before after : World) (now subscriber : ℕ) : Answer → Type 0 where
-  Pumped : (position : ℕ) → PumpsAll before after now subscriber → IsPosition after subscriber position → IsEndOfLog before subscriber position
+  Pumped : (position : ℕ) → PumpsAll before after now subscriber → IsPosition after subscriber position
+      → IsEndOfLog before subscriber position
       → PumpsOn before after now subscriber (At position)
-  Ended : (answer : Answer) → PumpsSome before after now subscriber answer → WantsMemory before subscriber answer → PumpsOn before after now subscriber answer
+  Ended : (answer : Answer) → PumpsSome before after now subscriber answer → WantsMemory before subscriber answer
+      → PumpsOn before after now subscriber answer

@@ -1,4 +1,5 @@
--- That where memory is refused to a call on the connection of a subscriber, the connection is lost after some of the bytes, as in the world: PostgreSQL 15, 31.2. Subscription, and 55.4. Streaming Replication Protocol.
+-- That where memory is refused to a call on the connection of a subscriber, the connection is lost after some of the
+-- bytes, as in the world: PostgreSQL 15, 31.2. Subscription, and 55.4. Streaming Replication Protocol.
 use Rattle.std.specs.Prelude.{◌≡◌, ℕ, Bool, List, Some, None, Result, Ok, Err}
 use Rattle.filter_tree.specs.Memory.{TellsFault}
 use Rattle.tables_log.specs.BookView.{book_slots}
@@ -25,26 +26,33 @@ pub record IsAnswered {A F : Type 0} (answer : Result A F) : Type 0 where
   pub is : answer ≡ Ok value
 
 abbrev pub OpensAreAnswered : Type 0
-OpensAreAnswered = (case : Case) → IsCase case → (slots : List Slot) (old : PeerOf) → StandsIn case slots old → old.link ≡ None
-    → IsAnswered (start_query (sub_slot old.subscriber) (sub_publications old.subscriber) (sub_machine old.subscriber).position)
+OpensAreAnswered = (case : Case) → IsCase case → (slots : List Slot) (old : PeerOf) → StandsIn case slots old
+    → old.link ≡ None
+    → IsAnswered (start_query (sub_slot old.subscriber) (sub_publications old.subscriber)
+        (sub_machine old.subscriber).position)
 
 abbrev pub HearsAreAnswered : Type 0
-HearsAreAnswered = (case : Case) → IsCase case → (book : Book) (old : PeerOf) (link : Link) (count : ℕ) → HasLog case book → StandsIn case (book_slots book) old → old.link ≡ Some link
+HearsAreAnswered = (case : Case) → IsCase case → (book : Book) (old : PeerOf) (link : Link) (count : ℕ)
+    → HasLog case book → StandsIn case (book_slots book) old → old.link ≡ Some link
     → IsAnswered (hear_answer (link_ear link) book (front_of count (sub_output old.subscriber)) (link_sent link))
 
 abbrev pub TakesAreAnswered : Type 0
-TakesAreAnswered = (case : Case) → IsCase case → (slots : List Slot) (old : PeerOf) (link : Link) → StandsIn case slots old → old.link ≡ Some link
+TakesAreAnswered = (case : Case) → IsCase case → (slots : List Slot) (old : PeerOf) (link : Link)
+    → StandsIn case slots old → old.link ≡ Some link
     → IsAnswered (next_answer (link_checked link) (link_stage link) (log_in (source_of case)))
 
 abbrev pub KeepsAreAnswered : Type 0
-KeepsAreAnswered = (case : Case) (slots : List Slot) (old : PeerOf) (link : Link) → StandsIn case slots old → old.link ≡ Some link → IsAnswered (keep_answer (link_stage link))
+KeepsAreAnswered = (case : Case) (slots : List Slot) (old : PeerOf) (link : Link) → StandsIn case slots old
+    → old.link ≡ Some link → IsAnswered (keep_answer (link_stage link))
 
 abbrev pub DeliversAreAnswered : Type 0
-DeliversAreAnswered = (case : Case) → IsCase case → (slots : List Slot) (old : PeerOf) (link : Link) (count : ℕ) → StandsIn case slots old → old.link ≡ Some link
+DeliversAreAnswered = (case : Case) → IsCase case → (slots : List Slot) (old : PeerOf) (link : Link) (count : ℕ)
+    → StandsIn case slots old → old.link ≡ Some link
     → (fed_heard old.subscriber (front_of count (link_output link))).fault ≡ None
 
 abbrev pub ReportsAreAnswered : Type 0
-ReportsAreAnswered = (case : Case) (slots : List Slot) (old : PeerOf) (link : Link) → StandsIn case slots old → old.link ≡ Some link → IsAnswered (status_answer (sub_machine old.subscriber).phase)
+ReportsAreAnswered = (case : Case) (slots : List Slot) (old : PeerOf) (link : Link) → StandsIn case slots old
+    → old.link ≡ Some link → IsAnswered (status_answer (sub_machine old.subscriber).phase)
 
 -- ---- a subscriber without a connection, whose connection can't be opened, stays without one
 
@@ -55,11 +63,13 @@ pub record StepBreaks (case : Case) (event : PeerEvent) (slots : List Slot) (cod
 
 -- nothing changed
 abbrev pub OpenStays : Type 0
-OpenStays = (case : Case) (slots : List Slot) (old : PeerOf) → StandsIn case slots old → old.link ≡ None → StepBreaks case Open slots old
+OpenStays = (case : Case) (slots : List Slot) (old : PeerOf) → StandsIn case slots old → old.link ≡ None
+    → StepBreaks case Open slots old
 
 -- the command was refused
 abbrev pub OpenBreaks : Type 0
-OpenBreaks = (case : Case) (slots : List Slot) (old : PeerOf) (after : Subscriber) → StandsIn case slots old → old.link ≡ None → Loses old.subscriber after
+OpenBreaks = (case : Case) (slots : List Slot) (old : PeerOf) (after : Subscriber) → StandsIn case slots old
+    → old.link ≡ None → Loses old.subscriber after
     → StepBreaks case Open slots (record { link = None; subscriber = after })
 
 -- ---- a call on a connection is refused
@@ -70,29 +80,37 @@ pub record HaltsOn (case : Case) (event : PeerEvent) (before after : Book) (code
   pub own : ChangesOwn case.number before after
 
 abbrev pub HearHalts : Type 0
-HearHalts = (case : Case) → IsCase case → (before after : Book) (old : PeerOf) (link : Link) (count : ℕ) → HasLog case before → StandsIn case (book_slots before) old → old.link ≡ Some link
+HearHalts = (case : Case) → IsCase case → (before after : Book) (old : PeerOf) (link : Link) (count : ℕ)
+    → HasLog case before → StandsIn case (book_slots before) old → old.link ≡ Some link
     → (new : Link) (error : LinkFault)
-    → TellsFault (told_fault error) (hear_answer (link_ear link) before (front_of count (sub_output old.subscriber)) (link_sent link))
-    → HearLeaves (ear_phase (link_ear link)) (link_ear link) (link_ear new) before after (front_of count (sub_output old.subscriber)) (link_sent link) (Err error)
+    → TellsFault (told_fault error)
+        (hear_answer (link_ear link) before (front_of count (sub_output old.subscriber)) (link_sent link))
+    → HearLeaves (ear_phase (link_ear link)) (link_ear link) (link_ear new) before after
+        (front_of count (sub_output old.subscriber)) (link_sent link) (Err error)
     → HaltsOn case (Hear count) before after (record { link = Some new; subscriber = old.subscriber })
 
 -- nothing is said
 abbrev pub TakeHalts : Type 0
-TakeHalts = (case : Case) (slots : List Slot) (old : PeerOf) (link new : Link) → StandsIn case slots old → old.link ≡ Some link → LinkCloses link new
+TakeHalts = (case : Case) (slots : List Slot) (old : PeerOf) (link new : Link) → StandsIn case slots old
+    → old.link ≡ Some link → LinkCloses link new
     → Halts case Take slots (record { link = Some new; subscriber = old.subscriber })
 
 abbrev pub KeepHalts : Type 0
-KeepHalts = (case : Case) (slots : List Slot) (old : PeerOf) (link new : Link) (want : Bool) → StandsIn case slots old → old.link ≡ Some link → LinkCloses link new
+KeepHalts = (case : Case) (slots : List Slot) (old : PeerOf) (link new : Link) (want : Bool) → StandsIn case slots old
+    → old.link ≡ Some link → LinkCloses link new
     → Halts case (Keep want) slots (record { link = Some new; subscriber = old.subscriber })
 
 -- some first frames are applied
 abbrev pub DeliverHalts : Type 0
-DeliverHalts = (case : Case) → IsCase case → (slots : List Slot) (old : PeerOf) (link : Link) (after : Subscriber) (count : ℕ) (error : SubFault) → StandsIn case slots old → old.link ≡ Some link
+DeliverHalts = (case : Case) → IsCase case
+    → (slots : List Slot) (old : PeerOf) (link : Link) (after : Subscriber) (count : ℕ) (error : SubFault)
+    → StandsIn case slots old → old.link ≡ Some link
     → FeedStops old.subscriber (front_of count (link_output link)) error after
     → Halts case (Deliver count) slots (record { link = old.link; subscriber = after })
 
 abbrev pub ReportHalts : Type 0
-ReportHalts = (case : Case) (slots : List Slot) (old : PeerOf) (link : Link) (after : Subscriber) (want : Bool) → StandsIn case slots old → old.link ≡ Some link
+ReportHalts = (case : Case) (slots : List Slot) (old : PeerOf) (link : Link) (after : Subscriber) (want : Bool)
+    → StandsIn case slots old → old.link ≡ Some link
     → Loses old.subscriber after → Halts case (Report want) slots (record { link = old.link; subscriber = after })
 
 -- ---- and then the connection is lost
@@ -102,5 +120,7 @@ pub record BreaksOn (case : Case) (event : PeerEvent) (before after : Book) (cod
   pub own : ChangesOwn case.number before after
 
 abbrev pub LossBreaks : Type 0
-LossBreaks = (case : Case) (event : PeerEvent) (before after : Book) (code : PeerOf) (link new : Link) (subscriber : Subscriber) → Halts case event (book_slots before) code → code.link ≡ Some link
-    → LinkLoses link new before after → Loses code.subscriber subscriber → BreaksOn case event before after (record { link = None; subscriber = subscriber })
+LossBreaks = (case : Case) (event : PeerEvent) (before after : Book) (code : PeerOf) (link new : Link)
+    (subscriber : Subscriber) → Halts case event (book_slots before) code → code.link ≡ Some link
+    → LinkLoses link new before after → Loses code.subscriber subscriber
+    → BreaksOn case event before after (record { link = None; subscriber = subscriber })

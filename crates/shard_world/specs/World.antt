@@ -1,4 +1,6 @@
--- The world of a publisher and its subscribers, where any of them moves next: commits, connections that are opened and lost, and bytes that come in any pieces: PostgreSQL 15, "Logical Replication", 31.2 Subscription, and 55.4. Streaming Replication Protocol. Its events and answers are this project's own.
+-- The world of a publisher and its subscribers, where any of them moves next: commits, connections that are opened
+-- and lost, and bytes that come in any pieces: PostgreSQL 15, "Logical Replication", 31.2 Subscription, and 55.4.
+-- Streaming Replication Protocol. Its events and answers are this project's own.
 use Rattle.std.specs.Prelude.{◌≡◌, ◌<◌, ◌⊎◌, ℕ, ◌+◌, ◌-◌, ◌==◌, max, min, nat_lt, Bool, true, false, if◌then◌else◌, List, [], ◌∷◌, ◌++◌, drop, fold, length, map, slice_get, take, Option, Some, None}
 use Rattle.std.specs.List.{flat_map}
 use Rattle.copy_both.specs.Streams as s
@@ -34,7 +36,8 @@ use Rattle.shard_world.specs.declared.event.Event.TheVariants as v
 
 -- ---- the state
 
--- where the stream started, once it has; its moves; the statuses that were sent; and how many bytes were heard of what the subscriber sends, and delivered of the stream
+-- where the stream started, once it has; its moves; the statuses that were sent; and how many bytes were heard of
+-- what the subscriber sends, and delivered of the stream
 pub record Connection : Type 0 where
   pub start : Option ℕ
   pub moves : List Move
@@ -42,7 +45,8 @@ pub record Connection : Type 0 where
   pub heard : ℕ
   pub delivered : ℕ
 
--- the position and the machine as the connection was opened, or as they are without one; and the position that was confirmed
+-- the position and the machine as the connection was opened, or as they are without one; and the position that was
+-- confirmed
 pub record Peer : Type 0 where
   pub position : ℕ
   pub machine : Machine
@@ -69,7 +73,8 @@ pub record Source : Type 0 where
   pub number : ℕ
 
 abbrev pub source_in : CheckedOf → World → ℕ → Source
-source_in checked world subscriber = record { checked = checked; transactions = world.transactions; number = subscriber }
+source_in checked world subscriber =
+    record { checked = checked; transactions = world.transactions; number = subscriber }
 
 abbrev pub log_in : Source → List CommitOf
 log_in source = log_of source.checked source.transactions
@@ -81,11 +86,14 @@ down_items source (Some start) moves = items_from source.checked source.transact
 
 abbrev pub down_bytes : Source → Option ℕ → List Move → List ℕ
 down_bytes source None moves = []
-down_bytes source (Some start) moves = stream (telling_of source.checked) (log_in source) source.number (length source.checked.catalog.tables) start moves
+down_bytes source (Some start) moves =
+    stream (telling_of source.checked) (log_in source) source.number (length source.checked.catalog.tables) start
+    moves
 
 abbrev pub position_in : Source → Peer → Option Connection → ℕ
 position_in source peer None = peer.position
-position_in source peer (Some c) = position_after peer.position (whole_in c.delivered (down_items source c.start c.moves))
+position_in source peer (Some c) =
+    position_after peer.position (whole_in c.delivered (down_items source c.start c.moves))
 
 abbrev pub machine_in : Source → Peer → Option Connection → Machine
 machine_in source peer None = peer.machine
@@ -157,15 +165,20 @@ replied false now = []
 -- a status confirms what it says is flushed, and is answered if it wants a reply
 abbrev pub hear_up : ℕ → Session → Up → Session
 hear_up now session (Asks position) = record session { start = start_at session.start position session.confirmed }
-hear_up now session (Says status) = record session { confirmed = max session.confirmed status.flushed; moves = session.moves ++ replied status.wants_reply now }
+hear_up now session (Says status) =
+    record session { confirmed = max session.confirmed status.flushed; moves =
+    session.moves ++ replied status.wants_reply now }
 
 -- what is whole in these bytes and wasn't in those heard before
 abbrev pub newly : Source → Peer → Connection → ℕ → List Up
 newly source peer c more =
-    drop (length (whole_up source.checked source.number c.heard (ups_of peer c))) (whole_up source.checked source.number (c.heard + more) (ups_of peer c))
+    drop (length (whole_up source.checked source.number c.heard (ups_of peer c)))
+        (whole_up source.checked source.number (c.heard + more) (ups_of peer c))
 
 abbrev pub heard_of : Source → ℕ → Peer → Connection → ℕ → Session
-heard_of source now peer c more = fold (hear_up now) (record { confirmed = peer.confirmed; start = c.start; moves = c.moves }) (newly source peer c more)
+heard_of source now peer c more =
+    fold (hear_up now) (record { confirmed = peer.confirmed; start = c.start; moves = c.moves })
+    (newly source peer c more)
 
 -- as many bytes as are asked for, or as wait
 abbrev pub as_many : ℕ → ℕ → ℕ → ℕ
@@ -179,7 +192,8 @@ with_connection peer c = record peer { connection = Some c }
 abbrev pub hears : Source → ℕ → Peer → Connection → ℕ → Peer
 hears source now peer c more =
     let session = heard_of source now peer c more in
-    record peer { confirmed = session.confirmed; connection = Some (record c { start = session.start; moves = session.moves; heard = c.heard + more }) }
+    record peer { confirmed = session.confirmed; connection =
+        Some (record c { start = session.start; moves = session.moves; heard = c.heard + more }) }
 
 abbrev pub delivers : Peer → Connection → ℕ → Peer
 delivers peer c more = with_connection peer (record c { delivered = c.delivered + more })
@@ -195,7 +209,8 @@ moves_on peer c move = with_connection peer (record c { moves = c.moves ++ move 
 -- where a stream of these moves is
 abbrev pub place_of : Source → ℕ → List Move → Place
 place_of source start moves =
-    all_moved (telling_of source.checked) (log_in source) (place_at source.number (length source.checked.catalog.tables) start) moves
+    all_moved (telling_of source.checked) (log_in source)
+        (place_at source.number (length source.checked.catalog.tables) start) moves
 
 abbrev pub took : ℕ → List Msg → Answer
 took number [] = Skipped number
@@ -203,12 +218,14 @@ took number (message ∷ messages) = Sent number
 
 abbrev pub takes : CheckedOf → ℕ → Peer → Connection → Place → Option CommitOf → Answer × Peer
 takes checked now peer c place None = (Idle, peer)
-takes checked now peer c place (Some commit) = (took commit.number (messages_for checked place.slot place.told commit), moves_on peer c (s.Take now))
+takes checked now peer c place (Some commit) =
+    (took commit.number (messages_for checked place.slot place.told commit), moves_on peer c (s.Take now))
 
 abbrev pub take_step : Source → ℕ → Peer → Connection → Option ℕ → Answer × Peer
 take_step source now peer c None = (NotStarted, peer)
 take_step source now peer c (Some start) =
-    let place = place_of source start c.moves in takes source.checked now peer c place (slice_get (log_in source) place.done)
+    let place = place_of source start c.moves in
+        takes source.checked now peer c place (slice_get (log_in source) place.done)
 
 abbrev pub keep_step : ℕ → Bool → Peer → Connection → Option ℕ → Answer × Peer
 keep_step now want peer c None = (NotStarted, peer)
@@ -223,7 +240,8 @@ open_step source now (Keep want) peer c = keep_step now want peer c c.start
 open_step source now (Deliver count) peer c =
     let more = as_many count (length (down_of source c)) c.delivered in (Delivered more, delivers peer c more)
 open_step source now (Report want) peer c =
-    (Reported, with_connection peer (record c { reports = c.reports ++ status_at (position_now source peer) now want ∷ [] }))
+    (Reported, with_connection peer
+        (record c { reports = c.reports ++ status_at (position_now source peer) now want ∷ [] }))
 open_step source now Lose peer c = (Lost, loses source peer)
 
 abbrev pub shut_step : PeerEvent → Peer → Answer × Peer
@@ -241,8 +259,10 @@ peer_step source now event peer (Some c) = open_step source now event peer c
 
 -- some of the bytes that were to be heard or delivered
 abbrev pub in_part : Source → ℕ → PeerEvent → Peer → ℕ → Connection → Peer
-in_part source now (Hear count) peer some c = hears source now peer c (as_many (min some count) (length (up_bytes source peer c)) c.heard)
-in_part source now (Deliver count) peer some c = delivers peer c (as_many (min some count) (length (down_of source c)) c.delivered)
+in_part source now (Hear count) peer some c =
+    hears source now peer c (as_many (min some count) (length (up_bytes source peer c)) c.heard)
+in_part source now (Deliver count) peer some c =
+    delivers peer c (as_many (min some count) (length (down_of source c)) c.delivered)
 in_part source now Open peer some c = peer
 in_part source now Take peer some c = peer
 in_part source now (Keep want) peer some c = peer
@@ -257,10 +277,12 @@ broken source now event peer some (Some c) = loses source (in_part source now ev
 -- ---- steps of the world
 
 abbrev pub with_peer : World → ℕ → Peer → World
-with_peer world subscriber peer = record world { peers = λ other. if other == subscriber then peer else world.peers other }
+with_peer world subscriber peer =
+    record world { peers = λ other. if other == subscriber then peer else world.peers other }
 
 abbrev pub with_transaction : World → List Command → ℕ → World
-with_transaction world commands time = record world { transactions = world.transactions ++ record { commands = commands; time = time } ∷ [] }
+with_transaction world commands time =
+    record world { transactions = world.transactions ++ record { commands = commands; time = time } ∷ [] }
 
 -- why a list of commands is refused; memory is asked for where the log has room for a transaction
 abbrev pub RefusedFor : CheckedOf → ℕ → World → List Command → CommitError → Type 0
@@ -268,30 +290,39 @@ RefusedFor checked most world commands e.EmptyTransaction = commands ≡ []
 RefusedFor checked most world commands e.TooManyCommands = 1000 < length commands
 RefusedFor checked most world commands e.LogFull = IsTransaction commands × (length world.transactions ≡ most)
 RefusedFor checked most world commands (e.At number fault) = IsTransaction commands × (length world.transactions < most)
-    × (first_fault (setting_in checked) (after (setting_in checked) world.transactions) 1 commands ≡ Some (number, fault_view fault))
+    × (first_fault (setting_in checked) (after (setting_in checked) world.transactions) 1 commands
+        ≡ Some (number, fault_view fault))
 RefusedFor checked most world commands e.OutOfMemory = IsTransaction commands × (length world.transactions < most)
 
 -- it is accepted, or refused and nothing changes; the log takes at most so many
-pub record Commits (checked : CheckedOf) (most : ℕ) (world : World) (commands : List Command) (time : ℕ) (answer : Answer) (next : World) : Type 0 where
-  pub accepted : IsAccepted (setting_in checked) (after (setting_in checked) world.transactions) (record { commands = commands; time = time })
+pub record Commits (checked : CheckedOf) (most : ℕ) (world : World) (commands : List Command) (time : ℕ)
+    (answer : Answer) (next : World) : Type 0 where
+  pub accepted : IsAccepted (setting_in checked) (after (setting_in checked) world.transactions)
+      (record { commands = commands; time = time })
   pub room : length world.transactions < most
   pub answer_is : answer ≡ Committed (length world.transactions + 1)
   pub next_is : next ≡ with_transaction world commands time
 
-pub record Refuses (checked : CheckedOf) (most : ℕ) (world : World) (commands : List Command) (answer : Answer) (next : World) : Type 0 where
+pub record Refuses (checked : CheckedOf) (most : ℕ) (world : World) (commands : List Command) (answer : Answer)
+    (next : World) : Type 0 where
   pub error : CommitError
   pub refused : RefusedFor checked most world commands error
   pub answer_is : answer ≡ Refused error
   pub next_is : next ≡ world
 
 abbrev pub step_in : CheckedOf → World → ℕ → ℕ → PeerEvent → Answer × Peer
-step_in checked world subscriber now event = peer_step (source_in checked world subscriber) now event (world.peers subscriber) (world.peers subscriber).connection
+step_in checked world subscriber now event =
+    peer_step (source_in checked world subscriber) now event (world.peers subscriber)
+    (world.peers subscriber).connection
 
 abbrev pub broken_in : CheckedOf → World → ℕ → ℕ → PeerEvent → ℕ → Peer
-broken_in checked world subscriber now event some = broken (source_in checked world subscriber) now event (world.peers subscriber) some (world.peers subscriber).connection
+broken_in checked world subscriber now event some =
+    broken (source_in checked world subscriber) now event (world.peers subscriber) some
+    (world.peers subscriber).connection
 
 -- the connection's own step, or memory was refused
-pub record Moves (checked : CheckedOf) (world : World) (subscriber now : ℕ) (event : PeerEvent) (answer : Answer) (next : World) : Type 0 where
+pub record Moves (checked : CheckedOf) (world : World) (subscriber now : ℕ) (event : PeerEvent) (answer : Answer)
+    (next : World) : Type 0 where
   pub answer_is : answer ≡ (step_in checked world subscriber now event).0
   pub next_is : next ≡ with_peer world subscriber (step_in checked world subscriber now event).1
 
@@ -304,7 +335,8 @@ AsksMemory Idle = ⊥
 AsksMemory Lost = ⊥
 AsksMemory answer = Unit {0}
 
-pub record Breaks (checked : CheckedOf) (world : World) (subscriber now : ℕ) (event : PeerEvent) (answer : Answer) (next : World) : Type 0 where
+pub record Breaks (checked : CheckedOf) (world : World) (subscriber now : ℕ) (event : PeerEvent) (answer : Answer)
+    (next : World) : Type 0 where
   pub needed : AsksMemory (step_in checked world subscriber now event).0
   pub some : ℕ
   pub answer_is : answer ≡ OutOfMemory
@@ -312,15 +344,19 @@ pub record Breaks (checked : CheckedOf) (world : World) (subscriber now : ℕ) (
 
 abbrev pub StepsOn : Bool → CheckedOf → World → ℕ → ℕ → PeerEvent → Answer → World → Type 0
 StepsOn false checked world subscriber now event answer next = (answer ≡ NoSubscriber) × (next ≡ world)
-StepsOn true checked world subscriber now event answer next = Moves checked world subscriber now event answer next ⊎ Breaks checked world subscriber now event answer next
+StepsOn true checked world subscriber now event answer next =
+    Moves checked world subscriber now event answer next ⊎ Breaks checked world subscriber now event answer next
 
 -- at a time, an event is answered so, and leaves this
 abbrev pub Steps : CheckedOf → ℕ → World → ℕ → Event → Answer → World → Type 0
-Steps checked most world now (Commit commands time) answer next = Commits checked most world commands time answer next ⊎ Refuses checked most world commands answer next
-Steps checked most world now (On subscriber event) answer next = StepsOn (nat_lt subscriber (length checked.plan)) checked world subscriber now event answer next
+Steps checked most world now (Commit commands time) answer next =
+    Commits checked most world commands time answer next ⊎ Refuses checked most world commands answer next
+Steps checked most world now (On subscriber event) answer next =
+    StepsOn (nat_lt subscriber (length checked.plan)) checked world subscriber now event answer next
 
 -- events, each with its time, lead from one world to another
 abbrev pub Leads : CheckedOf → ℕ → List (ℕ × Event) → World → World → Type 0
 Leads checked most [] world last = last ≡ world
 Leads checked most (event ∷ events) world last =
-    (answer : Answer) × (next : World) × Steps checked most world event.0 event.1 answer next × Leads checked most events next last
+    (answer : Answer) × (next : World) × Steps checked most world event.0 event.1 answer next
+        × Leads checked most events next last

@@ -1,4 +1,5 @@
--- Which world of the model a program's world matches, and what its calls do there: PostgreSQL 15, 31.2. Subscription, and 55.4. Streaming Replication Protocol.
+-- Which world of the model a program's world matches, and what its calls do there: PostgreSQL 15, 31.2. Subscription,
+-- and 55.4. Streaming Replication Protocol.
 use Rattle.std.specs.Prelude.{◌≡◌, ◌<◌, ℕ, List, [], ◌∷◌, ◌++◌, All, length, slice_get, Option, Some, None}
 use Rattle.std.specs.Arc.{arc_value}
 use Rattle.shard_checker.specs.CheckedView.{CheckedOf, checked_view}
@@ -32,7 +33,8 @@ PeerAt source slots peer None = ⊥
 PeerAt source slots peer (Some code) = PeerIs source slots code peer
 
 -- A book and subscribers match those of a world that these events led to. The log takes at most so many commits.
-pub record IsWorldBy (checked : CheckedOf) (most : ℕ) (book : Book) (peers : List PeerOf) (events : List (ℕ × Event)) (world : w.World) : Type 0 where
+pub record IsWorldBy (checked : CheckedOf) (most : ℕ) (book : Book) (peers : List PeerOf) (events : List (ℕ × Event))
+    (world : w.World) : Type 0 where
   pub publisher : IsPublisher checked most
   pub times : All IsTimedEvent events
   pub leads : Leads checked most events first_world world
@@ -40,7 +42,8 @@ pub record IsWorldBy (checked : CheckedOf) (most : ℕ) (book : Book) (peers : L
   pub limit_is : book_limit book ≡ most
   pub stands : StandsFor book world.transactions
   pub count : length peers ≡ length checked.plan
-  pub each : (number : ℕ) → number < length checked.plan → PeerAt (source_in checked world number) (book_slots book) (world.peers number) (slice_get peers number)
+  pub each : (number : ℕ) → number < length checked.plan
+      → PeerAt (source_in checked world number) (book_slots book) (world.peers number) (slice_get peers number)
 
 abbrev pub IsWorld : World → ℕ → List (ℕ × Event) → w.World → Type 0
 IsWorld code most events world = IsWorldBy (world_checked code) most (world_book code) (world_peers code) events world
@@ -48,7 +51,8 @@ IsWorld code most events world = IsWorldBy (world_checked code) most (world_book
 -- ---- what calls do
 
 -- an event is answered so, and leaves what matches what the step of the world leaves
-pub record StepsInto (before after : World) (most : ℕ) (events : List (ℕ × Event)) (world : w.World) (now : ℕ) (event : Event) (answer : Answer) : Type 0 where
+pub record StepsInto (before after : World) (most : ℕ) (events : List (ℕ × Event)) (world : w.World) (now : ℕ)
+    (event : Event) (answer : Answer) : Type 0 where
   pub next : w.World
   pub steps : Steps (world_checked before) most world now event answer next
   pub is : IsWorld after most (events ++ (now, event) ∷ []) next
@@ -57,7 +61,8 @@ pub record StepsInto (before after : World) (most : ℕ) (events : List (ℕ × 
 -- in each world that it matches
 abbrev pub StepsOn : World → World → ℕ → Event → Answer → Type 0
 StepsOn before after now event answer =
-    (most : ℕ) (events : List (ℕ × Event)) (world : w.World) → IsWorld before most events world → StepsInto before after most events world now event answer
+    (most : ℕ) (events : List (ℕ × Event)) (world : w.World) → IsWorld before most events world
+        → StepsInto before after most events world now event answer
 
 -- ---- several events
 
@@ -68,7 +73,8 @@ Runs checked most (event ∷ events) (answer ∷ answers) world last =
     (next : w.World) × Steps checked most world event.0 event.1 answer next × Runs checked most events answers next last
 Runs checked most events answers world last = ⊥
 
-pub record RunsInto (before after : World) (most : ℕ) (events : List (ℕ × Event)) (world : w.World) (asked : List (ℕ × Event)) (answers : List Answer) : Type 0 where
+pub record RunsInto (before after : World) (most : ℕ) (events : List (ℕ × Event)) (world : w.World)
+    (asked : List (ℕ × Event)) (answers : List Answer) : Type 0 where
   pub next : w.World
   pub runs : Runs (world_checked before) most asked answers world next
   pub is : IsWorld after most (events ++ asked) next

@@ -1,7 +1,9 @@
--- What holds in each world that events lead to: each subscriber has exactly its shard of the publisher's tables after the commits that it applied; and where all have applied the same, each row is at exactly one of them: PostgreSQL 15, "Logical Replication", 31.2 Subscription and 31.3 Row Filters.
+-- What holds in each world that events lead to: each subscriber has exactly its shard of the publisher's tables after
+-- the commits that it applied; and where all have applied the same, each row is at exactly one of them: PostgreSQL
+-- 15, "Logical Replication", 31.2 Subscription and 31.3 Row Filters.
 use Rattle.std.specs.Prelude.{◌≡◌, ◌<◌, ◌≤◌, ◌^◌, ℕ, Bool, true, List, All, length, take, Option, Some, None}
 use Rattle.filter_tree.specs.Datum.{Datum}
-use Rattle.table_changes.specs.Standing.{Covered, KeepsApart, Sound}
+use Rattle.table_changes.specs.Standing.{Covered, KeepsApart, DividesRows}
 use Rattle.table_changes.specs.Tables.{is_row, holds}
 use Rattle.pub_catalog.specs.CatalogLimits.{IsLimited}
 use Rattle.pub_catalog.specs.CatalogNames.{IsNamedCatalog}
@@ -16,7 +18,8 @@ use Rattle.shard_world.specs.World.{Connection, Peer, World, Event, Commit, On, 
 
 -- ---- what is asked of the publisher and of events
 
--- A catalog that was checked, within its limits and named, and its own plan; its log takes at most 1,000,000,000 commits.
+-- A catalog that was checked, within its limits and named, and its own plan; its log takes at most 1,000,000,000
+-- commits.
 pub record IsPublisher (checked : CheckedOf) (most : ℕ) : Type 0 where
   pub own : checked.plan ≡ plan_of checked.catalog
   pub covered : Covered (setting_in checked)
@@ -50,8 +53,10 @@ IsStartedAsAsked peer None = Unit {0}
 IsStartedAsAsked peer (Some c) = StartsAt peer.position c.start
 
 abbrev pub WorldsStartAsAsked : Type 0
-WorldsStartAsAsked = (checked : CheckedOf) (most : ℕ) → IsPublisher checked most → (events : List (ℕ × Event)) → All IsTimedEvent events
-    → (world : World) → Leads checked most events first_world world → (subscriber : ℕ) → IsStartedAsAsked (world.peers subscriber) (world.peers subscriber).connection
+WorldsStartAsAsked = (checked : CheckedOf) (most : ℕ) → IsPublisher checked most → (events : List (ℕ × Event))
+    → All IsTimedEvent events
+    → (world : World) → Leads checked most events first_world world → (subscriber : ℕ)
+    → IsStartedAsAsked (world.peers subscriber) (world.peers subscriber).connection
 
 -- ---- each has its shard
 
@@ -61,10 +66,12 @@ applied_in checked world subscriber = count_before (position_of checked world su
 
 abbrev pub HoldsExactly : CheckedOf → World → Type 0
 HoldsExactly checked world = (subscriber : ℕ)
-    → HasShard checked subscriber (machine_of checked world subscriber) (after (setting_in checked) (take (applied_in checked world subscriber) world.transactions))
+    → HasShard checked subscriber (machine_of checked world subscriber)
+        (after (setting_in checked) (take (applied_in checked world subscriber) world.transactions))
 
 abbrev pub WorldsHoldExactly : Type 0
-WorldsHoldExactly = (checked : CheckedOf) (most : ℕ) → IsPublisher checked most → (events : List (ℕ × Event)) → All IsTimedEvent events
+WorldsHoldExactly = (checked : CheckedOf) (most : ℕ) → IsPublisher checked most → (events : List (ℕ × Event))
+    → All IsTimedEvent events
     → (world : World) → Leads checked most events first_world world → HoldsExactly checked world
 
 -- ---- all together have the tables
@@ -75,21 +82,28 @@ has_row checked world subscriber table row =
     is_row ((machine_of checked world subscriber).rows (oid_of table) (own_key checked table row)) row
 
 abbrev pub HaveApplied : CheckedOf → World → ℕ → Type 0
-HaveApplied checked world count = (subscriber : ℕ) → subscriber < length checked.plan → applied_in checked world subscriber ≡ count
+HaveApplied checked world count = (subscriber : ℕ) → subscriber < length checked.plan
+    → applied_in checked world subscriber ≡ count
 
 -- exactly one subscriber has the row
 pub record IsAtOne (checked : CheckedOf) (world : World) (table : ℕ) (row : List Datum) : Type 0 where
   pub owner : ℕ
   pub is_one : owner < length checked.plan
   pub has_it : has_row checked world owner table row ≡ true
-  pub no_other : (other : ℕ) → other < length checked.plan → has_row checked world other table row ≡ true → other ≡ owner
+  pub no_other : (other : ℕ) → other < length checked.plan → has_row checked world other table row ≡ true
+      → other ≡ owner
 
 -- each row of the tables after so many commits is at exactly one subscriber, and no subscriber has another row
 pub record Divides (checked : CheckedOf) (world : World) (count : ℕ) : Type 0 where
-  pub somewhere : (table : ℕ) (row : List Datum) → holds (setting_in checked).keys (after (setting_in checked) (take count world.transactions)) table row ≡ true → IsAtOne checked world table row
-  pub nothing_else : (subscriber table : ℕ) (row : List Datum) → subscriber < length checked.plan → has_row checked world subscriber table row ≡ true
+  pub somewhere : (table : ℕ) (row : List Datum)
+      → holds (setting_in checked).keys (after (setting_in checked) (take count world.transactions)) table row ≡ true
+      → IsAtOne checked world table row
+  pub nothing_else : (subscriber table : ℕ) (row : List Datum) → subscriber < length checked.plan
+      → has_row checked world subscriber table row ≡ true
       → holds (setting_in checked).keys (after (setting_in checked) (take count world.transactions)) table row ≡ true
 
 abbrev pub WorldsDivideRows : Type 0
-WorldsDivideRows = (checked : CheckedOf) (most : ℕ) → IsPublisher checked most → Sound (setting_in checked) → (events : List (ℕ × Event)) → All IsTimedEvent events
-    → (world : World) → Leads checked most events first_world world → (count : ℕ) → HaveApplied checked world count → Divides checked world count
+WorldsDivideRows = (checked : CheckedOf) (most : ℕ) → IsPublisher checked most → DividesRows (setting_in checked)
+    → (events : List (ℕ × Event)) → All IsTimedEvent events
+    → (world : World) → Leads checked most events first_world world → (count : ℕ) → HaveApplied checked world count
+    → Divides checked world count

@@ -6,7 +6,7 @@ ghost use Rattle.shard_world.specs.Connections.{OpensStep, HearsStep, TakesStep,
 ghost use Rattle.shard_world.specs.Refusals.{OpensAreAnswered, HearsAreAnswered, TakesAreAnswered, KeepsAreAnswered};
 ghost use Rattle.shard_world.specs.Refusals.{DeliversAreAnswered, ReportsAreAnswered, OpenStays, OpenBreaks};
 ghost use Rattle.shard_world.specs.Refusals.{HearHalts, TakeHalts, KeepHalts, DeliverHalts, ReportHalts, LossBreaks};
-ghost use Rattle.shard_world.specs.UpsHeard.{StartsAreHeard, StatusesAreHeard};
+ghost use Rattle.shard_world.specs.SubscriberFrames.{StartsAreHeard, StatusesAreHeard};
 ghost use Rattle.shard_world.specs.WorldLaws.{CheckedPublish, WorldsHoldExactly, WorldsDivideRows, WorldsStartAsAsked};
 
 /// A law, and no code, of the world of a publisher and its subscribers, in which any of them moves next: commits, and

@@ -18,7 +18,7 @@ pub use laws::{
     subscribers_are_heard, subscribers_catch_up, subscribers_divide_the_tables,
 };
 pub use stream_laws::{
-    commands_are_read, fed_subscribers_follow, logs_can_be_said, starts_are_answered,
+    commands_are_read, fed_subscribers_follow, logs_fit_layouts, starts_are_answered,
     streams_are_items, subscribers_follow_streams,
 };
 pub use view::{SubscriberView, View};

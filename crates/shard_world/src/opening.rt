@@ -3,7 +3,7 @@
 ghost use Rattle.std.specs.Prelude.{◌≡◌, IfOk, map, slice_get};
 ghost use Rattle.std.specs.String.{string_bytes};
 ghost use Rattle.pub_catalog.specs.CatalogView.{catalog_view, publication_view};
-ghost use Rattle.shard_world.specs.Openings as spec;
+ghost use Rattle.shard_world.specs.FirstPeers as spec;
 ghost use Rattle.shard_world.specs.World as world;
 
 use crate::peer::Peer;
@@ -60,7 +60,7 @@ fn first_peer(
 }
 
 /// A subscriber for each subscription of a catalog, in their order. The only error is want of memory.
-#[tactic(auto, using(crate::proofs::OpeningLemmas::one_more))]
+#[tactic(auto, using(crate::proofs::FirstPeerLemmas::one_more))]
 pub(crate) fn first_peers(alloc: Global, catalog: &Catalog) -> Result<Vec<Peer>, AllocError>
     ensures { IfOk result (λ peers. spec.AreFirstPeers (catalog_view catalog.now).publications
         (catalog_view catalog.now).subscriptions peers.items) }

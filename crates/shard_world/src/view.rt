@@ -1,7 +1,7 @@
 //! What is in a world.
 
 ghost use Rattle.std.specs.Prelude.{◌≡◌, ◌≤◌, length, IfOk};
-ghost use Rattle.shard_world.specs.Seeing.{AllAt, AreSeen, FoundBy, FoundIn, IsSeen, SeenAt};
+ghost use Rattle.shard_world.specs.ViewContents.{AllAt, AreSeen, FoundBy, FoundIn, IsSeen, SeenAt};
 
 use crate::peer::Peer;
 use filter_tree::Row;

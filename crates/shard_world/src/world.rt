@@ -43,12 +43,12 @@ impl World {
     ghost use Rattle.shard_world.specs.World as w;
     ghost use Rattle.shard_world.specs.PeerCalls.{IsCounted};
     ghost use Rattle.shard_world.specs.Pumping.{EndsWalk, GoesOn, IsPosition, PumpsOn, PumpsThrough, Takes, Walks};
-    ghost use Rattle.shard_world.specs.Viewing.{ShowsWorld};
+    ghost use Rattle.shard_world.specs.ViewMeaning.{ShowsWorld};
     ghost use Rattle.shard_world.specs.WorldCalls.{IsWorld, RunsOn, StepsOn, world_checked};
 
     /// A publisher without rows, whose log may have so many commits, and subscribers without rows, at position 0 and
     /// without connections. The only error is want of memory.
-    #[tactic(auto, using(crate::proofs::OpeningLemmas::first_is))]
+    #[tactic(auto, using(crate::proofs::FirstPeerLemmas::first_is))]
     pub fn new(
         alloc: Global,
         checked: Arc<Checked, Global>,
@@ -151,7 +151,13 @@ impl World {
     }
 
     /// Each commit that is left is taken up.
-    #[tactic(auto, using(crate::proofs::PumpLemmas::takes_none, crate::proofs::PumpLemmas::takes_more, crate::proofs::PumpLemmas::takes_idle, crate::proofs::PumpLemmas::takes_enough, crate::proofs::PumpLemmas::takes_end))]
+    #[tactic(auto, using(
+        crate::proofs::PumpLemmas::takes_none,
+        crate::proofs::PumpLemmas::takes_more,
+        crate::proofs::PumpLemmas::takes_idle,
+        crate::proofs::PumpLemmas::takes_enough,
+        crate::proofs::PumpLemmas::takes_end
+    ))]
     fn take_all(&mut self, now: u64, subscriber: usize) -> Result<(), Answer>
         ensures { Takes self.old self.new now subscriber result }
     {

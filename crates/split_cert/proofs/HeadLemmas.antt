@@ -21,12 +21,15 @@ pub record Counts (may_open : ℕ) (kind : Kind) (here after : Here) : Type 0 wh
   pub few : after.nodes ≤ max_nodes
   pub opens : kind ≡ Split → 0 < may_open
 
-count_is : (t u : Bool) (may_open : ℕ) (kind : Kind) (here : Here) (y : Unit {0} × Here) → (t ≡ false → here.nodes < max_nodes) → (u ≡ false → kind ≡ Split → 0 < may_open)
-    → (if t then Err TooLarge else (if u then Err TooDeep else Ok (tt, at here.place (here.nodes + 1) here.rest))) ≡ Ok y → Counts may_open kind here y.1
+count_is : (t u : Bool) (may_open : ℕ) (kind : Kind) (here : Here) (y : Unit {0} × Here)
+    → (t ≡ false → here.nodes < max_nodes) → (u ≡ false → kind ≡ Split → 0 < may_open)
+    → (if t then Err TooLarge else (if u then Err TooDeep else Ok (tt, at here.place (here.nodes + 1) here.rest)))
+        ≡ Ok y → Counts may_open kind here y.1
 count_is true u may_open kind here y few opens e = absurd cc
 count_is false true may_open kind here y few opens e = absurd cc
 count_is false false may_open kind here y few opens e =
-    subst (λ (y : Unit {0} × Here). Counts may_open kind here y.1) (ok_is (tt, at here.place (here.nodes + 1) here.rest) y e)
+    subst (λ (y : Unit {0} × Here). Counts may_open kind here y.1)
+        (ok_is (tt, at here.place (here.nodes + 1) here.rest) y e)
     (record { rest = refl; nodes = refl; few = let h = few refl in omega arith; opens = opens refl })
 
 deep_is : (may_open : ℕ) (kind : Kind) → is_split kind && may_open == 0 ≡ false → kind ≡ Split → 0 < may_open
@@ -35,7 +38,8 @@ deep_is may_open Owner f e = absurd cc
 deep_is may_open Empty f e = absurd cc
 deep_is may_open NeverNull f e = absurd cc
 
-count_takes : (may_open : ℕ) (kind : Kind) (here : Here) (y : Unit {0} × Here) → count may_open kind here ≡ Ok y → Counts may_open kind here y.1
+count_takes : (may_open : ℕ) (kind : Kind) (here : Here) (y : Unit {0} × Here) → count may_open kind here ≡ Ok y
+    → Counts may_open kind here y.1
 unfolding count
 count_takes may_open kind here y e =
     count_is (nat_le max_nodes here.nodes) (is_split kind && may_open == 0) may_open kind here y
@@ -48,7 +52,8 @@ not_deep may_open Owner opens = refl
 not_deep may_open Empty opens = refl
 not_deep may_open NeverNull opens = refl
 
-count_again : (may_open : ℕ) (kind : Kind) (place nodes : ℕ) (rest : List ℕ) → nodes < max_nodes → (kind ≡ Split → 0 < may_open)
+count_again : (may_open : ℕ) (kind : Kind) (place nodes : ℕ) (rest : List ℕ) → nodes < max_nodes
+    → (kind ≡ Split → 0 < may_open)
     → count may_open kind (at place nodes rest) ≡ Ok (tt, at place (nodes + 1) rest)
 unfolding count
 count_again may_open kind place nodes rest few opens =
@@ -64,12 +69,15 @@ pub record TakesHead (may_open : ℕ) (here : Here) (h : Head) (after : Here) : 
   pub opens : h.kind ≡ Split → 0 < may_open
   pub number : h.number < 2 ^ 32
 
-pub head_takes : (may_open : ℕ) (here : Here) (y : Head × Here) → head may_open here ≡ Ok y → TakesHead may_open here y.0 y.1
+pub head_takes : (may_open : ℕ) (here : Here) (y : Head × Here) → head may_open here ≡ Ok y
+    → TakesHead may_open here y.0 y.1
 unfolding head
 head_takes may_open here y e =
-    let a = bind_ok (letter here) (λ kind. count may_open kind >> space >> number >>= (λ n. pure (record { kind = kind; number = n }))) y e in
+    let a = bind_ok (letter here)
+        (λ kind. count may_open kind >> space >> number >>= (λ n. pure (record { kind = kind; number = n }))) y e in
     let kind = a.0.0 in
-    let d = bind_ok ((count may_open kind >> space >> number) a.0.1) (λ n. pure (record { kind = kind; number = n })) y a.2 in
+    let d = bind_ok ((count may_open kind >> space >> number) a.0.1) (λ n. pure (record { kind = kind; number = n }))
+        y a.2 in
     let c = bind_ok ((count may_open kind >> space) a.0.1) (λ _. number) d.0 d.1 in
     let b = bind_ok (count may_open kind a.0.1) (λ _. space) c.0 c.1 in
     let letters = letter_takes here a.0 a.1 in
@@ -78,7 +86,8 @@ head_takes may_open here y e =
     let numbers = number_takes c.0.1 d.0 c.2 in
     let text : here.rest ≡ words_of kind d.0.0 ++ d.0.1.rest =
     letters.parts ∙ ap (λ r. letter_of kind ∷ r) (counts.rest ∙ spaces.parts ∙ ap (λ r. 32 ∷ r) numbers.0.parts) in
-    subst (λ (y : Head × Here). TakesHead may_open here y.0 y.1) (ok_is (record { kind = kind; number = d.0.0 }, d.0.1) y d.2) (record {
+    subst (λ (y : Head × Here). TakesHead may_open here y.0 y.1)
+        (ok_is (record { kind = kind; number = d.0.0 }, d.0.1) y d.2) (record {
       parts = text;
       nodes = omega (arith, letters.nodes, counts.nodes, spaces.nodes, numbers.0.nodes);
       few = omega (arith, counts.few, spaces.nodes, numbers.0.nodes);
@@ -86,12 +95,15 @@ head_takes may_open here y e =
       number = numbers.1;
     })
 
-pub space_again : (place nodes : ℕ) (rest : List ℕ) → space (at place nodes (32 ∷ rest)) ≡ Ok (tt, at (place + 1) nodes rest)
+pub space_again : (place nodes : ℕ) (rest : List ℕ)
+    → space (at place nodes (32 ∷ rest)) ≡ Ok (tt, at (place + 1) nodes rest)
 unfolding space
 space_again place nodes rest = refl
 
-pub head_again : (may_open : ℕ) (kind : Kind) (n place nodes : ℕ) (rest : List ℕ) → nodes < max_nodes → (kind ≡ Split → 0 < may_open) → n < 2 ^ 32 → EndsWord rest
-    → head may_open (at place nodes (words_of kind n ++ rest)) ≡ Ok (record { kind = kind; number = n }, at (place + length (words_of kind n)) (nodes + 1) rest)
+pub head_again : (may_open : ℕ) (kind : Kind) (n place nodes : ℕ) (rest : List ℕ) → nodes < max_nodes
+    → (kind ≡ Split → 0 < may_open) → n < 2 ^ 32 → EndsWord rest
+    → head may_open (at place nodes (words_of kind n ++ rest))
+        ≡ Ok (record { kind = kind; number = n }, at (place + length (words_of kind n)) (nodes + 1) rest)
 unfolding head
 head_again may_open kind n place nodes rest few opens numbers ends =
     let end : place + 1 + 1 + length (decimal n) ≡ place + length (words_of kind n) = omega arith in

@@ -14,10 +14,13 @@ last_goes xs (suc d) some within =
     let k : suc d - 1 ≡ d = omega arith in rw k (sym (ap (drop 1) (last_first xs d (omega (arith, within)))))
 
 -- the last split loses the branch that begins
-pub one_begins : (levels : List ℕ) (left less : ℕ) → slice_get levels 0 ≡ Some left → less ≡ left - 1 → with_begun levels ≡ less ∷ drop 1 levels
+pub one_begins : (levels : List ℕ) (left less : ℕ) → slice_get levels 0 ≡ Some left → less ≡ left - 1
+    → with_begun levels ≡ less ∷ drop 1 levels
 one_begins [] left less e is = absurd cc
-one_begins (zero ∷ levels) left less e is = let none : left ≡ 0 = cc in let same : less ≡ 0 = omega (arith, none, is) in rw same refl
-one_begins (suc more ∷ levels) left less e is = let some : left ≡ suc more = cc in let same : less ≡ more = omega (arith, some, is) in rw same refl
+one_begins (zero ∷ levels) left less e is = let none : left ≡ 0 = cc in let same : less ≡ 0 =
+    omega (arith, none, is) in rw same refl
+one_begins (suc more ∷ levels) left less e is = let some : left ≡ suc more = cc in let same : less ≡ more =
+    omega (arith, some, is) in rw same refl
 
 pub none_begins : (levels : List ℕ) → slice_get levels 0 ≡ None → with_begun levels ≡ levels
 none_begins [] e = refl
@@ -39,7 +42,8 @@ pub shorter : (levels : List ℕ) (left : ℕ) → slice_get levels 0 ≡ Some l
 shorter [] left e = absurd cc
 shorter (first ∷ levels) left e = omega arith
 
-pub none_done : (levels : List ℕ) → slice_get levels 0 ≢ Some 0 → (without_done levels ≡ levels) × (is_due levels ≡ true)
+pub none_done : (levels : List ℕ) → slice_get levels 0 ≢ Some 0 → (without_done levels ≡ levels)
+    × (is_due levels ≡ true)
 none_done [] h = (refl, refl)
 none_done (zero ∷ levels) h = absurd (h refl)
 none_done (suc left ∷ levels) h = (refl, refl)

@@ -1,5 +1,5 @@
-pub mod GrowLemmas
-pub mod GrowMemory
+pub mod PreorderTreeLemmas
+pub mod PreorderTreeMemory
 pub mod HeadLemmas
 pub mod LevelLemmas
 pub mod MemoryLemmas

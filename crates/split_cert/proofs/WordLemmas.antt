@@ -21,7 +21,8 @@ abbrev pub at : ℕ → ℕ → List ℕ → Here
 at place nodes rest = record { place = place; nodes = nodes; rest = rest }
 
 -- the value of a rule that did not fail
-pub bind_ok : {A B : Type 0} (outcome : Outcome A) (more : A → Rule B) (y : B × Here) → and_then outcome more ≡ Ok y → (x : A × Here) × (outcome ≡ Ok x) × (more x.0 x.1 ≡ Ok y)
+pub bind_ok : {A B : Type 0} (outcome : Outcome A) (more : A → Rule B) (y : B × Here) → and_then outcome more ≡ Ok y
+    → (x : A × Here) × (outcome ≡ Ok x) × (more x.0 x.1 ≡ Ok y)
 bind_ok (Ok x) more y e = (x, refl, e)
 bind_ok (Err fault) more y e = absurd cc
 
@@ -39,8 +40,10 @@ pub record Takes (here : Here) (text : List ℕ) (after : Here) : Type 0 where
   pub parts : here.rest ≡ text ++ after.rest
   pub nodes : after.nodes ≡ here.nodes
 
-Takes-are : (here mid after : Here) (text other : List ℕ) → text ≡ other → mid ≡ after → Takes here text mid → Takes here other after
-Takes-are here mid after text other p q takes = subst (λ t. Takes here t after) p (subst (λ m. Takes here text m) q takes)
+Takes-are : (here mid after : Here) (text other : List ℕ) → text ≡ other → mid ≡ after → Takes here text mid
+    → Takes here other after
+Takes-are here mid after text other p q takes =
+    subst (λ t. Takes here t after) p (subst (λ m. Takes here text m) q takes)
 
 -- ---- a word
 
@@ -53,7 +56,8 @@ unfolding word
 word_takes here y e =
     let n = word_len here.rest in
     let same = unless_ended (length here.rest == 0) Ended (take n here.rest, past n here) y e in
-    subst (λ (y : List ℕ × Here). Takes here y.0 y.1) same (record { parts = sym (take-append-drop n here.rest); nodes = refl })
+    subst (λ (y : List ℕ × Here). Takes here y.0 y.1) same
+        (record { parts = sym (take-append-drop n here.rest); nodes = refl })
 
 -- the bytes have no space, and after a word nothing comes or a space
 abbrev pub IsWord : List ℕ → Type 0
@@ -75,24 +79,37 @@ word_len-whole (byte ∷ bytes) rest is ends =
 pub not_zero : (n : ℕ) → suc n == 0 ≡ false
 not_zero n = grind (arith, nat_tests)
 
-word_again : (place nodes : ℕ) (bytes rest : List ℕ) → 0 < length bytes → IsWord bytes → EndsWord rest → word (at place nodes (bytes ++ rest)) ≡ Ok (bytes, at (place + length bytes) nodes rest)
+word_again : (place nodes : ℕ) (bytes rest : List ℕ) → 0 < length bytes → IsWord bytes → EndsWord rest
+    → word (at place nodes (bytes ++ rest)) ≡ Ok (bytes, at (place + length bytes) nodes rest)
 unfolding word
 word_again place nodes [] rest some is ends = absurd (omega arith)
 word_again place nodes (byte ∷ bytes) rest some is ends =
-    rw (not_zero (length (bytes ++ rest)), word_len-whole (byte ∷ bytes) rest is ends, take_at (byte ∷ bytes) rest (length (byte ∷ bytes)) refl, drop_at (byte ∷ bytes) rest (length (byte ∷ bytes)) refl) refl
+    rw (not_zero (length (bytes ++ rest)), word_len-whole (byte ∷ bytes) rest is ends,
+        take_at (byte ∷ bytes) rest (length (byte ∷ bytes)) refl,
+        drop_at (byte ∷ bytes) rest (length (byte ∷ bytes)) refl) refl
 
 -- ---- what a word means
 
-meant_is : {A : Type 0} (place : ℕ) (found : Option A) (here : Here) (y : A × Here) → meant place found here ≡ Ok y → (found ≡ Some y.0) × (here ≡ y.1)
+meant_is : {A : Type 0} (place : ℕ) (found : Option A) (here : Here) (y : A × Here) → meant place found here ≡ Ok y
+    → (found ≡ Some y.0) × (here ≡ y.1)
 meant_is {A = A} place None here y e = absurd cc
-meant_is {A = A} place (Some a) here y e = let same = ok_is (a, here) y e in (ap (λ (y : A × Here). Some y.0) same, ap (λ (y : A × Here). y.1) same)
+meant_is {A = A} place (Some a) here y e = let same = ok_is (a, here) y e in
+    (ap (λ (y : A × Here). Some y.0) same, ap (λ (y : A × Here). y.1) same)
 
 letter_is : (byte : ℕ) (kind : Kind) → kind_of_letter byte ≡ Some kind → byte ≡ letter_of kind
 letter_is byte kind e =
-    by_test (byte == 115) (λ t. let k : Split ≡ kind = some_is _ _ (rw t at e) in eqb-true byte 115 t ∙ ap letter_of k) (λ f. let e = rw f at e in
-    by_test (byte == 111) (λ t. let k : Owner ≡ kind = some_is _ _ (rw t at e) in eqb-true byte 111 t ∙ ap letter_of k) (λ f. let e = rw f at e in
-    by_test (byte == 101) (λ t. let k : Empty ≡ kind = some_is _ _ (rw t at e) in eqb-true byte 101 t ∙ ap letter_of k) (λ f. let e = rw f at e in
-    by_test (byte == 110) (λ t. let k : NeverNull ≡ kind = some_is _ _ (rw t at e) in eqb-true byte 110 t ∙ ap letter_of k) (λ f. let e = rw f at e in
+    by_test (byte == 115)
+        (λ t. let k : Split ≡ kind = some_is _ _ (rw t at e) in eqb-true byte 115 t ∙ ap letter_of k)
+        (λ f. let e = rw f at e in
+    by_test (byte == 111)
+        (λ t. let k : Owner ≡ kind = some_is _ _ (rw t at e) in eqb-true byte 111 t ∙ ap letter_of k)
+        (λ f. let e = rw f at e in
+    by_test (byte == 101)
+        (λ t. let k : Empty ≡ kind = some_is _ _ (rw t at e) in eqb-true byte 101 t ∙ ap letter_of k)
+        (λ f. let e = rw f at e in
+    by_test (byte == 110)
+        (λ t. let k : NeverNull ≡ kind = some_is _ _ (rw t at e) in eqb-true byte 110 t ∙ ap letter_of k)
+        (λ f. let e = rw f at e in
     absurd cc))))
 
 kind_is : (bytes : List ℕ) (kind : Kind) → kind_of bytes ≡ Some kind → bytes ≡ letter_of kind ∷ []
@@ -110,7 +127,8 @@ number_is bytes n e =
     let m = number_from 0 bytes in
     let found = if_some (bytes_eq bytes (decimal m) && nat_lt m (2 ^ 32)) m n e in
     let both = and_parts (bytes_eq bytes (decimal m)) (nat_lt m (2 ^ 32)) found.0 in
-    subst (λ n. (bytes ≡ decimal n) × (n < 2 ^ 32)) found.1 ((bytes_eq-Decides bytes (decimal m)).0 both.0, ltb-true _ _ both.1)
+    subst (λ n. (bytes ≡ decimal n) × (n < 2 ^ 32)) found.1
+        ((bytes_eq-Decides bytes (decimal m)).0 both.0, ltb-true _ _ both.1)
 
 number_text : (n : ℕ) → n < 2 ^ 32 → number_of (decimal n) ≡ Some n
 unfolding number_of
@@ -150,10 +168,12 @@ letter_means Owner = refl
 letter_means Empty = refl
 letter_means NeverNull = refl
 
-pub letter_again : (place nodes : ℕ) (kind : Kind) (rest : List ℕ) → EndsWord rest → letter (at place nodes (letter_of kind ∷ rest)) ≡ Ok (kind, at (place + 1) nodes rest)
+pub letter_again : (place nodes : ℕ) (kind : Kind) (rest : List ℕ) → EndsWord rest
+    → letter (at place nodes (letter_of kind ∷ rest)) ≡ Ok (kind, at (place + 1) nodes rest)
 unfolding letter
 letter_again place nodes kind rest ends =
-    rw (word_again place nodes (letter_of kind ∷ []) rest (omega arith) (letter_is_no_space kind, tt) ends, letter_means kind) refl
+    rw (word_again place nodes (letter_of kind ∷ []) rest (omega arith) (letter_is_no_space kind, tt) ends,
+        letter_means kind) refl
 
 pub number_takes : (here : Here) (y : ℕ × Here) → number here ≡ Ok y → Takes here (decimal y.0) y.1 × (y.0 < 2 ^ 32)
 unfolding number
@@ -164,18 +184,22 @@ number_takes here y e =
     let is = number_is a.0.0 y.0 means.0 in
     (Takes-are here a.0.1 y.1 a.0.0 (decimal y.0) is.0 means.1 takes, is.1)
 
-pub number_again : (place nodes n : ℕ) (rest : List ℕ) → n < 2 ^ 32 → EndsWord rest → number (at place nodes (decimal n ++ rest)) ≡ Ok (n, at (place + length (decimal n)) nodes rest)
+pub number_again : (place nodes n : ℕ) (rest : List ℕ) → n < 2 ^ 32 → EndsWord rest
+    → number (at place nodes (decimal n ++ rest)) ≡ Ok (n, at (place + length (decimal n)) nodes rest)
 unfolding number
 number_again place nodes n rest few ends =
-    rw (word_again place nodes (decimal n) rest (decimal_nonempty n (omega arith)) (digits_are_word (decimal n) (digits_decimal own n (omega arith))) ends, number_text n few) refl
+    rw (word_again place nodes (decimal n) rest (decimal_nonempty n (omega arith))
+        (digits_are_word (decimal n) (digits_decimal own n (omega arith))) ends, number_text n few) refl
 
 -- ---- a space
 
-if_space : (b : Bool) (place : ℕ) (x y : Unit {0} × Here) → (if b then done x else Err (BadToken place)) ≡ Ok y → (b ≡ true) × (x ≡ y)
+if_space : (b : Bool) (place : ℕ) (x y : Unit {0} × Here) → (if b then done x else Err (BadToken place)) ≡ Ok y
+    → (b ≡ true) × (x ≡ y)
 if_space true place x y e = (refl, ok_is x y e)
 if_space false place x y e = absurd cc
 
-space_first_takes : (here : Here) (bytes : List ℕ) (y : Unit {0} × Here) → space_first here bytes ≡ Ok y → (bytes ≡ 32 ∷ y.1.rest) × (y.1.nodes ≡ here.nodes)
+space_first_takes : (here : Here) (bytes : List ℕ) (y : Unit {0} × Here) → space_first here bytes ≡ Ok y
+    → (bytes ≡ 32 ∷ y.1.rest) × (y.1.nodes ≡ here.nodes)
 space_first_takes here [] y e = absurd cc
 space_first_takes here (byte ∷ bytes) y e =
     let found = if_space (byte == 32) here.place (tt, at (here.place + 1) here.nodes bytes) y e in

@@ -1,5 +1,5 @@
 pub mod ErrorNames
-pub mod Growing
+pub mod PreorderTrees
 pub mod Nodes
 pub mod Numbers
 pub mod Reading

@@ -1,4 +1,6 @@
--- The nodes of a certificate as its text has them, one after another, and what comes after the last one that is read: the end of the text, or its first fault. Certificates are this project's own, and restate no section of PostgreSQL's documentation.
+-- The nodes of a certificate as its text has them, one after another, and what comes after the last one that is read:
+-- the end of the text, or its first fault. Certificates are this project's own, and restate no section of
+-- PostgreSQL's documentation.
 use Rattle.std.specs.Prelude.{◌≡◌, ℕ, zero, suc, ◌-◌, ◌==◌, Bool, true, false, if◌then◌else◌, List, [], ◌∷◌, ◌++◌, length, Option, Some, None, Result, Ok, Err}
 use Rattle.split_cert.specs.declared.error.CertError.{CertError}
 use Rattle.split_cert.specs.declared.error.CertError.TheVariants.{Trailing, TooDeep}
@@ -45,7 +47,8 @@ after_node branches more k.Empty = more
 after_node branches more k.NeverNull = more
 
 abbrev pub from_head : Continues → Continues → Outcome Head → Stream
-from_head branches more (Ok read) = led (node_of read.0.kind read.0.number) (after_node branches more read.0.kind read.1)
+from_head branches more (Ok read) =
+    led (node_of read.0.kind read.0.number) (after_node branches more read.0.kind read.1)
 from_head branches more (Err error) = fault error
 
 abbrev pub from_space : Continues → Outcome (Unit {0}) → Stream
@@ -69,7 +72,8 @@ at_end here = if length here.rest == 0 then over else fault (Trailing here.place
 -- what comes after a node, where of the splits that are open, the last one first, so many branches are still to come
 abbrev pub level_nodes : List ℕ → Continues
 level_nodes [] = at_end
-level_nodes (left ∷ levels) = branches_nodes (tree_nodes (max_splits - length (left ∷ levels))) left (level_nodes levels)
+level_nodes (left ∷ levels) =
+    branches_nodes (tree_nodes (max_splits - length (left ∷ levels))) left (level_nodes levels)
 
 -- the nodes of a text
 abbrev pub nodes_in : List ℕ → Stream
@@ -87,7 +91,8 @@ Takes before (Err error) after = (before ≡ fault error) × (after ≡ before)
 
 -- a tree's nodes, a split before its branches
 abbrev pub preorder : Tree → List Node
-preorder (T.Split atom if_true if_false if_null) = Split atom ∷ preorder if_true ++ preorder if_false ++ preorder if_null
+preorder (T.Split atom if_true if_false if_null) =
+    Split atom ∷ preorder if_true ++ preorder if_false ++ preorder if_null
 preorder (T.Owner subscriber) = Owner subscriber ∷ []
 preorder (T.Empty term) = Empty term ∷ []
 preorder (T.NeverNull atom) = NeverNull atom ∷ []

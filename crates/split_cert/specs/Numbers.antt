@@ -1,4 +1,5 @@
--- Numbers in the text of a certificate: in decimal, of 32 bits, without leading zeros. The format is this project's own.
+-- Numbers in the text of a certificate: in decimal, of 32 bits, without leading zeros. The format is this project's
+-- own.
 use Rattle.std.specs.Prelude.{ℕ, ◌+◌, ◌-◌, ◌*◌, ◌^◌, ◌&&◌, nat_lt, if◌then◌else◌, List, [], ◌∷◌, Option, Some, None}
 use Rattle.std.specs.Fmt.{decimal}
 use Rattle.std.specs.Str.{bytes_eq}

@@ -1,4 +1,5 @@
--- How the text of a certificate is read, up to one node's two words: each rule takes bytes from the front of a text, and gives what it reads and where the reader is after it, or the first fault. The format is this project's own.
+-- How the text of a certificate is read, up to one node's two words: each rule takes bytes from the front of a text,
+-- and gives what it reads and where the reader is after it, or the first fault. The format is this project's own.
 use Rattle.std.specs.Prelude.{ℕ, ◌+◌, Bool, false, true, not, ◌&&◌, ◌==◌, nat_le, if◌then◌else◌, List, [], ◌∷◌, length, take, drop, Option, Some, None, Result, Ok, Err}
 use Rattle.std.specs.List.{prefix_len}
 use Rattle.split_cert.specs.declared.error.CertError.{CertError}
@@ -56,11 +57,13 @@ past n here = record { place = here.place + n; nodes = here.nodes; rest = drop n
 
 -- a word is due: it runs to the next space or to the end
 unfoldable pub word : Rule (List ℕ)
-word here = if length here.rest == 0 then Err Ended else Ok (take (word_len here.rest) here.rest, past (word_len here.rest) here)
+word here = if length here.rest == 0 then
+    Err Ended else Ok (take (word_len here.rest) here.rest, past (word_len here.rest) here)
 
 abbrev pub space_first : Here → List ℕ → Outcome (Unit {0})
 space_first here [] = Err Ended
-space_first here (byte ∷ bytes) = if byte == 32 then Ok (tt, record { place = here.place + 1; nodes = here.nodes; rest = bytes }) else Err (BadToken here.place)
+space_first here (byte ∷ bytes) = if byte == 32 then
+    Ok (tt, record { place = here.place + 1; nodes = here.nodes; rest = bytes }) else Err (BadToken here.place)
 
 -- a space is due
 unfoldable pub space : Rule (Unit {0})

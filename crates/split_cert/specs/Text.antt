@@ -1,4 +1,5 @@
--- The text of a certificate, and the certificate of a text or its first fault: nodes in preorder, each a letter and a number. The format is this project's own.
+-- The text of a certificate, and the certificate of a text or its first fault: nodes in preorder, each a letter and a
+-- number. The format is this project's own.
 use Rattle.std.specs.Prelude.{◌≡◌, ℕ, zero, suc, ◌==◌, if◌then◌else◌, List, ◌∷◌, ◌++◌, length, Result, Ok, Err}
 use Rattle.std.specs.Fmt.{decimal}
 use Rattle.split_cert.specs.declared.error.CertError.{CertError}
@@ -17,7 +18,8 @@ abbrev pub words_of : Kind → ℕ → List ℕ
 words_of kind number = letter_of kind ∷ 32 ∷ decimal number
 
 abbrev pub spelling_of : Tree → List ℕ
-spelling_of (T.Split atom if_true if_false if_null) = words_of Split atom ++ 32 ∷ spelling_of if_true ++ 32 ∷ spelling_of if_false ++ 32 ∷ spelling_of if_null
+spelling_of (T.Split atom if_true if_false if_null) =
+    words_of Split atom ++ 32 ∷ spelling_of if_true ++ 32 ∷ spelling_of if_false ++ 32 ∷ spelling_of if_null
 spelling_of (T.Owner subscriber) = words_of Owner subscriber
 spelling_of (T.Empty term) = words_of Empty term
 spelling_of (T.NeverNull atom) = words_of NeverNull atom
@@ -35,7 +37,9 @@ BeginsWithSplit text = (rest : List ℕ) × (text ≡ letter_of Split ∷ 32 ∷
 
 -- the branches of a split, by the rule that reads one
 unfoldable pub branches : Rule Tree → ℕ → Rule Tree
-branches branch atom = branch >>= (λ if_true. branch >>= (λ if_false. branch >>= (λ if_null. pure (T.Split atom if_true if_false if_null))))
+branches branch atom =
+    branch >>= (λ if_true. branch >>=
+    (λ if_false. branch >>= (λ if_null. pure (T.Split atom if_true if_false if_null))))
 
 -- what comes after a node's two words
 abbrev pub node_of : Rule Tree → Kind → ℕ → Rule Tree

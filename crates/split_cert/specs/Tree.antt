@@ -1,7 +1,9 @@
--- Certificates as trees, wherever they lie in memory, and the limits on those that are read. Certificates are this project's own, and restate no section of PostgreSQL's documentation.
+-- Certificates as trees, wherever they lie in memory, and the limits on those that are read. Certificates are this
+-- project's own, and restate no section of PostgreSQL's documentation.
 use Rattle.std.specs.Prelude.{ℕ, ◌+◌, ◌<◌, ◌≤◌, ◌^◌, max}
 
--- a split by an atom, with the branches where it is true, false and null; a subscriber that owns the rows; a term without a value; an atom that is never null
+-- a split by an atom, with the branches where it is true, false and null; a subscriber that owns the rows; a term
+-- without a value; an atom that is never null
 pub data Tree : Type 0 where
   Split : ℕ → Tree → Tree → Tree → Tree
   Owner : ℕ → Tree
@@ -17,14 +19,16 @@ nodes (NeverNull atom) = 1
 
 -- the most splits on a path from the root
 abbrev pub splits_deep : Tree → ℕ
-splits_deep (Split atom if_true if_false if_null) = 1 + max (splits_deep if_true) (max (splits_deep if_false) (splits_deep if_null))
+splits_deep (Split atom if_true if_false if_null) =
+    1 + max (splits_deep if_true) (max (splits_deep if_false) (splits_deep if_null))
 splits_deep (Owner subscriber) = 0
 splits_deep (Empty term) = 0
 splits_deep (NeverNull atom) = 0
 
 -- its numbers are numbers of 32 bits
 abbrev pub HasNumbers : Tree → Type 0
-HasNumbers (Split atom if_true if_false if_null) = (atom < 2 ^ 32) × HasNumbers if_true × HasNumbers if_false × HasNumbers if_null
+HasNumbers (Split atom if_true if_false if_null) = (atom < 2 ^ 32) × HasNumbers if_true × HasNumbers if_false
+    × HasNumbers if_null
 HasNumbers (Owner subscriber) = subscriber < 2 ^ 32
 HasNumbers (Empty term) = term < 2 ^ 32
 HasNumbers (NeverNull atom) = atom < 2 ^ 32

@@ -3,7 +3,7 @@
 ghost use Rattle.std.specs.Prelude.{◌≡◌, ◌++◌, ◌∷◌, ℕ, List, length, IfOk, Ok, Err};
 ghost use Rattle.filter_tree.specs.Memory.{Answers, NeedsMemoryOnlyIf};
 ghost use Rattle.split_cert.specs.declared.error.CertError.TheVariants.{Trailing};
-ghost use Rattle.split_cert.specs.Growing.{Grows, BeginsBySplit};
+ghost use Rattle.split_cert.specs.PreorderTrees.{ReadsTree, BeginsBySplit};
 ghost use Rattle.split_cert.specs.Nodes.{led};
 ghost use Rattle.split_cert.specs.Reading.{told};
 ghost use Rattle.split_cert.specs.Text as spec;
@@ -18,9 +18,9 @@ use std::alloc::Allocator;
 
 /// Takes the nodes of a tree.
 #[cycle(tree)]
-#[tactic(auto, using(crate::proofs::GrowLemmas::grows, crate::proofs::GrowMemory::wants))]
+#[tactic(auto, using(crate::proofs::PreorderTreeLemmas::grows, crate::proofs::PreorderTreeMemory::wants))]
 fn tree<A: Allocator + Clone>(alloc: &A, reader: &mut NodeReader<'_>) -> Result<Cert<A>, CertError>
-    ensures tree { Grows tree_view reader.old reader.new result }
+    ensures tree { ReadsTree tree_view reader.old reader.new result }
     ensures memory { NeedsMemoryOnlyIf CertError.OutOfMemory (BeginsBySplit reader.old) result }
 {
     match reader.next()? {
@@ -31,13 +31,13 @@ fn tree<A: Allocator + Clone>(alloc: &A, reader: &mut NodeReader<'_>) -> Result<
 
 /// Takes the nodes of a tree after its first node.
 #[cycle(tree)]
-#[tactic(auto, using(crate::proofs::GrowLemmas::grows, crate::proofs::GrowMemory::wants))]
+#[tactic(auto, using(crate::proofs::PreorderTreeLemmas::grows, crate::proofs::PreorderTreeMemory::wants))]
 fn rooted<A: Allocator + Clone>(
     alloc: &A,
     node: Node,
     reader: &mut NodeReader<'_>,
 ) -> Result<Cert<A>, CertError>
-    ensures tree { Grows tree_view (led node reader.old) reader.new result }
+    ensures tree { ReadsTree tree_view (led node reader.old) reader.new result }
     ensures memory { NeedsMemoryOnlyIf CertError.OutOfMemory (BeginsBySplit (led node reader.old)) result }
 {
     match node {
@@ -50,13 +50,13 @@ fn rooted<A: Allocator + Clone>(
 
 /// Takes the branches of a split.
 #[cycle(tree)]
-#[tactic(auto, using(crate::proofs::GrowLemmas::grows, crate::proofs::GrowMemory::wants))]
+#[tactic(auto, using(crate::proofs::PreorderTreeLemmas::grows, crate::proofs::PreorderTreeMemory::wants))]
 fn split<A: Allocator + Clone>(
     alloc: &A,
     atom: u32,
     reader: &mut NodeReader<'_>,
 ) -> Result<Cert<A>, CertError>
-    ensures { Grows tree_view (led (Node.Split atom) reader.old) reader.new result }
+    ensures { ReadsTree tree_view (led (Node.Split atom) reader.old) reader.new result }
 {
     let if_true = branch(alloc, reader)?;
     let if_false = branch(alloc, reader)?;
@@ -70,14 +70,14 @@ fn branch<A: Allocator + Clone>(
     alloc: &A,
     reader: &mut NodeReader<'_>,
 ) -> Result<Box<Cert<A>, A>, CertError>
-    ensures { Grows (λ branch. tree_view branch.value) reader.old reader.new result }
+    ensures { ReadsTree (λ branch. tree_view branch.value) reader.old reader.new result }
 {
     let branch = tree(alloc, reader)?;
     Ok(Box::new(alloc.clone()?, branch)?)
 }
 
 /// The certificate of a whole text.
-#[tactic(auto, using(crate::proofs::GrowMemory::texts))]
+#[tactic(auto, using(crate::proofs::PreorderTreeMemory::texts))]
 fn certificate<A: Allocator + Clone>(alloc: &A, text: &str) -> Result<Cert<A>, CertError>
     ensures exact { Answers tree_view told (spec.certificate_of text.now) result }
     ensures memory { NeedsMemoryOnlyIf CertError.OutOfMemory (spec.BeginsWithSplit text.now) result }

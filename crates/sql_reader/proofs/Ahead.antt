@@ -23,7 +23,8 @@ rest_of_some_is_fewer (Stop place) h = cc
 rest_of_some_is_fewer (Broken place kind) h = cc
 rest_of_some_is_fewer (Then token rest) h = omega arith
 
-pub rest_of_number_is_fewer : (negative : Bool) (ts : Items) (number : ℤ) → number_ahead negative (item_ahead ts) ≡ Some number → size (rest_of ts) < size ts
+pub rest_of_number_is_fewer : (negative : Bool) (ts : Items) (number : ℤ)
+    → number_ahead negative (item_ahead ts) ≡ Some number → size (rest_of ts) < size ts
 rest_of_number_is_fewer negative (Stop place) number h = cc
 rest_of_number_is_fewer negative (Broken place kind) number h = cc
 rest_of_number_is_fewer negative (Then token rest) number h = omega arith

@@ -33,12 +33,14 @@ is_after one other e = constant_total.antisymm one other ∙ ap ordering_reverse
 abbrev AllAfter : Constant → List Constant → Type 0
 AllAfter constant constants = AllByRecursion (λ other. constant_cmp constant other ≡ Less) constants
 
-all_after : (one other : Constant) (constants : List Constant) → constant_cmp one other ≡ Less → AllAfter other constants → AllAfter one constants
+all_after : (one other : Constant) (constants : List Constant) → constant_cmp one other ≡ Less
+    → AllAfter other constants → AllAfter one constants
 all_after one other [] less h = h
 all_after one other (constant ∷ constants) less h =
     (constant_total.trans one other constant less h.0, all_after one other constants less h.1)
 
-placed_after : (one constant : Constant) (constants : List Constant) → constant_cmp one constant ≡ Less → AllAfter one constants → AllAfter one (placed constants constant)
+placed_after : (one constant : Constant) (constants : List Constant) → constant_cmp one constant ≡ Less
+    → AllAfter one constants → AllAfter one (placed constants constant)
 placed_after one constant [] less h = (less, h)
 placed_after one constant (first ∷ rest) less h =
     by (constant_cmp constant first) (placed_after one constant rest less h.1)
@@ -49,21 +51,26 @@ placed_after one constant (first ∷ rest) less h =
     by Equal later = h
     by Greater later = (h.0, later)
 
-placed_strictly : (constant : Constant) (constants : List Constant) → IsStrictlySortedBy constant_cmp constants → IsStrictlySortedBy constant_cmp (placed constants constant)
+placed_strictly : (constant : Constant) (constants : List Constant) → IsStrictlySortedBy constant_cmp constants
+    → IsStrictlySortedBy constant_cmp (placed constants constant)
 unfolding IsStrictlySortedBy
 placed_strictly constant [] h = (tt, tt)
 placed_strictly constant (first ∷ rest) h =
     by (constant_cmp constant first) refl (placed_strictly constant rest h.1)
   where
-    by : (order : Ordering) → constant_cmp constant first ≡ order → IsStrictlySortedBy constant_cmp (placed rest constant)
-        → IsStrictlySortedBy constant_cmp (match_ordering order (constant ∷ first ∷ rest) (first ∷ rest) (first ∷ placed rest constant))
+    by : (order : Ordering) → constant_cmp constant first ≡ order
+        → IsStrictlySortedBy constant_cmp (placed rest constant)
+        → IsStrictlySortedBy constant_cmp
+            (match_ordering order (constant ∷ first ∷ rest) (first ∷ rest) (first ∷ placed rest constant))
     by Less e later = ((e, all_after constant first rest e h.0), h)
     by Equal e later = h
     by Greater e later = (placed_after first constant rest (is_after first constant e) h.0, later)
 
-all_strictly : (held constants : List Constant) → IsStrictlySortedBy constant_cmp held → IsStrictlySortedBy constant_cmp (fold placed held constants)
+all_strictly : (held constants : List Constant) → IsStrictlySortedBy constant_cmp held
+    → IsStrictlySortedBy constant_cmp (fold placed held constants)
 all_strictly held [] h = h
-all_strictly held (constant ∷ constants) h = all_strictly (placed held constant) constants (placed_strictly constant held h)
+all_strictly held (constant ∷ constants) h =
+    all_strictly (placed held constant) constants (placed_strictly constant held h)
 
 ascending_strictly : (constants : List Constant) → IsStrictlySortedBy constant_cmp (ascending constants)
 unfolding ascending IsStrictlySortedBy
@@ -87,27 +94,35 @@ or_turn true false r = refl
 or_turn false true r = refl
 or_turn false false r = refl
 
-any_placed : (p : Constant → Bool) (constant : Constant) (constants : List Constant) → list_any p (placed constants constant) ≡ (p constant || list_any p constants)
+any_placed : (p : Constant → Bool) (constant : Constant) (constants : List Constant)
+    → list_any p (placed constants constant) ≡ (p constant || list_any p constants)
 any_placed p constant [] = refl
 any_placed p constant (first ∷ rest) =
     by (constant_cmp constant first) refl (any_placed p constant rest)
   where
-    by : (order : Ordering) → constant_cmp constant first ≡ order → list_any p (placed rest constant) ≡ (p constant || list_any p rest)
-        → list_any p (match_ordering order (constant ∷ first ∷ rest) (first ∷ rest) (first ∷ placed rest constant)) ≡ (p constant || (p first || list_any p rest))
+    by : (order : Ordering) → constant_cmp constant first ≡ order
+        → list_any p (placed rest constant) ≡ (p constant || list_any p rest)
+        → list_any p (match_ordering order (constant ∷ first ∷ rest) (first ∷ rest) (first ∷ placed rest constant))
+            ≡ (p constant || (p first || list_any p rest))
     by Less e later = refl
-    by Equal e later = or_twice (p first) (list_any p rest) ∙ ap (λ k. p k || (p first || list_any p rest)) (sym (constant_tie constant first e))
+    by Equal e later = or_twice (p first) (list_any p rest)
+        ∙ ap (λ k. p k || (p first || list_any p rest)) (sym (constant_tie constant first e))
     by Greater e later = ap (λ q. p first || q) later ∙ or_swap (p first) (p constant) (list_any p rest)
 
-any_of_all : (p : Constant → Bool) (held constants : List Constant) → list_any p (fold placed held constants) ≡ (list_any p held || list_any p constants)
+any_of_all : (p : Constant → Bool) (held constants : List Constant)
+    → list_any p (fold placed held constants) ≡ (list_any p held || list_any p constants)
 any_of_all p held [] = sym (or_false (list_any p held))
 any_of_all p held (constant ∷ constants) =
     any_of_all p (placed held constant) constants
     ∙ ap (λ q. q || list_any p constants) (any_placed p constant held)
     ∙ or_turn (p constant) (list_any p held) (list_any p constants)
 
-pub any_ascending : (p : Constant → Bool) (constants : List Constant) → list_any p (ascending constants) ≡ list_any p constants
+pub any_ascending : (p : Constant → Bool) (constants : List Constant)
+    → list_any p (ascending constants) ≡ list_any p constants
 unfolding ascending
 any_ascending p constants = any_of_all p [] constants
 
 pub lists_ascend_law : ListsAscend
-lists_ascend_law = record { strictly = ascending_strictly; members = λ constant constants. any_ascending (same_constant constant) constants }
+lists_ascend_law = record
+    { strictly = ascending_strictly; members =
+    λ constant constants. any_ascending (same_constant constant) constants }

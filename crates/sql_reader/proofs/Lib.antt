@@ -18,6 +18,6 @@ pub mod PlainNames
 pub mod PlainRows
 pub mod Required
 pub mod SpelledRows
-pub mod Turning
+pub mod RepetitionLemmas
 pub mod Undoubling
 pub mod Widths

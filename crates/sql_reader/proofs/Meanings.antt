@@ -40,7 +40,8 @@ filters_carry = record {
   tree = λ s. refl;
 }
 
-compared-same : (op : Op) (value : Datum) (constant : Constant) → compare_of op value constant ≡ compare_values op value (Known constant)
+compared-same : (op : Op) (value : Datum) (constant : Constant)
+    → compare_of op value constant ≡ compare_values op value (Known constant)
 compared-same op Missing constant = refl
 compared-same op (Known value) constant = refl
 
@@ -51,7 +52,8 @@ held-same (Known (Truth true)) = refl
 held-same (Known (Truth false)) = refl
 held-same (Known (Bytes text)) = refl
 
-missing-same : (term : Term) (row : List Datum) → is_missing (value_at row (column_of term)) ≡ is_missing (term_value term row)
+missing-same : (term : Term) (row : List Datum)
+    → is_missing (value_at row (column_of term)) ≡ is_missing (term_value term row)
 missing-same (Col column) row = refl
 missing-same (Mod column divisor) row = of_remainder (value_at row column)
   where
@@ -94,7 +96,8 @@ turned-same op (Truth p) (Bytes t) = refl
 turned-same op (Bytes s) (Number n) = refl
 turned-same op (Bytes s) (Truth q) = refl
 
-compared_from-same : (op : Op) (value : Datum) (constant : Constant) → compare_of (turned op) value constant ≡ compare_values op (Known constant) value
+compared_from-same : (op : Op) (value : Datum) (constant : Constant)
+    → compare_of (turned op) value constant ≡ compare_values op (Known constant) value
 compared_from-same op Missing constant = refl
 compared_from-same op (Known value) constant = ap tri_of (turned-same op value constant)
 
@@ -106,7 +109,8 @@ or_of_known true false = refl
 or_of_known false true = refl
 or_of_known false false = refl
 
-any-among : (value first : Constant) (others : List Constant) → tri_of (list_any (equals (Known value)) (first ∷ others)) ≡ among_values (Known value) first others
+any-among : (value first : Constant) (others : List Constant)
+    → tri_of (list_any (equals (Known value)) (first ∷ others)) ≡ among_values (Known value) first others
 any-among value first [] = ap tri_of (or_false (compare_known Eq value first))
 any-among value first (next ∷ others) =
     or_of_known (compare_known Eq value first) (list_any (equals (Known value)) (next ∷ others))
@@ -116,9 +120,11 @@ missing-among : (first : Constant) (others : List Constant) → Null ≡ among_v
 missing-among first [] = refl
 missing-among first (next ∷ others) = ap (or_of Null) (missing-among next others)
 
-among-same : (value : Datum) (first : Constant) (others : List Constant) → among_of value (ascending (first ∷ others)) ≡ among_values value first others
+among-same : (value : Datum) (first : Constant) (others : List Constant)
+    → among_of value (ascending (first ∷ others)) ≡ among_values value first others
 among-same Missing first others = missing-among first others
-among-same (Known value) first others = ap tri_of (any_ascending (equals (Known value)) (first ∷ others)) ∙ any-among value first others
+among-same (Known value) first others = ap tri_of (any_ascending (equals (Known value)) (first ∷ others))
+    ∙ any-among value first others
 
 between-same : (value : Datum) (low high : ℤ) → between_of value low high ≡ between_values value low high
 between-same Missing low high = refl
@@ -129,7 +135,8 @@ distinct-same Missing constant = refl
 distinct-same (Known value) constant = refl
 
 -- the tree of an expression means what the expression means
-pub meaning-filter_of : (expression : Written) (row : List Datum) → meaning (filter_of expression) row ≡ written_meaning expression row
+pub meaning-filter_of : (expression : Written) (row : List Datum)
+    → meaning (filter_of expression) row ≡ written_meaning expression row
 meaning-filter_of (Told truth) row = refl
 meaning-filter_of (Column column) row = held-same (value_at row column)
 meaning-filter_of (Compared term op constant) row = compared-same op (term_value term row) constant

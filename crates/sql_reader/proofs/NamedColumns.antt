@@ -22,8 +22,8 @@ use Rattle.sql_reader.specs.declared.item.Item.TheVariants as i
 use Rattle.sql_reader.specs.declared.name.PlacedName.{PlacedName}
 use Rattle.sql_reader.specs.declared.column.FoundColumn.{FoundColumn}
 use Rattle.sql_reader.specs.declared.subject.Subject.{Subject}
-use Rattle.sql_reader.specs.declared.truth_test.Asked.{Asked}
-use Rattle.sql_reader.specs.declared.truth_test.Asked.TheVariants as a
+use Rattle.sql_reader.specs.declared.truth_test.TestedValue.{TestedValue}
+use Rattle.sql_reader.specs.declared.truth_test.TestedValue.TheVariants as a
 use Rattle.sql_reader.specs.declared.truth_test.TruthTest.{TruthTest}
 use Rattle.sql_reader.specs.declared.truth_test.DistinctWords.{DistinctWords}
 use Rattle.sql_reader.specs.declared.truth_test.TestAhead.{TestAhead}
@@ -38,7 +38,7 @@ use Rattle.sql_reader.specs.Names.{name}
 use Rattle.sql_reader.specs.Numbers.{placed_number}
 use Rattle.sql_reader.specs.Operands.{OperandOf, OfTerm, OfLiteral, OfFormula, PartOf, part, verdict_map, verdict_then, truth, true_or_clash, wanted, negated, joined, dividend, remainder, comparison_by, fits, fitting, compared, compared_part, asking, answered, negated_if, tested as tested_part}
 use Rattle.sql_reader.specs.Reading.{Fault, Rule, Verdict, and_then, with_rest, is_ahead, item_ahead, place_ahead, next_is, expect, rest_of}
-use Rattle.sql_reader.specs.Turns.{link}
+use Rattle.sql_reader.specs.Repetitions.{link}
 use Rattle.sql_reader.specs.Ascending.{ascending}
 use Rattle.sql_reader.specs.Written.{as_filter, compared_expr, compared_from_expr, turned}
 use Rattle.sql_reader.proofs.Keeping.{Gives, then-gives, any-gives, chosen-gives, repeat-gives, link-gives}
@@ -46,26 +46,32 @@ use Rattle.sql_reader.proofs.Keeping.{Gives, then-gives, any-gives, chosen-gives
 -- ---- columns that are found
 
 module _ (P : FoundColumn → Type 0) (called : PlacedName) (ts : Items) where
-  either_found : (is : Bool) (column : FoundColumn) (rest : Option FoundColumn) → P column → Gives P (with_rest (known called rest) ts)
+  either_found : (is : Bool) (column : FoundColumn) (rest : Option FoundColumn) → P column
+      → Gives P (with_rest (known called rest) ts)
       → Gives P (with_rest (known called (if is then Some column else rest)) ts)
   either_found true column rest here later = here
   either_found false column rest here later = later
 
 found_within : (number : ℕ) (called : PlacedName) (columns : List Column) (ts : Items)
-    → Gives (λ (column : FoundColumn). column.number < number + length columns) (with_rest (known called (found_from number called.text columns)) ts)
+    → Gives (λ (column : FoundColumn). column.number < number + length columns)
+        (with_rest (known called (found_from number called.text columns)) ts)
 found_within number called [] ts = tt
 found_within number called (column ∷ columns) ts =
     let same : (number + 1) + length columns ≡ number + length (column ∷ columns) = omega arith in
-    either_found (λ (found : FoundColumn). found.number < number + length (column ∷ columns)) called ts (bytes_eq called.text column.name)
+    either_found (λ (found : FoundColumn). found.number < number + length (column ∷ columns)) called ts
+        (bytes_eq called.text column.name)
     (record { number = number; kind = column.kind }) (found_from (number + 1) called.text columns) (omega arith)
-    (subst (λ (most : ℕ). Gives (λ (found : FoundColumn). found.number < most) (with_rest (known called (found_from (number + 1) called.text columns)) ts)) same
+    (subst (λ (most : ℕ). Gives (λ (found : FoundColumn). found.number < most)
+        (with_rest (known called (found_from (number + 1) called.text columns)) ts)) same
     (found_within (number + 1) called columns ts))
 
-pub known_column-gives : (columns : List Column) (called : PlacedName) (ts : Items) → Gives (λ (column : FoundColumn). column.number < length columns) (with_rest (known_column columns called) ts)
+pub known_column-gives : (columns : List Column) (called : PlacedName) (ts : Items)
+    → Gives (λ (column : FoundColumn). column.number < length columns) (with_rest (known_column columns called) ts)
 unfolding known_column find_column
 known_column-gives columns called ts =
     let same : 0 + length columns ≡ length columns = omega arith in
-    subst (λ (most : ℕ). Gives (λ (found : FoundColumn). found.number < most) (with_rest (known called (found_from 0 called.text columns)) ts)) same (found_within 0 called columns ts)
+    subst (λ (most : ℕ). Gives (λ (found : FoundColumn). found.number < most)
+        (with_rest (known called (found_from 0 called.text columns)) ts)) same (found_within 0 called columns ts)
 
 -- ---- checks
 
@@ -74,23 +80,28 @@ abbrev Says : {A : Type 0} → (A → Type 0) → Verdict A → Type 0
 Says P (Ok a) = P a
 Says P (Err fault) = Unit {0}
 
-check-gives : {A : Type 0} (P : A → Type 0) (verdict : Verdict A) (ts : Items) → Says P verdict → Gives P (with_rest verdict ts)
+check-gives : {A : Type 0} (P : A → Type 0) (verdict : Verdict A) (ts : Items) → Says P verdict
+    → Gives P (with_rest verdict ts)
 check-gives P (Ok a) ts h = h
 check-gives P (Err fault) ts h = tt
 
-map-says : {A B : Type 0} (Q : A → Type 0) (P : B → Type 0) (f : A → B) (verdict : Verdict A) → Says Q verdict → ((a : A) → Q a → P (f a)) → Says P (verdict_map f verdict)
+map-says : {A B : Type 0} (Q : A → Type 0) (P : B → Type 0) (f : A → B) (verdict : Verdict A) → Says Q verdict
+    → ((a : A) → Q a → P (f a)) → Says P (verdict_map f verdict)
 map-says Q P f (Ok a) q h = h a q
 map-says Q P f (Err fault) q h = tt
 
-any_map-says : {A B : Type 0} (P : B → Type 0) (f : A → B) (verdict : Verdict A) → ((a : A) → P (f a)) → Says P (verdict_map f verdict)
+any_map-says : {A B : Type 0} (P : B → Type 0) (f : A → B) (verdict : Verdict A) → ((a : A) → P (f a))
+    → Says P (verdict_map f verdict)
 any_map-says P f (Ok a) h = h a
 any_map-says P f (Err fault) h = tt
 
-then-says : {A B : Type 0} (Q : A → Type 0) (P : B → Type 0) (verdict : Verdict A) (more : A → Verdict B) → Says Q verdict → ((a : A) → Q a → Says P (more a)) → Says P (verdict_then verdict more)
+then-says : {A B : Type 0} (Q : A → Type 0) (P : B → Type 0) (verdict : Verdict A) (more : A → Verdict B)
+    → Says Q verdict → ((a : A) → Q a → Says P (more a)) → Says P (verdict_then verdict more)
 then-says Q P (Ok a) more q h = h a q
 then-says Q P (Err fault) more q h = tt
 
-any_then-says : {A B : Type 0} (P : B → Type 0) (verdict : Verdict A) (more : A → Verdict B) → ((a : A) → Says P (more a)) → Says P (verdict_then verdict more)
+any_then-says : {A B : Type 0} (P : B → Type 0) (verdict : Verdict A) (more : A → Verdict B)
+    → ((a : A) → Says P (more a)) → Says P (verdict_then verdict more)
 any_then-says P (Ok a) more h = h a
 any_then-says P (Err fault) more h = tt
 
@@ -120,9 +131,11 @@ module _ (count : ℕ) where
   NamedOption (Some filter) = Named filter
 
   atom-named : (atom : AtomOf) → NamedTerm (term_of atom) → Named (Atom atom)
-  atom-named atom h = All-cons (λ column. column < count) (column_of (term_of atom)) [] h (All-nil (λ column. column < count))
+  atom-named atom h = All-cons (λ column. column < count) (column_of (term_of atom)) [] h
+      (All-nil (λ column. column < count))
 
-  appended-named : (left right : List AtomOf) → All (λ column. column < count) (columns_in left) → All (λ column. column < count) (columns_in right)
+  appended-named : (left right : List AtomOf) → All (λ column. column < count) (columns_in left)
+      → All (λ column. column < count) (columns_in right)
       → All (λ column. column < count) (columns_in (left ++ right))
   appended-named left right one other =
       subst (All (λ column. column < count)) (sym (map-append (λ (atom : AtomOf). column_of (term_of atom)) left right))
@@ -156,13 +169,17 @@ module _ (count : ℕ) where
 
   negated-named : (place : ℕ) (right : PartOf Expr) → NamedPart right → Says NamedPart (negated as_filter place right)
   unfolding negated
-  negated-named place right h = map-says Named NamedPart _ (wanted as_filter right) (wanted-named right h) (λ filter n. n)
+  negated-named place right h =
+      map-says Named NamedPart _ (wanted as_filter right) (wanted-named right h) (λ filter n. n)
 
-  joined-named : (join : Expr → Expr → Expr) → ((left right : Expr) → Named left → Named right → Named (join left right))
-      → (place : ℕ) (left : Expr) (right : PartOf Expr) → Named left → NamedPart right → Says NamedPart (joined as_filter join place left right)
+  joined-named : (join : Expr → Expr → Expr)
+      → ((left right : Expr) → Named left → Named right → Named (join left right))
+      → (place : ℕ) (left : Expr) (right : PartOf Expr) → Named left → NamedPart right
+      → Says NamedPart (joined as_filter join place left right)
   unfolding joined
   joined-named join joins place left right one other =
-      map-says Named NamedPart _ (wanted as_filter right) (wanted-named right other) (λ filter n. joins left filter one n)
+      map-says Named NamedPart _ (wanted as_filter right) (wanted-named right other)
+          (λ filter n. joins left filter one n)
 
   abbrev NamedFound : Option FoundColumn → Type 0
   NamedFound None = Unit {0}
@@ -178,26 +195,34 @@ module _ (count : ℕ) where
   dividend-named (OfLiteral place constant) h = tt
   dividend-named (OfFormula filter) h = tt
 
-  divided-named : (digits first : ℕ) (column : FoundColumn) (divisor : ℤ) (is_zero : Bool) (fault : Fault) → column.number < count
+  divided-named : (digits first : ℕ) (column : FoundColumn) (divisor : ℤ) (is_zero : Bool) (fault : Fault)
+      → column.number < count
       → Says NamedPart (if is_zero then Err fault else Ok (part first (OfTerm (Mod column.number divisor) column.kind)))
   divided-named digits first column divisor true fault h = tt
   divided-named digits first column divisor false fault h = h
 
-  remainder-named : (place first : ℕ) (column : Option FoundColumn) (operand : OperandOf Expr) → NamedFound column → Says NamedPart (remainder place first column operand)
+  remainder-named : (place first : ℕ) (column : Option FoundColumn) (operand : OperandOf Expr) → NamedFound column
+      → Says NamedPart (remainder place first column operand)
   unfolding remainder
-  remainder-named place first (Some column) (OfLiteral digits (Number divisor)) h = divided-named digits first column divisor (int_eq divisor (pos 0)) _ h
+  remainder-named place first (Some column) (OfLiteral digits (Number divisor)) h =
+      divided-named digits first column divisor (int_eq divisor (pos 0)) _ h
   remainder-named place first (Some column) (OfLiteral digits (Truth known)) h = tt
   remainder-named place first (Some column) (OfLiteral digits (Bytes text)) h = tt
   remainder-named place first (Some column) (OfTerm term kind) h = tt
   remainder-named place first (Some column) (OfFormula filter) h = tt
   remainder-named place first None operand h = tt
 
-  compared-named : (place : ℕ) (left : OperandOf Expr) (op : Op) (right : OperandOf Expr) → NamedOperand left → NamedOperand right → Says Named (compared as_filter place left op right)
+  compared-named : (place : ℕ) (left : OperandOf Expr) (op : Op) (right : OperandOf Expr) → NamedOperand left
+      → NamedOperand right → Says Named (compared as_filter place left op right)
   unfolding compared
   compared-named place (OfTerm term kind) op (OfTerm other other_kind) h r = tt
-  compared-named place (OfTerm term kind) op (OfLiteral at constant) h r = fitting-says Named (fits place kind op constant) (compared_expr term op constant) (atom-named (Cmp term op constant) h)
+  compared-named place (OfTerm term kind) op (OfLiteral at constant) h r =
+      fitting-says Named (fits place kind op constant) (compared_expr term op constant)
+      (atom-named (Cmp term op constant) h)
   compared-named place (OfTerm term kind) op (OfFormula filter) h r = tt
-  compared-named place (OfLiteral at constant) op (OfTerm term kind) h r = fitting-says Named (fits place kind op constant) (compared_from_expr constant op term) (atom-named (Cmp term (turned op) constant) r)
+  compared-named place (OfLiteral at constant) op (OfTerm term kind) h r =
+      fitting-says Named (fits place kind op constant) (compared_from_expr constant op term)
+      (atom-named (Cmp term (turned op) constant) r)
   compared-named place (OfLiteral at constant) op (OfLiteral other_at other) h r = tt
   compared-named place (OfLiteral at (Number number)) op (OfFormula filter) h r = tt
   compared-named place (OfLiteral at (Truth known)) op (OfFormula filter) h r = tt
@@ -208,24 +233,34 @@ module _ (count : ℕ) where
   compared-named place (OfFormula filter) op (OfLiteral at (Bytes text)) h r = tt
   compared-named place (OfFormula filter) op (OfFormula other) h r = tt
 
-  compared_part-named : (place : ℕ) (left : PartOf Expr) (op : Op) (right : PartOf Expr) → NamedPart left → NamedPart right
+  compared_part-named : (place : ℕ) (left : PartOf Expr) (op : Op) (right : PartOf Expr) → NamedPart left
+      → NamedPart right
       → Says NamedPart (compared_part as_filter place left op right)
   compared_part-named place left op right h r =
-      map-says Named NamedPart _ (compared as_filter place left.operand op right.operand) (compared-named place left.operand op right.operand h r) (λ filter n. n)
+      map-says Named NamedPart _ (compared as_filter place left.operand op right.operand)
+          (compared-named place left.operand op right.operand h r) (λ filter n. n)
 
-  asking-named : (place : ℕ) (test : Test) (read : Option Expr) → NamedOption read → Says Named (asking as_filter place test read)
+  asking-named : (place : ℕ) (test : Test) (read : Option Expr) → NamedOption read
+      → Says Named (asking as_filter place test read)
   asking-named place test None h = tt
   asking-named place test (Some filter) h = h
 
-  answered-named : (place : ℕ) (asked : Asked) (operand : OperandOf Expr) → NamedOperand operand → Says Named (answered as_filter place asked operand)
-  answered-named place a.Null (OfTerm term kind) h = All-cons (λ c. c < count) (column_of term) [] h (All-nil (λ c. c < count))
+  answered-named : (place : ℕ) (asked : TestedValue) (operand : OperandOf Expr) → NamedOperand operand
+      → Says Named (answered as_filter place asked operand)
+  answered-named place a.Null (OfTerm term kind) h =
+      All-cons (λ c. c < count) (column_of term) [] h (All-nil (λ c. c < count))
   answered-named place a.Null (OfLiteral at (Number number)) h = tt
-  answered-named place a.Null (OfLiteral at (Truth known)) h = asking-named place Unknown (truth as_filter (OfLiteral at (Truth known))) (truth-named (OfLiteral at (Truth known)) h)
+  answered-named place a.Null (OfLiteral at (Truth known)) h =
+      asking-named place Unknown (truth as_filter (OfLiteral at (Truth known)))
+      (truth-named (OfLiteral at (Truth known)) h)
   answered-named place a.Null (OfLiteral at (Bytes text)) h = tt
   answered-named place a.Null (OfFormula filter) h = h
-  answered-named place (a.Truth test) (OfTerm term kind) h = asking-named place test (truth as_filter (OfTerm term kind)) (truth-named (OfTerm term kind) h)
+  answered-named place (a.Truth test) (OfTerm term kind) h =
+      asking-named place test (truth as_filter (OfTerm term kind)) (truth-named (OfTerm term kind) h)
   answered-named place (a.Truth test) (OfLiteral at (Number number)) h = tt
-  answered-named place (a.Truth test) (OfLiteral at (Truth known)) h = asking-named place test (truth as_filter (OfLiteral at (Truth known))) (truth-named (OfLiteral at (Truth known)) h)
+  answered-named place (a.Truth test) (OfLiteral at (Truth known)) h =
+      asking-named place test (truth as_filter (OfLiteral at (Truth known)))
+      (truth-named (OfLiteral at (Truth known)) h)
   answered-named place (a.Truth test) (OfLiteral at (Bytes text)) h = tt
   answered-named place (a.Truth test) (OfFormula filter) h = h
 
@@ -233,40 +268,49 @@ module _ (count : ℕ) where
   negated_if-named true filter h = h
   negated_if-named false filter h = h
 
-  tested_part-named : (truth_test : TruthTest) (asked_part : PartOf Expr) → NamedPart asked_part → Says NamedPart (tested_part as_filter truth_test asked_part)
+  tested_part-named : (truth_test : TruthTest) (asked_part : PartOf Expr) → NamedPart asked_part
+      → Says NamedPart (tested_part as_filter truth_test asked_part)
   unfolding tested_part
   tested_part-named truth_test asked_part h =
       map-says Named NamedPart _ (answered as_filter truth_test.place truth_test.asked asked_part.operand)
-      (answered-named truth_test.place truth_test.asked asked_part.operand h) (λ filter n. negated_if-named truth_test.is_negated filter n)
+      (answered-named truth_test.place truth_test.asked asked_part.operand h)
+          (λ filter n. negated_if-named truth_test.is_negated filter n)
 
   -- ---- IN, BETWEEN and IS DISTINCT FROM
 
   abbrev NamedSubject : Subject → Type 0
   NamedSubject on = NamedTerm on.term
 
-  subject-named : (place : ℕ) (operand : OperandOf Expr) → NamedOperand operand → Says NamedSubject (subject_of place operand)
+  subject-named : (place : ℕ) (operand : OperandOf Expr) → NamedOperand operand
+      → Says NamedSubject (subject_of place operand)
   subject-named place (OfTerm term kind) h = h
   subject-named place (OfLiteral at constant) h = tt
   subject-named place (OfFormula filter) h = tt
 
-  formed-named : (is_negated : Bool) (place : ℕ) (verdict : Verdict Expr) → Says Named verdict → Says NamedPart (formed as_filter is_negated place verdict)
-  formed-named is_negated place verdict h = map-says Named NamedPart _ verdict h (λ filter n. negated_if-named is_negated filter n)
+  formed-named : (is_negated : Bool) (place : ℕ) (verdict : Verdict Expr) → Says Named verdict
+      → Says NamedPart (formed as_filter is_negated place verdict)
+  formed-named is_negated place verdict h =
+      map-says Named NamedPart _ verdict h (λ filter n. negated_if-named is_negated filter n)
 
-  among-named : (place : ℕ) (left first : OperandOf Expr) (others : List (OperandOf Expr)) → NamedOperand left → Says Named (among as_filter place left first others)
+  among-named : (place : ℕ) (left first : OperandOf Expr) (others : List (OperandOf Expr)) → NamedOperand left
+      → Says Named (among as_filter place left first others)
   unfolding among
   among-named place left first others h =
       then-says NamedSubject Named (subject_of place left) _ (subject-named place left h) (λ on n.
       any_then-says Named (beside place on.kind first) _ (λ constant.
-      any_map-says Named _ (all_beside place on.kind others) (λ constants. atom-named (In on.term (ascending (constant ∷ constants))) n)))
+      any_map-says Named _ (all_beside place on.kind others)
+          (λ constants. atom-named (In on.term (ascending (constant ∷ constants))) n)))
 
-  between-named : (place : ℕ) (left low high : OperandOf Expr) → NamedOperand left → Says Named (between as_filter place left low high)
+  between-named : (place : ℕ) (left low high : OperandOf Expr) → NamedOperand left
+      → Says Named (between as_filter place left low high)
   unfolding between
   between-named place left low high h =
       then-says NamedSubject Named (subject_of place left) _ (subject-named place left h) (λ on n.
       any_then-says Named (bound place on.kind low) _ (λ lowest.
       any_map-says Named _ (bound place on.kind high) (λ highest. atom-named (Between on.term lowest highest) n)))
 
-  distinct-named : (place distinct_place : ℕ) (left right : OperandOf Expr) → NamedOperand left → Says Named (distinct as_filter place distinct_place left right)
+  distinct-named : (place distinct_place : ℕ) (left right : OperandOf Expr) → NamedOperand left
+      → Says Named (distinct as_filter place distinct_place left right)
   unfolding distinct
   distinct-named place distinct_place left right h =
       then-says NamedSubject Named (subject_of place left) _ (subject-named place left h) (λ on n.
@@ -288,12 +332,14 @@ module _ (columns : List Column) where
   simple_by-fits (Some (i.Keyword k.Null)) ts = tt
   simple_by-fits (Some (i.Keyword k.Case)) ts = tt
   simple_by-fits _ ts =
-      then-gives (λ (found : FoundColumn). found.number < length columns) Fits (column columns ts) _ (column-gives ts) (λ found ts2 h. h)
+      then-gives (λ (found : FoundColumn). found.number < length columns) Fits (column columns ts) _ (column-gives ts)
+          (λ found ts2 h. h)
     where
       column-gives : (ts : Items) → Gives (λ (found : FoundColumn). found.number < length columns) (column columns ts)
       column-gives ts =
           any-gives (λ (found : FoundColumn). found.number < length columns) (name ts) _ (λ called ts2.
-          any-gives (λ (found : FoundColumn). found.number < length columns) (no_call called ts2) _ (λ u ts3. known_column-gives columns called ts3))
+          any-gives (λ (found : FoundColumn). found.number < length columns) (no_call called ts2) _
+              (λ u ts3. known_column-gives columns called ts3))
 
   simple-fits : (ts : Items) → Gives Fits (simple columns ts)
   unfolding simple
@@ -310,29 +356,37 @@ module _ (columns : List Column) where
   module _ (below : Nested Expr → Rule (PartOf Expr)) (all : AllFit below) where
     primary-fits : (ts : Items) → Gives Fits (primary as_filter columns below ts)
     unfolding primary
-    primary-fits ts = chosen-gives Fits (is_ahead i.Open ts) (below InParentheses ts) (simple columns ts) (all InParentheses ts tt) (simple-fits ts)
+    primary-fits ts = chosen-gives Fits (is_ahead i.Open ts) (below InParentheses ts) (simple columns ts)
+        (all InParentheses ts tt) (simple-fits ts)
 
-    divisor-fits : (first : ℕ) (column : Option FoundColumn) (ts : Items) → NamedFound (length columns) column → Gives Fits (divisor as_filter columns below first column ts)
+    divisor-fits : (first : ℕ) (column : Option FoundColumn) (ts : Items) → NamedFound (length columns) column
+        → Gives Fits (divisor as_filter columns below first column ts)
     unfolding divisor
     divisor-fits first column ts h =
         any-gives Fits (expect (i.Operator o.Percent) ts) _ (λ place ts2.
         any-gives Fits (primary as_filter columns below ts2) _ (λ right ts3.
-        check-gives Fits (remainder place first column right.operand) ts3 (remainder-named (length columns) place first column right.operand h)))
+        check-gives Fits (remainder place first column right.operand) ts3
+            (remainder-named (length columns) place first column right.operand h)))
 
-    divisor_or_none-fits : (left : PartOf Expr) (ts : Items) → Fits left → Gives Fits (divisor_or_none as_filter columns below left ts)
+    divisor_or_none-fits : (left : PartOf Expr) (ts : Items) → Fits left
+        → Gives Fits (divisor_or_none as_filter columns below left ts)
     unfolding divisor_or_none
-    divisor_or_none-fits left ts h = any-gives Fits (next_is (i.Operator o.Percent) ts) _ (λ is_divided ts2. by_divisor is_divided ts2)
+    divisor_or_none-fits left ts h =
+        any-gives Fits (next_is (i.Operator o.Percent) ts) _ (λ is_divided ts2. by_divisor is_divided ts2)
       where
         by_divisor : (is_divided : Bool) (ts2 : Items) →
-            Gives Fits ((if is_divided then divisor as_filter columns below left.place (dividend left.operand) else (λ ts3. Ok (left, ts3))) ts2)
-        by_divisor true ts2 = divisor-fits left.place (dividend left.operand) ts2 (dividend-named (length columns) left.operand h)
+            Gives Fits ((if is_divided then
+                divisor as_filter columns below left.place (dividend left.operand) else (λ ts3. Ok (left, ts3))) ts2)
+        by_divisor true ts2 =
+            divisor-fits left.place (dividend left.operand) ts2 (dividend-named (length columns) left.operand h)
         by_divisor false ts2 = h
 
     term-fits : (ts : Items) → Gives Fits (term as_filter columns below ts)
     unfolding term
     term-fits ts = then-gives Fits Fits (primary as_filter columns below ts) _ (primary-fits ts) divisor_or_none-fits
 
-    ended-fits : (whole : PartOf Expr) (ts : Items) → Fits whole → Gives Fits (and_then (no_operator ts) (λ u ts2. Ok (whole, ts2)))
+    ended-fits : (whole : PartOf Expr) (ts : Items) → Fits whole
+        → Gives Fits (and_then (no_operator ts) (λ u ts2. Ok (whole, ts2)))
     ended-fits whole ts h = any-gives Fits (no_operator ts) _ (λ u ts2. h)
 
     side-fits : (ts : Items) → Gives Fits (side as_filter columns below ts)
@@ -340,17 +394,21 @@ module _ (columns : List Column) where
     side-fits ts = then-gives Fits Fits (term as_filter columns below ts) _ (term-fits ts) ended-fits
 
     checked-fits : (verdict : Verdict (PartOf Expr)) → Says Fits verdict → (ts : Items)
-        → Gives Fits (and_then (with_rest verdict ts) (λ whole ts2. and_then (no_operator ts2) (λ u ts3. Ok (whole, ts3))))
+        → Gives Fits (and_then (with_rest verdict ts)
+            (λ whole ts2. and_then (no_operator ts2) (λ u ts3. Ok (whole, ts3))))
     checked-fits verdict h ts = then-gives Fits Fits (with_rest verdict ts) _ (check-gives Fits verdict ts h) ended-fits
 
-    right_side-fits : (left : PartOf Expr) (op : Op) (ts : Items) → Fits left → Gives Fits (right_side as_filter columns below left op ts)
+    right_side-fits : (left : PartOf Expr) (op : Op) (ts : Items) → Fits left
+        → Gives Fits (right_side as_filter columns below left op ts)
     unfolding right_side
     right_side-fits left op ts h =
         then-gives Fits Fits (term as_filter columns below (rest_of ts)) _ (term-fits (rest_of ts)) (λ right ts2 r.
         any-gives Fits (no_cast ts2) _ (λ u ts3.
-        checked-fits (compared_part as_filter (place_ahead ts) left op right) (compared_part-named (length columns) (place_ahead ts) left op right h r) ts3))
+        checked-fits (compared_part as_filter (place_ahead ts) left op right)
+            (compared_part-named (length columns) (place_ahead ts) left op right h r) ts3))
 
-    in_list-fits : (word : MembershipWord) (left : PartOf Expr) (ts : Items) → Fits left → Gives Fits (in_list as_filter columns below word left ts)
+    in_list-fits : (word : MembershipWord) (left : PartOf Expr) (ts : Items) → Fits left
+        → Gives Fits (in_list as_filter columns below word left ts)
     unfolding in_list
     in_list-fits word left ts h =
         any-gives Fits (expect i.Open ts) _ (λ place ts2.
@@ -358,10 +416,12 @@ module _ (columns : List Column) where
         any-gives Fits (other_entries as_filter columns below ts3) _ (λ others ts4.
         any-gives Fits (expect i.Close ts4) _ (λ end ts5.
         checked-fits (among_part as_filter word left first.operand others)
-        (formed-named (length columns) word.is_negated left.place (among as_filter word.place left.operand first.operand others)
+        (formed-named (length columns) word.is_negated left.place
+            (among as_filter word.place left.operand first.operand others)
         (among-named (length columns) word.place left.operand first.operand others h)) ts5))))
 
-    bounds-fits : (word : MembershipWord) (left : PartOf Expr) (ts : Items) → Fits left → Gives Fits (bounds as_filter columns below word left ts)
+    bounds-fits : (word : MembershipWord) (left : PartOf Expr) (ts : Items) → Fits left
+        → Gives Fits (bounds as_filter columns below word left ts)
     unfolding bounds
     bounds-fits word left ts h =
         any-gives Fits (side as_filter columns below ts) _ (λ low ts2.
@@ -369,35 +429,44 @@ module _ (columns : List Column) where
         any-gives Fits (term as_filter columns below ts3) _ (λ high ts4.
         any-gives Fits (no_cast ts4) _ (λ u ts5.
         checked-fits (between_part as_filter word left low.operand high.operand)
-        (formed-named (length columns) word.is_negated left.place (between as_filter word.place left.operand low.operand high.operand)
+        (formed-named (length columns) word.is_negated left.place
+            (between as_filter word.place left.operand low.operand high.operand)
         (between-named (length columns) word.place left.operand low.operand high.operand h)) ts5))))
 
-    member_by-fits : (left : PartOf Expr) (membership : Option Membership) (ts : Items) → Fits left → Gives Fits (member_by as_filter columns below left membership ts)
+    member_by-fits : (left : PartOf Expr) (membership : Option Membership) (ts : Items) → Fits left
+        → Gives Fits (member_by as_filter columns below left membership ts)
     member_by-fits left (Some (m.List word)) ts h = all (InList word left) ts h
     member_by-fits left (Some (m.Range word)) ts h = bounds-fits word left ts h
     member_by-fits left None ts h = h
 
-    right_side_by-fits : (left : PartOf Expr) (op : Option Op) (ts : Items) → Fits left → Gives Fits (right_side_by as_filter columns below left op ts)
+    right_side_by-fits : (left : PartOf Expr) (op : Option Op) (ts : Items) → Fits left
+        → Gives Fits (right_side_by as_filter columns below left op ts)
     unfolding member_or_none
     right_side_by-fits left (Some op) ts h = right_side-fits left op ts h
-    right_side_by-fits left None ts h = any-gives Fits (membership_or_none ts) _ (λ membership ts2. member_by-fits left membership ts2 h)
+    right_side_by-fits left None ts h =
+        any-gives Fits (membership_or_none ts) _ (λ membership ts2. member_by-fits left membership ts2 h)
 
     comparison-fits : (ts : Items) → Gives Fits (comparison as_filter columns below ts)
     unfolding comparison right_side_or_none
     comparison-fits ts =
-        then-gives Fits Fits (side as_filter columns below ts) _ (side-fits ts) (λ left ts2 h. right_side_by-fits left (comparison_by (item_ahead ts2)) ts2 h)
+        then-gives Fits Fits (side as_filter columns below ts) _ (side-fits ts)
+            (λ left ts2 h. right_side_by-fits left (comparison_by (item_ahead ts2)) ts2 h)
 
-    distinct_side-fits : (left : PartOf Expr) (words : DistinctWords) (ts : Items) → Fits left → Gives Fits (distinct_side as_filter columns below left words ts)
+    distinct_side-fits : (left : PartOf Expr) (words : DistinctWords) (ts : Items) → Fits left
+        → Gives Fits (distinct_side as_filter columns below left words ts)
     unfolding distinct_side
     distinct_side-fits left words ts h =
         any-gives Fits (term as_filter columns below ts) _ (λ right ts2.
         any-gives Fits (no_cast ts2) _ (λ u ts3.
         checked-fits (distinct_part as_filter words left right.operand)
-        (formed-named (length columns) words.is_negated left.place (distinct as_filter words.place words.distinct_place left.operand right.operand)
+        (formed-named (length columns) words.is_negated left.place
+            (distinct as_filter words.place words.distinct_place left.operand right.operand)
         (distinct-named (length columns) words.place words.distinct_place left.operand right.operand h)) ts3))
 
-    tested_by-fits : (left : PartOf Expr) (asking : Option TestAhead) (ts : Items) → Fits left → Gives Fits (tested_by as_filter columns below left asking ts)
-    tested_by-fits left (Some (b.Truth test)) ts h = check-gives Fits (tested_part as_filter test left) ts (tested_part-named (length columns) test left h)
+    tested_by-fits : (left : PartOf Expr) (asking : Option TestAhead) (ts : Items) → Fits left
+        → Gives Fits (tested_by as_filter columns below left asking ts)
+    tested_by-fits left (Some (b.Truth test)) ts h =
+        check-gives Fits (tested_part as_filter test left) ts (tested_part-named (length columns) test left h)
     tested_by-fits left (Some (b.Distinct words)) ts h = distinct_side-fits left words ts h
     tested_by-fits left None ts h = h
 
@@ -409,14 +478,19 @@ module _ (columns : List Column) where
 
     negation-fits : (ts : Items) → Gives Fits (negation as_filter columns below ts)
     unfolding negation
-    negation-fits ts = chosen-gives Fits (is_ahead (i.Keyword k.Not) ts) (below AfterNot ts) (predicate as_filter columns below ts) (all AfterNot ts tt) (predicate-fits ts)
+    negation-fits ts = chosen-gives Fits (is_ahead (i.Keyword k.Not) ts) (below AfterNot ts)
+        (predicate as_filter columns below ts) (all AfterNot ts tt) (predicate-fits ts)
 
-    one_more_negation-fits : (left : PartOf Expr) (ts : Items) → Fits left → Gives Fits (one_more_negation as_filter columns below left ts)
+    one_more_negation-fits : (left : PartOf Expr) (ts : Items) → Fits left
+        → Gives Fits (one_more_negation as_filter columns below left ts)
     unfolding one_more_negation
     one_more_negation-fits left ts h =
-        then-gives (Named (length columns)) Fits (with_rest (wanted as_filter left) ts) _ (check-gives (Named (length columns)) (wanted as_filter left) ts (wanted-named (length columns) left h)) (λ filter ts2 n.
+        then-gives (Named (length columns)) Fits (with_rest (wanted as_filter left) ts) _
+            (check-gives (Named (length columns)) (wanted as_filter left) ts (wanted-named (length columns) left h))
+            (λ filter ts2 n.
         then-gives Fits Fits (negation as_filter columns below ts2) _ (negation-fits ts2) (λ right ts3 r.
-        check-gives Fits (joined as_filter And left.place filter right) ts3 (joined-named (length columns) And (both-named (length columns)) left.place filter right n r)))
+        check-gives Fits (joined as_filter And left.place filter right) ts3
+            (joined-named (length columns) And (both-named (length columns)) left.place filter right n r)))
 
     conjunction-fits : (ts : Items) → Gives Fits (conjunction as_filter columns below ts)
     unfolding conjunction
@@ -425,12 +499,16 @@ module _ (columns : List Column) where
         (repeat-gives Fits (link (i.Keyword k.And) (one_more_negation as_filter columns below))
         (link-gives Fits (i.Keyword k.And) (one_more_negation as_filter columns below) one_more_negation-fits))
 
-    one_more_conjunction-fits : (left : PartOf Expr) (ts : Items) → Fits left → Gives Fits (one_more_conjunction as_filter columns below left ts)
+    one_more_conjunction-fits : (left : PartOf Expr) (ts : Items) → Fits left
+        → Gives Fits (one_more_conjunction as_filter columns below left ts)
     unfolding one_more_conjunction
     one_more_conjunction-fits left ts h =
-        then-gives (Named (length columns)) Fits (with_rest (wanted as_filter left) ts) _ (check-gives (Named (length columns)) (wanted as_filter left) ts (wanted-named (length columns) left h)) (λ filter ts2 n.
+        then-gives (Named (length columns)) Fits (with_rest (wanted as_filter left) ts) _
+            (check-gives (Named (length columns)) (wanted as_filter left) ts (wanted-named (length columns) left h))
+            (λ filter ts2 n.
         then-gives Fits Fits (conjunction as_filter columns below ts2) _ (conjunction-fits ts2) (λ right ts3 r.
-        check-gives Fits (joined as_filter Or left.place filter right) ts3 (joined-named (length columns) Or (either-named (length columns)) left.place filter right n r)))
+        check-gives Fits (joined as_filter Or left.place filter right) ts3
+            (joined-named (length columns) Or (either-named (length columns)) left.place filter right n r)))
 
     disjunction-fits : (ts : Items) → Gives Fits (disjunction as_filter columns below ts)
     unfolding disjunction
@@ -466,4 +544,5 @@ module _ (columns : List Column) where
   expression-named ts =
       then-gives Fits (NamesWithin (length columns)) (disjunction as_filter columns (nested as_filter columns 64) ts) _
       (disjunction-fits (nested as_filter columns 64) (nested-fits 64) ts)
-      (λ whole ts2 h. check-gives (NamesWithin (length columns)) (wanted as_filter whole) ts2 (wanted-named (length columns) whole h))
+      (λ whole ts2 h. check-gives (NamesWithin (length columns)) (wanted as_filter whole) ts2
+          (wanted-named (length columns) whole h))

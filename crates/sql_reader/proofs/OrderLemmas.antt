@@ -46,7 +46,8 @@ has-added c x held = by_test (has x held)
     rw (found, there) refl)
     (λ other. rw (found, other) (sym (or_false (has c held)))))
     (λ new.
-    let appended : has c (held ++ x ∷ []) ≡ (has c held || (same_atom c x || false)) = list_any-append (same_atom c) held (x ∷ []) in
+    let appended : has c (held ++ x ∷ []) ≡ (has c held || (same_atom c x || false)) =
+        list_any-append (same_atom c) held (x ∷ []) in
     rw new (appended ∙ ap (λ b. has c held || b) (or_false (same_atom c x))))
 
 length-added : (x : AtomOf) (held : List AtomOf)
@@ -78,7 +79,9 @@ counts_commute false false n = refl
 -- the length after two atoms that are not the same
 length-added-added : (held : List AtomOf) (x y : AtomOf) → same_atom y x ≡ false
     → length (added (added held x) y)
-    ≡ (if has y held then (if has x held then length held else length held + 1) else (if has x held then length held else length held + 1) + 1)
+    ≡ (if has y held then
+        (if has x held then length held else length held + 1)
+        else (if has x held then length held else length held + 1) + 1)
 length-added-added held x y unlike =
     let there : has y (added held x) ≡ has y held =
     has-added y x held ∙ ap (λ b. has y held || b) unlike ∙ or_false (has y held) in
@@ -90,7 +93,8 @@ commute : (held : List AtomOf) (x y : AtomOf) → Alike (added (added held x) y)
 commute held x y = by_test (same_atom y x)
     (λ same.
     let equal : y ≡ x = same_atom_is y x same in
-    subst (λ z. Alike (added (added held x) z) (added (added held z) x)) (sym equal) (alike_refl (added (added held x) x)))
+    subst (λ z. Alike (added (added held x) z) (added (added held z) x)) (sym equal)
+        (alike_refl (added (added held x) x)))
     (λ unlike. record {
       members = λ c.
           has-added c y (added held x) ∙ ap (λ b. b || same_atom c y) (has-added c x held)
@@ -148,8 +152,10 @@ both_ways xs' xs ys' ys left right held =
     let turned = swap held ys' xs' in
     let first = alike_all (with_all held xs') (with_all held xs) ys' (left held) in
     let later = right (with_all held xs) in
-    let whole = alike_trans (with_all (with_all held ys') xs') (with_all (with_all held xs') ys') (with_all (with_all held xs) ys) turned
-    (alike_trans (with_all (with_all held xs') ys') (with_all (with_all held xs) ys') (with_all (with_all held xs) ys) first later) in
+    let whole = alike_trans (with_all (with_all held ys') xs') (with_all (with_all held xs') ys')
+        (with_all (with_all held xs) ys) turned
+    (alike_trans (with_all (with_all held xs') ys') (with_all (with_all held xs) ys') (with_all (with_all held xs) ys)
+        first later) in
     subst (λ z. Alike z (with_all held (xs ++ ys))) (sym (with_all-append held ys' xs'))
     (subst (λ z. Alike (with_all (with_all held ys') xs') z) (sym (with_all-append held xs ys)) whole)
 

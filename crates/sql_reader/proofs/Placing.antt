@@ -21,12 +21,18 @@ module _ {X : Type 0} (v : X → Constant) (xs : List X) (k : Constant) where
     here = drop_more xs index x within ∙ ap (λ y. y ∷ drop (index + 1) xs) (sym is)
 
     at : (order : Ordering) → constant_cmp k (v x) ≡ order → Passed index →
-        placed (map v xs) k ≡ map v (take index xs) ++ match_ordering order (k ∷ map v (drop index xs)) (map v (drop index xs)) (v x ∷ placed (map v (drop (index + 1) xs)) k)
+        placed (map v xs) k ≡ map v (take index xs)
+            ++ match_ordering order (k ∷ map v (drop index xs)) (map v (drop index xs))
+            (v x ∷ placed (map v (drop (index + 1) xs)) k)
     at order e passed =
         passed
         ∙ ap (λ rest. map v (take index xs) ++ placed (map v rest) k) here
-        ∙ ap (λ o. map v (take index xs) ++ match_ordering o (k ∷ v x ∷ map v (drop (index + 1) xs)) (v x ∷ map v (drop (index + 1) xs)) (v x ∷ placed (map v (drop (index + 1) xs)) k)) e
-        ∙ ap (λ rest. map v (take index xs) ++ match_ordering order (k ∷ map v rest) (map v rest) (v x ∷ placed (map v (drop (index + 1) xs)) k)) (sym here)
+        ∙ ap (λ o. map v (take index xs)
+            ++ match_ordering o (k ∷ v x ∷ map v (drop (index + 1) xs)) (v x ∷ map v (drop (index + 1) xs))
+            (v x ∷ placed (map v (drop (index + 1) xs)) k)) e
+        ∙ ap (λ rest. map v (take index xs)
+            ++ match_ordering order (k ∷ map v rest) (map v rest) (v x ∷ placed (map v (drop (index + 1) xs)) k))
+            (sym here)
 
     pub passed_less : constant_cmp k (v x) ≡ Less → Passed index → placed (map v xs) k ≡ insert (map v xs) index k
     passed_less e passed =
@@ -35,9 +41,11 @@ module _ {X : Type 0} (v : X → Constant) (xs : List X) (k : Constant) where
         ∙ ap (λ rest. take index (map v xs) ++ k ∷ rest) (sym (drop-map v index xs))
 
     pub passed_equal : constant_cmp k (v x) ≡ Equal → Passed index → placed (map v xs) k ≡ map v xs
-    passed_equal e passed = at Equal e passed ∙ sym (map-append v (take index xs) (drop index xs)) ∙ ap (map v) (take-append-drop index xs)
+    passed_equal e passed = at Equal e passed ∙ sym (map-append v (take index xs) (drop index xs))
+        ∙ ap (map v) (take-append-drop index xs)
 
-pub map_insert : {X Y : Type 0} (v : X → Y) (xs : List X) (index : ℕ) (x : X) → map v (insert xs index x) ≡ insert (map v xs) index (v x)
+pub map_insert : {X Y : Type 0} (v : X → Y) (xs : List X) (index : ℕ) (x : X)
+    → map v (insert xs index x) ≡ insert (map v xs) index (v x)
 map_insert v xs index x =
     map-append v (take index xs) (x ∷ drop index xs)
     ∙ ap (λ front. front ++ v x ∷ map v (drop index xs)) (sym (take-map v index xs))

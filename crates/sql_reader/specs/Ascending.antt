@@ -1,4 +1,5 @@
--- The constants of a list in ascending order, each once: the order of "7.5 Sorting Rows", where duplicates are dropped as in "7.3.3 DISTINCT".
+-- The constants of a list in ascending order, each once: the order of "7.5 Sorting Rows", where duplicates are
+-- dropped as in "7.3.3 DISTINCT".
 use Rattle.std.specs.Prelude.{◌≡◌, ℕ, Bool, List, [], fold}
 use Rattle.std.specs.BTreeSet.{insert_key}
 use Rattle.std.specs.List.{list_any}
@@ -31,4 +32,5 @@ has_constant constant constants = list_any (same_constant constant) constants
 -- Each constant is less than the next, and the list has exactly the constants that it is made from.
 pub record ListsAscend : Type 0 where
   pub strictly : (constants : List Constant) → IsStrictlySortedBy constant_cmp (ascending constants)
-  pub members : (constant : Constant) (constants : List Constant) → has_constant constant (ascending constants) ≡ has_constant constant constants
+  pub members : (constant : Constant) (constants : List Constant)
+      → has_constant constant (ascending constants) ≡ has_constant constant constants

@@ -1,4 +1,5 @@
--- The elements of CREATE TABLE: columns with their types and constraints, and the primary key: PostgreSQL 15, SQL Commands, CREATE TABLE, and "Data Types", Table 8.1.
+-- The elements of CREATE TABLE: columns with their types and constraints, and the primary key: PostgreSQL 15, SQL
+-- Commands, CREATE TABLE, and "Data Types", Table 8.1.
 use Rattle.std.specs.Prelude.{ℕ, zero, suc, Bool, true, false, not, ◌||◌, nat_le, ◌==◌, if◌then◌else◌, List, [], ◌∷◌, ◌++◌, length, Option, Some, None, Ok, Err, codes}
 use Rattle.std.specs.List.{list_any}
 use Rattle.std.specs.Option.{is_some}
@@ -14,12 +15,12 @@ use Rattle.sql_reader.specs.declared.name.PlacedName.{PlacedName}
 use Rattle.sql_reader.specs.declared.column.FoundColumn.{FoundColumn}
 use Rattle.sql_reader.specs.declared.error.Omitted.TheVariants.{Constraint, DataType}
 use Rattle.sql_reader.specs.declared.error.Limit.TheVariants.{Columns}
-use Rattle.sql_reader.specs.Wrong as w
+use Rattle.sql_reader.specs.ErrorKinds as w
 use Rattle.sql_reader.specs.Expressions.{find_column, known_column}
 use Rattle.sql_reader.specs.Items.{Items, Broken}
 use Rattle.sql_reader.specs.Names.{name, name_ahead}
 use Rattle.sql_reader.specs.Reading.{Fault, Rule, Verdict, fault, place_ahead, ◌>>=◌, ◌>>◌, pure, check, refuse, refuse_as, refusal, advance, expect, item_ahead, written_ahead, rest_of}
-use Rattle.sql_reader.specs.Turns.{link, each, repeat}
+use Rattle.sql_reader.specs.Repetitions.{link, each, repeat}
 use Rattle.sql_reader.specs.declared.column_rule.Constraints.{Constraints}
 use Rattle.sql_reader.specs.declared.element.TableParts.{TableParts}
 
@@ -44,10 +45,15 @@ left_out = λ ts. Err (left_out_at ts)
 -- the type that a word names, in upper or lower case
 abbrev pub type_named : List ℕ → Option ColType
 type_named word =
-    if str_eq_ignore_ascii_case word (codes "smallint") || str_eq_ignore_ascii_case word (codes "int2") then Some SmallInt else
-    if str_eq_ignore_ascii_case word (codes "integer") || (str_eq_ignore_ascii_case word (codes "int") || str_eq_ignore_ascii_case word (codes "int4")) then Some Integer else
-    if str_eq_ignore_ascii_case word (codes "bigint") || str_eq_ignore_ascii_case word (codes "int8") then Some BigInt else
-    if str_eq_ignore_ascii_case word (codes "boolean") || str_eq_ignore_ascii_case word (codes "bool") then Some Boolean else
+    if str_eq_ignore_ascii_case word (codes "smallint") || str_eq_ignore_ascii_case word (codes "int2") then
+        Some SmallInt else
+    if str_eq_ignore_ascii_case word (codes "integer")
+        || (str_eq_ignore_ascii_case word (codes "int") || str_eq_ignore_ascii_case word (codes "int4")) then
+        Some Integer else
+    if str_eq_ignore_ascii_case word (codes "bigint") || str_eq_ignore_ascii_case word (codes "int8") then
+        Some BigInt else
+    if str_eq_ignore_ascii_case word (codes "boolean") || str_eq_ignore_ascii_case word (codes "bool") then
+        Some Boolean else
     if str_eq_ignore_ascii_case word (codes "text") then Some Text else
     None
 
@@ -91,8 +97,10 @@ unfoldable pub given_by : Keyword → Constraints → Rule Constraints
 given_by second given = advance >> expect (i.Keyword second) >> pure given
 
 abbrev pub constraint_by : Bool → Constraints → Option Item → Rule Constraints
-constraint_by has_key given (Some (i.Keyword k.Not)) = if given.not_null then refuse else given_by k.Null (record given { not_null = true })
-constraint_by has_key given (Some (i.Keyword k.Primary)) = if has_key || given.key then refuse else given_by k.Key (record given { key = true })
+constraint_by has_key given (Some (i.Keyword k.Not)) = if given.not_null then
+    refuse else given_by k.Null (record given { not_null = true })
+constraint_by has_key given (Some (i.Keyword k.Primary)) = if has_key || given.key then
+    refuse else given_by k.Key (record given { key = true })
 constraint_by has_key given _ = left_out
 
 -- one more constraint, where the table has a key or not
@@ -144,7 +152,8 @@ once_in_key parts called column =
     if list_any (λ n. n == column.number) parts.key then Err (fault called.place w.NameTwice) else Ok tt
 
 abbrev pub with_key_column : Parts → FoundColumn → Parts
-with_key_column parts column = record { columns = required parts.columns column.number; key = parts.key ++ column.number ∷ [] }
+with_key_column parts column =
+    record { columns = required parts.columns column.number; key = parts.key ++ column.number ∷ [] }
 
 unfoldable pub key_column : Parts → Rule Parts
 key_column parts = do

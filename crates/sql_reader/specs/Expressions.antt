@@ -1,4 +1,6 @@
--- Filters as they are written: PostgreSQL 15, "Value Expressions", 4.2, with the precedences of 4.1.6 Operator Precedence: `%` binds tighter than comparisons, IN and BETWEEN, these tighter than IS tests, then NOT, AND and OR; AND and OR build to the left.
+-- Filters as they are written: PostgreSQL 15, "Value Expressions", 4.2, with the precedences of 4.1.6 Operator
+-- Precedence: `%` binds tighter than comparisons, IN and BETWEEN, these tighter than IS tests, then NOT, AND and OR;
+-- AND and OR build to the left.
 use Rattle.std.specs.Prelude.{ℕ, zero, suc, ◌+◌, Bool, true, false, if◌then◌else◌, List, [], ◌∷◌, ◌++◌, length, Option, Some, None, Ok, Err}
 use Rattle.std.specs.Str.{bytes_eq}
 use Rattle.sql_tokens.specs.declared.kinds.Operator.TheVariants as o
@@ -12,8 +14,8 @@ use Rattle.sql_reader.specs.declared.item.Item.{Item}
 use Rattle.sql_reader.specs.declared.item.Item.TheVariants as i
 use Rattle.sql_reader.specs.declared.name.PlacedName.{PlacedName}
 use Rattle.sql_reader.specs.declared.column.FoundColumn.{FoundColumn}
-use Rattle.sql_reader.specs.declared.truth_test.Asked.{Asked}
-use Rattle.sql_reader.specs.declared.truth_test.Asked.TheVariants as a
+use Rattle.sql_reader.specs.declared.truth_test.TestedValue.{TestedValue}
+use Rattle.sql_reader.specs.declared.truth_test.TestedValue.TheVariants as a
 use Rattle.sql_reader.specs.declared.truth_test.DistinctWords.{DistinctWords}
 use Rattle.sql_reader.specs.declared.truth_test.TestAhead.{TestAhead}
 use Rattle.sql_reader.specs.declared.truth_test.TestAhead.TheVariants as b
@@ -21,7 +23,7 @@ use Rattle.sql_reader.specs.declared.membership.Membership.{Membership}
 use Rattle.sql_reader.specs.declared.membership.Membership.TheVariants as m
 use Rattle.sql_reader.specs.declared.membership.MembershipWord.{MembershipWord}
 use Rattle.sql_reader.specs.declared.error.Omitted.TheVariants as l
-use Rattle.sql_reader.specs.Wrong as w
+use Rattle.sql_reader.specs.ErrorKinds as w
 use Rattle.sql_reader.specs.Items.{is_name}
 use Rattle.sql_reader.specs.Names.{name, string_meant}
 use Rattle.sql_reader.specs.Memberships.{among_part, between_part, distinct_part, room_in_list}
@@ -29,7 +31,7 @@ use Rattle.sql_reader.specs.Numbers.{placed_number}
 use Rattle.sql_reader.specs.Operands.{OperandOf, PartOf, OfTerm, OfLiteral, part, wanted, negated, joined, dividend, remainder, comparison_by, compared_part, tested as tested_part}
 pub use Rattle.sql_reader.specs.Operands.{Forms}
 use Rattle.sql_reader.specs.Reading.{Rule, Verdict, fault, ◌>>=◌, ◌>>◌, pure, check, here, refuse, refuse_as, advance, look, eat, expect, next_is, is_ahead, item_ahead, place_ahead, written_ahead}
-use Rattle.sql_reader.specs.Turns.{link, repeat}
+use Rattle.sql_reader.specs.Repetitions.{link, repeat}
 
 -- ---- columns
 
@@ -67,7 +69,8 @@ column columns = do
 
 -- ---- literals and columns
 
--- a cast is left out. This does not look at a faulty token: where nothing can continue an operand, the checks of what it ends come before that token
+-- a cast is left out. This does not look at a faulty token: where nothing can continue an operand, the checks of what
+-- it ends come before that token
 unfoldable pub no_cast : Rule (Unit {0})
 no_cast ts = if is_ahead i.DoubleColon ts then refuse_as (w.LeftOut l.Cast) ts else Ok (tt, ts)
 
@@ -102,7 +105,8 @@ cast_or_none = do
   if has_cast then text_cast else pure tt
 
 unfoldable pub string_part : {S : Type 0} → Rule (PartOf S)
-string_part = λ ts. (advance >> cast_or_none >> pure (part (place_ahead ts) (OfLiteral (place_ahead ts) (Bytes (string_meant (written_ahead ts)))))) ts
+string_part = λ ts. (advance >> cast_or_none >> pure
+    (part (place_ahead ts) (OfLiteral (place_ahead ts) (Bytes (string_meant (written_ahead ts)))))) ts
 
 unfoldable pub truth_part : {S : Type 0} → Bool → Rule (PartOf S)
 truth_part known = λ ts. (advance >> pure (part (place_ahead ts) (OfLiteral (place_ahead ts) (Truth known)))) ts
@@ -189,14 +193,14 @@ membership_or_none ts = membership_by (item_ahead ts) ts
 
 -- ---- IS tests
 
-abbrev pub asked_by : Option Item → Rule Asked
+abbrev pub asked_by : Option Item → Rule TestedValue
 asked_by (Some (i.Keyword k.Null)) = advance >> pure a.Null
 asked_by (Some (i.Keyword k.True)) = advance >> pure (a.Truth t.True)
 asked_by (Some (i.Keyword k.False)) = advance >> pure (a.Truth t.False)
 asked_by (Some (i.Keyword k.Unknown)) = advance >> pure (a.Truth t.Unknown)
 asked_by _ = refuse
 
-unfoldable pub asked_for : Rule Asked
+unfoldable pub asked_for : Rule TestedValue
 asked_for ts = asked_by (item_ahead ts) ts
 
 -- after IS, which is at this place, or IS NOT
@@ -223,7 +227,9 @@ is_test = do
 
 -- ISNULL and NOTNULL
 unfoldable pub null_test : Bool → Rule (Option TestAhead)
-null_test is_negated = λ ts. (advance >> pure (Some (b.Truth (record { place = place_ahead ts; is_negated = is_negated; asked = a.Null })))) ts
+null_test is_negated =
+    λ ts. (advance >> pure
+    (Some (b.Truth (record { place = place_ahead ts; is_negated = is_negated; asked = a.Null })))) ts
 
 abbrev pub test_by : Option Item → Rule (Option TestAhead)
 test_by (Some (i.Keyword k.Is)) = is_test

@@ -1,4 +1,5 @@
--- The rules of Expressions as they make filters, where parentheses and NOT may nest this much deeper: PostgreSQL 15, "Value Expressions", 4.2.
+-- The rules of Expressions as they make filters, where parentheses and NOT may nest this much deeper: PostgreSQL 15,
+-- "Value Expressions", 4.2.
 use Rattle.std.specs.Prelude.{ℕ, Option, List}
 use Rattle.filter_tree.specs.declared.filter.Op.{Op}
 use Rattle.filter_tree.specs.declared.table.Column.{Column}

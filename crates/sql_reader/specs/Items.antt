@@ -62,7 +62,8 @@ is_name i.QuotedName = true
 is_name (i.Keyword keyword) = not (is_reserved keyword)
 is_name _ = false
 
--- a token as the grammar sees it: `written` is what is between the quotes of a quoted name or a string, and the whole token of any other kind
+-- a token as the grammar sees it: `written` is what is between the quotes of a quoted name or a string, and the whole
+-- token of any other kind
 pub record Seen : Type 0 where
   pub item : Item
   pub place : ℕ
@@ -80,7 +81,8 @@ within_quotes t.Text text = between_quotes text
 within_quotes _ text = text
 
 abbrev pub seen : Lexeme → Seen
-seen lexeme = record { item = item_of lexeme.kind lexeme.text; place = lexeme.place; written = within_quotes lexeme.kind lexeme.text }
+seen lexeme = record { item = item_of lexeme.kind lexeme.text; place = lexeme.place; written =
+    within_quotes lexeme.kind lexeme.text }
 
 unfoldable pub items : Lexed → Items
 items (End place) = Stop place

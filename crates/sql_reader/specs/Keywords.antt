@@ -1,4 +1,5 @@
--- The keywords that the grammar names: PostgreSQL 15, "SQL Syntax", 4.1.1 Identifiers and Key Words, and "SQL Key Words" (Appendix C).
+-- The keywords that the grammar names: PostgreSQL 15, "SQL Syntax", 4.1.1 Identifiers and Key Words, and "SQL Key
+-- Words" (Appendix C).
 use Rattle.std.specs.Prelude.{ℕ, Bool, true, false, List, Option, Some, None, codes, if◌then◌else◌}
 use Rattle.std.specs.Str.{str_eq_ignore_ascii_case}
 use denote.Enum.Bare.{sameb}
@@ -85,7 +86,8 @@ or_else None other = other
 
 -- the keyword that a word spells, in upper or lower case
 unfoldable pub keyword_of : List ℕ → Option Keyword
-keyword_of word = or_else (early_keyword word) (or_else (late_keyword word) (or_else (early_free_keyword word) (late_free_keyword word)))
+keyword_of word = or_else (early_keyword word)
+    (or_else (late_keyword word) (or_else (early_free_keyword word) (late_free_keyword word)))
 
 -- whether a keyword can be no unquoted name
 abbrev pub is_reserved : Keyword → Bool

@@ -15,8 +15,8 @@ pub mod Operands
 pub mod PlainRows
 pub mod Reading
 pub mod Rows
-pub mod Taking
-pub mod Turns
+pub mod ParsingContracts
+pub mod Repetitions
 pub mod Written
 pub mod WrittenRows
-pub mod Wrong
+pub mod ErrorKinds

@@ -1,4 +1,5 @@
--- How large the filters of a table may be: at most 64 distinct atoms and at most 1,000 nodes in all its filters ("31.3 Row Filters") together.
+-- How large the filters of a table may be: at most 64 distinct atoms and at most 1,000 nodes in all its filters
+-- ("31.3 Row Filters") together.
 use Rattle.std.specs.Prelude.{ℕ, ◌+◌, List, [], ◌∷◌, Option, Some, None, if◌then◌else◌, length, map, nat_lt}
 use Rattle.std.specs.List.{flat_map}
 use Rattle.std.specs.Borrow.{Bor}

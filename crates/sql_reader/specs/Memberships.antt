@@ -1,4 +1,6 @@
--- Which operands fit IN, BETWEEN and IS DISTINCT FROM: PostgreSQL 15, "9.2 Comparison Functions and Operators" and "9.24 Row and Array Comparisons", of which filters ("31.3 Row Filters") have here a column, or a remainder of one, with literals.
+-- Which operands fit IN, BETWEEN and IS DISTINCT FROM: PostgreSQL 15, "9.2 Comparison Functions and Operators" and
+-- "9.24 Row and Array Comparisons", of which filters ("31.3 Row Filters") have here a column, or a remainder of one,
+-- with literals.
 use Rattle.std.specs.Prelude.{ℕ, ℤ, Bool, true, false, if◌then◌else◌, List, [], ◌∷◌, Option, Some, None, Ok, Err, nat_lt}
 use Rattle.sql_tokens.specs.declared.kinds.Operator.TheVariants.{Minus}
 use Rattle.filter_tree.specs.declared.table.ColType.{ColType}
@@ -16,7 +18,7 @@ use Rattle.sql_reader.specs.declared.error.Omitted.TheVariants as l
 use Rattle.sql_reader.specs.Items.{is_name}
 use Rattle.sql_reader.specs.Operands.{Forms, OperandOf, OfTerm, OfLiteral, OfFormula, PartOf, part, verdict_map, verdict_then, fits, fitting, negated_if}
 use Rattle.sql_reader.specs.Reading.{Rule, Verdict, fault, refuse, refuse_as, item_ahead}
-use Rattle.sql_reader.specs.Wrong as w
+use Rattle.sql_reader.specs.ErrorKinds as w
 
 -- ---- the operands
 
@@ -26,7 +28,8 @@ subject_of place (OfTerm term kind) = Ok (record { term = term; kind = kind })
 subject_of place (OfLiteral at constant) = Err (fault place (w.LeftOut l.Constant))
 subject_of place (OfFormula s) = Err (fault place w.TypeClash)
 
--- what follows IN or DISTINCT FROM is a literal that `=` takes beside a column of this type; `place` is that of IN or DISTINCT
+-- what follows IN or DISTINCT FROM is a literal that `=` takes beside a column of this type; `place` is that of IN or
+-- DISTINCT
 abbrev pub beside : {S : Type 0} → ℕ → ColType → OperandOf S → Verdict Constant
 beside place kind (OfTerm term other) = Err (fault place (w.LeftOut l.TwoColumns))
 beside place kind (OfLiteral at constant) = fitting (fits place kind Eq constant) constant
@@ -79,13 +82,18 @@ distinct forms place distinct_place left right =
 
 -- NOT negates them, and the part begins where its left side does
 abbrev pub formed : {S : Type 0} → Forms S → Bool → ℕ → Verdict S → Verdict (PartOf S)
-formed forms is_negated place verdict = verdict_map (λ s. part place (OfFormula (negated_if forms is_negated s))) verdict
+formed forms is_negated place verdict =
+    verdict_map (λ s. part place (OfFormula (negated_if forms is_negated s))) verdict
 
-abbrev pub among_part : {S : Type 0} → Forms S → MembershipWord → PartOf S → OperandOf S → List (OperandOf S) → Verdict (PartOf S)
-among_part forms word left first others = formed forms word.is_negated left.place (among forms word.place left.operand first others)
+abbrev pub among_part : {S : Type 0} → Forms S → MembershipWord → PartOf S → OperandOf S → List (OperandOf S)
+    → Verdict (PartOf S)
+among_part forms word left first others =
+    formed forms word.is_negated left.place (among forms word.place left.operand first others)
 
-abbrev pub between_part : {S : Type 0} → Forms S → MembershipWord → PartOf S → OperandOf S → OperandOf S → Verdict (PartOf S)
-between_part forms word left low high = formed forms word.is_negated left.place (between forms word.place left.operand low high)
+abbrev pub between_part : {S : Type 0} → Forms S → MembershipWord → PartOf S → OperandOf S → OperandOf S
+    → Verdict (PartOf S)
+between_part forms word left low high =
+    formed forms word.is_negated left.place (between forms word.place left.operand low high)
 
 abbrev pub distinct_part : {S : Type 0} → Forms S → DistinctWords → PartOf S → OperandOf S → Verdict (PartOf S)
 distinct_part forms words left right =

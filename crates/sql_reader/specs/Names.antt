@@ -1,4 +1,5 @@
--- Names and strings as they are meant: PostgreSQL 15, "SQL Syntax", 4.1.1 Identifiers and Key Words and 4.1.2.1 String Constants.
+-- Names and strings as they are meant: PostgreSQL 15, "SQL Syntax", 4.1.1 Identifiers and Key Words and 4.1.2.1
+-- String Constants.
 use Rattle.std.specs.Prelude.{ℕ, Bool, false, if◌then◌else◌, List, Option, Some, None, Ok, Err}
 use Rattle.std.specs.Str.{str_to_ascii_lowercase}
 use Rattle.sql_tokens.specs.Meant.{undoubled}
@@ -28,5 +29,6 @@ string_meant written = undoubled 39 written
 -- a name, with its place
 unfoldable pub name : Rule PlacedName
 name ts =
-    if name_ahead ts then Ok (record { place = place_ahead ts; text = name_meant (item_ahead ts) (written_ahead ts) }, rest_of ts)
+    if name_ahead ts then
+        Ok (record { place = place_ahead ts; text = name_meant (item_ahead ts) (written_ahead ts) }, rest_of ts)
     else Err (refusal ts)

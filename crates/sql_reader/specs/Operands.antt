@@ -1,4 +1,6 @@
--- What a part of an expression is once it was read, and which parts fit together: PostgreSQL 15, "4.2 Value Expressions", of which filters ("31.3 Row Filters") have here the comparisons of one column with a literal, "9.1 Logical Operators", "9.2 Comparison Functions and Operators" and `%` of "9.3 Mathematical Functions and Operators".
+-- What a part of an expression is once it was read, and which parts fit together: PostgreSQL 15, "4.2 Value
+-- Expressions", of which filters ("31.3 Row Filters") have here the comparisons of one column with a literal, "9.1
+-- Logical Operators", "9.2 Comparison Functions and Operators" and `%` of "9.3 Mathematical Functions and Operators".
 use Rattle.std.specs.Prelude.{ℕ, ℤ, pos, Bool, true, false, if◌then◌else◌, List, Option, Some, None, Ok, Err}
 use Rattle.std.specs.Ordering.{int_eq}
 use Rattle.sql_tokens.specs.declared.kinds.Operator.TheVariants as o
@@ -15,12 +17,12 @@ use Rattle.filter_tree.specs.Expr.{Expr}
 use Rattle.sql_reader.specs.declared.item.Item.{Item}
 use Rattle.sql_reader.specs.declared.item.Item.TheVariants as i
 use Rattle.sql_reader.specs.declared.column.FoundColumn.{FoundColumn}
-use Rattle.sql_reader.specs.declared.truth_test.Asked.{Asked}
-use Rattle.sql_reader.specs.declared.truth_test.Asked.TheVariants as a
+use Rattle.sql_reader.specs.declared.truth_test.TestedValue.{TestedValue}
+use Rattle.sql_reader.specs.declared.truth_test.TestedValue.TheVariants as a
 use Rattle.sql_reader.specs.declared.truth_test.TruthTest.{TruthTest}
 use Rattle.sql_reader.specs.declared.error.Omitted.TheVariants as l
 use Rattle.sql_reader.specs.Reading.{Verdict, fault}
-use Rattle.sql_reader.specs.Wrong as w
+use Rattle.sql_reader.specs.ErrorKinds as w
 use Rattle.filter_tree.specs.Shape.{expr_view}
 use Rattle.filter_tree.specs.Values.{constant_view}
 use Rattle.sql_reader.specs.declared.operand.Operand.{Operand}
@@ -51,7 +53,8 @@ pub record Forms (S : Type 0) : Type 0 where
   -- the filter tree of what they make, whose size is limited
   pub tree : S → Expr
 
--- a part of an expression: a column or a remainder of one with the column's type, a literal with the place of its token, which is that of the digits after a minus, or a boolean expression that is neither a column nor a literal
+-- a part of an expression: a column or a remainder of one with the column's type, a literal with the place of its
+-- token, which is that of the digits after a minus, or a boolean expression that is neither a column nor a literal
 pub data OperandOf (S : Type 0) : Type 0 where
   OfTerm : Term → ColType → OperandOf S
   OfLiteral : ℕ → Constant → OperandOf S
@@ -134,7 +137,8 @@ equality place Eq = Ok tt
 equality place Ne = Ok tt
 equality place op = Err (fault place (w.LeftOut l.Order))
 
--- a column of this type, or a remainder of one, is compared with a literal of its kind; a quoted one beside a number or a truth value is left out
+-- a column of this type, or a remainder of one, is compared with a literal of its kind; a quoted one beside a number
+-- or a truth value is left out
 abbrev pub fits : ℕ → ColType → Op → Constant → Verdict (Unit {0})
 fits place Text op (Bytes text) = equality place op
 fits place Boolean op (Truth known) = equality place op
@@ -152,14 +156,17 @@ fitting (Err fault) s = Err fault
 unfoldable pub compared : {S : Type 0} → Forms S → ℕ → OperandOf S → Op → OperandOf S → Verdict S
 compared forms place (OfTerm term kind) op (OfTerm other other_kind) = Err (fault place (w.LeftOut l.TwoColumns))
 compared forms place (OfLiteral at constant) op (OfLiteral other_at other) = Err (fault place (w.LeftOut l.Constant))
-compared forms place (OfTerm term kind) op (OfLiteral at constant) = fitting (fits place kind op constant) (forms.compared term op constant)
-compared forms place (OfLiteral at constant) op (OfTerm term kind) = fitting (fits place kind op constant) (forms.compared_from constant op term)
+compared forms place (OfTerm term kind) op (OfLiteral at constant) =
+    fitting (fits place kind op constant) (forms.compared term op constant)
+compared forms place (OfLiteral at constant) op (OfTerm term kind) =
+    fitting (fits place kind op constant) (forms.compared_from constant op term)
 compared forms place (OfLiteral at (Bytes text)) op (OfFormula s) = Err (fault place (w.LeftOut l.Literal))
 compared forms place (OfFormula s) op (OfLiteral at (Bytes text)) = Err (fault place (w.LeftOut l.Literal))
 compared forms place left op right = Err (fault place w.TypeClash)
 
 abbrev pub compared_part : {S : Type 0} → Forms S → ℕ → PartOf S → Op → PartOf S → Verdict (PartOf S)
-compared_part forms place left op right = verdict_map (λ s. part left.place (OfFormula s)) (compared forms place left.operand op right.operand)
+compared_part forms place left op right =
+    verdict_map (λ s. part left.place (OfFormula s)) (compared forms place left.operand op right.operand)
 
 -- ---- IS tests
 
@@ -167,8 +174,9 @@ abbrev pub asking : {S : Type 0} → Forms S → ℕ → Test → Option S → V
 asking forms place test (Some s) = Ok (forms.asked test s)
 asking forms place test None = Err (fault place w.TypeClash)
 
--- the test of an operand, whose word is at this place: a number or a string is not tested, and IS NULL of a boolean expression is IS UNKNOWN
-abbrev pub answered : {S : Type 0} → Forms S → ℕ → Asked → OperandOf S → Verdict S
+-- the test of an operand, whose word is at this place: a number or a string is not tested, and IS NULL of a boolean
+-- expression is IS UNKNOWN
+abbrev pub answered : {S : Type 0} → Forms S → ℕ → TestedValue → OperandOf S → Verdict S
 answered forms place asked (OfLiteral at (Number number)) = Err (fault place (w.LeftOut l.Constant))
 answered forms place asked (OfLiteral at (Bytes text)) = Err (fault place (w.LeftOut l.Constant))
 answered forms place a.Null (OfTerm term kind) = Ok (forms.lacking term)
@@ -183,7 +191,8 @@ negated_if forms false s = s
 -- a part that is tested
 unfoldable pub tested : {S : Type 0} → Forms S → TruthTest → PartOf S → Verdict (PartOf S)
 tested forms truth_test asked_part =
-    verdict_map (λ s. part asked_part.place (OfFormula (negated_if forms truth_test.is_negated s))) (answered forms truth_test.place truth_test.asked asked_part.operand)
+    verdict_map (λ s. part asked_part.place (OfFormula (negated_if forms truth_test.is_negated s)))
+        (answered forms truth_test.place truth_test.asked asked_part.operand)
 
 -- ---- parts of the code
 

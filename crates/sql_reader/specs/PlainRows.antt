@@ -1,4 +1,5 @@
--- Values of rows as people mostly write them, which are read byte by byte: PostgreSQL 15, "SQL Syntax", 4.1.2 Constants. What they are is what the tokens from their place on spell.
+-- Values of rows as people mostly write them, which are read byte by byte: PostgreSQL 15, "SQL Syntax", 4.1.2
+-- Constants. What they are is what the tokens from their place on spell.
 use Rattle.std.specs.Prelude.{◌≡◌, ℕ, ◌+◌, ◌^◌, ◌<◌, ◌==◌, Bool, true, not, ◌||◌, List, ◌++◌, length, take, drop, slice_index, Ok}
 use Rattle.std.specs.Char.{is_ascii_digit}
 use Rattle.std.specs.List.{prefix_len}

@@ -1,18 +1,19 @@
--- How the grammar is read: each rule takes tokens from the front of a list and gives what it reads and the tokens that are left, or the first fault of the text.
+-- How the grammar is read: each rule takes tokens from the front of a list and gives what it reads and the tokens
+-- that are left, or the first fault of the text.
 use Rattle.std.specs.Prelude.{◌≡◌, ℕ, Bool, true, false, if◌then◌else◌, List, [], Option, Some, None, Result, Ok, Err}
 use Rattle.filter_tree.specs.Memory.{TellsFault, Answers as AnswersBy}
 use Rattle.sql_reader.specs.declared.error.ReadError.{ReadError}
 use Rattle.sql_reader.specs.declared.item.Item.{Item}
 use Rattle.sql_reader.specs.Items.{Items, Stop, Broken, Then, is_like}
-use Rattle.sql_reader.specs.Wrong.{Wrong, wrong_of, wrong_token}
-use Rattle.sql_reader.specs.Wrong as w
+use Rattle.sql_reader.specs.ErrorKinds.{ErrorKindOf, wrong_of, wrong_token}
+use Rattle.sql_reader.specs.ErrorKinds as w
 
 -- what is wrong, and where in the text
 pub record Fault : Type 0 where
   pub place : ℕ
-  pub wrong : Wrong
+  pub wrong : ErrorKindOf
 
-abbrev pub fault : ℕ → Wrong → Fault
+abbrev pub fault : ℕ → ErrorKindOf → Fault
 fault place wrong = record { place = place; wrong = wrong }
 
 -- ---- rules
@@ -84,7 +85,7 @@ abbrev pub refuse : {A : Type 0} → Rule A
 refuse = λ ts. Err (refusal ts)
 
 -- something else is wrong at it
-abbrev pub refuse_as : {A : Type 0} → Wrong → Rule A
+abbrev pub refuse_as : {A : Type 0} → ErrorKindOf → Rule A
 refuse_as wrong = λ ts. Err (fault (place_ahead ts) wrong)
 
 abbrev pub here : Rule ℕ
@@ -133,7 +134,7 @@ expect item = λ ts. if is_ahead item ts then Ok (place_ahead ts, rest_of ts) el
 
 -- ---- what a function that reads ensures
 
-abbrev pub fault_or_none : ℕ → Option Wrong → Option Fault
+abbrev pub fault_or_none : ℕ → Option ErrorKindOf → Option Fault
 fault_or_none place None = None
 fault_or_none place (Some wrong) = Some (fault place wrong)
 
@@ -145,7 +146,8 @@ told e = fault_or_none e.place (wrong_of e.kind)
 abbrev pub Tells : {A : Type 0} → ReadError → Result A Fault → Type 0
 Tells e outcome = TellsFault (told e) outcome
 
--- the function's answer is the rule's, or want of memory, where `view` gives the value read as plain data and `rest` are the tokens left
+-- the function's answer is the rule's, or want of memory, where `view` gives the value read as plain data and `rest`
+-- are the tokens left
 abbrev pub Reads : {A B : Type 0} → (A → B) → Outcome B → Result A ReadError → Items → Type 0
 Reads view outcome result rest = AnswersBy (λ a. (view a, rest)) told outcome result
 

@@ -9,7 +9,7 @@ use Rattle.sql_reader.specs.Items.{Stop, items_of}
 use Rattle.sql_reader.specs.Names.{string_meant}
 use Rattle.sql_reader.specs.Numbers.{signed_number}
 use Rattle.sql_reader.specs.Reading.{Rule, Verdict, Outcome, ◌>>=◌, ◌>>◌, pure, refuse, refusal, advance, expect, next_is, item_ahead, written_ahead}
-use Rattle.sql_reader.specs.Turns.{link, repeat}
+use Rattle.sql_reader.specs.Repetitions.{link, repeat}
 
 -- `:: text`, which changes nothing
 unfoldable pub text_cast : Rule (Unit {0})

@@ -1,4 +1,6 @@
--- The meaning of a filter as it is written, by the forms of its grammar: PostgreSQL 15, "Value Expressions", 4.2, by the tables of "9.1 Logical Operators", "9.2 Comparison Functions and Operators", IN of "9.24 Row and Array Comparisons" and `%` of "9.3 Mathematical Functions and Operators".
+-- The meaning of a filter as it is written, by the forms of its grammar: PostgreSQL 15, "Value Expressions", 4.2, by
+-- the tables of "9.1 Logical Operators", "9.2 Comparison Functions and Operators", IN of "9.24 Row and Array
+-- Comparisons" and `%` of "9.3 Mathematical Functions and Operators".
 use Rattle.std.specs.Prelude.{ℕ, ℤ, Bool, true, List, [], ◌∷◌}
 use Rattle.filter_tree.specs.declared.tri.Tri.{Tri}
 use Rattle.filter_tree.specs.declared.tri.Tri.TheVariants.{True, False, Null}
@@ -42,11 +44,13 @@ compare_values op (Known left) (Known right) = tri_of (compare_known op left rig
 -- IN is the OR of the equalities, of which there is one at least
 abbrev pub among_values : Datum → Constant → List Constant → Tri
 among_values value first [] = compare_values Eq value (Known first)
-among_values value first (next ∷ others) = or_of (compare_values Eq value (Known first)) (among_values value next others)
+among_values value first (next ∷ others) =
+    or_of (compare_values Eq value (Known first)) (among_values value next others)
 
 -- BETWEEN is `>=` the lower bound AND `<=` the upper one
 abbrev pub between_values : Datum → ℤ → ℤ → Tri
-between_values value low high = and_of (compare_values Ge value (Known (Number low))) (compare_values Le value (Known (Number high)))
+between_values value low high =
+    and_of (compare_values Ge value (Known (Number low))) (compare_values Le value (Known (Number high)))
 
 -- IS DISTINCT FROM a constant is true of null, and else it is `<>`
 abbrev pub distinct_values : Datum → Constant → Tri
@@ -126,7 +130,11 @@ filter_of (Or left right) = e.Or (filter_of left) (filter_of right)
 -- ---- the grammar read as expressions as they are written, and as filter trees
 
 abbrev pub as_written : Forms Written
-as_written = record { known = Told; held = Column; compared = Compared; compared_from = ComparedFrom; among = Among; between = Between; distinct = Distinct; lacking = IsNull; asked = Is; negated = Negated; both = And; either = Or; tree = filter_of }
+as_written = record { known = Told; held = Column; compared = Compared; compared_from = ComparedFrom; among =
+    Among; between = Between; distinct = Distinct; lacking = IsNull; asked = Is; negated = Negated; both =
+    And; either = Or; tree = filter_of }
 
 abbrev pub as_filter : Forms Expr
-as_filter = record { known = e.Const; held = held_expr; compared = compared_expr; compared_from = compared_from_expr; among = among_expr; between = between_expr; distinct = distinct_expr; lacking = lacking_expr; asked = e.Is; negated = e.Not; both = e.And; either = e.Or; tree = λ filter. filter }
+as_filter = record { known = e.Const; held = held_expr; compared = compared_expr; compared_from =
+    compared_from_expr; among = among_expr; between = between_expr; distinct = distinct_expr; lacking =
+    lacking_expr; asked = e.Is; negated = e.Not; both = e.And; either = e.Or; tree = λ filter. filter }

@@ -1,4 +1,5 @@
--- Rows as they are printed: the constants of PostgreSQL 15, "SQL Syntax", 4.1.2, in parentheses, with a comma and one space between each two.
+-- Rows as they are printed: the constants of PostgreSQL 15, "SQL Syntax", 4.1.2, in parentheses, with a comma and one
+-- space between each two.
 use Rattle.std.specs.Prelude.{◌≢◌, ℕ, ◌≤ℤ◌, ◌<ℤ◌, true, false, All, List, [], ◌∷◌, ◌++◌, codes}
 use Rattle.std.specs.Fmt.{signed_decimal}
 use Rattle.std.specs.List.{join_by}

@@ -3,7 +3,7 @@
 ghost use Rattle.std.specs.Prelude.{◌≡◌, IsSome};
 ghost use Rattle.sql_reader.specs.Columns as spec;
 ghost use Rattle.sql_reader.specs.Columns.{left_out_at};
-ghost use Rattle.sql_reader.specs.Taking.{Takes, TakesSome, to_read, Answers, IsFault, item_ahead, written_ahead};
+ghost use Rattle.sql_reader.specs.ParsingContracts.{Takes, TakesSome, to_read, Answers, IsFault, item_ahead, written_ahead};
 
 use crate::error::{ErrorKind, Omitted, ReadError};
 use crate::item::Item;
@@ -144,7 +144,7 @@ fn constraint(
 }
 
 /// Takes the constraints of a column.
-#[tactic(auto, using(crate::proofs::Turning::turns), unfolding(crate::specs::Columns::constraints))]
+#[tactic(auto, using(crate::proofs::RepetitionLemmas::turns), unfolding(crate::specs::Columns::constraints))]
 pub fn column_constraints(r: &mut Reader<'_>, has_key: bool) -> Result<Constraints, ReadError>
     ensures { Takes (λ given. given) (spec.constraints has_key) r.old result r.new }
 {

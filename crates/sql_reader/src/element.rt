@@ -3,7 +3,7 @@
 ghost use Rattle.std.specs.Prelude.{◌≡◌, OnOk};
 ghost use Rattle.sql_reader.specs.Columns as spec;
 ghost use Rattle.sql_reader.specs.Columns.{parts_view};
-ghost use Rattle.sql_reader.specs.Taking.{TakesSome, Answers};
+ghost use Rattle.sql_reader.specs.ParsingContracts.{TakesSome, Answers};
 
 use crate::column::{FoundColumn, find_column, known_column};
 use crate::column_rule::{Constraints, column_constraints, column_type, left_out_clause};
@@ -132,7 +132,7 @@ fn key_column(r: &mut Reader<'_>, alloc: Global, parts: &mut TableParts) -> Resu
 }
 
 /// Takes the names of the key's columns, which commas part.
-#[tactic(auto, using(crate::proofs::Turning::chains), unfolding(crate::specs::Columns::key_columns))]
+#[tactic(auto, using(crate::proofs::RepetitionLemmas::chains), unfolding(crate::specs::Columns::key_columns))]
 fn key_columns(r: &mut Reader<'_>, alloc: Global, parts: &mut TableParts) -> Result<(), ReadError>
     ensures { TakesSome (λ _. parts_view parts.new) (spec.key_columns (parts_view parts.old)) r.old result r.new }
 {
@@ -189,7 +189,7 @@ fn element(r: &mut Reader<'_>, alloc: Global, parts: &mut TableParts) -> Result<
 /// # Errors
 ///
 /// The first fault of the elements, with its place, or `OutOfMemory`.
-#[tactic(auto, using(crate::proofs::Turning::chains), unfolding(crate::specs::Columns::elements))]
+#[tactic(auto, using(crate::proofs::RepetitionLemmas::chains), unfolding(crate::specs::Columns::elements))]
 pub fn read_elements(r: &mut Reader<'_>, alloc: Global) -> Result<TableParts, ReadError>
     ensures { TakesSome (λ parts. parts_view parts) spec.elements r.old result r.new }
 {

@@ -6,7 +6,7 @@ ghost use Rattle.sql_reader.specs.Expressions as spec;
 ghost use Rattle.sql_reader.specs.Expressions.{AfterNot, InParentheses, InList};
 ghost use Rattle.sql_reader.specs.Filters as filters;
 ghost use Rattle.sql_reader.specs.Operands.{operand_view, part_view};
-ghost use Rattle.sql_reader.specs.Taking.{Takes, TakesSome};
+ghost use Rattle.sql_reader.specs.ParsingContracts.{Takes, TakesSome};
 ghost use Rattle.sql_reader.specs.Written.{as_filter};
 
 use crate::column::FoundColumn;
@@ -194,7 +194,7 @@ fn one_entry(
 
 /// Takes the entries after the first of a list, which commas part.
 #[cycle(expression)]
-#[tactic(auto, using(crate::proofs::Turning::chains), unfolding(crate::specs::Expressions::other_entries))]
+#[tactic(auto, using(crate::proofs::RepetitionLemmas::chains), unfolding(crate::specs::Expressions::other_entries))]
 fn other_entries(
     r: &mut Reader<'_>,
     alloc: Global,
@@ -422,7 +422,7 @@ fn one_more_negation(
 
 /// Takes a chain of ANDs, which builds to the left.
 #[cycle(expression)]
-#[tactic(auto, using(crate::proofs::Turning::chains), unfolding(crate::specs::Expressions::conjunction))]
+#[tactic(auto, using(crate::proofs::RepetitionLemmas::chains), unfolding(crate::specs::Expressions::conjunction))]
 fn conjunction(
     r: &mut Reader<'_>,
     alloc: Global,
@@ -459,7 +459,7 @@ fn one_more_conjunction(
 
 /// Takes a chain of ORs, which builds to the left.
 #[cycle(expression)]
-#[tactic(auto, using(crate::proofs::Turning::chains), unfolding(crate::specs::Expressions::disjunction))]
+#[tactic(auto, using(crate::proofs::RepetitionLemmas::chains), unfolding(crate::specs::Expressions::disjunction))]
 fn disjunction(
     r: &mut Reader<'_>,
     alloc: Global,

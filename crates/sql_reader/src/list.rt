@@ -4,7 +4,7 @@ ghost use Rattle.std.specs.Prelude.{◌≡◌, ◌∷◌, ◌≤◌, MatchOption
 ghost use Rattle.std.specs.List.{insert};
 ghost use Rattle.filter_tree.specs.Shape.{expr_view};
 ghost use Rattle.filter_tree.specs.Values.{constant_view};
-ghost use Rattle.sql_reader.specs.Taking.{to_read, Answers, Reads};
+ghost use Rattle.sql_reader.specs.ParsingContracts.{to_read, Answers, Reads};
 ghost use Rattle.sql_reader.specs.Ascending.{ascending, constant_cmp, constant_rank, placed, ListsAscend};
 ghost use Rattle.sql_reader.specs.Memberships as spec;
 ghost use Rattle.sql_reader.specs.Operands.{verdict_map, operand_view, part_view};

@@ -1,7 +1,7 @@
 //! The words IN and BETWEEN after an operand, with NOT before them or not.
 
 ghost use Rattle.sql_reader.specs.Expressions as spec;
-ghost use Rattle.sql_reader.specs.Taking.{Takes, to_read, Reads};
+ghost use Rattle.sql_reader.specs.ParsingContracts.{Takes, to_read, Reads};
 
 use crate::error::{ErrorKind, Omitted, ReadError};
 use crate::item::Item;

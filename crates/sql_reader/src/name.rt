@@ -2,7 +2,7 @@
 
 ghost use Rattle.std.specs.Prelude.{◌≡◌, IfOk, IsSome, IsTrue};
 ghost use Rattle.sql_reader.specs.Names as spec;
-ghost use Rattle.sql_reader.specs.Taking.{TakesSome, to_read, item_ahead, written_ahead};
+ghost use Rattle.sql_reader.specs.ParsingContracts.{TakesSome, to_read, item_ahead, written_ahead};
 
 use crate::error::ReadError;
 use crate::item::Item;

@@ -1,7 +1,7 @@
 //! Numbers with a sign.
 
 ghost use Rattle.sql_reader.specs.Numbers as spec;
-ghost use Rattle.sql_reader.specs.Taking.{TakesSome};
+ghost use Rattle.sql_reader.specs.ParsingContracts.{TakesSome};
 
 use crate::error::ReadError;
 use crate::item::Item;

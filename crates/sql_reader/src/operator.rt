@@ -1,6 +1,6 @@
 //! Operators after an operand that are not read.
 
-ghost use Rattle.sql_reader.specs.Taking.{to_read, Reads};
+ghost use Rattle.sql_reader.specs.ParsingContracts.{to_read, Reads};
 ghost use Rattle.sql_reader.specs.Expressions as spec;
 
 use crate::error::{ErrorKind, Omitted, ReadError};

@@ -38,7 +38,7 @@ impl<'a> Reader<'a> {
     ghost use Rattle.sql_reader.specs.Rows.{end};
     ghost use Rattle.sql_reader.specs.Reading as spec;
     ghost use Rattle.sql_reader.specs.Reading.{Reads, Answers, IsFault};
-    ghost use Rattle.sql_reader.specs.Taking.{TakesSome};
+    ghost use Rattle.sql_reader.specs.ParsingContracts.{TakesSome};
 
     /// A reader before the first token of a text.
     #[tactic(auto, unfolding(crate::specs::Items::items_of))]

@@ -3,7 +3,7 @@
 ghost use Rattle.std.specs.Prelude.{IsSome, map};
 ghost use Rattle.filter_tree.specs.Values.{datum_view};
 ghost use Rattle.sql_reader.specs.Rows as spec;
-ghost use Rattle.sql_reader.specs.Taking.{Takes, TakesSome, to_read, Reads, Answers, item_ahead};
+ghost use Rattle.sql_reader.specs.ParsingContracts.{Takes, TakesSome, to_read, Reads, Answers, item_ahead};
 
 use crate::error::ReadError;
 use crate::item::Item;
@@ -93,7 +93,7 @@ fn one_value(r: &mut Reader<'_>, alloc: Global, row: &mut Vec<Value>) -> Result<
 }
 
 /// Takes the values of a row, which commas part.
-#[tactic(auto, using(crate::proofs::Turning::chains), unfolding(crate::specs::Rows::values))]
+#[tactic(auto, using(crate::proofs::RepetitionLemmas::chains), unfolding(crate::specs::Rows::values))]
 fn values(r: &mut Reader<'_>, alloc: Global) -> Result<Vec<Value>, ReadError>
     ensures { TakesSome (λ row. map datum_view row.items) spec.values r.old result r.new }
 {

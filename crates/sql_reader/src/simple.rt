@@ -3,7 +3,7 @@
 ghost use Rattle.std.specs.Prelude.{IsSome};
 ghost use Rattle.sql_reader.specs.Expressions as spec;
 ghost use Rattle.sql_reader.specs.Operands.{part_view};
-ghost use Rattle.sql_reader.specs.Taking.{Takes, TakesSome, to_read, Reads, item_ahead};
+ghost use Rattle.sql_reader.specs.ParsingContracts.{Takes, TakesSome, to_read, Reads, item_ahead};
 
 use crate::column::{FoundColumn, known_column};
 use crate::error::{ErrorKind, Omitted, ReadError};

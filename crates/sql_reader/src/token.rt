@@ -3,7 +3,7 @@
 ghost use Rattle.std.specs.Prelude.{◌≡◌, Some};
 ghost use Rattle.sql_tokens.specs.Left.{IsCut, lexeme};
 ghost use Rattle.sql_reader.specs.Items as spec;
-ghost use Rattle.sql_reader.specs.Wrong.{wrong_of, wrong_token};
+ghost use Rattle.sql_reader.specs.ErrorKinds.{wrong_of, wrong_token};
 
 use crate::error::{ErrorKind, Limit, Omitted};
 use sql_tokens::{FaultKind, Token, TokenKind};

@@ -6,9 +6,9 @@ ghost use Rattle.filter_tree.specs.Shape.{expr_view};
 ghost use Rattle.sql_reader.specs.Expressions as grammar;
 ghost use Rattle.sql_reader.specs.Operands as spec;
 ghost use Rattle.sql_reader.specs.Operands.{operand_view, part_view};
-ghost use Rattle.sql_reader.specs.Taking.{Takes, TakesSome, Answers};
+ghost use Rattle.sql_reader.specs.ParsingContracts.{Takes, TakesSome, Answers};
 ghost use Rattle.sql_reader.specs.Written.{as_filter};
-ghost use Rattle.sql_reader.specs.declared.truth_test.Asked.TheVariants.{Truth};
+ghost use Rattle.sql_reader.specs.declared.truth_test.TestedValue.TheVariants.{Truth};
 
 use crate::error::{ErrorKind, Omitted, ReadError};
 use crate::item::Item;
@@ -20,7 +20,7 @@ use std::alloc::{AllocError, Global};
 
 /// What a test asks for: null, or one of the three truth values.
 #[derive(Clone, Copy)]
-pub enum Asked {
+pub enum TestedValue {
     Null,
     Truth(Test),
 }
@@ -30,7 +30,7 @@ pub enum Asked {
 pub struct TruthTest {
     pub place: usize,
     pub is_negated: bool,
-    pub asked: Asked,
+    pub asked: TestedValue,
 }
 
 /// IS DISTINCT FROM, by the places of IS and of DISTINCT.
@@ -51,14 +51,14 @@ pub enum TestAhead {
 
 /// Takes what follows IS.
 #[tactic(auto, using(crate::proofs::Ahead::rest_is_no_more), unfolding(crate::specs::Expressions::asked_for))]
-fn asked_for(r: &mut Reader<'_>) -> Result<Asked, ReadError>
+fn asked_for(r: &mut Reader<'_>) -> Result<TestedValue, ReadError>
     ensures { Takes (λ asked. asked) grammar.asked_for r.old result r.new }
 {
     let asked = match r.item() {
-        Some(Item::Keyword(Keyword::Null)) => Asked::Null,
-        Some(Item::Keyword(Keyword::True)) => Asked::Truth(Test::True),
-        Some(Item::Keyword(Keyword::False)) => Asked::Truth(Test::False),
-        Some(Item::Keyword(Keyword::Unknown)) => Asked::Truth(Test::Unknown),
+        Some(Item::Keyword(Keyword::Null)) => TestedValue::Null,
+        Some(Item::Keyword(Keyword::True)) => TestedValue::Truth(Test::True),
+        Some(Item::Keyword(Keyword::False)) => TestedValue::Truth(Test::False),
+        Some(Item::Keyword(Keyword::Unknown)) => TestedValue::Truth(Test::Unknown),
         _ => return Err(r.refusal("NULL, TRUE, FALSE, UNKNOWN or DISTINCT FROM")),
     };
     r.advance();
@@ -135,7 +135,7 @@ fn null_test(r: &mut Reader<'_>, is_negated: bool) -> Result<Option<TestAhead>, 
     Ok(Some(TestAhead::Truth(TruthTest {
         place,
         is_negated,
-        asked: Asked::Null,
+        asked: TestedValue::Null,
     })))
 }
 
@@ -187,15 +187,15 @@ fn is_truth(alloc: Global, place: usize, test: Test, operand: Operand) -> Result
 fn answered(
     alloc: Global,
     place: usize,
-    asked: Asked,
+    asked: TestedValue,
     operand: Operand,
 ) -> Result<Filter, ReadError>
     ensures { Answers expr_view (spec.answered as_filter place asked (operand_view operand)) result }
 {
     match (asked, operand) {
-        (Asked::Null, Operand::Term(term, _)) => Ok(Filter::Atom(Atom::IsNull(term.column()))),
-        (Asked::Null, operand) => is_truth(alloc, place, Test::Unknown, operand),
-        (Asked::Truth(test), operand) => is_truth(alloc, place, test, operand),
+        (TestedValue::Null, Operand::Term(term, _)) => Ok(Filter::Atom(Atom::IsNull(term.column()))),
+        (TestedValue::Null, operand) => is_truth(alloc, place, Test::Unknown, operand),
+        (TestedValue::Truth(test), operand) => is_truth(alloc, place, test, operand),
     }
 }
 

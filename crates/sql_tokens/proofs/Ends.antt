@@ -24,16 +24,20 @@ word_byte_ascii b e = grind (arith, nat_tests)
 sign_ascii : (b : ℕ) → is_of class.Sign b ≡ true → b < 128
 sign_ascii b e = grind (arith, nat_tests)
 
-pub digits_some : (bytes : List ℕ) → is_of class.Digit (get_or bytes 0 0) ≡ true → 0 < prefix_len (is_of class.Digit) bytes
+pub digits_some : (bytes : List ℕ) → is_of class.Digit (get_or bytes 0 0) ≡ true
+    → 0 < prefix_len (is_of class.Digit) bytes
 digits_some [] e = cc
 digits_some (b ∷ bytes) e = rw e (omega arith)
 
-pub digits_last : (bytes : List ℕ) → is_of class.Digit (get_or bytes 0 0) ≡ true → get_or bytes (prefix_len (is_of class.Digit) bytes - 1) 0 < 128
+pub digits_last : (bytes : List ℕ) → is_of class.Digit (get_or bytes 0 0) ≡ true
+    → get_or bytes (prefix_len (is_of class.Digit) bytes - 1) 0 < 128
 digits_last bytes e =
     let some = digits_some bytes e in
-    digit_ascii _ (prefix_len_passes (is_of class.Digit) bytes (prefix_len (is_of class.Digit) bytes - 1) 0 (omega arith))
+    digit_ascii _ (prefix_len_passes (is_of class.Digit) bytes (prefix_len (is_of class.Digit) bytes - 1) 0
+        (omega arith))
 
-run_last : (bytes : List ℕ) (n : ℕ) → is_of class.Letter (get_or bytes 0 0) ≡ true → n ≡ prefix_len (is_of class.WordByte) (drop 1 bytes) → get_or bytes n 0 < 128
+run_last : (bytes : List ℕ) (n : ℕ) → is_of class.Letter (get_or bytes 0 0) ≡ true
+    → n ≡ prefix_len (is_of class.WordByte) (drop 1 bytes) → get_or bytes n 0 < 128
 run_last bytes zero e h = letter_ascii _ e
 run_last [] (suc n) e h = omega arith
 run_last (b ∷ bytes) (suc n) e h = word_byte_ascii _ (prefix_len_passes (is_of class.WordByte) bytes n 0 (omega arith))
@@ -42,12 +46,15 @@ letter_within : (bytes : List ℕ) → is_of class.Letter (get_or bytes 0 0) ≡
 letter_within [] e = cc
 letter_within (b ∷ bytes) e = omega arith
 
-pub signs_some : (bytes : List ℕ) → is_of class.Sign (get_or bytes 0 0) ≡ true → begins_line_comment bytes ≡ false → begins_block_comment bytes ≡ false → 0 < signs_len bytes
+pub signs_some : (bytes : List ℕ) → is_of class.Sign (get_or bytes 0 0) ≡ true → begins_line_comment bytes ≡ false
+    → begins_block_comment bytes ≡ false → 0 < signs_len bytes
 unfolding signs_len
 signs_some [] e line block = cc
 signs_some (b ∷ bytes) e line block = rw (e, line, block) (omega arith)
 
-signs_ascii_at : (b : ℕ) (bytes : List ℕ) (n : ℕ) → is_of class.Sign b ≡ true → ((k : ℕ) → k < signs_len bytes → get_or bytes k 0 < 128) → n < 1 + signs_len bytes → get_or (b ∷ bytes) n 0 < 128
+signs_ascii_at : (b : ℕ) (bytes : List ℕ) (n : ℕ) → is_of class.Sign b ≡ true
+    → ((k : ℕ) → k < signs_len bytes → get_or bytes k 0 < 128) → n < 1 + signs_len bytes
+    → get_or (b ∷ bytes) n 0 < 128
 signs_ascii_at b bytes zero sign more h = sign_ascii b sign
 signs_ascii_at b bytes (suc n) sign more h = more n (omega arith)
 
@@ -57,12 +64,14 @@ signs_ascii [] n h = omega arith
 signs_ascii (b ∷ bytes) n h =
     let commented = begins_line_comment (b ∷ bytes) || begins_block_comment (b ∷ bytes) in
     elim (cases_Bool (is_of class.Sign b && not commented)) [
-      | inl e ↦ signs_ascii_at b bytes n (and_parts (is_of class.Sign b) (not commented) e).0 (λ k below. signs_ascii bytes k below) (rw e at h)
+      | inl e ↦ signs_ascii_at b bytes n (and_parts (is_of class.Sign b) (not commented) e).0
+          (λ k below. signs_ascii bytes k below) (rw e at h)
       | inr e ↦ let none = rw e at h in omega arith
     ]
 
 -- the pieces are tokens
-pub word_token : (bytes : List ℕ) (n : ℕ) → is_of class.Letter (get_or bytes 0 0) ≡ true → n ≡ prefix_len (is_of class.WordByte) (drop 1 bytes) → IsToken bytes kind.Word (1 + n)
+pub word_token : (bytes : List ℕ) (n : ℕ) → is_of class.Letter (get_or bytes 0 0) ≡ true
+    → n ≡ prefix_len (is_of class.WordByte) (drop 1 bytes) → IsToken bytes kind.Word (1 + n)
 word_token bytes n e h =
     let below : n ≤ length (drop 1 bytes) = omega (arith, prefix_len-le-length (is_of class.WordByte) (drop 1 bytes)) in
     let letter : get_or bytes 0 0 < 128 = letter_ascii _ e in
@@ -76,7 +85,8 @@ word_token bytes n e h =
       number = tt;
     }
 
-pub digits_token : (bytes : List ℕ) (n value : ℕ) → is_of class.Digit (get_or bytes 0 0) ≡ true → n ≡ prefix_len (is_of class.Digit) bytes → value < 2 ^ 63 → IsToken bytes (kind.Number value) n
+pub digits_token : (bytes : List ℕ) (n value : ℕ) → is_of class.Digit (get_or bytes 0 0) ≡ true
+    → n ≡ prefix_len (is_of class.Digit) bytes → value < 2 ^ 63 → IsToken bytes (kind.Number value) n
 digits_token bytes n value e h small = record {
   some = omega (arith, digits_some bytes e);
   within = omega (arith, prefix_len-le-length (is_of class.Digit) bytes);
@@ -86,7 +96,8 @@ digits_token bytes n value e h small = record {
   number = small;
 }
 
-pub signs_token : (bytes : List ℕ) (n : ℕ) (operator : Operator) → 0 < n → n ≤ signs_len bytes → signs_len bytes ≤ length bytes → IsToken bytes (kind.Operator operator) n
+pub signs_token : (bytes : List ℕ) (n : ℕ) (operator : Operator) → 0 < n → n ≤ signs_len bytes
+    → signs_len bytes ≤ length bytes → IsToken bytes (kind.Operator operator) n
 signs_token bytes n operator some h within = record {
   some = some;
   within = omega arith;

@@ -1,6 +1,6 @@
-pub mod CommentTurns
-pub mod QuoteTurns
-pub mod NumberTurns
+pub mod CommentLoops
+pub mod QuoteLoops
+pub mod NumberLoops
 mod NameTexts
 pub mod PlainNames
 pub mod Ends

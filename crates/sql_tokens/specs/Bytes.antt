@@ -1,4 +1,5 @@
--- The classes of bytes that tokens are made of: PostgreSQL 15, "SQL Syntax", 4.1.1 Identifiers and Key Words and 4.1.3 Operators.
+-- The classes of bytes that tokens are made of: PostgreSQL 15, "SQL Syntax", 4.1.1 Identifiers and Key Words and
+-- 4.1.3 Operators.
 use Rattle.std.specs.Prelude.{ℕ, Bool, not, ◌||◌, ◌==◌}
 use Rattle.std.specs.Char.{is_ascii_alphabetic, is_ascii_alphanumeric, is_ascii_digit}
 use Rattle.sql_tokens.specs.declared.bytes.Class.{Class}
@@ -6,7 +7,8 @@ use Rattle.sql_tokens.specs.declared.bytes.Class.TheVariants as class
 
 -- ~ ! @ # % ^ & |, the backquote and the question mark
 abbrev pub is_free_sign : ℕ → Bool
-is_free_sign b = b == 126 || b == 33 || b == 64 || b == 35 || b == 37 || b == 94 || b == 38 || b == 124 || b == 96 || b == 63
+is_free_sign b = b == 126 || b == 33 || b == 64 || b == 35 || b == 37 || b == 94 || b == 38 || b == 124 || b == 96
+    || b == 63
 
 -- + - * / < > = and those
 abbrev pub is_sign : ℕ → Bool

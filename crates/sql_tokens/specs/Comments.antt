@@ -1,4 +1,5 @@
--- Comments: PostgreSQL 15, "SQL Syntax", 4.1.5 Comments. Their lengths count what follows the two characters that begin one.
+-- Comments: PostgreSQL 15, "SQL Syntax", 4.1.5 Comments. Their lengths count what follows the two characters that
+-- begin one.
 use Rattle.std.specs.Prelude.{ℕ, ◌+◌, ◌-◌, Bool, ◌&&◌, ◌==◌, nat_lt, if◌then◌else◌, List, ◌∷◌, length, slice_index, Option, Some, None, option_map}
 use Rattle.std.specs.List.{prefix_len}
 use Rattle.sql_tokens.specs.declared.bytes.Class.TheVariants as class

@@ -1,4 +1,5 @@
--- A text as it is between quotes, with each quote in it written twice: PostgreSQL 15, "SQL Syntax", 4.1.2.1 String Constants.
+-- A text as it is between quotes, with each quote in it written twice: PostgreSQL 15, "SQL Syntax", 4.1.2.1 String
+-- Constants.
 use Rattle.std.specs.Prelude.{ℕ, ◌==◌, if◌then◌else◌, List, [], ◌∷◌, ◌++◌, flat_map}
 
 abbrev pub quoted_byte : ℕ → ℕ → List ℕ

@@ -1,4 +1,5 @@
--- What is at the front of a text: PostgreSQL 15, "SQL Syntax", 4.1 Lexical Structure. The text reads as zero bytes past its end.
+-- What is at the front of a text: PostgreSQL 15, "SQL Syntax", 4.1 Lexical Structure. The text reads as zero bytes
+-- past its end.
 use Rattle.std.specs.Prelude.{ℕ, ◌+◌, Bool, ◌&&◌, ◌||◌, ◌==◌, nat_lt, if◌then◌else◌, List, drop, slice_index, Option, Some, None}
 use Rattle.std.specs.List.{prefix_len}
 use Rattle.std.specs.Char.{to_ascii_lowercase}
@@ -22,7 +23,8 @@ comment_piece (Some n) = Blank (2 + n)
 abbrev pub is_string_form : ℕ → ℕ → ℕ → Bool
 is_string_form letter next after =
     let e = to_ascii_lowercase letter in
-    ((e == 101 || e == 98 || e == 120 || e == 110) && next == 39) || (e == 117 && next == 38 && (after == 39 || after == 34))
+    ((e == 101 || e == 98 || e == 120 || e == 110) && next == 39)
+        || (e == 117 && next == 38 && (after == 39 || after == 34))
 
 -- a word of `n` bytes; a name has at most 63
 abbrev pub word_piece : ℕ → List ℕ → Piece

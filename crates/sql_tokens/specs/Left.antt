@@ -1,4 +1,5 @@
--- What a cursor has left of its text, and what a call of `next` says about it: PostgreSQL 15, "SQL Syntax", 4.1 Lexical Structure.
+-- What a cursor has left of its text, and what a call of `next` says about it: PostgreSQL 15, "SQL Syntax", 4.1
+-- Lexical Structure.
 use Rattle.std.specs.Prelude.{◌≡◌, ℕ, ◌+◌, ◌-◌, ◌<◌, ◌≤◌, List, length, take, drop, Option, Some, None, Result, Ok, Err}
 use Rattle.std.specs.Str.{IsCharBoundary}
 use Rattle.sql_tokens.specs.declared.cursor.Tokens.{Tokens}

@@ -21,7 +21,8 @@ pub data Lexed : Type 0 where
 -- what the piece at the front of some bytes makes, where `go_on` reads on past a number of bytes after the first
 abbrev pub begins : Piece → ℕ → List ℕ → (ℕ → Lexed) → Lexed
 begins (Blank n) place bytes go_on = go_on (n - 1)
-begins (Whole kind n) place bytes go_on = Then (record { kind = kind; place = place; text = take n bytes }) (go_on (n - 1))
+begins (Whole kind n) place bytes go_on =
+    Then (record { kind = kind; place = place; text = take n bytes }) (go_on (n - 1))
 begins (Faulty fault) place bytes go_on = Bad place fault
 
 -- the tokens of bytes that are at a place of the text, past `skip` of them

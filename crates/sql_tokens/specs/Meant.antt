@@ -1,4 +1,5 @@
--- What a name or a string constant says: PostgreSQL 15, "SQL Syntax", 4.1.1 Identifiers and Key Words and 4.1.2.1 String Constants.
+-- What a name or a string constant says: PostgreSQL 15, "SQL Syntax", 4.1.1 Identifiers and Key Words and 4.1.2.1
+-- String Constants.
 use Rattle.std.specs.Prelude.{ℕ, ◌-◌, List, length, take, drop}
 use Rattle.std.specs.Str.{str_to_ascii_lowercase}
 use Rattle.sql_tokens.specs.declared.kinds.TokenKind.{TokenKind}

@@ -1,4 +1,5 @@
--- Numbers: PostgreSQL 15, "SQL Syntax", 4.1.2.6 Numeric Constants. Those here are of decimal digits alone, and fit a bigint.
+-- Numbers: PostgreSQL 15, "SQL Syntax", 4.1.2.6 Numeric Constants. Those here are of decimal digits alone, and fit a
+-- bigint.
 use Rattle.std.specs.Prelude.{ℕ, ◌+◌, ◌-◌, ◌*◌, ◌^◌, ◌==◌, nat_lt, if◌then◌else◌, List, [], ◌∷◌, take, slice_index}
 use Rattle.std.specs.List.{prefix_len}
 use Rattle.sql_tokens.specs.declared.bytes.Class.TheVariants as class

@@ -1,4 +1,5 @@
--- What names are: 1 to 63 bytes of UTF-8, none of which is zero: PostgreSQL 15, "SQL Syntax", 4.1.1 Identifiers and Key Words.
+-- What names are: 1 to 63 bytes of UTF-8, none of which is zero: PostgreSQL 15, "SQL Syntax", 4.1.1 Identifiers and
+-- Key Words.
 use Rattle.std.specs.Prelude.{ℕ, ◌<◌, ◌≤◌, List, length, Contains}
 use Rattle.std.specs.Str.{IsUtf8}
 use Rattle.sql_tokens.specs.declared.kinds.TokenKind.{TokenKind}

@@ -1,4 +1,5 @@
--- Quoted names and string constants: PostgreSQL 15, "SQL Syntax", 4.1.1 Identifiers and Key Words and 4.1.2.1 String Constants.
+-- Quoted names and string constants: PostgreSQL 15, "SQL Syntax", 4.1.1 Identifiers and Key Words and 4.1.2.1 String
+-- Constants.
 use Rattle.std.specs.Prelude.{ℕ, ◌+◌, ◌&&◌, ◌==◌, nat_lt, if◌then◌else◌, List, [], ◌∷◌, length, take, drop, Option, Some, None}
 use Rattle.sql_tokens.specs.declared.kinds.TokenKind.TheVariants.{QuotedName, Text}
 use Rattle.sql_tokens.specs.declared.kinds.FaultKind.TheVariants.{BadToken, NameTooLong, LiteralBytes}
@@ -8,7 +9,8 @@ use Rattle.sql_tokens.specs.Comments.{longer}
 
 -- What is between two quotes, where each two quotes side by side are meant as one.
 unfoldable pub undoubled : ℕ → List ℕ → List ℕ
-undoubled quote (b ∷ c ∷ bytes) = if b == quote && c == quote then quote ∷ undoubled quote bytes else b ∷ undoubled quote (c ∷ bytes)
+undoubled quote (b ∷ c ∷ bytes) = if b == quote && c == quote then
+    quote ∷ undoubled quote bytes else b ∷ undoubled quote (c ∷ bytes)
 undoubled quote (b ∷ []) = b ∷ []
 undoubled quote [] = []
 
@@ -21,9 +23,11 @@ inner_len quote (b ∷ c ∷ bytes) =
 inner_len quote (b ∷ []) = if b == 0 then None else (if b == quote then Some 0 else None)
 inner_len quote [] = None
 
--- A name of `n` bytes between its quotes, or of `meant` bytes once doubled quotes are undone. It isn't empty, and `meant` is at most 63.
+-- A name of `n` bytes between its quotes, or of `meant` bytes once doubled quotes are undone. It isn't empty, and
+-- `meant` is at most 63.
 abbrev pub name_piece : ℕ → ℕ → Piece
-name_piece n meant = if n == 0 then Faulty BadToken else (if nat_lt 63 meant then Faulty NameTooLong else Whole QuotedName (n + 2))
+name_piece n meant = if n == 0 then
+    Faulty BadToken else (if nat_lt 63 meant then Faulty NameTooLong else Whole QuotedName (n + 2))
 
 -- likewise a string constant, which may be empty
 abbrev pub string_piece : ℕ → ℕ → Piece

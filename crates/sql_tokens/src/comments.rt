@@ -34,7 +34,7 @@ pub(crate) fn line_comment(bytes: &[u8]) -> Option<usize>
 
 /// The length of a comment after its slash and asterisk, or `None` where it does not end or has
 /// a zero byte.
-#[tactic(auto, using(crate::proofs::CommentTurns::comment_turns), unfolding(crate::proofs::CommentTurns::comment_from))]
+#[tactic(auto, using(crate::proofs::CommentLoops::comment_turns), unfolding(crate::proofs::CommentLoops::comment_from))]
 pub(crate) fn block_comment(bytes: &[u8]) -> Option<usize>
     ensures value { result ≡ spec.block_comment 0 bytes.now }
     ensures within { IfSome result (λ n. n ≤ length bytes.now) }

@@ -10,7 +10,7 @@ use crate::kinds::{FaultKind, NAME_BYTES, Piece, TokenKind};
 const STRING_BYTES: usize = 65_535;
 
 /// How many bytes come before the quote that closes, or `None` where none does.
-#[tactic(auto, using(crate::proofs::QuoteTurns::inner_turns), unfolding(crate::proofs::QuoteTurns::inner_from))]
+#[tactic(auto, using(crate::proofs::QuoteLoops::inner_turns), unfolding(crate::proofs::QuoteLoops::inner_from))]
 fn inner_len(quote: u8, bytes: &[u8]) -> Option<usize>
     ensures value { result ≡ spec.inner_len quote bytes.now }
     ensures within { IfSome result (λ n. n < length bytes.now) }
@@ -40,7 +40,7 @@ fn inner_len(quote: u8, bytes: &[u8]) -> Option<usize>
 }
 
 /// How many bytes are left once doubled quotes are undone.
-#[tactic(auto, using(crate::proofs::QuoteTurns::undoubled_turns), unfolding(crate::proofs::QuoteTurns::undoubled_from))]
+#[tactic(auto, using(crate::proofs::QuoteLoops::undoubled_turns), unfolding(crate::proofs::QuoteLoops::undoubled_from))]
 fn undoubled_len(quote: u8, inner: &[u8]) -> usize
     ensures { result ≡ length (spec.undoubled quote inner.now) }
 {
@@ -61,7 +61,7 @@ fn undoubled_len(quote: u8, inner: &[u8]) -> usize
 }
 
 /// Whether more bytes than the limit are left once doubled quotes are undone. There are never more than before.
-#[tactic(auto, using(crate::proofs::QuoteTurns::shorter))]
+#[tactic(auto, using(crate::proofs::QuoteLoops::shorter))]
 fn is_longer(quote: u8, inner: &[u8], limit: usize) -> bool
     ensures { result ≡ nat_lt limit (length (spec.undoubled quote inner.now)) }
 {

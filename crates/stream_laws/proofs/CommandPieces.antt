@@ -28,7 +28,8 @@ skipped (suc n) [] within = absurd (omega arith)
 skipped (suc n) (b ∷ bytes) within = skipped n bytes (omega arith)
 
 -- a token is read, and then what follows it
-pub token_here : (token : Token) (text rest : List ℕ) (tokens : List Token) → 0 < length text → front (text ++ rest) ≡ Whole token (length text)
+pub token_here : (token : Token) (text rest : List ℕ) (tokens : List Token) → 0 < length text
+    → front (text ++ rest) ≡ Whole token (length text)
     → tokens_from 0 rest ≡ Some tokens → tokens_from 0 (text ++ rest) ≡ Some (token ∷ tokens)
 unfolding tokens_from
 token_here token [] rest tokens some is more = absurd (omega arith)
@@ -37,7 +38,8 @@ token_here token (b ∷ text) rest tokens some is more =
     let long : length text ≤ length (text ++ rest) = omega (arith, length-append text rest) in
     rw (is, back, skipped (length text) (text ++ rest) long, drop_at text rest (length text) refl, more) refl
 
-pub space_passes : (rest : List ℕ) (tokens : List Token) → tokens_from 0 rest ≡ Some tokens → tokens_from 0 (32 ∷ rest) ≡ Some tokens
+pub space_passes : (rest : List ℕ) (tokens : List Token) → tokens_from 0 rest ≡ Some tokens
+    → tokens_from 0 (32 ∷ rest) ≡ Some tokens
 unfolding tokens_from front
 space_passes rest tokens more = more
 
@@ -46,7 +48,8 @@ space_passes rest tokens more = more
 abbrev found_as : List ℕ → ℕ → Option QuotedText
 found_as meant n = Some (record { meant = meant; length = n })
 
-no_quote : (quote b : ℕ) (tail : List ℕ) → b == quote ≡ false → 0 < length tail → quoted quote (b ∷ tail) ≡ longer 1 b (quoted quote tail)
+no_quote : (quote b : ℕ) (tail : List ℕ) → b == quote ≡ false → 0 < length tail
+    → quoted quote (b ∷ tail) ≡ longer 1 b (quoted quote tail)
 unfolding quoted
 no_quote quote b [] e some = absurd (omega arith)
 no_quote quote b (c ∷ tail) e some = rw e refl
@@ -54,7 +57,8 @@ no_quote quote b (c ∷ tail) e some = rw e refl
 last_quote : (quote : ℕ) (after : List ℕ) → get_or after 0 0 ≢ quote → quoted quote (quote ∷ after) ≡ found_as [] 1
 unfolding quoted
 last_quote quote [] other = rw (eq-eqb quote quote refl) refl
-last_quote quote (c ∷ after) other = let e : c == quote ≡ false = grind (arith, nat_tests) in rw (eq-eqb quote quote refl, e) refl
+last_quote quote (c ∷ after) other = let e : c == quote ≡ false = grind (arith, nat_tests) in
+    rw (eq-eqb quote quote refl, e) refl
 
 two_quotes : (quote : ℕ) (after : List ℕ) → quoted quote (quote ∷ quote ∷ after) ≡ longer 2 quote (quoted quote after)
 unfolding quoted
@@ -66,29 +70,39 @@ pub quoted_back : (quote : ℕ) (text after : List ℕ) → get_or after 0 0 ≢
 quoted_back quote [] after other = last_quote quote after other
 quoted_back quote (b ∷ text) after other =
     let more = quoted_back quote text after other in
-    let some : 0 < length (doubled quote text ++ (quote ∷ after)) = omega (arith, length-append (doubled quote text) (quote ∷ after)) in
+    let some : 0 < length (doubled quote text ++ (quote ∷ after)) =
+        omega (arith, length-append (doubled quote text) (quote ∷ after)) in
     by_test (b == quote)
-    (λ e. rw (e, two_quotes quote (doubled quote text ++ (quote ∷ after)), more, eqb-true b quote e) (ap (found_as (quote ∷ text)) (omega arith)))
-    (λ e. rw (e, no_quote quote b (doubled quote text ++ (quote ∷ after)) e some, more) (ap (found_as (b ∷ text)) (omega arith)))
+    (λ e. rw (e, two_quotes quote (doubled quote text ++ (quote ∷ after)), more, eqb-true b quote e)
+        (ap (found_as (quote ∷ text)) (omega arith)))
+    (λ e. rw (e, no_quote quote b (doubled quote text ++ (quote ∷ after)) e some, more)
+        (ap (found_as (b ∷ text)) (omega arith)))
 
 quotes_length : (quote : ℕ) (text : List ℕ) → length (in_quotes quote text) ≡ 1 + (length (doubled quote text) + 1)
 quotes_length quote text = omega (arith, length-append (doubled quote text) (quote ∷ []))
 
-name_front : (name after : List ℕ) → get_or after 0 0 ≢ 34 → front (in_quotes 34 name ++ after) ≡ Whole (QuotedName name) (length (in_quotes 34 name))
+name_front : (name after : List ℕ) → get_or after 0 0 ≢ 34
+    → front (in_quotes 34 name ++ after) ≡ Whole (QuotedName name) (length (in_quotes 34 name))
 unfolding front
 name_front name after other = rw (append_assoc, quoted_back 34 name after other, quotes_length 34 name) refl
 
-value_front : (text after : List ℕ) → get_or after 0 0 ≢ 39 → front (in_quotes 39 text ++ after) ≡ Whole (Value text) (length (in_quotes 39 text))
+value_front : (text after : List ℕ) → get_or after 0 0 ≢ 39
+    → front (in_quotes 39 text ++ after) ≡ Whole (Value text) (length (in_quotes 39 text))
 unfolding front
 value_front text after other = rw (append_assoc, quoted_back 39 text after other, quotes_length 39 text) refl
 
 pub name_token : (name after : List ℕ) (tokens : List Token) → get_or after 0 0 ≢ 34 → tokens_from 0 after ≡ Some tokens
     → tokens_from 0 (in_quotes 34 name ++ after) ≡ Some (QuotedName name ∷ tokens)
-name_token name after tokens other more = token_here (QuotedName name) (in_quotes 34 name) after tokens (omega (arith, quotes_length 34 name)) (name_front name after other) more
+name_token name after tokens other more =
+    token_here (QuotedName name) (in_quotes 34 name) after tokens (omega (arith, quotes_length 34 name))
+    (name_front name after other) more
 
-pub value_token : (text after : List ℕ) (tokens : List Token) → get_or after 0 0 ≢ 39 → tokens_from 0 after ≡ Some tokens
+pub value_token : (text after : List ℕ) (tokens : List Token) → get_or after 0 0 ≢ 39
+    → tokens_from 0 after ≡ Some tokens
     → tokens_from 0 (in_quotes 39 text ++ after) ≡ Some (Value text ∷ tokens)
-value_token text after tokens other more = token_here (Value text) (in_quotes 39 text) after tokens (omega (arith, quotes_length 39 text)) (value_front text after other) more
+value_token text after tokens other more =
+    token_here (Value text) (in_quotes 39 text) after tokens (omega (arith, quotes_length 39 text))
+    (value_front text after other) more
 
 -- ---- places
 
@@ -100,11 +114,15 @@ all_hex [] all = refl
 all_hex (d ∷ ds) all = rw (hex_digit d all.0, all_hex ds all.1) refl
 
 -- a number with more than one digit has one more than what is left of it
-fewer : (k n : ℕ) → n < 16 ^ suc k → n / 16 == 0 ≡ false → (before : ℕ) × ((k ≡ suc before) × (n / 16 < 16 ^ suc before))
-fewer zero n small e = absurd (let few : n < 16 = small in let some : n / 16 ≢ 0 = grind (arith, nat_tests) in omega (arith, few, some))
-fewer (suc k) n small e = let power : 16 ^ suc (suc k) ≡ 16 ^ suc k * 16 = pow-suc 16 (suc k) in (k, (refl, omega (arith, power, small)))
+fewer : (k n : ℕ) → n < 16 ^ suc k → n / 16 == 0 ≡ false → (before : ℕ)
+    × ((k ≡ suc before) × (n / 16 < 16 ^ suc before))
+fewer zero n small e =
+    absurd (let few : n < 16 = small in let some : n / 16 ≢ 0 = grind (arith, nat_tests) in omega (arith, few, some))
+fewer (suc k) n small e = let power : 16 ^ suc (suc k) ≡ 16 ^ suc k * 16 = pow-suc 16 (suc k) in
+    (k, (refl, omega (arith, power, small)))
 
-onto_short : (fuel k n : ℕ) (acc : List ℕ) → n < 16 ^ suc k → length (digits_onto fuel 16 true n acc) ≤ suc k + length acc
+onto_short : (fuel k n : ℕ) (acc : List ℕ) → n < 16 ^ suc k
+    → length (digits_onto fuel 16 true n acc) ≤ suc k + length acc
 onto_short zero k n acc small = omega arith
 onto_short (suc fuel) k n acc small =
     by_test (n / 16 == 0)
@@ -138,7 +156,8 @@ hex_is_word : (d : ℕ) → is_ascii_hexdigit d ≡ true → is_word_byte d ≡ 
 hex_is_word d e = grind (arith, nat_tests)
 
 -- the digits are the longest run before a byte that no word has
-hex_len : (written : List ℕ) (next : ℕ) (rest : List ℕ) → list_all is_ascii_hexdigit written ≡ true → is_word_byte next ≡ false
+hex_len : (written : List ℕ) (next : ℕ) (rest : List ℕ) → list_all is_ascii_hexdigit written ≡ true
+    → is_word_byte next ≡ false
     → prefix_len is_word_byte (written ++ (next ∷ rest)) ≡ length written
 hex_len [] next rest digital ends = rw ends refl
 hex_len (d ∷ written) next rest digital ends =
@@ -149,7 +168,8 @@ hex_front : (d : ℕ) (rest : List ℕ) → is_ascii_hexdigit d ≡ true → fro
 unfolding front
 hex_front d rest e = grind (arith, nat_tests)
 
-first_front : (written rest : List ℕ) → 0 < length written → list_all is_ascii_hexdigit written ≡ true → front (written ++ rest) ≡ run (written ++ rest)
+first_front : (written rest : List ℕ) → 0 < length written → list_all is_ascii_hexdigit written ≡ true
+    → front (written ++ rest) ≡ run (written ++ rest)
 first_front [] rest some digital = absurd (omega arith)
 first_front (d ∷ written) rest some digital = hex_front d (written ++ rest) (and_parts _ _ digital).0
 
@@ -168,17 +188,22 @@ place_run high low rest m n high_is low_is =
       low_is.read,
     ) refl
 
-pub place_token : (position : ℕ) (rest : List ℕ) (tokens : List Token) → position < 2 ^ 64 → tokens_from 0 (32 ∷ rest) ≡ Some tokens
+pub place_token : (position : ℕ) (rest : List ℕ) (tokens : List Token) → position < 2 ^ 64
+    → tokens_from 0 (32 ∷ rest) ≡ Some tokens
     → tokens_from 0 (lsn_text position ++ (32 ∷ rest)) ≡ Some (Position position ∷ tokens)
 place_token position rest tokens small more =
     let high = hex_written (position / 2 ^ 32) (omega arith) in
     let low = hex_written (position % 2 ^ 32) (omega arith) in
     let whole : position / 2 ^ 32 * 2 ^ 32 + position % 2 ^ 32 ≡ position = omega arith in
-    let long : length (lsn_text position) ≡ length (digits 16 true (position / 2 ^ 32)) + 1 + length (digits 16 true (position % 2 ^ 32)) =
+    let long : length (lsn_text position)
+        ≡ length (digits 16 true (position / 2 ^ 32)) + 1 + length (digits 16 true (position % 2 ^ 32)) =
     omega (arith, length-append (digits 16 true (position / 2 ^ 32)) (47 ∷ digits 16 true (position % 2 ^ 32))) in
     token_here (Position position) (lsn_text position) (32 ∷ rest) tokens (omega (arith, long))
     (ap front (append_assoc (digits 16 true (position / 2 ^ 32)) (47 ∷ digits 16 true (position % 2 ^ 32)) (32 ∷ rest))
-    ∙ first_front (digits 16 true (position / 2 ^ 32)) (47 ∷ (digits 16 true (position % 2 ^ 32) ++ (32 ∷ rest))) high.some high.digital
-    ∙ place_run (digits 16 true (position / 2 ^ 32)) (digits 16 true (position % 2 ^ 32)) rest (position / 2 ^ 32) (position % 2 ^ 32) high low
-    ∙ ap (λ n. Whole (Position n) (length (digits 16 true (position / 2 ^ 32)) + 1 + length (digits 16 true (position % 2 ^ 32)))) whole
+    ∙ first_front (digits 16 true (position / 2 ^ 32)) (47 ∷ (digits 16 true (position % 2 ^ 32) ++ (32 ∷ rest)))
+        high.some high.digital
+    ∙ place_run (digits 16 true (position / 2 ^ 32)) (digits 16 true (position % 2 ^ 32)) rest (position / 2 ^ 32)
+        (position % 2 ^ 32) high low
+    ∙ ap (λ n. Whole (Position n)
+        (length (digits 16 true (position / 2 ^ 32)) + 1 + length (digits 16 true (position % 2 ^ 32)))) whole
     ∙ ap (Whole (Position position)) (sym long)) more

@@ -37,31 +37,44 @@ use Rattle.stream_laws.proofs.StreamSteps.{Between, between_follows, commit_safe
 
 not_empty : (byte : ℕ) (bytes : List ℕ) → (length (byte ∷ bytes) == 0) ≡ false
 not_empty byte bytes = by_test (length (byte ∷ bytes) == 0)
-    (λ none. let zero : length (byte ∷ bytes) ≡ 0 = (unsigned_Decides (length (byte ∷ bytes)) 0).0 none in absurd (omega (arith, zero)))
+    (λ none. let zero : length (byte ∷ bytes) ≡ 0 = (unsigned_Decides (length (byte ∷ bytes)) 0).0 none in
+        absurd (omega (arith, zero)))
     (λ some. some)
 
-data_content : (bytes : List ℕ) (machine : Machine) → hear_content (119 ∷ bytes) machine ≡ hear_data (xlog_data_in (119 ∷ bytes)) machine
+data_content : (bytes : List ℕ) (machine : Machine)
+    → hear_content (119 ∷ bytes) machine ≡ hear_data (xlog_data_in (119 ∷ bytes)) machine
 data_content bytes machine = rw (not_empty 119 bytes) refl
 
-carried : (head : XLogData) (message : Msg) (machine : Machine) → IsHead head → IsSent message → hear_stream (frame_in (Carries head message)) machine ≡ hear message machine
+carried : (head : XLogData) (message : Msg) (machine : Machine) → IsHead head → IsSent message
+    → hear_stream (frame_in (Carries head message)) machine ≡ hear message machine
 carried head message machine bounds sent =
     data_content (int64 head.start ++ (int64 head.end ++ (int64 head.clock ++ spelling_of message))) machine
-    ∙ ap (λ found. hear_data found machine) (data_is_read head (spelling_of message) bounds.start bounds.end bounds.clock)
+    ∙ ap (λ found. hear_data found machine)
+        (data_is_read head (spelling_of message) bounds.start bounds.end bounds.clock)
     ∙ ap (λ result. hear_decoded result machine) (are_decoded message sent.read_back)
 
-carries_heard : (head : XLogData) (message : Msg) (machine : Machine) (P : Machine → Type 0) → IsHead head → IsSent message → IsOkAnd (hear message machine) P
+carries_heard : (head : XLogData) (message : Msg) (machine : Machine) (P : Machine → Type 0) → IsHead head
+    → IsSent message → IsOkAnd (hear message machine) P
     → IsOkAnd (hear_frame (frame_in (Carries head message)) machine) P
 carries_heard head message machine P bounds sent h = by_phase machine.phase refl
   where
-    by_phase : (phase : Phase) → machine.phase ≡ phase → IsOkAnd (hear_frame (frame_in (Carries head message)) machine) P
-    by_phase Shut e = absurd (ok_as (hear message machine) (hear_in Shut message machine) P (ap (λ phase. hear_in phase message machine) e) h)
-    by_phase Waiting e = absurd (ok_as (hear message machine) (hear_in Waiting message machine) P (ap (λ phase. hear_in phase message machine) e) h)
+    by_phase : (phase : Phase) → machine.phase ≡ phase
+        → IsOkAnd (hear_frame (frame_in (Carries head message)) machine) P
+    by_phase Shut e = absurd
+        (ok_as (hear message machine) (hear_in Shut message machine) P (ap (λ phase. hear_in phase message machine) e)
+        h)
+    by_phase Waiting e = absurd
+        (ok_as (hear message machine) (hear_in Waiting message machine) P
+        (ap (λ phase. hear_in phase message machine) e) h)
     by_phase Idle e = ok_as (hear message machine) (hear_frame (frame_in (Carries head message)) machine) P
-        (sym (ap (λ phase. hear_frame_in phase (frame_in (Carries head message)) machine) e ∙ carried head message machine bounds sent)) h
+        (sym (ap (λ phase. hear_frame_in phase (frame_in (Carries head message)) machine) e
+            ∙ carried head message machine bounds sent)) h
     by_phase (Busy begin) e = ok_as (hear message machine) (hear_frame (frame_in (Carries head message)) machine) P
-        (sym (ap (λ phase. hear_frame_in phase (frame_in (Carries head message)) machine) e ∙ carried head message machine bounds sent)) h
+        (sym (ap (λ phase. hear_frame_in phase (frame_in (Carries head message)) machine) e
+            ∙ carried head message machine bounds sent)) h
 
-kept_up : (keepalive : Keepalive) (machine : Machine) → machine.phase ≡ Idle → (keepalive.position < 2 ^ 64) × (keepalive.clock < 2 ^ 64)
+kept_up : (keepalive : Keepalive) (machine : Machine) → machine.phase ≡ Idle → (keepalive.position < 2 ^ 64)
+    × (keepalive.clock < 2 ^ 64)
     → hear_frame (frame_in (Alive keepalive)) machine ≡ Ok (kept_alive keepalive machine)
 kept_up keepalive machine idle bounds =
     ap (λ phase. hear_frame_in phase (frame_in (Alive keepalive)) machine) idle
@@ -74,7 +87,8 @@ abbrev pub SafeItems : CheckedOf → List Transaction → ℕ → ℕ → List I
 SafeItems checked transactions subscriber position [] machine = Follows checked transactions subscriber position machine
 SafeItems checked transactions subscriber position (item ∷ items) machine =
     Follows checked transactions subscriber position machine
-    × IsOkAnd (hear_frame (frame_in item) machine) (SafeItems checked transactions subscriber (raised_by position item) items)
+    × IsOkAnd (hear_frame (frame_in item) machine)
+        (SafeItems checked transactions subscriber (raised_by position item) items)
 
 pub same_item : (one other : Item) (xs ys : List Item) → one ∷ xs ≡ other ∷ ys → one ≡ other
 same_item one other xs ys e = cc
@@ -84,35 +98,48 @@ same_items one other xs ys e = cc
 
 module _ (checked : CheckedOf) (transactions : List Transaction) (subscriber : ℕ) where
   -- the items of messages
-  carried_safe : (head : XLogData) → IsHead head → (messages : List Msg) (rest : List Item) (position : ℕ) (machine : Machine) → All IsSentItem (map (Carries head) messages ++ rest)
-      → Safe (Follows checked transactions subscriber) position messages machine (λ at next. SafeItems checked transactions subscriber at rest next)
+  carried_safe : (head : XLogData) → IsHead head
+      → (messages : List Msg) (rest : List Item) (position : ℕ) (machine : Machine)
+      → All IsSentItem (map (Carries head) messages ++ rest)
+      → Safe (Follows checked transactions subscriber) position messages machine
+          (λ at next. SafeItems checked transactions subscriber at rest next)
       → SafeItems checked transactions subscriber position (map (Carries head) messages ++ rest) machine
   carried_safe head bounds [] rest position machine sent h = h
   carried_safe head bounds (message ∷ messages) rest position machine sent h =
       let mine = All-head IsSentItem (Carries head message) (map (Carries head) messages ++ rest) sent in (
         h.0,
-        carries_heard head message machine (SafeItems checked transactions subscriber (raised_by_message position message) (map (Carries head) messages ++ rest)) bounds mine.1
+        carries_heard head message machine
+            (SafeItems checked transactions subscriber (raised_by_message position message)
+            (map (Carries head) messages ++ rest)) bounds mine.1
             (on_ok (hear message machine)
-            (λ next. Safe (Follows checked transactions subscriber) (raised_by_message position message) messages next (λ at last. SafeItems checked transactions subscriber at rest last))
-            (SafeItems checked transactions subscriber (raised_by_message position message) (map (Carries head) messages ++ rest)) h.1
+            (λ next. Safe (Follows checked transactions subscriber) (raised_by_message position message) messages next
+                (λ at last. SafeItems checked transactions subscriber at rest last))
+            (SafeItems checked transactions subscriber (raised_by_message position message)
+                (map (Carries head) messages ++ rest)) h.1
             (λ next later. carried_safe head bounds messages rest (raised_by_message position message) next
             (All-tail IsSentItem (Carries head message) (map (Carries head) messages ++ rest) sent) later)),
       )
 
   -- of any first items
-  pub first_safe : (fed others items : List Item) (position : ℕ) (machine : Machine) → fed ++ others ≡ items → SafeItems checked transactions subscriber position items machine
-      → IsOkAnd (hear_frames (map frame_in fed) machine) (Follows checked transactions subscriber (position_after position fed))
+  pub first_safe : (fed others items : List Item) (position : ℕ) (machine : Machine) → fed ++ others ≡ items
+      → SafeItems checked transactions subscriber position items machine
+      → IsOkAnd (hear_frames (map frame_in fed) machine)
+          (Follows checked transactions subscriber (position_after position fed))
   first_safe [] others [] position machine e h = h
   first_safe [] others (item ∷ items) position machine e h = h.0
   first_safe (first ∷ fed) others [] position machine e h = absurd cc
   first_safe (first ∷ fed) others (item ∷ items) position machine e h =
-      subst (λ one. IsOkAnd (next_heard (hear_frame (frame_in one) machine) (hear_frames (map frame_in fed))) (Follows checked transactions subscriber (position_after (raised_by position one) fed)))
+      subst (λ one. IsOkAnd (next_heard (hear_frame (frame_in one) machine) (hear_frames (map frame_in fed)))
+          (Follows checked transactions subscriber (position_after (raised_by position one) fed)))
       (sym (same_item first item (fed ++ others) items e))
-      (then_ok (hear_frame (frame_in item) machine) (hear_frames (map frame_in fed)) (SafeItems checked transactions subscriber (raised_by position item) items)
+      (then_ok (hear_frame (frame_in item) machine) (hear_frames (map frame_in fed))
+          (SafeItems checked transactions subscriber (raised_by position item) items)
       (Follows checked transactions subscriber (position_after (raised_by position item) fed)) h.1
-      (λ next later. first_safe fed others items (raised_by position item) next (same_items first item (fed ++ others) items e) later))
+      (λ next later. first_safe fed others items (raised_by position item) next
+          (same_items first item (fed ++ others) items e) later))
     where
-      then_ok : (outcome : Outcome) (more : Machine → Outcome) (P Q : Machine → Type 0) → IsOkAnd outcome P → ((next : Machine) → P next → IsOkAnd (more next) Q)
+      then_ok : (outcome : Outcome) (more : Machine → Outcome) (P Q : Machine → Type 0) → IsOkAnd outcome P
+          → ((next : Machine) → P next → IsOkAnd (more next) Q)
           → IsOkAnd (next_heard outcome more) Q
       then_ok (Ok next) more P Q h on = on next h
       then_ok (Err fault) more P Q h on = h
@@ -127,46 +154,74 @@ all_last (x ∷ xs) ys h = all_last xs ys (All-tail IsSentItem x (xs ++ ys) h)
 module _ (checked : CheckedOf) (transactions : List Transaction) (published : IsPublished checked transactions) where
   -- what comes after a move
   abbrev Later : List Move → Type 0
-  Later moves = (place : Place) (position : ℕ) (machine : Machine) → Between checked transactions place position machine → All IsSentItem (all_items checked (log_of checked transactions) place moves)
-      → SafeItems checked transactions place.slot position (all_items checked (log_of checked transactions) place moves) machine
-
-  take_safe : (moves : List Move) → Later moves → (place : Place) (clock position : ℕ) (machine : Machine) (found : Option CommitOf) → slice_get (log_of checked transactions) place.done ≡ found
+  Later moves = (place : Place) (position : ℕ) (machine : Machine)
       → Between checked transactions place position machine
-      → All IsSentItem (take_items checked place found clock ++ all_items checked (log_of checked transactions) (taken_place (telling_of checked) place found) moves)
+      → All IsSentItem (all_items checked (log_of checked transactions) place moves)
       → SafeItems checked transactions place.slot position
-      (take_items checked place found clock ++ all_items checked (log_of checked transactions) (taken_place (telling_of checked) place found) moves) machine
+          (all_items checked (log_of checked transactions) place moves) machine
+
+  take_safe : (moves : List Move) → Later moves
+      → (place : Place) (clock position : ℕ) (machine : Machine) (found : Option CommitOf)
+      → slice_get (log_of checked transactions) place.done ≡ found
+      → Between checked transactions place position machine
+      → All IsSentItem (take_items checked place found clock
+          ++ all_items checked (log_of checked transactions) (taken_place (telling_of checked) place found) moves)
+      → SafeItems checked transactions place.slot position
+      (take_items checked place found clock
+          ++ all_items checked (log_of checked transactions) (taken_place (telling_of checked) place found) moves)
+          machine
   take_safe moves later place clock position machine None e between sent = later place position machine between sent
   take_safe moves later place clock position machine (Some commit) e between sent =
-      by_messages (messages_for checked place.slot place.told commit) (commit_safe checked transactions published place position machine between commit e) sent
+      by_messages (messages_for checked place.slot place.told commit)
+          (commit_safe checked transactions published place position machine between commit e) sent
     where
       by_messages : (messages : List Msg)
-          → Safe (Follows checked transactions place.slot) position messages machine (Between checked transactions (place_after (telling_of checked) place commit))
-          → All IsSentItem (map (Carries (head_of commit.number clock)) messages ++ all_items checked (log_of checked transactions) (place_after (telling_of checked) place commit) moves)
+          → Safe (Follows checked transactions place.slot) position messages machine
+              (Between checked transactions (place_after (telling_of checked) place commit))
+          → All IsSentItem (map (Carries (head_of commit.number clock)) messages
+              ++ all_items checked (log_of checked transactions) (place_after (telling_of checked) place commit)
+              moves)
           → SafeItems checked transactions place.slot position
-          (map (Carries (head_of commit.number clock)) messages ++ all_items checked (log_of checked transactions) (place_after (telling_of checked) place commit) moves) machine
+          (map (Carries (head_of commit.number clock)) messages
+              ++ all_items checked (log_of checked transactions) (place_after (telling_of checked) place commit)
+              moves) machine
       by_messages [] h all = later (place_after (telling_of checked) place commit) position machine h all
       by_messages (message ∷ messages) h all =
-          let rest = all_items checked (log_of checked transactions) (place_after (telling_of checked) place commit) moves in
-          let first = All-head IsSentItem (Carries (head_of commit.number clock) message) (map (Carries (head_of commit.number clock)) messages ++ rest) all in
-          carried_safe checked transactions place.slot (head_of commit.number clock) first.0 (message ∷ messages) rest position machine all
-          (safe_on (Follows checked transactions place.slot) (Between checked transactions (place_after (telling_of checked) place commit))
+          let rest = all_items checked (log_of checked transactions) (place_after (telling_of checked) place commit)
+              moves in
+          let first = All-head IsSentItem (Carries (head_of commit.number clock) message)
+              (map (Carries (head_of commit.number clock)) messages ++ rest) all in
+          carried_safe checked transactions place.slot (head_of commit.number clock) first.0 (message ∷ messages) rest
+              position machine all
+          (safe_on (Follows checked transactions place.slot)
+              (Between checked transactions (place_after (telling_of checked) place commit))
           (λ at last. SafeItems checked transactions place.slot at rest last) position (message ∷ messages) machine h
-          (λ at last reached. later (place_after (telling_of checked) place commit) at last reached (all_last (map (Carries (head_of commit.number clock)) (message ∷ messages)) rest all)))
+          (λ at last reached. later (place_after (telling_of checked) place commit) at last reached
+              (all_last (map (Carries (head_of commit.number clock)) (message ∷ messages)) rest all)))
 
   walk_safe : (moves : List Move) → Later moves
   walk_safe [] place position machine between sent = between_follows checked transactions place position machine between
   walk_safe (Take clock ∷ moves) place position machine between sent =
-      take_safe moves (λ at p m b s. walk_safe moves at p m b s) place clock position machine (slice_get (log_of checked transactions) place.done) refl between sent
+      take_safe moves (λ at p m b s. walk_safe moves at p m b s) place clock position machine
+          (slice_get (log_of checked transactions) place.done) refl between sent
   walk_safe (Keep clock want ∷ moves) place position machine between sent =
       let keepalive : Keepalive = record { position = place.sent; clock = clock; wants_reply = want } in
-      let bounds = All-head IsSentItem (Alive (record { position = place.sent; clock = clock; wants_reply = want })) (all_items checked (log_of checked transactions) place moves) sent in
-      let others = All-tail IsSentItem (Alive (record { position = place.sent; clock = clock; wants_reply = want })) (all_items checked (log_of checked transactions) place moves) sent in (
+      let bounds = All-head IsSentItem (Alive (record { position = place.sent; clock = clock; wants_reply = want }))
+          (all_items checked (log_of checked transactions) place moves) sent in
+      let others = All-tail IsSentItem (Alive (record { position = place.sent; clock = clock; wants_reply = want }))
+          (all_items checked (log_of checked transactions) place moves) sent in (
         between_follows checked transactions place position machine between,
-        ok_as (Ok (kept_alive (record { position = place.sent; clock = clock; wants_reply = want }) machine)) (hear_frame (frame_in (Alive (record { position = place.sent; clock = clock; wants_reply = want }))) machine)
-            (SafeItems checked transactions place.slot (max position place.sent) (all_items checked (log_of checked transactions) place moves))
-            (sym (kept_up (record { position = place.sent; clock = clock; wants_reply = want }) machine between.idle bounds))
-            (walk_safe moves place (max position place.sent) (kept_alive (record { position = place.sent; clock = clock; wants_reply = want }) machine)
-            (keepalive_between checked transactions published place position machine (kept_alive (record { position = place.sent; clock = clock; wants_reply = want }) machine) between
+        ok_as (Ok (kept_alive (record { position = place.sent; clock = clock; wants_reply = want }) machine))
+            (hear_frame (frame_in (Alive (record { position = place.sent; clock = clock; wants_reply = want })))
+            machine)
+            (SafeItems checked transactions place.slot (max position place.sent)
+                (all_items checked (log_of checked transactions) place moves))
+            (sym (kept_up (record { position = place.sent; clock = clock; wants_reply = want }) machine between.idle
+                bounds))
+            (walk_safe moves place (max position place.sent)
+                (kept_alive (record { position = place.sent; clock = clock; wants_reply = want }) machine)
+            (keepalive_between checked transactions published place position machine
+                (kept_alive (record { position = place.sent; clock = clock; wants_reply = want }) machine) between
             refl (ap (λ phase. raised phase place.sent machine.position) between.idle) refl refl refl refl) others),
       )
 
@@ -175,11 +230,13 @@ module _ (checked : CheckedOf) (transactions : List Transaction) (published : Is
 told_nothing : (count number : ℕ) → slice_index_or (replicate count false) number false ≡ false
 told_nothing count number = by_test (nat_lt number count)
     (λ within. get_or-replicate count number false false (ltb-true number count within))
-    (λ past. get_or_past (replicate count false) number false (omega (arith, ltb-false number count past, length-replicate count false)))
+    (λ past. get_or_past (replicate count false) number false
+        (omega (arith, ltb-false number count past, length-replicate count false)))
 
 pub first_sent : (position : ℕ) → count_before (if position == 0 then 64 else position) ≡ count_before position
 first_sent position = by_test (position == 0)
-    (λ zero. ap (λ b. count_before (if b then 64 else position)) zero ∙ sym (only_zero ((unsigned_Decides position 0).0 zero)))
+    (λ zero. ap (λ b. count_before (if b then 64 else position)) zero
+        ∙ sym (only_zero ((unsigned_Decides position 0).0 zero)))
     (λ more. ap (λ b. count_before (if b then 64 else position)) more)
   where
     only_zero : position ≡ 0 → count_before position ≡ count_before 64
@@ -191,16 +248,22 @@ pub record IsOpened (machine : Machine) : Type 0 where
   pub known : (oid : ℕ) → machine.known oid ≡ false
   pub work_is : (oid : ℕ) (key : List Datum) → machine.work oid key ≡ machine.rows oid key
 
-pub stream_safe : (checked : CheckedOf) (transactions : List Transaction) → IsPublished checked transactions → (subscriber : ℕ) (machine : Machine) → IsOpened machine
+pub stream_safe : (checked : CheckedOf) (transactions : List Transaction) → IsPublished checked transactions
+    → (subscriber : ℕ) (machine : Machine) → IsOpened machine
     → (position : ℕ) → Follows checked transactions subscriber position machine
-    → (moves : List Move) → All IsSentItem (stream_items checked (log_of checked transactions) subscriber position moves)
-    → SafeItems checked transactions subscriber position (stream_items checked (log_of checked transactions) subscriber position moves) machine
+    → (moves : List Move)
+    → All IsSentItem (stream_items checked (log_of checked transactions) subscriber position moves)
+    → SafeItems checked transactions subscriber position
+        (stream_items checked (log_of checked transactions) subscriber position moves) machine
 stream_safe checked transactions published subscriber machine at_start position follows moves sent = (
   follows,
   ok_as (Ok (started machine)) (hear_frame (frame_in Response) machine)
-      (SafeItems checked transactions subscriber position (all_items checked (log_of checked transactions) (place_at subscriber (length checked.catalog.tables) position) moves))
+      (SafeItems checked transactions subscriber position
+          (all_items checked (log_of checked transactions)
+          (place_at subscriber (length checked.catalog.tables) position) moves))
       (sym (ap (λ phase. hear_frame_in phase (frame_in Response) machine) at_start.waits))
-      (walk_safe checked transactions published moves (place_at subscriber (length checked.catalog.tables) position) position (started machine)
+      (walk_safe checked transactions published moves (place_at subscriber (length checked.catalog.tables) position)
+          position (started machine)
       (record {
         idle = refl;
         position_is = follows.position_is;
@@ -213,15 +276,22 @@ stream_safe checked transactions published subscriber machine at_start position 
         knows = record {
           flags = length-replicate (length checked.catalog.tables) false;
           known = λ number. at_start.known (oid_of number) ∙ sym (told_nothing (length checked.catalog.tables) number);
-          kept = λ number table there told. let nothing = told_nothing (length checked.catalog.tables) number in absurd cc;
+          kept = λ number table there told. let nothing = told_nothing (length checked.catalog.tables) number in
+              absurd cc;
         };
         relations = follows.relations;
       })
-      (All-tail IsSentItem Response (all_items checked (log_of checked transactions) (place_at subscriber (length checked.catalog.tables) position) moves) sent)),
+      (All-tail IsSentItem Response
+          (all_items checked (log_of checked transactions)
+          (place_at subscriber (length checked.catalog.tables) position) moves) sent)),
 )
 
 pub items_are_followed : ItemsAreFollowed
 items_are_followed checked transactions published subscriber machine follows moves sent items others e =
-    first_safe checked transactions subscriber items others (stream_items checked (log_of checked transactions) subscriber machine.position moves) machine.position (opened machine) e
-    (stream_safe checked transactions published subscriber (opened machine) (record { waits = refl; known = λ oid. refl; work_is = λ oid key. refl }) machine.position
-    (record { position_is = refl; within = follows.within; rows = follows.rows; relations = follows.relations }) moves sent)
+    first_safe checked transactions subscriber items others
+        (stream_items checked (log_of checked transactions) subscriber machine.position moves) machine.position
+        (opened machine) e
+    (stream_safe checked transactions published subscriber (opened machine)
+        (record { waits = refl; known = λ oid. refl; work_is = λ oid key. refl }) machine.position
+    (record { position_is = refl; within = follows.within; rows = follows.rows; relations = follows.relations }) moves
+        sent)

@@ -1,4 +1,5 @@
--- A subscriber within a transaction: what it shows stays, and what it staged is its shard of the tables as far as the transaction's commands were told.
+-- A subscriber within a transaction: what it shows stays, and what it staged is its shard of the tables as far as the
+-- transaction's commands were told.
 use Rattle.std.proofs.Common.{◌≡◌, ℕ, zero, suc, ◌<◌, Bool, true, false, List, [], ◌∷◌, length, take, refl, sym, ◌∙◌, ap, subst, arith}
 use Rattle.std.specs.Prelude.{Option, Some, None, ◌==◌, All, slice_get, slice_index_or}
 use Rattle.std.specs.Cmp.{unsigned_Decides}
@@ -15,7 +16,7 @@ use Rattle.copy_both.specs.Streams.{count_before}
 use Rattle.test_subscriber.specs.Hearing.{with_found, hear_in}
 use Rattle.test_subscriber.specs.Machine.{Rows, Machine}
 use Rattle.test_subscriber.specs.declared.phase.Phase.TheVariants.{Busy}
-use Rattle.stream_laws.specs.Finding.{FindsRows, in_shard, FindsShard}
+use Rattle.stream_laws.specs.ShardRows.{FindsRows, in_shard, FindsShard}
 use Rattle.stream_laws.specs.Following.{own_key, KeepsRelations, Follows}
 use Rattle.stream_laws.proofs.CommandSteps.{finds_alike}
 use Rattle.stream_laws.proofs.RelationSteps.{Knows, learns, told_same, told_other}
@@ -25,7 +26,8 @@ use Rattle.std.proofs.lemmas.Bool.{eqb-true}
 use Rattle.stream_laws.proofs.EntryLemmas.{past_end}
 
 -- the number of a table that was told stays told
-pub record Inside (checked : CheckedOf) (subscriber begin : ℕ) (outer : Machine) (told : List Bool) (tables : Tables) (machine : Machine) : Type 0 where
+pub record Inside (checked : CheckedOf) (subscriber begin : ℕ) (outer : Machine) (told : List Bool) (tables : Tables)
+    (machine : Machine) : Type 0 where
   pub busy : machine.phase ≡ Busy begin
   pub position : machine.position ≡ outer.position
   pub rows : machine.rows ≡ outer.rows
@@ -33,12 +35,18 @@ pub record Inside (checked : CheckedOf) (subscriber begin : ℕ) (outer : Machin
   pub relations : KeepsRelations checked machine
   pub work : FindsShard (setting_in checked) (own_key checked) subscriber (λ table. machine.work (oid_of table)) tables
 
-pub inside_follows : (checked : CheckedOf) (transactions : List Transaction) (subscriber begin position : ℕ) (outer : Machine) (told : List Bool) (tables : Tables) (machine : Machine)
-    → Follows checked transactions subscriber position outer → Inside checked subscriber begin outer told tables machine → Follows checked transactions subscriber position machine
+pub inside_follows : (checked : CheckedOf) (transactions : List Transaction) (subscriber begin position : ℕ)
+    (outer : Machine) (told : List Bool) (tables : Tables) (machine : Machine)
+    → Follows checked transactions subscriber position outer
+    → Inside checked subscriber begin outer told tables machine
+    → Follows checked transactions subscriber position machine
 inside_follows checked transactions subscriber begin position outer told tables machine follows inside = record {
   position_is = inside.position ∙ follows.position_is;
   within = follows.within;
-  rows = λ table. let P : Rows → Type 0 = λ rows. FindsRows (own_key checked table) (rows (oid_of table)) (in_shard (setting_in checked) subscriber (after (setting_in checked) (take (count_before position) transactions)) table) in
+  rows = λ table. let P : Rows → Type 0 =
+      λ rows. FindsRows (own_key checked table) (rows (oid_of table))
+      (in_shard (setting_in checked) subscriber
+      (after (setting_in checked) (take (count_before position) transactions)) table) in
       subst P (sym inside.rows) (follows.rows table);
   relations = inside.relations;
 }
@@ -49,16 +57,20 @@ AllTold told [] = Unit {0}
 AllTold told (number ∷ numbers) = (slice_index_or told number false ≡ true) × AllTold told numbers
 
 -- a table that was told stays told
-stays_told_one : (told : List Bool) (number other : ℕ) → number < length told → slice_index_or told other false ≡ true → slice_index_or (told_one told number) other false ≡ true
+stays_told_one : (told : List Bool) (number other : ℕ) → number < length told → slice_index_or told other false ≡ true
+    → slice_index_or (told_one told number) other false ≡ true
 stays_told_one told number other less h = by_test (other == number)
-    (λ here. ap (λ n. slice_index_or (told_one told number) n false) (eqb-true other number here) ∙ told_same told number less)
+    (λ here. ap (λ n. slice_index_or (told_one told number) n false) (eqb-true other number here)
+        ∙ told_same told number less)
     (λ beside. told_other told number other beside ∙ h)
 
-still_told_one : (told : List Bool) (number other : ℕ) → slice_index_or told number false ≡ true → slice_index_or (told_one told number) other false ≡ slice_index_or told other false
+still_told_one : (told : List Bool) (number other : ℕ) → slice_index_or told number false ≡ true
+    → slice_index_or (told_one told number) other false ≡ slice_index_or told other false
 still_told_one told number other h = by_test (other == number)
     (λ here.
     let same : other ≡ number = eqb-true other number here in
-    ap (λ n. slice_index_or (told_one told number) n false) same ∙ told_same told number (within told number h) ∙ sym h ∙ ap (λ n. slice_index_or told n false) (sym same))
+    ap (λ n. slice_index_or (told_one told number) n false) same ∙ told_same told number (within told number h)
+        ∙ sym h ∙ ap (λ n. slice_index_or told n false) (sym same))
     (λ beside. told_other told number other beside)
   where
     within : (flags : List Bool) (n : ℕ) → slice_index_or flags n false ≡ true → n < length flags
@@ -66,21 +78,27 @@ still_told_one told number other h = by_test (other == number)
     within (flag ∷ flags) zero e = omega arith
     within (flag ∷ flags) (suc n) e = let less : n < length flags = within flags n e in omega (arith, less)
 
-pub told_stays : (told : List Bool) (numbers : List ℕ) (count other : ℕ) → length told ≡ count → All (λ number. number < count) numbers
+pub told_stays : (told : List Bool) (numbers : List ℕ) (count other : ℕ) → length told ≡ count
+    → All (λ number. number < count) numbers
     → slice_index_or told other false ≡ true → slice_index_or (told_all told numbers) other false ≡ true
 unfolding told_all
 told_stays told [] count other long within h = h
 told_stays told (number ∷ numbers) count other long within h =
-    told_stays (told_one told number) numbers count other (length-set told number true ∙ long) (All-tail (λ n. n < count) number numbers within)
-    (stays_told_one told number other (subst (λ c. number < c) (sym long) (All-head (λ n. n < count) number numbers within)) h)
+    told_stays (told_one told number) numbers count other (length-set told number true ∙ long)
+        (All-tail (λ n. n < count) number numbers within)
+    (stays_told_one told number other
+        (subst (λ c. number < c) (sym long) (All-head (λ n. n < count) number numbers within)) h)
 
-pub all_are_told : (told : List Bool) (numbers : List ℕ) (count : ℕ) → length told ≡ count → All (λ number. number < count) numbers → AllTold (told_all told numbers) numbers
+pub all_are_told : (told : List Bool) (numbers : List ℕ) (count : ℕ) → length told ≡ count
+    → All (λ number. number < count) numbers → AllTold (told_all told numbers) numbers
 unfolding told_all
 all_are_told told [] count long within = tt
 all_are_told told (number ∷ numbers) count long within =
-    let less : number < length told = subst (λ c. number < c) (sym long) (All-head (λ n. n < count) number numbers within) in
+    let less : number < length told =
+        subst (λ c. number < c) (sym long) (All-head (λ n. n < count) number numbers within) in
     let others = All-tail (λ n. n < count) number numbers within in (
-      told_stays (told_one told number) numbers count number (length-set told number true ∙ long) others (told_same told number less),
+      told_stays (told_one told number) numbers count number (length-set told number true ∙ long) others
+          (told_same told number less),
       all_are_told (told_one told number) numbers count (length-set told number true ∙ long) others,
     )
 
@@ -88,18 +106,23 @@ all_are_told told (number ∷ numbers) count long within =
 
 module _ (checked : CheckedOf) (transactions : List Transaction) (subscriber begin position : ℕ) (outer : Machine)
     (follows : Follows checked transactions subscriber position outer) (tables : Tables) where
-  pub good : (told : List Bool) (machine : Machine) → Inside checked subscriber begin outer told tables machine → Follows checked transactions subscriber position machine
-  good told machine inside = inside_follows checked transactions subscriber begin position outer told tables machine follows inside
+  pub good : (told : List Bool) (machine : Machine) → Inside checked subscriber begin outer told tables machine
+      → Follows checked transactions subscriber position machine
+  good told machine inside =
+      inside_follows checked transactions subscriber begin position outer told tables machine follows inside
 
   -- the Relation of a table that wasn't told
-  new_relation : (told : List Bool) (number : ℕ) (found : Option Table) (machine : Machine) → slice_get checked.catalog.tables number ≡ found → number < length told
+  new_relation : (told : List Bool) (number : ℕ) (found : Option Table) (machine : Machine)
+      → slice_get checked.catalog.tables number ≡ found → number < length told
       → Inside checked subscriber begin outer told tables machine
       → Safe (Follows checked transactions subscriber) position (relation_at number found) machine
       (λ at next. (at ≡ position) × Inside checked subscriber begin outer (told_one told number) tables next)
-  new_relation told number None machine e less inside = absurd (let past = past_end checked.catalog.tables number e in omega (arith, past, less, inside.knows.flags))
+  new_relation told number None machine e less inside =
+      absurd (let past = past_end checked.catalog.tables number e in omega (arith, past, less, inside.knows.flags))
   new_relation told number (Some table) machine e less inside =
       let learnt = learns checked told machine number table e less inside.knows inside.relations in
-      safe_heard (Follows checked transactions subscriber) (λ at next. (at ≡ position) × Inside checked subscriber begin outer (told_one told number) tables next)
+      safe_heard (Follows checked transactions subscriber)
+          (λ at next. (at ≡ position) × Inside checked subscriber begin outer (told_one told number) tables next)
       position (m.Relation (relation_of number table)) [] machine learnt.next (good told machine inside)
       (ap (λ phase. hear_in phase (m.Relation (relation_of number table)) machine) inside.busy ∙ learnt.heard) (
         refl,
@@ -109,13 +132,16 @@ module _ (checked : CheckedOf) (transactions : List Transaction) (subscriber beg
           rows = learnt.rows ∙ inside.rows;
           knows = learnt.knows;
           relations = learnt.relations;
-          work = λ table. let P : Rows → Type 0 = λ work. FindsRows (own_key checked table) (work (oid_of table)) (in_shard (setting_in checked) subscriber tables table) in
+          work = λ table. let P : Rows → Type 0 =
+              λ work. FindsRows (own_key checked table) (work (oid_of table))
+              (in_shard (setting_in checked) subscriber tables table) in
               subst P (sym learnt.work) (inside.work table);
         },
       )
 
   -- a table that was told before
-  no_relation : (told : List Bool) (number : ℕ) (machine : Machine) → slice_index_or told number false ≡ true → Inside checked subscriber begin outer told tables machine
+  no_relation : (told : List Bool) (number : ℕ) (machine : Machine) → slice_index_or told number false ≡ true
+      → Inside checked subscriber begin outer told tables machine
       → Inside checked subscriber begin outer (told_one told number) tables machine
   no_relation told number machine flag inside = record {
     busy = inside.busy;
@@ -124,42 +150,56 @@ module _ (checked : CheckedOf) (transactions : List Transaction) (subscriber beg
     knows = record {
       flags = length-set told number true ∙ inside.knows.flags;
       known = λ other. inside.knows.known other ∙ sym (still_told_one told number other flag);
-      kept = λ other table there told_too. inside.knows.kept other table there (sym (still_told_one told number other flag) ∙ told_too);
+      kept = λ other table there told_too. inside.knows.kept other table there
+          (sym (still_told_one told number other flag) ∙ told_too);
     };
     relations = inside.relations;
     work = inside.work;
   }
 
-  one_relation : (told : List Bool) (number : ℕ) (machine : Machine) (flag : Bool) → slice_index_or told number false ≡ flag → number < length told
+  one_relation : (told : List Bool) (number : ℕ) (machine : Machine) (flag : Bool)
+      → slice_index_or told number false ≡ flag → number < length told
       → Inside checked subscriber begin outer told tables machine
       → Safe (Follows checked transactions subscriber) position (introduced checked.catalog.tables flag number) machine
       (λ at next. (at ≡ position) × Inside checked subscriber begin outer (told_one told number) tables next)
   one_relation told number machine true e less inside = (refl, no_relation told number machine e inside)
-  one_relation told number machine false e less inside = new_relation told number (slice_get checked.catalog.tables number) machine refl less inside
+  one_relation told number machine false e less inside =
+      new_relation told number (slice_get checked.catalog.tables number) machine refl less inside
 
-  pub relations_safe : (numbers : List ℕ) (told : List Bool) (machine : Machine) → All (λ number. number < length checked.catalog.tables) numbers
+  pub relations_safe : (numbers : List ℕ) (told : List Bool) (machine : Machine)
+      → All (λ number. number < length checked.catalog.tables) numbers
       → Inside checked subscriber begin outer told tables machine
-      → Safe (Follows checked transactions subscriber) position (relations_of checked.catalog.tables told numbers) machine
+      → Safe (Follows checked transactions subscriber) position (relations_of checked.catalog.tables told numbers)
+          machine
       (λ at next. (at ≡ position) × Inside checked subscriber begin outer (told_all told numbers) tables next)
   unfolding relations_of relation_once told_all
   relations_safe [] told machine within inside = (refl, inside)
   relations_safe (number ∷ numbers) told machine within inside =
-      let less : number < length told = subst (λ c. number < c) (sym inside.knows.flags) (All-head (λ n. n < length checked.catalog.tables) number numbers within) in
+      let less : number < length told =
+          subst (λ c. number < c) (sym inside.knows.flags)
+          (All-head (λ n. n < length checked.catalog.tables) number numbers within) in
       safe_both (Follows checked transactions subscriber)
-      (λ at next. (at ≡ position) × Inside checked subscriber begin outer (told_all (told_one told number) numbers) tables next)
+      (λ at next. (at ≡ position)
+          × Inside checked subscriber begin outer (told_all (told_one told number) numbers) tables next)
       (Inside checked subscriber begin outer (told_one told number) tables)
-      position (introduced checked.catalog.tables (slice_index_or told number false) number) (relations_of checked.catalog.tables (told_one told number) numbers) machine
+      position (introduced checked.catalog.tables (slice_index_or told number false) number)
+          (relations_of checked.catalog.tables (told_one told number) numbers) machine
       (one_relation told number machine (slice_index_or told number false) refl less inside)
-      (λ next reached. relations_safe numbers (told_one told number) next (All-tail (λ n. n < length checked.catalog.tables) number numbers within) reached)
+      (λ next reached. relations_safe numbers (told_one told number) next
+          (All-tail (λ n. n < length checked.catalog.tables) number numbers within) reached)
 
 -- ---- what is staged
 
 -- another copy of one table, where the shard changes in that table alone
-pub staged_inside : (checked : CheckedOf) (subscriber begin : ℕ) (outer : Machine) (told : List Bool) (before after : Tables) (machine : Machine) (number : ℕ) (found : Found)
+pub staged_inside : (checked : CheckedOf) (subscriber begin : ℕ) (outer : Machine) (told : List Bool)
+    (before after : Tables) (machine : Machine) (number : ℕ) (found : Found)
     → Inside checked subscriber begin outer told before machine
     → FindsRows (own_key checked number) found (in_shard (setting_in checked) subscriber after number)
-    → ((other : ℕ) → (number == other) ≡ false → FindsRows (own_key checked other) (machine.work (oid_of other)) (in_shard (setting_in checked) subscriber after other))
-    → Inside checked subscriber begin outer told after (record machine { work = with_found machine.work (oid_of number) found })
+    → ((other : ℕ) → (number == other) ≡ false
+    → FindsRows (own_key checked other) (machine.work (oid_of other))
+        (in_shard (setting_in checked) subscriber after other))
+    → Inside checked subscriber begin outer told after
+        (record machine { work = with_found machine.work (oid_of number) found })
 staged_inside checked subscriber begin outer told before after machine number found inside here beside = record {
   busy = inside.busy;
   position = inside.position;
@@ -169,12 +209,16 @@ staged_inside checked subscriber begin outer told before after machine number fo
   work = λ other. by_test (number == other)
       (λ same.
       let numbers : number ≡ other = eqb-true number other same in
-      let oids : (oid_of other == oid_of number) ≡ true = (unsigned_Decides (oid_of other) (oid_of number)).1 (ap oid_of (sym numbers)) in
-      finds_alike (own_key checked other) found (with_found machine.work (oid_of number) found (oid_of other)) (in_shard (setting_in checked) subscriber after other)
+      let oids : (oid_of other == oid_of number) ≡ true =
+          (unsigned_Decides (oid_of other) (oid_of number)).1 (ap oid_of (sym numbers)) in
+      finds_alike (own_key checked other) found (with_found machine.work (oid_of number) found (oid_of other))
+          (in_shard (setting_in checked) subscriber after other)
       (subst (λ n. FindsRows (own_key checked n) found (in_shard (setting_in checked) subscriber after n)) numbers here)
       (λ key. rw oids refl))
       (λ differ.
-      finds_alike (own_key checked other) (machine.work (oid_of other)) (with_found machine.work (oid_of number) found (oid_of other)) (in_shard (setting_in checked) subscriber after other)
+      finds_alike (own_key checked other) (machine.work (oid_of other))
+          (with_found machine.work (oid_of number) found (oid_of other))
+          (in_shard (setting_in checked) subscriber after other)
       (beside other differ) (λ key. rw (oids_differ number other differ) refl));
 }
   where
@@ -187,7 +231,8 @@ staged_inside checked subscriber begin outer told before after machine number fo
         (λ differ. differ)
 
 -- nothing is staged where the shard stays as it is
-pub stays_inside : (checked : CheckedOf) (subscriber begin : ℕ) (outer : Machine) (told : List Bool) (before after : Tables) (machine : Machine)
+pub stays_inside : (checked : CheckedOf) (subscriber begin : ℕ) (outer : Machine) (told : List Bool)
+    (before after : Tables) (machine : Machine)
     → Inside checked subscriber begin outer told before machine
     → FindsShard (setting_in checked) (own_key checked) subscriber (λ table. machine.work (oid_of table)) after
     → Inside checked subscriber begin outer told after machine

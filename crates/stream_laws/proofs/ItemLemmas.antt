@@ -15,10 +15,12 @@ use Rattle.stream_laws.specs.Items.{Item, Carries, spelled, head_of, take_items,
 
 spelled_both : (xs ys : List Item) → flat_map spelled (xs ++ ys) ≡ flat_map spelled xs ++ flat_map spelled ys
 spelled_both [] ys = refl
-spelled_both (x ∷ xs) ys = ap (λ rest. spelled x ++ rest) (spelled_both xs ys) ∙ sym (append_assoc (spelled x) (flat_map spelled xs) (flat_map spelled ys))
+spelled_both (x ∷ xs) ys = ap (λ rest. spelled x ++ rest) (spelled_both xs ys)
+    ∙ sym (append_assoc (spelled x) (flat_map spelled xs) (flat_map spelled ys))
 
 messages_spelled : (number clock : ℕ) (messages : List Msg)
-    → flat_map (sent_at (lsn_of number) clock) (map spelling_of messages) ≡ flat_map spelled (map (Carries (head_of number clock)) messages)
+    → flat_map (sent_at (lsn_of number) clock) (map spelling_of messages)
+        ≡ flat_map spelled (map (Carries (head_of number clock)) messages)
 messages_spelled number clock [] = refl
 messages_spelled number clock (message ∷ messages) =
     ap (λ rest. sent_at (lsn_of number) clock (spelling_of message) ++ rest) (messages_spelled number clock messages)
@@ -26,12 +28,14 @@ messages_spelled number clock (message ∷ messages) =
 take_spelled : (checked : CheckedOf) (place : Place) (found : Option CommitOf) (clock : ℕ)
     → taken_bytes (telling_of checked) place found clock ≡ flat_map spelled (take_items checked place found clock)
 take_spelled checked place None clock = refl
-take_spelled checked place (Some commit) clock = messages_spelled commit.number clock (messages_for checked place.slot place.told commit)
+take_spelled checked place (Some commit) clock =
+    messages_spelled commit.number clock (messages_for checked place.slot place.told commit)
 
 move_spelled : (checked : CheckedOf) (log : List CommitOf) (place : Place) (move : Move)
     → move_bytes (telling_of checked) log place move ≡ flat_map spelled (move_items checked log place move)
 move_spelled checked log place (Take clock) = take_spelled checked place (slice_get log place.done) clock
-move_spelled checked log place (Keep clock want) = sym (append-nil (move_bytes (telling_of checked) log place (Keep clock want)))
+move_spelled checked log place (Keep clock want) =
+    sym (append-nil (move_bytes (telling_of checked) log place (Keep clock want)))
 
 moves_spelled : (checked : CheckedOf) (log : List CommitOf) (place : Place) (moves : List Move)
     → all_bytes (telling_of checked) log place moves ≡ flat_map spelled (all_items checked log place moves)
@@ -44,4 +48,5 @@ moves_spelled checked log place (move ∷ moves) =
 
 pub streams_are_items : StreamsAreItems
 streams_are_items checked log subscriber position moves =
-    ap (λ bytes. copy_both_response ++ bytes) (moves_spelled checked log (place_at subscriber (length checked.catalog.tables) position) moves)
+    ap (λ bytes. copy_both_response ++ bytes)
+        (moves_spelled checked log (place_at subscriber (length checked.catalog.tables) position) moves)

@@ -13,7 +13,7 @@ pub mod KeyLemmas
 pub mod NamedLemmas
 pub mod RelationSteps
 pub mod Safety
-pub mod SayableLemmas
+pub mod LayoutRoomLemmas
 pub mod SentItems
 pub mod StartAnswered
 pub mod StartLengths

@@ -41,19 +41,23 @@ column_itself : (column : RelationColumn) → same_column column column ≡ true
 column_itself column =
     and_from (beq column.is_key column.is_key) _ ((booleans_Decides column.is_key column.is_key).1 refl)
     (and_from _ _ ((bytes_eq-Decides column.name column.name).1 refl)
-    (and_from (nat_eq column.type_oid column.type_oid) (int_eq column.type_modifier column.type_modifier) (eq-eqb column.type_oid column.type_oid refl)
+    (and_from (nat_eq column.type_oid column.type_oid) (int_eq column.type_modifier column.type_modifier)
+        (eq-eqb column.type_oid column.type_oid refl)
     ((Decides-int_eq column.type_modifier column.type_modifier).1 refl)))
 
 columns_itself : (columns : List RelationColumn) → same_columns columns columns ≡ true
 columns_itself [] = refl
-columns_itself (column ∷ columns) = and_from (same_column column column) (same_columns columns columns) (column_itself column) (columns_itself columns)
+columns_itself (column ∷ columns) =
+    and_from (same_column column column) (same_columns columns columns) (column_itself column)
+    (columns_itself columns)
 
 relation_itself : (relation : Relation) → same_relation relation relation ≡ true
 relation_itself relation =
     and_from (nat_eq relation.oid relation.oid) _ (eq-eqb relation.oid relation.oid refl)
     (and_from _ _ ((bytes_eq-Decides relation.namespace relation.namespace).1 refl)
     (and_from _ _ ((bytes_eq-Decides relation.name relation.name).1 refl)
-    (and_from (same_identity relation.identity relation.identity) (same_columns relation.columns relation.columns) (identity_itself relation.identity)
+    (and_from (same_identity relation.identity relation.identity) (same_columns relation.columns relation.columns)
+        (identity_itself relation.identity)
     (columns_itself relation.columns))))
 
 -- ---- what a Relation says
@@ -65,7 +69,8 @@ kind_back BigInt = refl
 kind_back Boolean = refl
 kind_back Text = refl
 
-kinds_back : (table : Table) (number : ℕ) (columns : List Column) → kinds_of (columns_from table number columns) ≡ Some (back.kinds_of columns)
+kinds_back : (table : Table) (number : ℕ) (columns : List Column)
+    → kinds_of (columns_from table number columns) ≡ Some (back.kinds_of columns)
 kinds_back table number [] = refl
 kinds_back table number (column ∷ columns) =
     ap (λ kind. with_kind kind (kinds_of (columns_from table (number + 1) columns))) (kind_back column.kind)
@@ -76,7 +81,9 @@ abbrev pub shape_for : ℕ → Table → TableShape
 shape_for number table = shaped (relation_of number table) (back.kinds_of table.columns)
 
 pub has_shape : (number : ℕ) (table : Table) → shape_of (relation_of number table) ≡ Some (shape_for number table)
-has_shape number table = ap (option_map (λ (kinds : List ColType). shaped (relation_of number table) kinds)) (kinds_back table 0 table.columns)
+has_shape number table =
+    ap (option_map (λ (kinds : List ColType). shaped (relation_of number table) kinds))
+    (kinds_back table 0 table.columns)
 
 -- ---- which tables it was told of
 
@@ -84,7 +91,8 @@ has_shape number table = ap (option_map (λ (kinds : List ColType). shaped (rela
 pub record Knows (checked : CheckedOf) (told : List Bool) (machine : Machine) : Type 0 where
   pub flags : length told ≡ length checked.catalog.tables
   pub known : (number : ℕ) → machine.known (oid_of number) ≡ slice_index_or told number false
-  pub kept : (number : ℕ) (table : Table) → slice_get checked.catalog.tables number ≡ Some table → slice_index_or told number false ≡ true
+  pub kept : (number : ℕ) (table : Table) → slice_get checked.catalog.tables number ≡ Some table
+      → slice_index_or told number false ≡ true
       → machine.kept (oid_of number) ≡ Some (shape_for number table)
 
 oid_differs : (one other : ℕ) → (one == other) ≡ false → (oid_of one == oid_of other) ≡ false
@@ -95,10 +103,12 @@ oid_differs one other h = by_test (oid_of one == oid_of other)
     cc))
     (λ differ. differ)
 
-pub told_same : (told : List Bool) (number : ℕ) → number < length told → slice_index_or (told_one told number) number false ≡ true
+pub told_same : (told : List Bool) (number : ℕ) → number < length told
+    → slice_index_or (told_one told number) number false ≡ true
 told_same told number less = get_or-set_same told number true false less
 
-pub told_other : (told : List Bool) (number other : ℕ) → (other == number) ≡ false → slice_index_or (told_one told number) other false ≡ slice_index_or told other false
+pub told_other : (told : List Bool) (number other : ℕ) → (other == number) ≡ false
+    → slice_index_or (told_one told number) other false ≡ slice_index_or told other false
 told_other told number other h = get_or-set_other told number other true false
     (λ same. let here : (other == number) ≡ true = (unsigned_Decides other number).1 same in absurd cc)
 
@@ -115,55 +125,76 @@ pub record Learns (checked : CheckedOf) (told : List Bool) (old : Machine) (rela
   pub knows : Knows checked told next
   pub relations : KeepsRelations checked next
 
-knows_more : (checked : CheckedOf) (told : List Bool) (machine next : Machine) (number : ℕ) → number < length told → Knows checked told machine
-    → next.known ≡ knows machine (oid_of number) → (other : ℕ) → next.known (oid_of other) ≡ slice_index_or (told_one told number) other false
-knows_more checked told machine next number less known is other = ap (λ (f : ℕ → Bool). f (oid_of other)) is ∙ by_test (other == number)
+knows_more : (checked : CheckedOf) (told : List Bool) (machine next : Machine) (number : ℕ) → number < length told
+    → Knows checked told machine
+    → next.known ≡ knows machine (oid_of number) → (other : ℕ)
+    → next.known (oid_of other) ≡ slice_index_or (told_one told number) other false
+knows_more checked told machine next number less known is other = ap (λ (f : ℕ → Bool). f (oid_of other)) is
+    ∙ by_test (other == number)
     (λ here.
     let same : other ≡ number = (unsigned_Decides other number).0 here in
-    let oids : (oid_of other == oid_of number) ≡ true = (unsigned_Decides (oid_of other) (oid_of number)).1 (ap oid_of same) in
-    ap (λ b. b || machine.known (oid_of other)) oids ∙ sym (told_same told number less) ∙ ap (λ n. slice_index_or (told_one told number) n false) (sym same))
-    (λ beside. ap (λ b. b || machine.known (oid_of other)) (oid_differs other number beside) ∙ known.known other ∙ sym (told_other told number other beside))
+    let oids : (oid_of other == oid_of number) ≡ true =
+        (unsigned_Decides (oid_of other) (oid_of number)).1 (ap oid_of same) in
+    ap (λ b. b || machine.known (oid_of other)) oids ∙ sym (told_same told number less)
+        ∙ ap (λ n. slice_index_or (told_one told number) n false) (sym same))
+    (λ beside. ap (λ b. b || machine.known (oid_of other)) (oid_differs other number beside) ∙ known.known other
+        ∙ sym (told_other told number other beside))
 
 shape_is : (one other : TableShape) → Some one ≡ Some other → one ≡ other
 shape_is one other h = cc
 
-same_flags : (checked : CheckedOf) (told : List Bool) (number : ℕ) → length told ≡ length checked.catalog.tables → length (told_one told number) ≡ length checked.catalog.tables
+same_flags : (checked : CheckedOf) (told : List Bool) (number : ℕ) → length told ≡ length checked.catalog.tables
+    → length (told_one told number) ≡ length checked.catalog.tables
 same_flags checked told number h = length-set told number true ∙ h
 
-pub learns : (checked : CheckedOf) (told : List Bool) (machine : Machine) (number : ℕ) (table : Table) → slice_get checked.catalog.tables number ≡ Some table → number < length told
-    → Knows checked told machine → KeepsRelations checked machine → Learns checked (told_one told number) machine (relation_of number table)
+pub learns : (checked : CheckedOf) (told : List Bool) (machine : Machine) (number : ℕ) (table : Table)
+    → slice_get checked.catalog.tables number ≡ Some table → number < length told
+    → Knows checked told machine → KeepsRelations checked machine
+    → Learns checked (told_one told number) machine (relation_of number table)
 learns checked told machine number table there less known keeps_all = by_kept (machine.kept (oid_of number)) refl
   where
     kept_after : (next : Machine) → next.kept (oid_of number) ≡ Some (shape_for number table)
         → ((other : ℕ) → (other == number) ≡ false → next.kept (oid_of other) ≡ machine.kept (oid_of other))
-        → (other : ℕ) (another : Table) → slice_get checked.catalog.tables other ≡ Some another → slice_index_or (told_one told number) other false ≡ true
+        → (other : ℕ) (another : Table) → slice_get checked.catalog.tables other ≡ Some another
+        → slice_index_or (told_one told number) other false ≡ true
         → next.kept (oid_of other) ≡ Some (shape_for other another)
     kept_after next here elsewhere other another at flag = by_test (other == number)
         (λ same.
         let numbers : other ≡ number = (unsigned_Decides other number).0 same in
-        let tables : table ≡ another = same_Some table another (sym there ∙ ap (slice_get checked.catalog.tables) (sym numbers) ∙ at) in
-        ap (λ n. next.kept (oid_of n)) numbers ∙ here ∙ ap (λ n. Some (shape_for n table)) (sym numbers) ∙ ap (λ (t : Table). Some (shape_for other t)) tables)
-        (λ beside. elsewhere other beside ∙ known.kept other another at (sym (told_other told number other beside) ∙ flag))
+        let tables : table ≡ another =
+            same_Some table another (sym there ∙ ap (slice_get checked.catalog.tables) (sym numbers) ∙ at) in
+        ap (λ n. next.kept (oid_of n)) numbers ∙ here ∙ ap (λ n. Some (shape_for n table)) (sym numbers)
+            ∙ ap (λ (t : Table). Some (shape_for other t)) tables)
+        (λ beside. elsewhere other beside
+            ∙ known.kept other another at (sym (told_other told number other beside) ∙ flag))
 
     relations_after : (next : Machine) → next.kept (oid_of number) ≡ Some (shape_for number table)
-        → ((other : ℕ) → (other == number) ≡ false → next.kept (oid_of other) ≡ machine.kept (oid_of other)) → KeepsRelations checked next
+        → ((other : ℕ) → (other == number) ≡ false → next.kept (oid_of other) ≡ machine.kept (oid_of other))
+        → KeepsRelations checked next
     relations_after next here elsewhere other another shape at h = by_test (other == number)
         (λ same.
         let numbers : other ≡ number = (unsigned_Decides other number).0 same in
-        let tables : table ≡ another = same_Some table another (sym there ∙ ap (slice_get checked.catalog.tables) (sym numbers) ∙ at) in
-        let shapes : Some (shape_for number table) ≡ Some shape = sym here ∙ ap (λ n. next.kept (oid_of n)) (sym numbers) ∙ h in
-        ap (λ n. shape_of (relation_of n another)) numbers ∙ ap (λ (t : Table). shape_of (relation_of number t)) (sym tables) ∙ has_shape number table ∙ shapes)
+        let tables : table ≡ another =
+            same_Some table another (sym there ∙ ap (slice_get checked.catalog.tables) (sym numbers) ∙ at) in
+        let shapes : Some (shape_for number table) ≡ Some shape = sym here
+            ∙ ap (λ n. next.kept (oid_of n)) (sym numbers) ∙ h in
+        ap (λ n. shape_of (relation_of n another)) numbers
+            ∙ ap (λ (t : Table). shape_of (relation_of number t)) (sym tables) ∙ has_shape number table ∙ shapes)
         (λ beside. keeps_all other another shape at (sym (elsewhere other beside) ∙ h))
 
-    by_kept : (found : Option TableShape) → machine.kept (oid_of number) ≡ found → Learns checked (told_one told number) machine (relation_of number table)
+    by_kept : (found : Option TableShape) → machine.kept (oid_of number) ≡ found
+        → Learns checked (told_one told number) machine (relation_of number table)
     by_kept None e =
         let next : Machine = learned (oid_of number) (shape_for number table) machine in
-        let here : next.kept (oid_of number) ≡ Some (shape_for number table) = rw (eq-eqb (oid_of number) (oid_of number) refl) refl in
-        let elsewhere : (other : ℕ) → (other == number) ≡ false → next.kept (oid_of other) ≡ machine.kept (oid_of other) =
+        let here : next.kept (oid_of number) ≡ Some (shape_for number table) =
+            rw (eq-eqb (oid_of number) (oid_of number) refl) refl in
+        let elsewhere : (other : ℕ) → (other == number) ≡ false
+            → next.kept (oid_of other) ≡ machine.kept (oid_of other) =
         λ other beside. rw (oid_differs other number beside) refl in
         record {
           next = next;
-          heard = ap (λ found. learn_as found (relation_of number table) machine) e ∙ ap (λ shape. learn_new shape (oid_of number) machine) (has_shape number table);
+          heard = ap (λ found. learn_as found (relation_of number table) machine) e
+              ∙ ap (λ shape. learn_new shape (oid_of number) machine) (has_shape number table);
           phase = refl;
           position = refl;
           rows = refl;
@@ -177,11 +208,13 @@ learns checked told machine number table there less known keeps_all = by_kept (m
         }
     by_kept (Some shape) e =
         let says : shape_of (relation_of number table) ≡ Some shape = keeps_all number table shape there e in
-        let is : shape_for number table ≡ shape = shape_is (shape_for number table) shape (sym (has_shape number table) ∙ says) in
+        let is : shape_for number table ≡ shape =
+            shape_is (shape_for number table) shape (sym (has_shape number table) ∙ says) in
         let next : Machine = recognized (oid_of number) machine in
         let here : next.kept (oid_of number) ≡ Some (shape_for number table) = e ∙ ap Some (sym is) in
         let same : same_relation shape.relation (relation_of number table) ≡ true =
-        ap (λ (s : TableShape). same_relation s.relation (relation_of number table)) (sym is) ∙ relation_itself (relation_of number table) in
+        ap (λ (s : TableShape). same_relation s.relation (relation_of number table)) (sym is)
+            ∙ relation_itself (relation_of number table) in
         record {
           next = next;
           heard = ap (λ found. learn_as found (relation_of number table) machine) e ∙ rw same refl;

@@ -31,7 +31,8 @@ same_bytes : (bytes : List ℕ) → bytes_eq bytes bytes ≡ true
 same_bytes [] = refl
 same_bytes (b ∷ bytes) = rw (eq-eqb b b refl, same_bytes bytes) refl
 
-any_at : {X : Type 0} (p : X → Bool) (before : List X) (x : X) (after : List X) → p x ≡ true → list_any p (before ++ (x ∷ after)) ≡ true
+any_at : {X : Type 0} (p : X → Bool) (before : List X) (x : X) (after : List X) → p x ≡ true
+    → list_any p (before ++ (x ∷ after)) ≡ true
 any_at p [] x after e = rw e refl
 any_at p (y ∷ before) x after e = rw (any_at p before x after e) (or_true (p y))
 
@@ -47,61 +48,80 @@ module _ (publications : List (PublicationOf Expr)) where
   abbrev IsKnown : ℕ → Type 0
   IsKnown number = number < length publications
 
-name_at : (publications : List (PublicationOf Expr)) (number : ℕ) → number < length publications → slice_get (known publications) number ≡ Some (called publications number)
+name_at : (publications : List (PublicationOf Expr)) (number : ℕ) → number < length publications
+    → slice_get (known publications) number ≡ Some (called publications number)
 name_at [] number less = absurd (omega (arith, less))
 name_at (p ∷ publications) zero less = refl
 name_at (p ∷ publications) (suc number) less = name_at publications number (omega (arith, less))
 
-name_known : (publications : List (PublicationOf Expr)) (number : ℕ) → number < length publications → list_any (bytes_eq (called publications number)) (known publications) ≡ true
+name_known : (publications : List (PublicationOf Expr)) (number : ℕ) → number < length publications
+    → list_any (bytes_eq (called publications number)) (known publications) ≡ true
 name_known [] number less = absurd (omega (arith, less))
 name_known (p ∷ publications) zero less = rw (same_bytes p.name) refl
-name_known (p ∷ publications) (suc number) less = rw (name_known publications number (omega (arith, less))) (or_true (bytes_eq (called publications number) p.name))
+name_known (p ∷ publications) (suc number) less =
+    rw (name_known publications number (omega (arith, less))) (or_true (bytes_eq (called publications number) p.name))
 
-name_is_plain : (publications : List (PublicationOf Expr)) (number : ℕ) → number < length publications → All IsPlainName (known publications) → IsPlainName (called publications number)
+name_is_plain : (publications : List (PublicationOf Expr)) (number : ℕ) → number < length publications
+    → All IsPlainName (known publications) → IsPlainName (called publications number)
 name_is_plain [] number less all = absurd (omega (arith, less))
 name_is_plain (p ∷ publications) zero less all = All-head IsPlainName p.name (known publications) all
-name_is_plain (p ∷ publications) (suc number) less all = name_is_plain publications number (omega (arith, less)) (All-tail IsPlainName p.name (known publications) all)
+name_is_plain (p ∷ publications) (suc number) less all =
+    name_is_plain publications number (omega (arith, less)) (All-tail IsPlainName p.name (known publications) all)
 
 module _ (publications : List (PublicationOf Expr)) where
-  pub names_are_plain : (numbers : List ℕ) → All (IsKnown publications) numbers → All IsPlainName (known publications) → All IsPlainName (map (called publications) numbers)
+  pub names_are_plain : (numbers : List ℕ) → All (IsKnown publications) numbers → All IsPlainName (known publications)
+      → All IsPlainName (map (called publications) numbers)
   names_are_plain [] all texts = All-nil IsPlainName
   names_are_plain (number ∷ numbers) all texts =
       All-cons IsPlainName (called publications number) (map (called publications) numbers)
       (name_is_plain publications number (All-head (IsKnown publications) number numbers all) texts)
       (names_are_plain numbers (All-tail (IsKnown publications) number numbers all) texts)
 
-  names_known : (numbers : List ℕ) → All (IsKnown publications) numbers → unknown_refusal (known publications) (map (called publications) numbers) ≡ None
+  names_known : (numbers : List ℕ) → All (IsKnown publications) numbers
+      → unknown_refusal (known publications) (map (called publications) numbers) ≡ None
   names_known [] all = refl
   names_known (number ∷ numbers) all =
-      rw (name_known publications number (All-head (IsKnown publications) number numbers all), names_known numbers (All-tail (IsKnown publications) number numbers all)) refl
+      rw (name_known publications number (All-head (IsKnown publications) number numbers all),
+          names_known numbers (All-tail (IsKnown publications) number numbers all)) refl
 
-  is_its_name : (number : ℕ) → IsKnown publications number → is_called (known publications) (called publications number) number ≡ true
+  is_its_name : (number : ℕ) → IsKnown publications number
+      → is_called (known publications) (called publications number) number ≡ true
   is_its_name number less = rw (name_at publications number less) (same_bytes (called publications number))
 
   each_name : (before after : List ℕ) → All (IsKnown publications) after
-      → list_all (λ name. list_any (is_called (known publications) name) (before ++ after)) (map (called publications) after) ≡ true
+      → list_all (λ name. list_any (is_called (known publications) name) (before ++ after))
+          (map (called publications) after) ≡ true
   each_name before [] all = refl
   each_name before (number ∷ after) all =
-      let first = any_at (is_called (known publications) (called publications number)) before number after (is_its_name number (All-head (IsKnown publications) number after all)) in
-      let more = ap (λ numbers. list_all (λ name. list_any (is_called (known publications) name) numbers) (map (called publications) after)) (sym (append_assoc before (number ∷ []) after))
+      let first = any_at (is_called (known publications) (called publications number)) before number after
+          (is_its_name number (All-head (IsKnown publications) number after all)) in
+      let more = ap (λ numbers. list_all (λ name. list_any (is_called (known publications) name) numbers)
+          (map (called publications) after)) (sym (append_assoc before (number ∷ []) after))
       ∙ each_name (before ++ number ∷ []) after (All-tail (IsKnown publications) number after all) in
       rw (first, more) refl
 
   any_name : (before after : List ℕ) (number : ℕ) → IsKnown publications number
-      → list_any (λ name. is_called (known publications) name number) (map (called publications) (before ++ (number ∷ after))) ≡ true
+      → list_any (λ name. is_called (known publications) name number)
+          (map (called publications) (before ++ (number ∷ after))) ≡ true
   any_name [] after number less = rw (is_its_name number less) refl
-  any_name (other ∷ before) after number less = rw (any_name before after number less) (or_true (is_called (known publications) (called publications other) number))
+  any_name (other ∷ before) after number less =
+      rw (any_name before after number less)
+      (or_true (is_called (known publications) (called publications other) number))
 
   each_number : (before after : List ℕ) → All (IsKnown publications) after
-      → list_all (λ number. list_any (λ name. is_called (known publications) name number) (map (called publications) (before ++ after))) after ≡ true
+      → list_all (λ number. list_any (λ name. is_called (known publications) name number)
+          (map (called publications) (before ++ after))) after ≡ true
   each_number before [] all = refl
   each_number before (number ∷ after) all =
       let first = any_name before after number (All-head (IsKnown publications) number after all) in
-      let more = ap (λ numbers. list_all (λ number. list_any (λ name. is_called (known publications) name number) (map (called publications) numbers)) after) (sym (append_assoc before (number ∷ []) after))
+      let more = ap (λ numbers. list_all
+          (λ number. list_any (λ name. is_called (known publications) name number)
+          (map (called publications) numbers)) after) (sym (append_assoc before (number ∷ []) after))
       ∙ each_number (before ++ number ∷ []) after (All-tail (IsKnown publications) number after all) in
       rw (first, more) refl
 
-  names_same : (numbers : List ℕ) → All (IsKnown publications) numbers → same_publications (known publications) (map (called publications) numbers) numbers ≡ true
+  names_same : (numbers : List ℕ) → All (IsKnown publications) numbers
+      → same_publications (known publications) (map (called publications) numbers) numbers ≡ true
   names_same numbers all = rw (each_name [] numbers all, each_number [] numbers all) refl
 
 -- ---- no refusal
@@ -112,13 +132,16 @@ short_name name is = record { some = is.some; short = is.short }
 all_short : (names : List (List ℕ)) → All IsPlainName names → All IsShortName names
 all_short [] all = All-nil IsShortName
 all_short (name ∷ names) all =
-    All-cons IsShortName name names (short_name name (All-head IsPlainName name names all)) (all_short names (All-tail IsPlainName name names all))
+    All-cons IsShortName name names (short_name name (All-head IsPlainName name names all))
+        (all_short names (All-tail IsPlainName name names all))
 
 not_ahead : (slot : Option Slot) (end position : ℕ) → slot_fault slot end position ≡ None → nat_lt end position ≡ false
 not_ahead None end position e = absurd cc
-not_ahead (Some slot) end position e = by_test (nat_lt end position) (λ ahead. absurd (let fault = rw ahead at e in cc)) (λ reached. reached)
+not_ahead (Some slot) end position e =
+    by_test (nat_lt end position) (λ ahead. absurd (let fault = rw ahead at e in cc)) (λ reached. reached)
 
-module _ (served : Served) (slots : List Slot) (subscriber position : ℕ) (subscription : Subscription) (can : CanAsk served.checked.catalog subscriber subscription)
+module _ (served : Served) (slots : List Slot) (subscriber position : ℕ) (subscription : Subscription)
+    (can : CanAsk served.checked.catalog subscriber subscription)
     (small : position < 2 ^ 64) (free : start_fault slots (end_after served.commits) subscriber position ≡ None) where
   abbrev names : List (List ℕ)
   names = map (called served.checked.catalog.publications) subscription.publications
@@ -126,7 +149,8 @@ module _ (served : Served) (slots : List Slot) (subscriber position : ℕ) (subs
   abbrev text : List ℕ
   text = start_text subscription.name names position
 
-  not_refused : slot_refusal (offer_in served) (start_command subscription.name names position) subscriber subscription.publications ≡ None
+  not_refused : slot_refusal (offer_in served) (start_command subscription.name names position) subscriber
+      subscription.publications ≡ None
   not_refused =
       rw (
         names_known served.checked.catalog.publications subscription.publications can.known,
@@ -141,25 +165,34 @@ module _ (served : Served) (slots : List Slot) (subscriber position : ℕ) (subs
   some = omega (arith, length-map subscription.publications (called served.checked.catalog.publications), can.some)
 
   reads : command_of text ≡ Some (start_command subscription.name names position)
-  reads = commands_are_read subscription.name names position (short_name subscription.name can.named) some (all_short names plain) small
+  reads = commands_are_read subscription.name names position (short_name subscription.name can.named) some
+      (all_short names plain) small
 
   is_asked : asked_of (offer_in served) 81 (text ++ (0 ∷ [])) ≡ Stream subscriber position
   unfolding asked_of
   is_asked =
-      ap (asked_in (offer_in served)) (query_text text (start_is_text subscription.name names position can.named plain small))
+      ap (asked_in (offer_in served))
+          (query_text text (start_is_text subscription.name names position can.named plain small))
       ∙ ap (asked_by (offer_in served)) reads
       ∙ ap (asked_at (offer_in served) (start_command subscription.name names position)) can.found
-      ∙ ap (λ its. unless_refused (slot_refusal (offer_in served) (start_command subscription.name names position) subscriber its) subscriber position)
+      ∙ ap (λ its. unless_refused
+          (slot_refusal (offer_in served) (start_command subscription.name names position) subscriber its) subscriber
+          position)
       (ap publications_of can.is_there)
       ∙ ap (λ refusal. unless_refused refusal subscriber position) not_refused
 
-  begins : begin_of served slots 81 (text ++ (0 ∷ [])) ≡ Begins subscriber (max position (confirmed_at slots subscriber))
+  begins : begin_of served slots 81 (text ++ (0 ∷ []))
+      ≡ Begins subscriber (max position (confirmed_at slots subscriber))
   unfolding begin_of
   begins =
       ap (begin_by served slots) is_asked
-      ∙ ap (λ fault. unless_fault fault subscriber (max position (confirmed_at slots subscriber)) (slot_name served.checked.catalog.subscriptions subscriber)) free
+      ∙ ap (λ fault. unless_fault fault subscriber (max position (confirmed_at slots subscriber))
+          (slot_name served.checked.catalog.subscriptions subscriber)) free
 
 pub starts_are_answered : StartsAreAnswered
 starts_are_answered served slots subscriber position subscription can small free =
-    ap (λ found. begin_of served slots 81 (start_text (subscription_name found) (map (called served.checked.catalog.publications) (publications_taken found)) position ++ (0 ∷ []))) can.is_there
+    ap (λ found. begin_of served slots 81
+        (start_text (subscription_name found)
+        (map (called served.checked.catalog.publications) (publications_taken found)) position ++ (0 ∷ [])))
+        can.is_there
     ∙ begins served slots subscriber position subscription can small free

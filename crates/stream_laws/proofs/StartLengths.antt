@@ -1,4 +1,5 @@
--- The command by which a subscriber of a catalog asks for its stream fits a frame: names are short, and there are few of them.
+-- The command by which a subscriber of a catalog asks for its stream fits a frame: names are short, and there are few
+-- of them.
 use Rattle.std.proofs.Common.{◌≡◌, ℕ, zero, suc, ◌+◌, ◌*◌, ◌/◌, ◌%◌, ◌^◌, ◌<◌, ◌≤◌, ◌==◌, true, List, [], ◌∷◌, ◌++◌, All, length, map, refl, arith, length-append}
 use Rattle.std.specs.Prelude.{codes, slice_get, Option, Some, None}
 use Rattle.std.specs.Fmt.{digits}
@@ -32,7 +33,8 @@ quoted_short quote text = omega (arith, doubled_short quote text, length-append 
 
 -- ---- names
 
-later_short : (names : List (List ℕ)) → All IsPlainName names → length (flat_map (λ name. codes "," ++ in_quotes 34 name) names) ≤ 129 * length names
+later_short : (names : List (List ℕ)) → All IsPlainName names
+    → length (flat_map (λ name. codes "," ++ in_quotes 34 name) names) ≤ 129 * length names
 later_short [] all = omega arith
 later_short (name ∷ names) all =
     let more = later_short names (All-tail IsPlainName name names all) in
@@ -57,30 +59,42 @@ place_short position small =
     let split = length-append (digits 16 true (position / 2 ^ 32)) (47 ∷ digits 16 true (position % 2 ^ 32)) in
     omega (arith, high, low, split)
 
-start_short : (slot : List ℕ) (names : List (List ℕ)) (position : ℕ) → length slot ≤ 63 → All IsPlainName names → length names ≤ 64 → position < 2 ^ 64
+start_short : (slot : List ℕ) (names : List (List ℕ)) (position : ℕ) → length slot ≤ 63 → All IsPlainName names
+    → length names ≤ 64 → position < 2 ^ 64
     → length (start_text slot names position) ≤ 65531
 start_short slot names position short all few small =
     let end = in_quotes 39 (names_text names) ++ codes ")" in
     let fifth = length-append (in_quotes 39 (names_text names)) (codes ")") in
     let fourth = length-append (codes " (proto_version '1', publication_names ") end in
     let third = length-append (lsn_text position) (codes " (proto_version '1', publication_names " ++ end) in
-    let second = length-append (codes " LOGICAL ") (lsn_text position ++ (codes " (proto_version '1', publication_names " ++ end)) in
-    let first = length-append (in_quotes 34 slot) (codes " LOGICAL " ++ (lsn_text position ++ (codes " (proto_version '1', publication_names " ++ end))) in
-    let whole = length-append (codes "START_REPLICATION SLOT ") (in_quotes 34 slot ++ (codes " LOGICAL " ++ (lsn_text position ++ (codes " (proto_version '1', publication_names " ++ end)))) in
-    omega (arith, whole, first, second, third, fourth, fifth, quoted_short 34 slot, quoted_short 39 (names_text names), names_short names all, few, place_short position small, short)
+    let second = length-append (codes " LOGICAL ")
+        (lsn_text position ++ (codes " (proto_version '1', publication_names " ++ end)) in
+    let first = length-append (in_quotes 34 slot)
+        (codes " LOGICAL " ++ (lsn_text position ++ (codes " (proto_version '1', publication_names " ++ end))) in
+    let whole = length-append (codes "START_REPLICATION SLOT ")
+        (in_quotes 34 slot ++
+        (codes " LOGICAL " ++ (lsn_text position ++ (codes " (proto_version '1', publication_names " ++ end)))) in
+    omega (arith, whole, first, second, third, fourth, fifth, quoted_short 34 slot,
+        quoted_short 39 (names_text names), names_short names all, few, place_short position small, short)
 
-start_fits : (catalog : CatalogOf Expr) (subscriber position : ℕ) (subscription : Subscription) → IsLimited catalog → IsNamedCatalog catalog
+start_fits : (catalog : CatalogOf Expr) (subscriber position : ℕ) (subscription : Subscription) → IsLimited catalog
+    → IsNamedCatalog catalog
     → CanAsk catalog subscriber subscription → position < 2 ^ 64 → length (start_of catalog subscriber position) ≤ 65531
 start_fits catalog subscriber position subscription limited named can small =
     let names = map (λ number. publication_name (slice_get catalog.publications number)) subscription.publications in
-    let taken = few_taken (length catalog.publications) subscription.publications (its_taken catalog named subscriber subscription can.is_there) in
-    let few : length names ≤ 64 = omega (arith, taken, limited.publications, length-map subscription.publications (λ number. publication_name (slice_get catalog.publications number))) in
-    let fits = start_short subscription.name names position can.named.short (names_are_plain catalog.publications subscription.publications can.known can.publications) few small in
+    let taken = few_taken (length catalog.publications) subscription.publications
+        (its_taken catalog named subscriber subscription can.is_there) in
+    let few : length names ≤ 64 =
+        omega (arith, taken, limited.publications,
+        length-map subscription.publications (λ number. publication_name (slice_get catalog.publications number))) in
+    let fits = start_short subscription.name names position can.named.short
+        (names_are_plain catalog.publications subscription.publications can.known can.publications) few small in
     rw can.is_there fits
 
 -- ---- each subscriber
 
-none_past : (subscriptions : List Subscription) (number : ℕ) → slice_get subscriptions number ≡ None → length subscriptions ≤ number
+none_past : (subscriptions : List Subscription) (number : ℕ) → slice_get subscriptions number ≡ None
+    → length subscriptions ≤ number
 none_past [] number e = omega arith
 none_past (subscription ∷ subscriptions) zero e = absurd cc
 none_past (subscription ∷ subscriptions) (suc number) e = omega (arith, none_past subscriptions number e)
@@ -88,8 +102,10 @@ none_past (subscription ∷ subscriptions) (suc number) e = omega (arith, none_p
 pub subscribers_can_ask : SubscribersCanAsk
 subscribers_can_ask catalog subscriber limited named within = by_found (slice_get catalog.subscriptions subscriber) refl
   where
-    by_found : (found : Option Subscription) → slice_get catalog.subscriptions subscriber ≡ found → IsAsking catalog subscriber
+    by_found : (found : Option Subscription) → slice_get catalog.subscriptions subscriber ≡ found
+        → IsAsking catalog subscriber
     by_found None e = absurd (omega (arith, none_past catalog.subscriptions subscriber e, within))
     by_found (Some subscription) e =
         let can = can_ask catalog named subscriber subscription e in
-        record { subscription = subscription; asks = can; fits = λ position small. start_fits catalog subscriber position subscription limited named can small }
+        record { subscription = subscription; asks = can; fits =
+            λ position small. start_fits catalog subscriber position subscription limited named can small }

@@ -32,7 +32,8 @@ both_clean (b ∷ one) other h k =
     rw (both.0, both_clean one other both.1 k) refl
 
 joined : (one other : List ℕ) → IsQueryText one → IsQueryText other → IsQueryText (one ++ other)
-joined one other h k = record { clean = both_clean one other h.clean k.clean; utf8 = IsUtf8-append one other h.utf8 k.utf8 }
+joined one other h k =
+    record { clean = both_clean one other h.clean k.clean; utf8 = IsUtf8-append one other h.utf8 k.utf8 }
 
 one_utf8 : (b : ℕ) → b < 128 → IsUtf8 (b ∷ [])
 one_utf8 b small = IsUtf8-from_ascii (b ∷ []) (IsAscii-cons b [] small (λ i. omega arith))
@@ -51,11 +52,13 @@ plain_text [] e = record { clean = refl; utf8 = IsUtf8-nil }
 plain_text (b ∷ text) e =
     let both = and_parts (is_plain b) (list_all is_plain text) e in
     let more = plain_text text both.1 in
-    joined (b ∷ []) text (record { clean = rw (plain_clean b both.0) refl; utf8 = one_utf8 b (plain_small b both.0) }) more
+    joined (b ∷ []) text (record { clean = rw (plain_clean b both.0) refl; utf8 = one_utf8 b (plain_small b both.0) })
+        more
 
 -- ---- between quotes
 
-doubled_clean : (quote : ℕ) (text : List ℕ) → not (quote == 0) ≡ true → is_clean text ≡ true → is_clean (doubled quote text) ≡ true
+doubled_clean : (quote : ℕ) (text : List ℕ) → not (quote == 0) ≡ true → is_clean text ≡ true
+    → is_clean (doubled quote text) ≡ true
 doubled_clean quote [] some e = refl
 doubled_clean quote (b ∷ text) some e =
     let both = and_parts (not (b == 0)) (is_clean text) e in
@@ -65,7 +68,8 @@ doubled_clean quote (b ∷ text) some e =
     (λ other. rw (other, both.0, more) refl)
 
 -- a quote in a text is at a place where the text may be cut
-doubled_utf8 : (quote : ℕ) (text part : List ℕ) → quote < 128 → IsUtf8 (part ++ text) → IsUtf8 (part ++ doubled quote text)
+doubled_utf8 : (quote : ℕ) (text part : List ℕ) → quote < 128 → IsUtf8 (part ++ text)
+    → IsUtf8 (part ++ doubled quote text)
 doubled_utf8 quote [] part small utf8 = utf8
 doubled_utf8 quote (b ∷ text) part small utf8 =
     by_test (b == quote)
@@ -73,10 +77,16 @@ doubled_utf8 quote (b ∷ text) part small utf8 =
     let is : b ≡ quote = eqb-true b quote same in
     let long : length (part ++ (b ∷ text)) ≡ length part + suc (length text) = length-append part (b ∷ text) in
     let low : get_or (part ++ (b ∷ text)) (length part) 0 < 128 = omega (arith, at, is, small) in
-    let front = subst IsUtf8 (take_at part (b ∷ text) (length part) refl) (IsUtf8-take (part ++ (b ∷ text)) (length part) utf8 (IsCharBoundary-before_ascii (part ++ (b ∷ text)) (length part) (omega (arith, long)) low)) in
-    let rest = subst IsUtf8 (past part b text) (IsUtf8-drop (part ++ (b ∷ text)) (length part + 1) utf8 (IsCharBoundary-after_ascii (part ++ (b ∷ text)) (length part) utf8 (omega (arith, long)) low)) in
+    let front = subst IsUtf8 (take_at part (b ∷ text) (length part) refl)
+        (IsUtf8-take (part ++ (b ∷ text)) (length part) utf8
+        (IsCharBoundary-before_ascii (part ++ (b ∷ text)) (length part) (omega (arith, long)) low)) in
+    let rest = subst IsUtf8 (past part b text)
+        (IsUtf8-drop (part ++ (b ∷ text)) (length part + 1) utf8
+        (IsCharBoundary-after_ascii (part ++ (b ∷ text)) (length part) utf8 (omega (arith, long)) low)) in
     rw same (IsUtf8-append part (quote ∷ quote ∷ doubled quote text) front
-    (IsUtf8-append (quote ∷ []) (quote ∷ doubled quote text) (one_utf8 quote small) (IsUtf8-append (quote ∷ []) (doubled quote text) (one_utf8 quote small) (doubled_utf8 quote text [] small rest)))))
+    (IsUtf8-append (quote ∷ []) (quote ∷ doubled quote text) (one_utf8 quote small)
+        (IsUtf8-append (quote ∷ []) (doubled quote text) (one_utf8 quote small)
+        (doubled_utf8 quote text [] small rest)))))
     (λ other. rw other (subst IsUtf8 (append_assoc part (b ∷ []) (doubled quote text))
     (doubled_utf8 quote text (part ++ b ∷ []) small (subst IsUtf8 (sym (append_assoc part (b ∷ []) text)) utf8))))
   where
@@ -89,12 +99,16 @@ doubled_utf8 quote (b ∷ text) part small utf8 =
     past_suc (c ∷ part) b text = past_suc part b text
 
     past : (part : List ℕ) (b : ℕ) (text : List ℕ) → drop (length part + 1) (part ++ (b ∷ text)) ≡ text
-    past part b text = let next : length part + 1 ≡ suc (length part) = omega arith in ap (λ n. drop n (part ++ (b ∷ text))) next ∙ past_suc part b text
+    past part b text = let next : length part + 1 ≡ suc (length part) = omega arith in
+        ap (λ n. drop n (part ++ (b ∷ text))) next ∙ past_suc part b text
 
-quoted_text : (quote : ℕ) (text : List ℕ) → is_plain quote ≡ true → IsQueryText text → IsQueryText (in_quotes quote text)
+quoted_text : (quote : ℕ) (text : List ℕ) → is_plain quote ≡ true → IsQueryText text
+    → IsQueryText (in_quotes quote text)
 quoted_text quote text plain h =
     let mark = plain_text (quote ∷ []) (rw plain refl) in
-    let inner : IsQueryText (doubled quote text) = record { clean = doubled_clean quote text (plain_clean quote plain) h.clean; utf8 = doubled_utf8 quote text [] (plain_small quote plain) h.utf8 } in
+    let inner : IsQueryText (doubled quote text) =
+        record { clean = doubled_clean quote text (plain_clean quote plain) h.clean; utf8 =
+        doubled_utf8 quote text [] (plain_small quote plain) h.utf8 } in
     joined (quote ∷ []) (doubled quote text ++ (quote ∷ [])) mark (joined (doubled quote text) (quote ∷ []) inner mark)
 
 -- ---- names and places
@@ -108,18 +122,21 @@ name_clean (b ∷ name) clean =
 name_text : (name : List ℕ) → IsPlainName name → IsQueryText name
 name_text name is = record { clean = name_clean name is.no_zero; utf8 = is.utf8 }
 
-later_text : (names : List (List ℕ)) → All IsPlainName names → IsQueryText (flat_map (λ name. codes "," ++ in_quotes 34 name) names)
+later_text : (names : List (List ℕ)) → All IsPlainName names
+    → IsQueryText (flat_map (λ name. codes "," ++ in_quotes 34 name) names)
 later_text [] all = record { clean = refl; utf8 = IsUtf8-nil }
 later_text (name ∷ names) all =
     joined (44 ∷ in_quotes 34 name) (flat_map (λ name. codes "," ++ in_quotes 34 name) names)
-    (joined (44 ∷ []) (in_quotes 34 name) (plain_text (44 ∷ []) refl) (quoted_text 34 name refl (name_text name (All-head IsPlainName name names all))))
+    (joined (44 ∷ []) (in_quotes 34 name) (plain_text (44 ∷ []) refl)
+        (quoted_text 34 name refl (name_text name (All-head IsPlainName name names all))))
     (later_text names (All-tail IsPlainName name names all))
 
 all_names : (names : List (List ℕ)) → All IsPlainName names → IsQueryText (names_text names)
 all_names [] all = record { clean = refl; utf8 = IsUtf8-nil }
 all_names (name ∷ names) all =
     joined (in_quotes 34 name) (flat_map (λ name. codes "," ++ in_quotes 34 name) names)
-    (quoted_text 34 name refl (name_text name (All-head IsPlainName name names all))) (later_text names (All-tail IsPlainName name names all))
+    (quoted_text 34 name refl (name_text name (All-head IsPlainName name names all)))
+        (later_text names (All-tail IsPlainName name names all))
 
 hex_plain : (written : List ℕ) → list_all is_ascii_hexdigit written ≡ true → list_all is_plain written ≡ true
 hex_plain [] e = refl
@@ -133,18 +150,24 @@ hex_plain (d ∷ written) e =
 
 place_text : (position : ℕ) → position < 2 ^ 64 → IsQueryText (lsn_text position)
 place_text position small =
-    let high = plain_text (digits 16 true (position / 2 ^ 32)) (hex_plain (digits 16 true (position / 2 ^ 32)) (hex_digits (position / 2 ^ 32) (omega (arith, small)))) in
-    let low = plain_text (digits 16 true (position % 2 ^ 32)) (hex_plain (digits 16 true (position % 2 ^ 32)) (hex_digits (position % 2 ^ 32) (omega arith))) in
-    joined (digits 16 true (position / 2 ^ 32)) (47 ∷ digits 16 true (position % 2 ^ 32)) high (joined (47 ∷ []) (digits 16 true (position % 2 ^ 32)) (plain_text (47 ∷ []) refl) low)
+    let high = plain_text (digits 16 true (position / 2 ^ 32))
+        (hex_plain (digits 16 true (position / 2 ^ 32)) (hex_digits (position / 2 ^ 32) (omega (arith, small)))) in
+    let low = plain_text (digits 16 true (position % 2 ^ 32))
+        (hex_plain (digits 16 true (position % 2 ^ 32)) (hex_digits (position % 2 ^ 32) (omega arith))) in
+    joined (digits 16 true (position / 2 ^ 32)) (47 ∷ digits 16 true (position % 2 ^ 32)) high
+        (joined (47 ∷ []) (digits 16 true (position % 2 ^ 32)) (plain_text (47 ∷ []) refl) low)
 
-pub start_is_text : (slot : List ℕ) (names : List (List ℕ)) (position : ℕ) → IsPlainName slot → All IsPlainName names → position < 2 ^ 64 → IsQueryText (start_text slot names position)
+pub start_is_text : (slot : List ℕ) (names : List (List ℕ)) (position : ℕ) → IsPlainName slot → All IsPlainName names
+    → position < 2 ^ 64 → IsQueryText (start_text slot names position)
 start_is_text slot names position named all small =
     joined (codes "START_REPLICATION SLOT ") _ (plain_text (codes "START_REPLICATION SLOT ") refl)
     (joined (in_quotes 34 slot) _ (quoted_text 34 slot refl (name_text slot named))
     (joined (codes " LOGICAL ") _ (plain_text (codes " LOGICAL ") refl)
     (joined (lsn_text position) _ (place_text position small)
-    (joined (codes " (proto_version '1', publication_names ") _ (plain_text (codes " (proto_version '1', publication_names ") refl)
-    (joined (in_quotes 39 (names_text names)) (codes ")") (quoted_text 39 (names_text names) refl (all_names names all)) (plain_text (codes ")") refl))))))
+    (joined (codes " (proto_version '1', publication_names ") _
+        (plain_text (codes " (proto_version '1', publication_names ") refl)
+    (joined (in_quotes 39 (names_text names)) (codes ")")
+        (quoted_text 39 (names_text names) refl (all_names names all)) (plain_text (codes ")") refl))))))
 
 -- ---- the Query
 
@@ -159,4 +182,5 @@ query_text text is =
     let long : length (text ++ (0 ∷ [])) ≡ length text + 1 = length-append text (0 ∷ []) in
     let within : nat_lt (length text) (length text + 1) ≡ true = grind (arith, nat_tests) in
     let same : length text + 1 == length text + 1 ≡ true = grind (arith, nat_tests) in
-    rw (zero_at text is.clean, long, within, long, same, take_at text (0 ∷ []) (length text) refl) (is_text text is.utf8)
+    rw (zero_at text is.clean, long, within, long, same, take_at text (0 ∷ []) (length text) refl)
+        (is_text text is.utf8)

@@ -52,9 +52,11 @@ values_text : (columns : List Column) (row : List Datum) → length row ≡ leng
 values_text columns [] wide fits = All-nil IsTextValue
 values_text [] (value ∷ row) wide fits = absurd (omega (arith, wide))
 values_text (column ∷ columns) (value ∷ row) wide fits =
-    All-cons IsTextValue value row (value_text column value (fits 0)) (values_text columns row (omega (arith, wide)) (λ k. fits (suc k)))
+    All-cons IsTextValue value row (value_text column value (fits 0))
+        (values_text columns row (omega (arith, wide)) (λ k. fits (suc k)))
 
-pub fits_text : (checked : CheckedOf) (number : ℕ) (row : List Datum) → fits (setting_in checked) number row ≡ true → IsTextRow row
+pub fits_text : (checked : CheckedOf) (number : ℕ) (row : List Datum) → fits (setting_in checked) number row ≡ true
+    → IsTextRow row
 fits_text checked number row fit =
     let its = row_of checked number row fit in
     values_text its.table.columns row its.valid.wide its.valid.fits
@@ -70,14 +72,17 @@ if_text : (b : Bool) (value : Datum) → IsTextValue value → IsTextValue (if b
 if_text true value h = h
 if_text false value h = tt
 
-blanked_text : (columns : List ℕ) (number : ℕ) (row : List Datum) → IsTextRow row → IsTextRow (blanked_from columns number row)
+blanked_text : (columns : List ℕ) (number : ℕ) (row : List Datum) → IsTextRow row
+    → IsTextRow (blanked_from columns number row)
 blanked_text columns number [] h = All-nil IsTextValue
 blanked_text columns number (value ∷ row) h =
-    All-cons IsTextValue (if list_any (λ column. column == number) columns then value else Missing) (blanked_from columns (number + 1) row)
+    All-cons IsTextValue (if list_any (λ column. column == number) columns then value else Missing)
+        (blanked_from columns (number + 1) row)
     (if_text (list_any (λ column. column == number) columns) value (All-head IsTextValue value row h))
     (blanked_text columns (number + 1) row (All-tail IsTextValue value row h))
 
-blanked_by_text : (as_it : Recorded) (table : Table) (row : List Datum) → IsTextRow row → IsTextRow (blanked_by as_it table row)
+blanked_by_text : (as_it : Recorded) (table : Table) (row : List Datum) → IsTextRow row
+    → IsTextRow (blanked_by as_it table row)
 blanked_by_text Columns table row h = blanked_text _ 0 row h
 blanked_by_text Whole table row h = h
 blanked_by_text Nowhere table row h = blanked_text _ 0 row h
@@ -90,25 +95,30 @@ unless_kept : (kept : Bool) (row : List Datum) → IsTextRow row → IsTextPart 
 unless_kept true row h = tt
 unless_kept false row h = h
 
-part_by_text : (as_it : Recorded) (identity blanked : List Datum → List Datum) (old : List Datum) (new : Option (List Datum)) → IsTextRow old → IsTextRow (blanked old)
+part_by_text : (as_it : Recorded) (identity blanked : List Datum → List Datum) (old : List Datum)
+    (new : Option (List Datum)) → IsTextRow old → IsTextRow (blanked old)
     → IsTextPart (part_by as_it identity blanked old new)
 part_by_text Columns identity blanked old new h k = unless_kept _ (blanked old) k
 part_by_text Whole identity blanked old new h k = h
 part_by_text Nowhere identity blanked old new h k = tt
 
-pub part_text : (checked : CheckedOf) (number : ℕ) (old : List Datum) (new : Option (List Datum)) → IsTextRow old → IsTextPart (part_of (setting_in checked) number old new)
+pub part_text : (checked : CheckedOf) (number : ℕ) (old : List Datum) (new : Option (List Datum)) → IsTextRow old
+    → IsTextPart (part_of (setting_in checked) number old new)
 part_text checked number old new h =
-    part_by_text ((setting_in checked).recorded number) ((setting_in checked).identity number) ((setting_in checked).blanked number) old new h
+    part_by_text ((setting_in checked).recorded number) ((setting_in checked).identity number)
+        ((setting_in checked).blanked number) old new h
     (blanked_in_text (slice_get checked.catalog.tables number) old h)
 
 -- ---- cells
 
-small_mag : (number : ℤ) (least greatest : ℕ) → least < 2 ^ 63 → greatest < 2 ^ 63 → negsuc least ≤ℤ number → number ≤ℤ pos greatest → mag number < 2 ^ 63
+small_mag : (number : ℤ) (least greatest : ℕ) → least < 2 ^ 63 → greatest < 2 ^ 63 → negsuc least ≤ℤ number
+    → number ≤ℤ pos greatest → mag number < 2 ^ 63
 small_mag (pos n) least greatest p q low high = let most : n ≤ greatest = lit≤ high.le in omega (arith, most, q)
 small_mag (negsuc n) least greatest p q low high = let most : n ≤ least = lit≤ low.le in omega (arith, most, p)
 
 within_small : (number : ℤ) → IsWithin BigInt number → mag number < 2 ^ 63
-within_small number h = small_mag number 9223372036854775807 9223372036854775807 (lit< tt) (lit< tt) h.above_least h.below_greatest
+within_small number h =
+    small_mag number 9223372036854775807 9223372036854775807 (lit< tt) (lit< tt) h.above_least h.below_greatest
 
 ascii_t : IsUtf8 (codes "t")
 ascii_t = IsUtf8-from_ascii (codes "t") (search rules)
@@ -126,7 +136,8 @@ cell_text (Known (Bytes bytes)) h text = text
 cells_text : (row : List Datum) → All IsSendableValue row → IsTextRow row → AreTexts (cells_of row)
 cells_text [] h text = All-nil IsCellText
 cells_text (value ∷ row) h text =
-    All-cons IsCellText (cell_of value) (cells_of row) (cell_text value (All-head IsSendableValue value row h) (All-head IsTextValue value row text))
+    All-cons IsCellText (cell_of value) (cells_of row)
+        (cell_text value (All-head IsSendableValue value row h) (All-head IsTextValue value row text))
     (cells_text row (All-tail IsSendableValue value row h) (All-tail IsTextValue value row text))
 
 pub row_text : (row : List Datum) → IsSendableRow row → IsTextRow row → AreTexts (cells_of row)

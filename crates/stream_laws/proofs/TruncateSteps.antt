@@ -18,7 +18,7 @@ use Rattle.pgoutput_msgs.specs.declared.message.Msg.TheVariants as m
 use Rattle.test_subscriber.specs.Hearing.{with_found, emptied, hear_empty, empty_rest, hear_truncate, hear_in}
 use Rattle.test_subscriber.specs.Machine.{Machine}
 use Rattle.test_subscriber.specs.declared.shape.TableShape.{TableShape}
-use Rattle.stream_laws.specs.Finding.{in_shard, FindsShard}
+use Rattle.stream_laws.specs.ShardRows.{in_shard, FindsShard}
 use Rattle.stream_laws.specs.Following.{own_key, Follows}
 use Rattle.stream_laws.proofs.ChangeSteps.{change_heard}
 use Rattle.stream_laws.proofs.CommandSteps.{cleared, finds_alike}
@@ -33,7 +33,8 @@ pub record IsThere (tables : List Table) (number : ℕ) : Type 0 where
 pub there_of : (tables : List Table) (number : ℕ) → number < length tables → IsThere tables number
 there_of [] number less = absurd (omega (arith, less))
 there_of (first ∷ tables) zero less = record { table = first; is = refl }
-there_of (first ∷ tables) (suc number) less = let later = there_of tables number (omega (arith, less)) in record { table = later.table; is = later.is }
+there_of (first ∷ tables) (suc number) less = let later = there_of tables number (omega (arith, less)) in
+    record { table = later.table; is = later.is }
 
 -- a machine that heard it
 record Empties (old : Machine) (numbers : List ℕ) : Type 0 where
@@ -44,11 +45,13 @@ record Empties (old : Machine) (numbers : List ℕ) : Type 0 where
   rows : next.rows ≡ old.rows
   known : next.known ≡ old.known
   kept : next.kept ≡ old.kept
-  work : (table : ℕ) (key : List Datum) → next.work (oid_of table) key ≡ cleared (λ t. old.work (oid_of t)) numbers table key
+  work : (table : ℕ) (key : List Datum)
+      → next.work (oid_of table) key ≡ cleared (λ t. old.work (oid_of t)) numbers table key
 
 oid_alike : (one other : ℕ) → (oid_of other == oid_of one) ≡ (one == other)
 oid_alike one other = by_test (one == other)
-    (λ same. (unsigned_Decides (oid_of other) (oid_of one)).1 (ap oid_of (sym ((unsigned_Decides one other).0 same))) ∙ sym same)
+    (λ same. (unsigned_Decides (oid_of other) (oid_of one)).1 (ap oid_of (sym ((unsigned_Decides one other).0 same)))
+        ∙ sym same)
     (λ differ. by_test (oid_of other == oid_of one)
     (λ same. absurd (
     let oids : oid_of other ≡ oid_of one = (unsigned_Decides (oid_of other) (oid_of one)).0 same in
@@ -56,23 +59,31 @@ oid_alike one other = by_test (one == other)
     cc))
     (λ beside. beside ∙ sym differ))
 
-both_clear : (here later : Bool) (found : Option (List Datum)) → (if later then None else (if here then None else found)) ≡ (if here || later then None else found)
+both_clear : (here later : Bool) (found : Option (List Datum))
+    → (if later then None else (if here then None else found)) ≡ (if here || later then None else found)
 both_clear true true found = refl
 both_clear true false found = refl
 both_clear false later found = refl
 
-empties : (checked : CheckedOf) (told : List Bool) (numbers : List ℕ) (machine : Machine) → All (λ number. number < length checked.catalog.tables) numbers
+empties : (checked : CheckedOf) (told : List Bool) (numbers : List ℕ) (machine : Machine)
+    → All (λ number. number < length checked.catalog.tables) numbers
     → ((number : ℕ) → machine.known (oid_of number) ≡ slice_index_or told number false)
-    → ((number : ℕ) (table : Table) → slice_get checked.catalog.tables number ≡ Some table → slice_index_or told number false ≡ true → machine.kept (oid_of number) ≡ Some (shape_for number table))
+    → ((number : ℕ) (table : Table) → slice_get checked.catalog.tables number ≡ Some table
+    → slice_index_or told number false ≡ true → machine.kept (oid_of number) ≡ Some (shape_for number table))
     → AllTold told numbers → Empties machine numbers
 unfolding hear_truncate
 empties checked told [] machine within known kept flags =
-    record { next = machine; heard = refl; phase = refl; position = refl; rows = refl; known = refl; kept = refl; work = λ table key. refl }
+    record { next = machine; heard = refl; phase = refl; position = refl; rows = refl; known = refl; kept =
+        refl; work = λ table key. refl }
 empties checked told (number ∷ numbers) machine within known kept flags =
-    let there = there_of checked.catalog.tables number (All-head (λ n. n < length checked.catalog.tables) number numbers within) in
-    let one : hear_empty (oid_of number) machine ≡ Ok (record machine { work = with_found machine.work (oid_of number) (λ key. None) }) =
-    change_heard machine (oid_of number) emptied (shape_for number there.table) (λ key. None) (known number ∙ flags.0) (kept number there.table there.is flags.0) refl in
-    let later = empties checked told numbers (record machine { work = with_found machine.work (oid_of number) (λ key. None) })
+    let there = there_of checked.catalog.tables number
+        (All-head (λ n. n < length checked.catalog.tables) number numbers within) in
+    let one : hear_empty (oid_of number) machine
+        ≡ Ok (record machine { work = with_found machine.work (oid_of number) (λ key. None) }) =
+    change_heard machine (oid_of number) emptied (shape_for number there.table) (λ key. None) (known number ∙ flags.0)
+        (kept number there.table there.is flags.0) refl in
+    let later = empties checked told numbers
+        (record machine { work = with_found machine.work (oid_of number) (λ key. None) })
     (All-tail (λ n. n < length checked.catalog.tables) number numbers within) known kept flags.1 in
     record {
       next = later.next;
@@ -83,18 +94,24 @@ empties checked told (number ∷ numbers) machine within known kept flags =
       known = later.known;
       kept = later.kept;
       work = λ table key. later.work table key
-          ∙ ap (λ b. if list_any (λ n. n == table) numbers then None else (if b then None else machine.work (oid_of table) key)) (oid_alike number table)
+          ∙ ap (λ b. if list_any (λ n. n == table) numbers then
+              None else (if b then None else machine.work (oid_of table) key)) (oid_alike number table)
           ∙ both_clear (number == table) (list_any (λ n. n == table) numbers) (machine.work (oid_of table) key);
     }
 
 module _ (checked : CheckedOf) (transactions : List Transaction) (subscriber begin position : ℕ) (outer : Machine)
     (follows : Follows checked transactions subscriber position outer) (before after : Tables) where
   pub truncate_safe : (numbers : List ℕ) → All (λ number. number < length checked.catalog.tables) numbers
-      → ((copies : ℕ → List Datum → Option (List Datum)) → FindsShard (setting_in checked) (own_key checked) subscriber copies before
+      → ((copies : ℕ → List Datum → Option (List Datum))
+      → FindsShard (setting_in checked) (own_key checked) subscriber copies before
       → FindsShard (setting_in checked) (own_key checked) subscriber (cleared copies numbers) after)
       → (told : List Bool) (machine : Machine) → Inside checked subscriber begin outer told before machine
-      → Safe (Follows checked transactions subscriber) position (said checked.catalog.tables told (option_map (as_recorded (setting_in checked)) (seen_tables numbers))) machine
-      (λ at next. (at ≡ position) × Inside checked subscriber begin outer (told_by told (option_map (as_recorded (setting_in checked)) (seen_tables numbers))) after next)
+      → Safe (Follows checked transactions subscriber) position
+          (said checked.catalog.tables told (option_map (as_recorded (setting_in checked)) (seen_tables numbers)))
+          machine
+      (λ at next. (at ≡ position)
+          × Inside checked subscriber begin outer
+          (told_by told (option_map (as_recorded (setting_in checked)) (seen_tables numbers))) after next)
   unfolding said told_by
   truncate_safe [] within clears told machine inside = (
     refl,
@@ -108,17 +125,26 @@ module _ (checked : CheckedOf) (transactions : List Transaction) (subscriber beg
     },
   )
   truncate_safe (number ∷ numbers) within clears told machine inside =
-      safe_both (Follows checked transactions subscriber) (λ at next. (at ≡ position) × Inside checked subscriber begin outer (told_all told (number ∷ numbers)) after next)
-      (Inside checked subscriber begin outer (told_all told (number ∷ numbers)) before) position (relations_of checked.catalog.tables told (number ∷ numbers))
+      safe_both (Follows checked transactions subscriber)
+          (λ at next. (at ≡ position)
+          × Inside checked subscriber begin outer (told_all told (number ∷ numbers)) after next)
+      (Inside checked subscriber begin outer (told_all told (number ∷ numbers)) before) position
+          (relations_of checked.catalog.tables told (number ∷ numbers))
       (m.Truncate 0 (map oid_of (number ∷ numbers)) ∷ []) machine
-      (relations_safe checked transactions subscriber begin position outer follows before (number ∷ numbers) told machine within inside)
+      (relations_safe checked transactions subscriber begin position outer follows before (number ∷ numbers) told
+          machine within inside)
       (λ next reached.
       let flags = all_are_told told (number ∷ numbers) (length checked.catalog.tables) inside.knows.flags within in
-      let emptied_all = empties checked (told_all told (number ∷ numbers)) (number ∷ numbers) next within reached.knows.known reached.knows.kept flags in
-      safe_heard (Follows checked transactions subscriber) (λ at last. (at ≡ position) × Inside checked subscriber begin outer (told_all told (number ∷ numbers)) after last)
+      let emptied_all = empties checked (told_all told (number ∷ numbers)) (number ∷ numbers) next within
+          reached.knows.known reached.knows.kept flags in
+      safe_heard (Follows checked transactions subscriber)
+          (λ at last. (at ≡ position)
+          × Inside checked subscriber begin outer (told_all told (number ∷ numbers)) after last)
       position (m.Truncate 0 (map oid_of (number ∷ numbers))) [] next emptied_all.next
-      (good checked transactions subscriber begin position outer follows before (told_all told (number ∷ numbers)) next reached)
-      (ap (λ phase. hear_in phase (m.Truncate 0 (map oid_of (number ∷ numbers))) next) reached.busy ∙ emptied_all.heard) (
+      (good checked transactions subscriber begin position outer follows before (told_all told (number ∷ numbers))
+          next reached)
+      (ap (λ phase. hear_in phase (m.Truncate 0 (map oid_of (number ∷ numbers))) next) reached.busy
+          ∙ emptied_all.heard) (
         refl,
         record {
           busy = emptied_all.phase ∙ reached.busy;
@@ -127,10 +153,14 @@ module _ (checked : CheckedOf) (transactions : List Transaction) (subscriber beg
           knows = record {
             flags = reached.knows.flags;
             known = λ other. ap (λ (f : ℕ → Bool). f (oid_of other)) emptied_all.known ∙ reached.knows.known other;
-            kept = λ other table is flag. ap (λ (f : ℕ → Option TableShape). f (oid_of other)) emptied_all.kept ∙ reached.knows.kept other table is flag;
+            kept = λ other table is flag. ap (λ (f : ℕ → Option TableShape). f (oid_of other)) emptied_all.kept
+                ∙ reached.knows.kept other table is flag;
           };
-          relations = λ other table shape is h. reached.relations other table shape is (sym (ap (λ (f : ℕ → Option TableShape). f (oid_of other)) emptied_all.kept) ∙ h);
-          work = λ table. finds_alike (own_key checked table) (cleared (λ t. next.work (oid_of t)) (number ∷ numbers) table) (emptied_all.next.work (oid_of table))
-              (in_shard (setting_in checked) subscriber after table) (clears (λ t. next.work (oid_of t)) reached.work table) (emptied_all.work table);
+          relations = λ other table shape is h. reached.relations other table shape is
+              (sym (ap (λ (f : ℕ → Option TableShape). f (oid_of other)) emptied_all.kept) ∙ h);
+          work = λ table. finds_alike (own_key checked table)
+              (cleared (λ t. next.work (oid_of t)) (number ∷ numbers) table) (emptied_all.next.work (oid_of table))
+              (in_shard (setting_in checked) subscriber after table)
+                  (clears (λ t. next.work (oid_of t)) reached.work table) (emptied_all.work table);
         },
       ))

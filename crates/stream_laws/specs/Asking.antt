@@ -1,4 +1,6 @@
--- That the command by which a subscriber asks for its stream is read as it was meant, and which stream then starts: PostgreSQL 15, 55.4. Streaming Replication Protocol (START_REPLICATION SLOT slot_name LOGICAL), 55.5.1. Logical Streaming Replication Parameters, and 4.1.1. Identifiers and Key Words.
+-- That the command by which a subscriber asks for its stream is read as it was meant, and which stream then starts:
+-- PostgreSQL 15, 55.4. Streaming Replication Protocol (START_REPLICATION SLOT slot_name LOGICAL), 55.5.1. Logical
+-- Streaming Replication Parameters, and 4.1.1. Identifiers and Key Words.
 use Rattle.std.specs.Prelude.{◌≡◌, ◌<◌, ◌≤◌, ◌^◌, ℕ, max, List, [], ◌∷◌, All, length, map, slice_get, Some, None, codes}
 use Rattle.filter_tree.specs.Expr.{Expr}
 use Rattle.pub_catalog.specs.CatalogLimits.{IsLimited, IsPlainName}
@@ -25,12 +27,14 @@ abbrev pub start_command : List ℕ → List (List ℕ) → ℕ → StartCommand
 start_command slot names position = record {
   slot = slot;
   position = position;
-  options = record { name = codes "proto_version"; value = Version } ∷ record { name = codes "publication_names"; value = Publications names } ∷ [];
+  options = record { name = codes "proto_version"; value = Version }
+      ∷ record { name = codes "publication_names"; value = Publications names } ∷ [];
 }
 
 -- Names may have any bytes, quotes and commas among them. There is at least one publication.
 abbrev pub CommandsAreRead : Type 0
-CommandsAreRead = (slot : List ℕ) (names : List (List ℕ)) (position : ℕ) → IsShortName slot → 0 < length names → All IsShortName names → position < 2 ^ 64
+CommandsAreRead = (slot : List ℕ) (names : List (List ℕ)) (position : ℕ) → IsShortName slot → 0 < length names
+    → All IsShortName names → position < 2 ^ 64
     → command_of (start_text slot names position) ≡ Some (start_command slot names position)
 
 -- ---- what is answered
@@ -44,11 +48,14 @@ pub record CanAsk (catalog : CatalogOf Expr) (subscriber : ℕ) (subscription : 
   pub known : All (λ number. number < length catalog.publications) subscription.publications
   pub publications : All IsPlainName (map (λ p. p.name) catalog.publications)
 
--- Where the slot is free and the log reaches the position, the stream starts there, or where the slot is confirmed if that is later.
+-- Where the slot is free and the log reaches the position, the stream starts there, or where the slot is confirmed if
+-- that is later.
 abbrev pub StartsAreAnswered : Type 0
-StartsAreAnswered = (served : Served) (slots : List Slot) (subscriber position : ℕ) (subscription : Subscription) → CanAsk served.checked.catalog subscriber subscription
+StartsAreAnswered = (served : Served) (slots : List Slot) (subscriber position : ℕ) (subscription : Subscription)
+    → CanAsk served.checked.catalog subscriber subscription
     → position < 2 ^ 64 → start_fault slots (end_after served.commits) subscriber position ≡ None
-    → begin_of served slots (up_frame served.checked subscriber (Asks position)).kind (up_frame served.checked subscriber (Asks position)).body
+    → begin_of served slots (up_frame served.checked subscriber (Asks position)).kind
+        (up_frame served.checked subscriber (Asks position)).body
     ≡ Begins subscriber (max position (confirmed_at slots subscriber))
 
 -- ---- who can ask
@@ -61,4 +68,5 @@ pub record IsAsking (catalog : CatalogOf Expr) (subscriber : ℕ) : Type 0 where
 
 -- each subscriber of a catalog
 abbrev pub SubscribersCanAsk : Type 0
-SubscribersCanAsk = (catalog : CatalogOf Expr) (subscriber : ℕ) → IsLimited catalog → IsNamedCatalog catalog → subscriber < length catalog.subscriptions → IsAsking catalog subscriber
+SubscribersCanAsk = (catalog : CatalogOf Expr) (subscriber : ℕ) → IsLimited catalog → IsNamedCatalog catalog
+    → subscriber < length catalog.subscriptions → IsAsking catalog subscriber

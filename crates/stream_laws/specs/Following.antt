@@ -1,4 +1,6 @@
--- That a subscriber follows its stream: after each first part of it, its rows are those of its shard of the tables after the commits that its position counts: PostgreSQL 15, 55.4. Streaming Replication Protocol, 55.5. Logical Streaming Replication Protocol, and "Logical Replication", 31.3 Row Filters.
+-- That a subscriber follows its stream: after each first part of it, its rows are those of its shard of the tables
+-- after the commits that its position counts: PostgreSQL 15, 55.4. Streaming Replication Protocol, 55.5. Logical
+-- Streaming Replication Protocol, and "Logical Replication", 31.3 Row Filters.
 use Rattle.std.specs.Prelude.{◌≡◌, ◌<◌, ◌≤◌, ◌^◌, ℕ, max, List, [], ◌++◌, All, fold, length, map, slice_get, take, Option, Some, None}
 use Rattle.std.specs.Result.{IsOkAnd}
 use Rattle.filter_tree.specs.Datum.{Datum}
@@ -19,7 +21,7 @@ use Rattle.test_subscriber.specs.Feeding.{hear_frames}
 use Rattle.test_subscriber.specs.Machine.{Machine, opened}
 use Rattle.test_subscriber.specs.Shapes.{flagged_from, shape_of}
 use Rattle.test_subscriber.specs.declared.shape.TableShape.{TableShape}
-use Rattle.stream_laws.specs.Finding.{FindsShard}
+use Rattle.stream_laws.specs.ShardRows.{FindsShard}
 use Rattle.stream_laws.specs.Items.{Item, Response, Carries, Alive, frame_in, stream_items}
 
 -- ---- positions
@@ -56,18 +58,23 @@ own_key checked table row = values_at (flagged_in (slice_get checked.catalog.tab
 
 -- its rows are those of its shard of these tables, each where its key has it
 abbrev pub HasShard : CheckedOf → ℕ → Machine → Tables → Type 0
-HasShard checked subscriber machine tables = FindsShard (setting_in checked) (own_key checked) subscriber (λ table. machine.rows (oid_of table)) tables
+HasShard checked subscriber machine tables =
+    FindsShard (setting_in checked) (own_key checked) subscriber (λ table. machine.rows (oid_of table)) tables
 
 -- each Relation that it keeps is the one that the publisher sends
 abbrev pub KeepsRelations : CheckedOf → Machine → Type 0
-KeepsRelations checked machine = (number : ℕ) (table : Table) (shape : TableShape) → slice_get checked.catalog.tables number ≡ Some table
+KeepsRelations checked machine = (number : ℕ) (table : Table) (shape : TableShape)
+    → slice_get checked.catalog.tables number ≡ Some table
     → machine.kept (oid_of number) ≡ Some shape → shape_of (relation_of number table) ≡ Some shape
 
--- The subscriber of this number is at this position, and has its shard of the tables after the commits that the position counts.
-pub record Follows (checked : CheckedOf) (transactions : List Transaction) (subscriber position : ℕ) (machine : Machine) : Type 0 where
+-- The subscriber of this number is at this position, and has its shard of the tables after the commits that the
+-- position counts.
+pub record Follows (checked : CheckedOf) (transactions : List Transaction) (subscriber position : ℕ)
+    (machine : Machine) : Type 0 where
   pub position_is : machine.position ≡ position
   pub within : count_before position ≤ length transactions
-  pub rows : HasShard checked subscriber machine (after (setting_in checked) (take (count_before position) transactions))
+  pub rows : HasShard checked subscriber machine
+      (after (setting_in checked) (take (count_before position) transactions))
   pub relations : KeepsRelations checked machine
 
 -- ---- what is asked of a stream
@@ -95,10 +102,14 @@ IsSentItem (Alive keepalive) = (keepalive.position < 2 ^ 64) × (keepalive.clock
 
 -- ---- the law
 
--- A subscriber that follows opens a connection at its own position. After the frames of any of the first items of the stream, whatever its moves, it follows, at the position after these items; none of them is a fault.
+-- A subscriber that follows opens a connection at its own position. After the frames of any of the first items of the
+-- stream, whatever its moves, it follows, at the position after these items; none of them is a fault.
 abbrev pub ItemsAreFollowed : Type 0
 ItemsAreFollowed = (checked : CheckedOf) (transactions : List Transaction) → IsPublished checked transactions
     → (subscriber : ℕ) (machine : Machine) → Follows checked transactions subscriber machine.position machine
-    → (moves : List Move) → All IsSentItem (stream_items checked (log_of checked transactions) subscriber machine.position moves)
-    → (items others : List Item) → items ++ others ≡ stream_items checked (log_of checked transactions) subscriber machine.position moves
-    → IsOkAnd (hear_frames (map frame_in items) (opened machine)) (Follows checked transactions subscriber (position_after machine.position items))
+    → (moves : List Move)
+    → All IsSentItem (stream_items checked (log_of checked transactions) subscriber machine.position moves)
+    → (items others : List Item)
+    → items ++ others ≡ stream_items checked (log_of checked transactions) subscriber machine.position moves
+    → IsOkAnd (hear_frames (map frame_in items) (opened machine))
+        (Follows checked transactions subscriber (position_after machine.position items))

@@ -1,4 +1,5 @@
--- The items of a connection's stream, one to a frame: CopyBothResponse, messages in XLogData, and keepalives: PostgreSQL 15, 55.4. Streaming Replication Protocol, and 55.5. Logical Streaming Replication Protocol.
+-- The items of a connection's stream, one to a frame: CopyBothResponse, messages in XLogData, and keepalives:
+-- PostgreSQL 15, 55.4. Streaming Replication Protocol, and 55.5. Logical Streaming Replication Protocol.
 use Rattle.std.specs.Prelude.{◌≡◌, ℕ, List, [], ◌∷◌, ◌++◌, map, length, slice_get, Option, Some, None}
 use Rattle.std.specs.List.{flat_map}
 use Rattle.copy_both.specs.Streams.{Place, Move, Take, Keep, lsn_of, place_at, moved, stream}
@@ -37,21 +38,26 @@ head_of number clock = record { start = lsn_of number; end = lsn_of number; cloc
 -- where the log ends, nothing is taken
 abbrev pub take_items : CheckedOf → Place → Option CommitOf → ℕ → List Item
 take_items checked place None clock = []
-take_items checked place (Some commit) clock = map (Carries (head_of commit.number clock)) (messages_for checked place.slot place.told commit)
+take_items checked place (Some commit) clock =
+    map (Carries (head_of commit.number clock)) (messages_for checked place.slot place.told commit)
 
 abbrev pub move_items : CheckedOf → List CommitOf → Place → Move → List Item
 move_items checked log place (Take clock) = take_items checked place (slice_get log place.done) clock
-move_items checked log place (Keep clock want) = Alive (record { position = place.sent; clock = clock; wants_reply = want }) ∷ []
+move_items checked log place (Keep clock want) =
+    Alive (record { position = place.sent; clock = clock; wants_reply = want }) ∷ []
 
 abbrev pub all_items : CheckedOf → List CommitOf → Place → List Move → List Item
 all_items checked log place [] = []
-all_items checked log place (move ∷ moves) = move_items checked log place move ++ all_items checked log (moved (telling_of checked) log place move) moves
+all_items checked log place (move ∷ moves) =
+    move_items checked log place move ++ all_items checked log (moved (telling_of checked) log place move) moves
 
 -- the items of a connection of the subscriber of this number that starts at this position and makes these moves
 abbrev pub stream_items : CheckedOf → List CommitOf → ℕ → ℕ → List Move → List Item
-stream_items checked log subscriber position moves = Response ∷ all_items checked log (place_at subscriber (length checked.catalog.tables) position) moves
+stream_items checked log subscriber position moves =
+    Response ∷ all_items checked log (place_at subscriber (length checked.catalog.tables) position) moves
 
 -- the bytes of the stream are the items' frames, one after another
 abbrev pub StreamsAreItems : Type 0
 StreamsAreItems = (checked : CheckedOf) (log : List CommitOf) (subscriber position : ℕ) (moves : List Move)
-    → stream (telling_of checked) log subscriber (length checked.catalog.tables) position moves ≡ flat_map spelled (stream_items checked log subscriber position moves)
+    → stream (telling_of checked) log subscriber (length checked.catalog.tables) position moves
+        ≡ flat_map spelled (stream_items checked log subscriber position moves)

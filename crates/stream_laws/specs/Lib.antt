@@ -1,8 +1,8 @@
 pub mod Asking
 pub mod Cutting
-pub mod Finding
+pub mod ShardRows
 pub mod Following
 pub mod FollowingBytes
 pub mod Items
-pub mod Sayable
+pub mod LayoutRoom
 pub mod Ups

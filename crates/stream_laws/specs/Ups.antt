@@ -1,4 +1,5 @@
--- What a subscriber sends: the command that asks for its stream, and statuses: PostgreSQL 15, 55.4. Streaming Replication Protocol (START_REPLICATION, Standby status update).
+-- What a subscriber sends: the command that asks for its stream, and statuses: PostgreSQL 15, 55.4. Streaming
+-- Replication Protocol (START_REPLICATION, Standby status update).
 use Rattle.std.specs.Prelude.{ℕ, List, [], ◌∷◌, ◌++◌, map, slice_get, Option, Some, None}
 use Rattle.filter_tree.specs.Expr.{Expr}
 use Rattle.pub_catalog.specs.Catalogs.{CatalogOf, PublicationOf}
@@ -32,10 +33,12 @@ publication_name (Some publication) = publication.name
 abbrev pub start_of : CatalogOf Expr → ℕ → ℕ → List ℕ
 start_of catalog subscriber position =
     start_text (subscription_name (slice_get catalog.subscriptions subscriber))
-    (map (λ number. publication_name (slice_get catalog.publications number)) (publications_taken (slice_get catalog.subscriptions subscriber))) position
+    (map (λ number. publication_name (slice_get catalog.publications number))
+        (publications_taken (slice_get catalog.subscriptions subscriber))) position
 
 abbrev pub up_frame : CheckedOf → ℕ → Up → Frame
-up_frame checked subscriber (Asks position) = record { kind = 81; body = start_of checked.catalog subscriber position ++ (0 ∷ []) }
+up_frame checked subscriber (Asks position) =
+    record { kind = 81; body = start_of checked.catalog subscriber position ++ (0 ∷ []) }
 up_frame checked subscriber (Says status) = record { kind = 100; body = status_body status }
 
 abbrev pub spelled_up : CheckedOf → ℕ → Up → List ℕ

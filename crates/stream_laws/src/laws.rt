@@ -5,7 +5,7 @@ ghost use Rattle.stream_laws.specs.Cutting.{FirstPartsAreCut};
 ghost use Rattle.stream_laws.specs.Following.{ItemsAreFollowed};
 ghost use Rattle.stream_laws.specs.FollowingBytes.{BytesAreFollowed, FedFollow, NothingIsFed, StoppedFollow, LostFollow, FirstFollows, FollowsLonger};
 ghost use Rattle.stream_laws.specs.Items.{StreamsAreItems};
-ghost use Rattle.stream_laws.specs.Sayable.{LogsCanBeSaid, StreamsCanBeSent};
+ghost use Rattle.stream_laws.specs.LayoutRoom.{LogsFitLayouts, StreamsCanBeSent};
 
 /// A law, and no code, of streams. A stream is the frames of its items, one after another (`spelled`), and bytes that
 /// are a first part of it are cut into the frames that are whole in them, and a rest that is no whole frame (`cut`).
@@ -37,7 +37,11 @@ pub fn subscribers_follow_streams()
 /// as more is committed (`longer`).
 ///
 /// PostgreSQL 15, 31.2. Subscription, and 55.4. Streaming Replication Protocol.
-#[tactic(auto, using(crate::proofs::FollowingBytesLemmas::fed_follow, crate::proofs::FollowingBytesLemmas::first_follows, crate::proofs::FollowingBytesLemmas::follows_longer))]
+#[tactic(auto, using(
+    crate::proofs::FollowingBytesLemmas::fed_follow,
+    crate::proofs::FollowingBytesLemmas::first_follows,
+    crate::proofs::FollowingBytesLemmas::follows_longer
+))]
 pub fn fed_subscribers_follow()
     ensures fed { FedFollow }
     ensures nothing { NothingIsFed }
@@ -52,9 +56,9 @@ pub fn fed_subscribers_follow()
 /// message that tells any subscriber of them, so that it is read as it was spelled.
 ///
 /// PostgreSQL 15, 55.9. Logical Replication Message Formats.
-#[tactic(auto, using(crate::proofs::SayableLemmas::logs_can_be_said))]
-pub fn logs_can_be_said()
-    ensures { LogsCanBeSaid }
+#[tactic(auto, using(crate::proofs::LayoutRoomLemmas::logs_fit_layouts))]
+pub fn logs_fit_layouts()
+    ensures { LogsFitLayouts }
 {}
 
 /// A law, and no code, of streams: where the layouts have room for what is told of the log, and clocks have 64 bits, they

@@ -6,6 +6,6 @@
 mod laws;
 
 pub use laws::{
-    commands_are_read, fed_subscribers_follow, logs_can_be_said, starts_are_answered,
+    commands_are_read, fed_subscribers_follow, logs_fit_layouts, starts_are_answered,
     streams_are_items, streams_can_be_sent, subscribers_follow_streams,
 };

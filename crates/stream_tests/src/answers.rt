@@ -6,7 +6,7 @@ use crate::answer_cases::{
 use crate::checks::{holds, same};
 use crate::largest::{published_catalog, start_text};
 use bytes::BytesMut;
-use copy_both::{Asked, Offer, SqlState, answer_start};
+use copy_both::{StartAnswer, Offer, SqlState, answer_start};
 use pub_catalog::Catalog;
 use pub_reader::read_catalog;
 use std::alloc::{AllocError, Global};
@@ -48,13 +48,13 @@ fn answered(
     };
     let mut response = BytesMut::new(alloc);
     match answer_start(alloc, &offer, kind, body, &mut response)? {
-        Asked::Stream { slot, position } => {
+        StartAnswer::Stream { slot, position } => {
             format!(in alloc;
                 "slot {slot} from {position}{}",
                 message(response.as_slice())
             )
         }
-        Asked::Refused(state) => {
+        StartAnswer::Refused(state) => {
             format!(in alloc; "{} {}", state.code(), message(response.as_slice()))
         }
     }
@@ -245,7 +245,7 @@ fn appended(
     catalog: &Catalog,
     body: &[u8],
     response: &mut BytesMut,
-) -> Result<Asked, AllocError> {
+) -> Result<StartAnswer, AllocError> {
     let offer = Offer {
         publications: catalog.publications.as_slice(),
         subscriptions: catalog.subscriptions.as_slice(),
@@ -265,11 +265,11 @@ fn a_refusal_is_appended(rt: HostRuntime) -> Result<(), Fail> {
     let body =
         b"START_REPLICATION SLOT s0 LOGICAL 0/0 (proto_version '1', publication_names 'pa')\0";
     let asked = appended(alloc, &catalog, body, &mut response)?;
-    holds(&rt, asked == Asked::Refused(SqlState::ObjectInUse));
+    holds(&rt, asked == StartAnswer::Refused(SqlState::ObjectInUse));
     let body =
         b"START_REPLICATION SLOT s1 LOGICAL 0/40 (proto_version '1', publication_names 'pa,pb')\0";
     let asked = appended(alloc, &catalog, body, &mut response)?;
-    let stream = Asked::Stream {
+    let stream = StartAnswer::Stream {
         slot: 1,
         position: 64,
     };

@@ -29,6 +29,7 @@ pub digits_text : (bytes : List ℕ) → ((k : ℕ) → k < length bytes → get
 digits_text bytes small = IsUtf8-from_ascii (hexadecimal bytes) (digits_ascii bytes small)
 
 -- a text is read
-pub read_of_text : {A E : Type 0} (P : A → Type 0) (Q : E → Type 0) (Text : Type 0) (result : Result A E) → MatchResult result P (λ error. ¬ Text × Q error) → Text → IsOk result
+pub read_of_text : {A E : Type 0} (P : A → Type 0) (Q : E → Type 0) (Text : Type 0) (result : Result A E)
+    → MatchResult result P (λ error. ¬ Text × Q error) → Text → IsOk result
 read_of_text P Q Text (Ok _) cases text = refl
 read_of_text P Q Text (Err _) cases text = absurd (cases.0 text)

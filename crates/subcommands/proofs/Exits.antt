@@ -32,18 +32,22 @@ memory_line = codes "out of memory"
 
 -- ---- reports
 
-report_of : (failure : Failure) (status : Status) (old new : Option (List ℕ)) → (failure ≡ f.Output → ⊥) → IsWritten (text_of (failure_lines failure)) (status_of_failure failure) old new status → IsReport failure old new status
+report_of : (failure : Failure) (status : Status) (old new : Option (List ℕ)) → (failure ≡ f.Output → ⊥)
+    → IsWritten (text_of (failure_lines failure)) (status_of_failure failure) old new status
+    → IsReport failure old new status
 report_of (f.CommandLine why) status old new other writes = inl writes
 report_of (f.Input fault) status old new other writes = inl writes
 report_of f.OutOfMemory status old new other writes = writes
 report_of f.Output status old new other writes = absurd (other refl)
 
 -- a failure that is not the writer's
-pub report_is : (failure : Failure) (text : List ℕ) (told status : Status) (old new : Option (List ℕ)) → (failure ≡ f.Output → ⊥) → text ≡ text_of (failure_lines failure) → told ≡ status_of_failure failure
+pub report_is : (failure : Failure) (text : List ℕ) (told status : Status) (old new : Option (List ℕ))
+    → (failure ≡ f.Output → ⊥) → text ≡ text_of (failure_lines failure) → told ≡ status_of_failure failure
     → IsWritten text told old new status → IsReport failure old new status
 report_is failure text told status old new other is same writes =
     report_of failure status old new other
-    (subst (λ (t : Status). IsWritten (text_of (failure_lines failure)) t old new status) same (subst (λ (t : List ℕ). IsWritten t told old new status) is writes))
+    (subst (λ (t : Status). IsWritten (text_of (failure_lines failure)) t old new status) same
+        (subst (λ (t : List ℕ). IsWritten t told old new status) is writes))
 
 -- the writer failed before
 pub is_silent : (failure : Failure) (old : Option (List ℕ)) → failure ≡ f.Output → IsReport failure old old Output
@@ -52,22 +56,30 @@ is_silent failure old h = subst (λ (failure : Failure). IsReport failure old ol
 module _ (words : List (List ℕ)) (known : Option (List ℕ)) where
   -- ---- what was asked is answered, or not
 
-  reason : (request : Request) (input : List ℕ) (fault : InputFault) → IsAsked words known request input → IsFault request input fault → IsReason words known fault
+  reason : (request : Request) (input : List ℕ) (fault : InputFault) → IsAsked words known request input
+      → IsFault request input fault → IsReason words known fault
   reason request input i.Unread asked there = tt
   reason request input i.Parts asked there = record { request = request; input = input; asked = asked; is = there }
-  reason request input (i.Catalog error) asked there = record { request = request; input = input; asked = asked; is = there }
-  reason request input (i.Table name) asked there = record { request = request; input = input; asked = asked; is = there }
-  reason request input (i.Certificate line error) asked there = record { request = request; input = input; asked = asked; is = there }
-  reason request input (i.Script error) asked there = record { request = request; input = input; asked = asked; is = there }
+  reason request input (i.Catalog error) asked there =
+      record { request = request; input = input; asked = asked; is = there }
+  reason request input (i.Table name) asked there =
+      record { request = request; input = input; asked = asked; is = there }
+  reason request input (i.Certificate line error) asked there =
+      record { request = request; input = input; asked = asked; is = there }
+  reason request input (i.Script error) asked there =
+      record { request = request; input = input; asked = asked; is = there }
 
   -- the first bytes of lines that are no whole answer are those of one that memory cuts short
-  part_written : (request : Request) (input : List ℕ) (lines : List (List ℕ)) (old new : Option (List ℕ)) → IsAsked words known request input
-      → IsBegun request input lines ⊎ ((status : Status) × IsAnswer request input lines status) → WritesFirst (text_of lines) old new → WritesFirstOutput words known old new
+  part_written : (request : Request) (input : List ℕ) (lines : List (List ℕ)) (old new : Option (List ℕ))
+      → IsAsked words known request input
+      → IsBegun request input lines ⊎ ((status : Status) × IsAnswer request input lines status)
+      → WritesFirst (text_of lines) old new → WritesFirstOutput words known old new
   part_written request input lines old new asked (inl begun) first = record {
     status = OutOfMemory;
     text = text_of (lines ++ memory_line ∷ []);
     is = CutShort lines (inr (record { request = request; input = input; asked = asked; begun = begun }));
-    first = subst (λ (text : List ℕ). WritesFirst text old new) (sym (text_of-more lines memory_line)) (first_of_longer (text_of lines) (ended memory_line) old new first);
+    first = subst (λ (text : List ℕ). WritesFirst text old new) (sym (text_of-more lines memory_line))
+        (first_of_longer (text_of lines) (ended memory_line) old new first);
   }
   part_written request input lines old new asked (inr whole) first = record {
     status = whole.0;
@@ -76,7 +88,8 @@ module _ (words : List (List ℕ)) (known : Option (List ℕ)) where
     first = first;
   }
 
-  pub answered : (request : Request) (input : List ℕ) (old new : Option (List ℕ)) (result : Result Status Failure) → IsAsked words known request input
+  pub answered : (request : Request) (input : List ℕ) (old new : Option (List ℕ)) (result : Result Status Failure)
+      → IsAsked words known request input
       → EndsRequest request input old new result → IsEnding words known old new result
   answered request input old new (Ok status) asked ends = record {
     text = text_of ends.lines;
@@ -85,7 +98,8 @@ module _ (words : List (List ℕ)) (known : Option (List ℕ)) where
   }
   answered request input old new (Err (f.CommandLine why)) asked ends = absurd ends
   answered request input old new (Err (f.Input fault)) asked ends = (reason request input fault asked ends.0, ends.1)
-  answered request input old new (Err f.Output) asked ends = part_written request input ends.lines old new asked ends.part ends.first
+  answered request input old new (Err f.Output) asked ends =
+      part_written request input ends.lines old new asked ends.part ends.first
   answered request input old new (Err f.OutOfMemory) asked ends = record {
     lines = ends.lines;
     begun = inr (record { request = request; input = input; asked = asked; begun = ends.begun });
@@ -96,59 +110,79 @@ module _ (words : List (List ℕ)) (known : Option (List ℕ)) where
   pub out_of_memory : (old new : Option (List ℕ)) → new ≡ old → IsEnding words known old new (Err f.OutOfMemory)
   out_of_memory old new e = record { lines = []; begun = inl refl; appends = unwritten old new e }
 
-  pub help_written : (text : List ℕ) (old new : Option (List ℕ)) → AsksHelp words → Appends old new (ended text) → IsEnding words known old new (Ok Done)
+  pub help_written : (text : List ℕ) (old new : Option (List ℕ)) → AsksHelp words → Appends old new (ended text)
+      → IsEnding words known old new (Ok Done)
   help_written text old new asks appends = record { text = ended text; is = Shown (ended text) asks; appends = appends }
 
-  pub help_stopped : (text : List ℕ) (old new : Option (List ℕ)) (failure : Failure) → AsksHelp words → StopsText (ended text) old new failure → IsEnding words known old new (Err failure)
+  pub help_stopped : (text : List ℕ) (old new : Option (List ℕ)) (failure : Failure) → AsksHelp words
+      → StopsText (ended text) old new failure → IsEnding words known old new (Err failure)
   help_stopped text old new (f.CommandLine why) asks stops = absurd stops
   help_stopped text old new (f.Input fault) asks stops = absurd stops
-  help_stopped text old new f.Output asks stops = record { status = Done; text = ended text; is = Shown (ended text) asks; first = stops }
+  help_stopped text old new f.Output asks stops =
+      record { status = Done; text = ended text; is = Shown (ended text) asks; first = stops }
   help_stopped text old new f.OutOfMemory asks stops = out_of_memory old new stops
 
   -- the same of what a `?` gives
-  pub help_returned : (text : List ℕ) (old new : Option (List ℕ)) (failure : Failure) (result : Result Status Failure) → AsksHelp words → StopsText (ended text) old new failure → IsErrAnd result (λ failed. failed ≡ failure)
+  pub help_returned : (text : List ℕ) (old new : Option (List ℕ)) (failure : Failure) (result : Result Status Failure)
+      → AsksHelp words → StopsText (ended text) old new failure → IsErrAnd result (λ failed. failed ≡ failure)
       → IsEnding words known old new result
   help_returned text old new failure (Ok told) asks stops is = absurd is
   help_returned text old new failure (Err failed) asks stops is =
-      subst (λ (told : Failure). IsEnding words known old new (Err told)) (sym is) (help_stopped text old new failure asks stops)
+      subst (λ (told : Failure). IsEnding words known old new (Err told)) (sym is)
+          (help_stopped text old new failure asks stops)
 
   -- ---- a failure is reported
 
-  pub whole_outcome : (old new : Option (List ℕ)) (status : Status) → WritesOutput words known old new status → IsOutcome words known old new status
+  pub whole_outcome : (old new : Option (List ℕ)) (status : Status) → WritesOutput words known old new status
+      → IsOutcome words known old new status
   whole_outcome old new Done now = now
   whole_outcome old new Refused now = now
   whole_outcome old new CommandLine now = now
   whole_outcome old new Input now = now
-  whole_outcome old new Output now = record { status = Output; text = now.text; is = now.is; first = first_whole now.text old new now.appends }
+  whole_outcome old new Output now =
+      record { status = Output; text = now.text; is = now.is; first = first_whole now.text old new now.appends }
   whole_outcome old new OutOfMemory now = now
 
   -- after the text that is there the text of a report makes an output
-  told : (old mid new : Option (List ℕ)) (before after : List ℕ) (status end : Status) → IsOutput words known status (before ++ after) → Appends old mid before
-      → ((end ≡ status) × Appends mid new after) ⊎ ((end ≡ Output) × WritesFirst after mid new) → IsOutcome words known old new end
+  told : (old mid new : Option (List ℕ)) (before after : List ℕ) (status end : Status)
+      → IsOutput words known status (before ++ after) → Appends old mid before
+      → ((end ≡ status) × Appends mid new after) ⊎ ((end ≡ Output) × WritesFirst after mid new)
+      → IsOutcome words known old new end
   told old mid new before after status end is appends (inl whole) =
       subst (λ (s : Status). IsOutcome words known old new s) (sym whole.0)
-      (whole_outcome old new status (record { text = before ++ after; is = is; appends = Appends-trans old mid new before after appends whole.1 }))
+      (whole_outcome old new status
+          (record { text = before ++ after; is = is; appends =
+          Appends-trans old mid new before after appends whole.1 }))
   told old mid new before after status end is appends (inr part) =
       subst (λ (s : Status). IsOutcome words known old new s) (sym part.0)
-      (record { status = status; text = before ++ after; is = is; first = first_after before after old mid new appends part.1 })
+      (record { status = status; text = before ++ after; is = is; first =
+          first_after before after old mid new appends part.1 })
 
   memory_told : (old mid new : Option (List ℕ)) (end : Status) → WritesCutShort words known old mid
-      → ((end ≡ OutOfMemory) × Appends mid new (text_of (memory_line ∷ []))) ⊎ ((end ≡ Output) × WritesFirst (text_of (memory_line ∷ [])) mid new) → IsOutcome words known old new end
+      → ((end ≡ OutOfMemory) × Appends mid new (text_of (memory_line ∷ []))) ⊎
+          ((end ≡ Output) × WritesFirst (text_of (memory_line ∷ [])) mid new) → IsOutcome words known old new end
   memory_told old mid new end now writes =
       let text : text_of (now.lines ++ memory_line ∷ []) ≡ text_of now.lines ++ text_of (memory_line ∷ []) =
       text_of-more now.lines memory_line ∙ ap (λ t. text_of now.lines ++ t) (sym (append-nil (ended memory_line))) in
-      told old mid new (text_of now.lines) (text_of (memory_line ∷ [])) OutOfMemory end (subst (λ (t : List ℕ). IsOutput words known OutOfMemory t) text (CutShort now.lines now.begun)) now.appends writes
+      told old mid new (text_of now.lines) (text_of (memory_line ∷ [])) OutOfMemory end
+          (subst (λ (t : List ℕ). IsOutput words known OutOfMemory t) text (CutShort now.lines now.begun)) now.appends
+          writes
 
   told_instead : (old mid new : Option (List ℕ)) (end : Status) → mid ≡ old
-      → ((end ≡ OutOfMemory) × Appends mid new (text_of (memory_line ∷ []))) ⊎ ((end ≡ Output) × WritesFirst (text_of (memory_line ∷ [])) mid new) → IsOutcome words known old new end
-  told_instead old mid new end e writes = memory_told old mid new end (record { lines = []; begun = inl refl; appends = unwritten old mid e }) writes
+      → ((end ≡ OutOfMemory) × Appends mid new (text_of (memory_line ∷ []))) ⊎
+          ((end ≡ Output) × WritesFirst (text_of (memory_line ∷ [])) mid new) → IsOutcome words known old new end
+  told_instead old mid new end e writes =
+      memory_told old mid new end (record { lines = []; begun = inl refl; appends = unwritten old mid e }) writes
 
-  pub reported : (old mid new : Option (List ℕ)) (failure : Failure) (end : Status) → IsEnding words known old mid (Err failure) → IsReport failure mid new end → IsOutcome words known old new end
+  pub reported : (old mid new : Option (List ℕ)) (failure : Failure) (end : Status)
+      → IsEnding words known old mid (Err failure) → IsReport failure mid new end → IsOutcome words known old new end
   reported old mid new (f.CommandLine why) end now (inl report) =
-      told old mid new [] (text_of (failure_lines (f.CommandLine why))) CommandLine end (Misworded _ now.0) (unwritten old mid now.1) report
+      told old mid new [] (text_of (failure_lines (f.CommandLine why))) CommandLine end (Misworded _ now.0)
+          (unwritten old mid now.1) report
   reported old mid new (f.CommandLine why) end now (inr report) = told_instead old mid new end now.1 report
   reported old mid new (f.Input fault) end now (inl report) =
-      told old mid new [] (text_of (failure_lines (f.Input fault))) Input end (Rejected fault now.0) (unwritten old mid now.1) report
+      told old mid new [] (text_of (failure_lines (f.Input fault))) Input end (Rejected fault now.0)
+          (unwritten old mid now.1) report
   reported old mid new (f.Input fault) end now (inr report) = told_instead old mid new end now.1 report
   reported old mid new f.OutOfMemory end now report = memory_told old mid new end now report
   reported old mid new f.Output end now report =
@@ -157,21 +191,29 @@ module _ (words : List (List ℕ)) (known : Option (List ℕ)) where
 
   -- ---- the output is flushed
 
-  whole_kept : (old new newer : Option (List ℕ)) (status : Status) → WritesOutput words known old new status → Keeps new newer → WritesOutput words known old newer status
-  whole_kept old new newer status now keeps = record { text = now.text; is = now.is; appends = Appends-kept old new newer now.text now.appends keeps }
+  whole_kept : (old new newer : Option (List ℕ)) (status : Status) → WritesOutput words known old new status
+      → Keeps new newer → WritesOutput words known old newer status
+  whole_kept old new newer status now keeps =
+      record { text = now.text; is = now.is; appends = Appends-kept old new newer now.text now.appends keeps }
 
-  pub flushed : (old new newer : Option (List ℕ)) (status : Status) → IsOutcome words known old new status → Keeps new newer → IsOutcome words known old newer status
+  pub flushed : (old new newer : Option (List ℕ)) (status : Status) → IsOutcome words known old new status
+      → Keeps new newer → IsOutcome words known old newer status
   flushed old new newer Done now keeps = whole_kept old new newer Done now keeps
   flushed old new newer Refused now keeps = whole_kept old new newer Refused now keeps
   flushed old new newer CommandLine now keeps = whole_kept old new newer CommandLine now keeps
   flushed old new newer Input now keeps = whole_kept old new newer Input now keeps
-  flushed old new newer Output now keeps = record { status = now.status; text = now.text; is = now.is; first = first_kept now.text old new newer now.first keeps }
+  flushed old new newer Output now keeps =
+      record { status = now.status; text = now.text; is = now.is; first =
+      first_kept now.text old new newer now.first keeps }
   flushed old new newer OutOfMemory now keeps = whole_kept old new newer OutOfMemory now keeps
 
-  first_of_whole : (old new : Option (List ℕ)) (status : Status) → WritesOutput words known old new status → WritesFirstOutput words known old new
-  first_of_whole old new status now = record { status = status; text = now.text; is = now.is; first = first_whole now.text old new now.appends }
+  first_of_whole : (old new : Option (List ℕ)) (status : Status) → WritesOutput words known old new status
+      → WritesFirstOutput words known old new
+  first_of_whole old new status now =
+      record { status = status; text = now.text; is = now.is; first = first_whole now.text old new now.appends }
 
-  unflushed : (old new : Option (List ℕ)) (status : Status) → IsOutcome words known old new status → WritesFirstOutput words known old new
+  unflushed : (old new : Option (List ℕ)) (status : Status) → IsOutcome words known old new status
+      → WritesFirstOutput words known old new
   unflushed old new Done now = first_of_whole old new Done now
   unflushed old new Refused now = first_of_whole old new Refused now
   unflushed old new CommandLine now = first_of_whole old new CommandLine now
@@ -179,11 +221,17 @@ module _ (words : List (List ℕ)) (known : Option (List ℕ)) where
   unflushed old new Output now = now
   unflushed old new OutOfMemory now = first_of_whole old new OutOfMemory now
 
-  pub ran : (old new newer : Option (List ℕ)) (status : Status) (number : ℕ) → IsOutcome words known old new status → Keeps new newer → number ≡ tag_of the_type status → IsRun words known old newer number
-  ran old new newer status number now keeps e = record { status = status; numbered = e ∙ number_is status; outcome = flushed old new newer status now keeps }
+  pub ran : (old new newer : Option (List ℕ)) (status : Status) (number : ℕ) → IsOutcome words known old new status
+      → Keeps new newer → number ≡ tag_of the_type status → IsRun words known old newer number
+  ran old new newer status number now keeps e =
+      record { status = status; numbered = e ∙ number_is status; outcome = flushed old new newer status now keeps }
 
-  pub ran_at_once : (old new : Option (List ℕ)) (status : Status) (number : ℕ) → IsOutcome words known old new status → number ≡ tag_of the_type status → IsRun words known old new number
+  pub ran_at_once : (old new : Option (List ℕ)) (status : Status) (number : ℕ) → IsOutcome words known old new status
+      → number ≡ tag_of the_type status → IsRun words known old new number
   ran_at_once old new status number now e = record { status = status; numbered = e ∙ number_is status; outcome = now }
 
-  pub ran_unflushed : (old new newer : Option (List ℕ)) (status : Status) (number : ℕ) → IsOutcome words known old new status → Keeps new newer → number ≡ 4 → IsRun words known old newer number
-  ran_unflushed old new newer status number now keeps e = record { status = Output; numbered = e; outcome = unflushed old newer status (flushed old new newer status now keeps) }
+  pub ran_unflushed : (old new newer : Option (List ℕ)) (status : Status) (number : ℕ)
+      → IsOutcome words known old new status → Keeps new newer → number ≡ 4 → IsRun words known old newer number
+  ran_unflushed old new newer status number now keeps e =
+      record { status = Output; numbered = e; outcome =
+      unflushed old newer status (flushed old new newer status now keeps) }

@@ -13,5 +13,7 @@ none_begun Check input = refl
 none_begun Make input = inl refl
 none_begun (Simulate limit) input = inl refl
 
-pub out_of_memory : (request : Request) (input : List ℕ) (old new : Option (List ℕ)) → new ≡ old → EndsRequest request input old new (Err f.OutOfMemory)
-out_of_memory request input old new e = record { lines = []; begun = none_begun request input; appends = unwritten old new e }
+pub out_of_memory : (request : Request) (input : List ℕ) (old new : Option (List ℕ)) → new ≡ old
+    → EndsRequest request input old new (Err f.OutOfMemory)
+out_of_memory request input old new e =
+    record { lines = []; begun = none_begun request input; appends = unwritten old new e }

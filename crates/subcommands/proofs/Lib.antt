@@ -1,4 +1,4 @@
-pub mod Asking
+pub mod StepActions
 pub mod BadLines
 pub mod Digits
 pub mod Evaluating

@@ -3,7 +3,9 @@ use Rattle.std.proofs.Common.{◌≡◌, ℕ, ◌+◌, ◌≤◌, List, [], ◌+
 use Rattle.std.proofs.lemmas.List.{length-take, take_all}
 use Rattle.std.specs.Option.{option_map}
 
-pub all_read : (known : Option (List ℕ)) (limit : ℕ) (bytes : List ℕ) → IfSome (option_map (take (limit + 1)) known) (λ xs. bytes ≡ [] ++ xs) → length bytes ≤ limit → IfSome known (λ xs. bytes ≡ xs)
+pub all_read : (known : Option (List ℕ)) (limit : ℕ) (bytes : List ℕ)
+    → IfSome (option_map (take (limit + 1)) known) (λ xs. bytes ≡ [] ++ xs) → length bytes ≤ limit
+    → IfSome known (λ xs. bytes ≡ xs)
 all_read None limit bytes gave short = tt
 all_read (Some xs) limit bytes gave short =
     let count : length bytes ≡ min (limit + 1) (length xs) = ap length gave ∙ length-take (limit + 1) xs in

@@ -14,4 +14,5 @@ pub asked_can : (words : List Text) (request : Request) → IsRequest words requ
 asked_can words (Eval table wanted) asks = tt
 asked_can words Check asks = tt
 asked_can words Make asks = tt
-asked_can words (Simulate limit) asks = limit_within (first_of (codes "limit") asks.taken.found) limit asks.taken.argument
+asked_can words (Simulate limit) asks =
+    limit_within (first_of (codes "limit") asks.taken.found) limit asks.taken.argument

@@ -25,7 +25,8 @@ use Rattle.subcommands.specs.declared.failure.Status.TheVariants.{Done}
 pub left_next : (items : List Line) (count : ℕ) (line : Line) → count < length items → line ≡ get_or items count line
     → map line_view (drop count items) ≡ line_view line ∷ map line_view (drop (count + 1) items)
 left_next items count line within is =
-    at_drop_more (map line_view) items count line within ∙ ap (λ (l : Line). line_view l ∷ map line_view (drop (count + 1) items)) (sym is)
+    at_drop_more (map line_view) items count line within
+        ∙ ap (λ (l : Line). line_view l ∷ map line_view (drop (count + 1) items)) (sym is)
 
 pub none_left : (items : List Line) (count : ℕ) → length items ≤ count → map line_view (drop count items) ≡ []
 none_left items count all = at_drop_all (map line_view) items count all
@@ -44,7 +45,8 @@ module _ (checked : CheckedOf) (most : ℕ) where
     pub same : world_checked code ≡ checked
     pub appends : Appends old new (text_of lines)
 
-  pub so_far_at_start : (steps left : List LineOf) (count : ℕ) (code : World) (known : Option (List ℕ)) → left ≡ steps → count ≡ 0 → IsWorld code most [] w.first_world → world_checked code ≡ checked
+  pub so_far_at_start : (steps left : List LineOf) (count : ℕ) (code : World) (known : Option (List ℕ)) → left ≡ steps
+      → count ≡ 0 → IsWorld code most [] w.first_world → world_checked code ≡ checked
       → IsSoFar steps left count code known known
   so_far_at_start steps left count code known left_is none stands same = record {
     first = [];
@@ -62,7 +64,8 @@ module _ (checked : CheckedOf) (most : ℕ) where
   -- ---- one step more is made
 
   -- in the world that is left
-  pub record IsMade (first : List LineOf) (lines : List (List ℕ)) (world : w.World) (before after : World) (events : List (ℕ × w.Event)) (step : LineOf) (text : List ℕ) : Type 0 where
+  pub record IsMade (first : List LineOf) (lines : List (List ℕ)) (world : w.World) (before after : World)
+      (events : List (ℕ × w.Event)) (step : LineOf) (text : List ℕ) : Type 0 where
     pub own : List (List ℕ)
     pub happened : List (ℕ × w.Event)
     pub next : w.World
@@ -71,14 +74,18 @@ module _ (checked : CheckedOf) (most : ℕ) where
     pub same : world_checked after ≡ checked
     pub text_is : text ≡ text_of own
 
-  made_after : (steps left : List LineOf) (count : ℕ) (before after : World) (old new : Option (List ℕ)) (step : LineOf) (text : List ℕ)
-      → (now : IsSoFar steps left count before old new) → MakesOn before after (count + 1) step.step text → count < 100000
+  made_after : (steps left : List LineOf) (count : ℕ) (before after : World) (old new : Option (List ℕ))
+      (step : LineOf) (text : List ℕ)
+      → (now : IsSoFar steps left count before old new) → MakesOn before after (count + 1) step.step text
+      → count < 100000
       → IsMade now.first now.lines now.world before after now.events step text
   made_after steps left count before after old new step text now makes room =
-      let into : MakesInto before after most now.events now.world (count + 1) step.step text = makes most now.events now.world now.is_world in
+      let into : MakesInto before after most now.events now.world (count + 1) step.step text =
+          makes most now.events now.world now.is_world in
       let is_step : IsStep checked most (length now.first + 1) step.step now.world into.lines into.next =
       subst (λ (c : CheckedOf). IsStep c most (length now.first + 1) step.step now.world into.lines into.next) now.same
-      (subst (λ (clock : ℕ). IsStep (world_checked before) most clock step.step now.world into.lines into.next) (ap (λ n. n + 1) (sym now.counted)) into.is_step) in
+      (subst (λ (clock : ℕ). IsStep (world_checked before) most clock step.step now.world into.lines into.next)
+          (ap (λ n. n + 1) (sym now.counted)) into.is_step) in
       record {
         own = into.lines;
         happened = into.happened;
@@ -89,14 +96,19 @@ module _ (checked : CheckedOf) (most : ℕ) where
         text_is = into.text_is;
       }
 
-  lines_text : (lines own : List (List ℕ)) (text : List ℕ) → text ≡ text_of own → text_of lines ++ text ≡ text_of (lines ++ own)
+  lines_text : (lines own : List (List ℕ)) (text : List ℕ) → text ≡ text_of own
+      → text_of lines ++ text ≡ text_of (lines ++ own)
   lines_text lines own text is = ap (λ t. text_of lines ++ t) is ∙ sym (flat_map-append ended lines own)
 
-  split_next : (steps first left : List LineOf) (step : LineOf) (later : List LineOf) → steps ≡ first ++ left → left ≡ step ∷ later → steps ≡ (first ++ step ∷ []) ++ later
-  split_next steps first left step later split left_is = split ∙ ap (λ rest. first ++ rest) left_is ∙ sym (append_assoc first (step ∷ []) later)
+  split_next : (steps first left : List LineOf) (step : LineOf) (later : List LineOf) → steps ≡ first ++ left
+      → left ≡ step ∷ later → steps ≡ (first ++ step ∷ []) ++ later
+  split_next steps first left step later split left_is = split ∙ ap (λ rest. first ++ rest) left_is
+      ∙ sym (append_assoc first (step ∷ []) later)
 
-  pub so_far_next : (steps left : List LineOf) (step : LineOf) (later : List LineOf) (count next : ℕ) (before after : World) (old new newer : Option (List ℕ)) (text : List ℕ)
-      → left ≡ step ∷ later → next ≡ count + 1 → count < 100000 → IsSoFar steps left count before old new → MakesOn before after (count + 1) step.step text → Appends new newer text
+  pub so_far_next : (steps left : List LineOf) (step : LineOf) (later : List LineOf) (count next : ℕ)
+      (before after : World) (old new newer : Option (List ℕ)) (text : List ℕ)
+      → left ≡ step ∷ later → next ≡ count + 1 → count < 100000 → IsSoFar steps left count before old new
+      → MakesOn before after (count + 1) step.step text → Appends new newer text
       → IsSoFar steps later next after old newer
   so_far_next steps left step later count next before after old new newer text left_is next_is room now makes grows =
       let made = made_after steps left count before after old new step text now makes room in
@@ -110,12 +122,14 @@ module _ (checked : CheckedOf) (most : ℕ) where
         are = made.are;
         is_world = made.is_world;
         same = made.same;
-        appends = subst (λ (t : List ℕ). Appends old newer t) (lines_text now.lines made.own text made.text_is) (Appends-trans old new newer (text_of now.lines) text now.appends grows);
+        appends = subst (λ (t : List ℕ). Appends old newer t) (lines_text now.lines made.own text made.text_is)
+            (Appends-trans old new newer (text_of now.lines) text now.appends grows);
       }
 
   -- ---- writing stops
 
-  some_at : (steps left first : List LineOf) (step : LineOf) (later : List LineOf) (lines : List (List ℕ)) (world : w.World) → left ≡ step ∷ later → steps ≡ first ++ left → AreSteps checked most first lines world
+  some_at : (steps left first : List LineOf) (step : LineOf) (later : List LineOf) (lines : List (List ℕ))
+      (world : w.World) → left ≡ step ∷ later → steps ≡ first ++ left → AreSteps checked most first lines world
       → AreSomeSteps checked most steps lines
   some_at steps left first step later lines world left_is split are = record {
     step = step;
@@ -123,31 +137,45 @@ module _ (checked : CheckedOf) (most : ℕ) where
     first = record { first = first; world = world; split = split ∙ ap (λ rest. first ++ rest) left_is; are = are };
   }
 
-  some_or_all : (steps later first : List LineOf) (lines : List (List ℕ)) (world : w.World) → steps ≡ first ++ later → AreSteps checked most first lines world
+  some_or_all : (steps later first : List LineOf) (lines : List (List ℕ)) (world : w.World) → steps ≡ first ++ later
+      → AreSteps checked most first lines world
       → AreBegunLines checked most steps lines ⊎ ((status : Status) × AreAllLines checked most steps lines status)
-  some_or_all steps [] first lines world split are = inr (Done, (refl, record { first = first; world = world; split = split; are = are }))
-  some_or_all steps (step ∷ later) first lines world split are = inl (inr (some_at steps (step ∷ later) first step later lines world refl split are))
+  some_or_all steps [] first lines world split are =
+      inr (Done, (refl, record { first = first; world = world; split = split; are = are }))
+  some_or_all steps (step ∷ later) first lines world split are =
+      inl (inr (some_at steps (step ∷ later) first step later lines world refl split are))
 
   -- memory runs out before the first step
-  pub memory_first : (steps : List LineOf) (old new : Option (List ℕ)) (result : Result Status Failure) → new ≡ old → IsErrAnd result (λ failure. failure ≡ f.OutOfMemory) → WritesSteps checked most steps old new result
+  pub memory_first : (steps : List LineOf) (old new : Option (List ℕ)) (result : Result Status Failure) → new ≡ old
+      → IsErrAnd result (λ failure. failure ≡ f.OutOfMemory) → WritesSteps checked most steps old new result
   memory_first steps old new (Ok told) same is = absurd is
   memory_first steps old new (Err failure) same is =
-      subst (λ (failed : Failure). WritesSteps checked most steps old new (Err failed)) (sym is) (record { lines = []; begun = inl refl; appends = unwritten old new same })
+      subst (λ (failed : Failure). WritesSteps checked most steps old new (Err failed)) (sym is)
+          (record { lines = []; begun = inl refl; appends = unwritten old new same })
 
   -- memory runs out in a step
-  pub memory_returned : (steps left : List LineOf) (step : LineOf) (later : List LineOf) (count : ℕ) (code : World) (old new : Option (List ℕ)) (result : Result Status Failure) → left ≡ step ∷ later
-      → IsSoFar steps left count code old new → IsErrAnd result (λ failure. failure ≡ f.OutOfMemory) → WritesSteps checked most steps old new result
+  pub memory_returned : (steps left : List LineOf) (step : LineOf) (later : List LineOf) (count : ℕ) (code : World)
+      (old new : Option (List ℕ)) (result : Result Status Failure) → left ≡ step ∷ later
+      → IsSoFar steps left count code old new → IsErrAnd result (λ failure. failure ≡ f.OutOfMemory)
+      → WritesSteps checked most steps old new result
   memory_returned steps left step later count code old new (Ok told) left_is now is = absurd is
   memory_returned steps left step later count code old new (Err failure) left_is now is =
       subst (λ (failed : Failure). WritesSteps checked most steps old new (Err failed)) (sym is)
-      (record { lines = now.lines; begun = inr (some_at steps left now.first step later now.lines now.world left_is now.split now.are); appends = now.appends })
+      (record { lines = now.lines; begun =
+          inr (some_at steps left now.first step later now.lines now.world left_is now.split now.are); appends =
+          now.appends })
 
-  step_stopped : (steps left : List LineOf) (step : LineOf) (later : List LineOf) (count : ℕ) (before after : World) (old new newer : Option (List ℕ)) (text : List ℕ) (failure : Failure)
-      → left ≡ step ∷ later → count < 100000 → IsSoFar steps left count before old new → MakesOn before after (count + 1) step.step text → StopsText text new newer failure
+  step_stopped : (steps left : List LineOf) (step : LineOf) (later : List LineOf) (count : ℕ) (before after : World)
+      (old new newer : Option (List ℕ)) (text : List ℕ) (failure : Failure)
+      → left ≡ step ∷ later → count < 100000 → IsSoFar steps left count before old new
+      → MakesOn before after (count + 1) step.step text → StopsText text new newer failure
       → WritesSteps checked most steps old newer (Err failure)
-  step_stopped steps left step later count before after old new newer text (f.CommandLine why) left_is room now makes stops = absurd stops
-  step_stopped steps left step later count before after old new newer text (f.Input fault) left_is room now makes stops = absurd stops
-  step_stopped steps left step later count before after old new newer text f.OutOfMemory left_is room now makes stops = record {
+  step_stopped steps left step later count before after old new newer text (f.CommandLine why) left_is room now makes
+      stops = absurd stops
+  step_stopped steps left step later count before after old new newer text (f.Input fault) left_is room now makes
+      stops = absurd stops
+  step_stopped steps left step later count before after old new newer text f.OutOfMemory left_is room now makes stops
+      = record {
     lines = now.lines;
     begun = inr (some_at steps left now.first step later now.lines now.world left_is now.split now.are);
     appends = subst (λ (n : Option (List ℕ)). Appends old n (text_of now.lines)) (sym stops) now.appends;
@@ -156,23 +184,33 @@ module _ (checked : CheckedOf) (most : ℕ) where
       let made = made_after steps left count before after old new step text now makes room in
       record {
         lines = now.lines ++ made.own;
-        part = some_or_all steps later (now.first ++ step ∷ []) (now.lines ++ made.own) made.next (split_next steps now.first left step later now.split left_is) made.are;
-        first = subst (λ (t : List ℕ). WritesFirst t old newer) (lines_text now.lines made.own text made.text_is) (first_after (text_of now.lines) text old new newer now.appends stops);
+        part = some_or_all steps later (now.first ++ step ∷ []) (now.lines ++ made.own) made.next
+            (split_next steps now.first left step later now.split left_is) made.are;
+        first = subst (λ (t : List ℕ). WritesFirst t old newer) (lines_text now.lines made.own text made.text_is)
+            (first_after (text_of now.lines) text old new newer now.appends stops);
       }
 
   -- the same of what a `?` gives
-  pub stop_returned : (steps left : List LineOf) (step : LineOf) (later : List LineOf) (count : ℕ) (before after : World) (old new newer : Option (List ℕ)) (text : List ℕ) (failure : Failure) (result : Result Status Failure)
-      → left ≡ step ∷ later → count < 100000 → IsSoFar steps left count before old new → MakesOn before after (count + 1) step.step text → StopsText text new newer failure
+  pub stop_returned : (steps left : List LineOf) (step : LineOf) (later : List LineOf) (count : ℕ)
+      (before after : World) (old new newer : Option (List ℕ)) (text : List ℕ) (failure : Failure)
+      (result : Result Status Failure)
+      → left ≡ step ∷ later → count < 100000 → IsSoFar steps left count before old new
+      → MakesOn before after (count + 1) step.step text → StopsText text new newer failure
       → IsErrAnd result (λ failed. failed ≡ failure) → WritesSteps checked most steps old newer result
-  stop_returned steps left step later count before after old new newer text failure (Ok told) left_is room now makes stops is = absurd is
-  stop_returned steps left step later count before after old new newer text failure (Err failed) left_is room now makes stops is =
+  stop_returned steps left step later count before after old new newer text failure (Ok told) left_is room now makes
+      stops is = absurd is
+  stop_returned steps left step later count before after old new newer text failure (Err failed) left_is room now
+      makes stops is =
       subst (λ (told : Failure). WritesSteps checked most steps old newer (Err told)) (sym is)
       (step_stopped steps left step later count before after old new newer text failure left_is room now makes stops)
 
   -- no step is left
-  pub all_written : (steps left : List LineOf) (count : ℕ) (code : World) (old new : Option (List ℕ)) → left ≡ [] → IsSoFar steps left count code old new → WritesSteps checked most steps old new (Ok Done)
+  pub all_written : (steps left : List LineOf) (count : ℕ) (code : World) (old new : Option (List ℕ)) → left ≡ []
+      → IsSoFar steps left count code old new → WritesSteps checked most steps old new (Ok Done)
   all_written steps left count code old new none now = record {
     lines = now.lines;
-    whole = (refl, record { first = now.first; world = now.world; split = now.split ∙ ap (λ rest. now.first ++ rest) none; are = now.are });
+    whole = (refl, record
+        { first = now.first; world = now.world; split = now.split ∙ ap (λ rest. now.first ++ rest) none; are =
+        now.are });
     appends = now.appends;
   }

@@ -26,8 +26,10 @@ use Rattle.subcommands.specs.declared.failure.Status.{Status}
 use Rattle.subcommands.specs.declared.failure.Status.TheVariants.{Done, Refused}
 
 -- the one line of an answer is written, or its writing stops
-pub line_ends : (request : Request) (input line : List ℕ) (status : Status) (old new : Option (List ℕ)) (result : Result Status Failure) → IsAnswer request input (line ∷ []) status
-    → IfOk result (λ s. s ≡ status) → OnOk result (Appends old new (ended line)) → IfErr result (StopsText (ended line) old new) → EndsRequest request input old new result
+pub line_ends : (request : Request) (input line : List ℕ) (status : Status) (old new : Option (List ℕ))
+    (result : Result Status Failure) → IsAnswer request input (line ∷ []) status
+    → IfOk result (λ s. s ≡ status) → OnOk result (Appends old new (ended line))
+    → IfErr result (StopsText (ended line) old new) → EndsRequest request input old new result
 line_ends request input line status old new (Ok told) is same appends stops = record {
   lines = line ∷ [];
   whole = subst (λ (s : Status). IsAnswer request input (line ∷ []) s) (sym same) is;
@@ -35,24 +37,35 @@ line_ends request input line status old new (Ok told) is same appends stops = re
 }
 line_ends request input line status old new (Err (f.CommandLine why)) is same appends stops = absurd stops
 line_ends request input line status old new (Err (f.Input fault)) is same appends stops = absurd stops
-line_ends request input line status old new (Err f.OutOfMemory) is same appends stops = out_of_memory request input old new stops
+line_ends request input line status old new (Err f.OutOfMemory) is same appends stops =
+    out_of_memory request input old new stops
 line_ends request input line status old new (Err f.Output) is same appends stops = record {
   lines = line ∷ [];
   part = inr (status, is);
   first = subst (λ (t : List ℕ). WritesFirst t old new) (sym (text_of-one line)) stops;
 }
 
-module _ (input : List ℕ) (cut : Cut) (catalog : CatalogOf Expr) (parts : two_parts input ≡ Some cut) (reads : catalog_by as_filter cut.part ≡ Ok catalog) (certificates : text_fault 1 (lines_of cut.rest) ≡ None) where
-  pub accepted : (old new : Option (List ℕ)) (result : Result Status Failure) → IsSound catalog → IsFirstRefusal catalog (trees_in (lines_of cut.rest)) None → IfOk result (λ s. s ≡ Done)
-      → OnOk result (Appends old new (ended (codes "accepted"))) → IfErr result (StopsText (ended (codes "accepted")) old new) → EndsRequest Check input old new result
+module _ (input : List ℕ) (cut : Cut) (catalog : CatalogOf Expr) (parts : two_parts input ≡ Some cut)
+    (reads : catalog_by as_filter cut.part ≡ Ok catalog) (certificates : text_fault 1 (lines_of cut.rest) ≡ None)
+    where
+  pub accepted : (old new : Option (List ℕ)) (result : Result Status Failure) → IsSound catalog
+      → IsFirstRefusal catalog (trees_in (lines_of cut.rest)) None → IfOk result (λ s. s ≡ Done)
+      → OnOk result (Appends old new (ended (codes "accepted")))
+      → IfErr result (StopsText (ended (codes "accepted")) old new) → EndsRequest Check input old new result
   accepted old new result sound unrefused same appends stops =
       line_ends Check input (codes "accepted") Done old new result
-      (record { cut = cut; catalog = catalog; parts = parts; reads = reads; certificates = certificates; verdict = record { sound = sound; unrefused = unrefused; are = refl } })
+      (record { cut = cut; catalog = catalog; parts = parts; reads = reads; certificates = certificates; verdict =
+          record { sound = sound; unrefused = unrefused; are = refl } })
       same appends stops
 
-  pub refused : (error : CheckError) (old new : Option (List ℕ)) (result : Result Status Failure) → IsFirstRefusal catalog (trees_in (lines_of cut.rest)) (Some error) → ShardingIsWrong catalog (plan_of catalog) (trees_in (lines_of cut.rest)) error → IfOk result (λ s. s ≡ Refused)
-      → OnOk result (Appends old new (ended (refused_line catalog error))) → IfErr result (StopsText (ended (refused_line catalog error)) old new) → EndsRequest Check input old new result
+  pub refused : (error : CheckError) (old new : Option (List ℕ)) (result : Result Status Failure)
+      → IsFirstRefusal catalog (trees_in (lines_of cut.rest)) (Some error)
+      → ShardingIsWrong catalog (plan_of catalog) (trees_in (lines_of cut.rest)) error
+      → IfOk result (λ s. s ≡ Refused)
+      → OnOk result (Appends old new (ended (refused_line catalog error)))
+      → IfErr result (StopsText (ended (refused_line catalog error)) old new) → EndsRequest Check input old new result
   refused error old new result refusal wrong same appends stops =
       line_ends Check input (refused_line catalog error) Refused old new result
-      (record { cut = cut; catalog = catalog; parts = parts; reads = reads; certificates = certificates; verdict = record { error = error; refusal = refusal; wrong = wrong; are = refl } })
+      (record { cut = cut; catalog = catalog; parts = parts; reads = reads; certificates = certificates; verdict =
+          record { error = error; refusal = refusal; wrong = wrong; are = refl } })
       same appends stops

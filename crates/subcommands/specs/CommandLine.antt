@@ -1,4 +1,6 @@
--- What the words of a command line ask, as the crate `clap` reads words: the subcommand `eval`, and for it a table's name and the flag `--insert`, in any order; or `check` or `make`, and nothing for it; or `simulate`, and for it `--limit` and a number, or nothing; or the help or the version.
+-- What the words of a command line ask, as the crate `clap` reads words: the subcommand `eval`, and for it a table's
+-- name and the flag `--insert`, in any order; or `check` or `make`, and nothing for it; or `simulate`, and for it
+-- `--limit` and a number, or nothing; or the help or the version.
 use Rattle.std.specs.Prelude.{◌≡◌, ◌≢◌, ◌≤◌, ◌⊎◌, ℕ, true, List, [], Option, Some, None, codes}
 use Rattle.std.specs.Str.Parse.{IsNumeral, digits_value, without_leading_plus}
 use Rattle.clap.specs.Words.{App, IsAmong, Row, Rule, Text, fault_of, first_of, new_app, new_rule, one_of, subcommand_of, with_rule, with_subcommand}
@@ -6,8 +8,8 @@ use Rattle.clap.specs.Simple.{on_top}
 use Rattle.clap.specs.declared.builder.action.ArgAction.TheVariants.{Set, SetTrue}
 use Rattle.clap.specs.declared.error.kind.ErrorKind.{ErrorKind}
 use Rattle.clap.specs.declared.error.kind.ErrorKind.TheVariants as kind
-use Rattle.subcommands.specs.declared.arguments.Asked.{Asked}
-use Rattle.subcommands.specs.declared.arguments.Asked.TheVariants.{Help, Answer}
+use Rattle.subcommands.specs.declared.arguments.Invocation.{Invocation}
+use Rattle.subcommands.specs.declared.arguments.Invocation.TheVariants.{Help, Answer}
 use Rattle.subcommands.specs.declared.arguments.RowOutput.{RowOutput}
 use Rattle.subcommands.specs.declared.arguments.RowOutput.TheVariants.{Answers, Insert}
 use Rattle.subcommands.specs.declared.arguments.Request.{Request}
@@ -40,10 +42,12 @@ simulate = with_rule (new_app (codes "simulate")) limit_rule
 
 -- the program without its subcommands
 abbrev pub bare : App
-bare = on_top (λ top. record top { has_version = true; propagate_version = true; subcommand_required = true }) (new_app (codes "pgshard"))
+bare = on_top (λ top. record top { has_version = true; propagate_version = true; subcommand_required = true })
+    (new_app (codes "pgshard"))
 
 abbrev pub pgshard : App
-pgshard = with_subcommand (with_subcommand (with_subcommand (with_subcommand bare eval.top) check.top) make.top) simulate.top
+pgshard = with_subcommand (with_subcommand (with_subcommand (with_subcommand bare eval.top) check.top) make.top)
+    simulate.top
 
 -- ---- what is asked of the input
 
@@ -125,7 +129,8 @@ pub record IsRequest (words : List Text) (request : Request) : Type 0 where
 -- The words ask for the help or the version.
 -- To the word help clap answers with the help, or that there is no such subcommand.
 abbrev pub AsksHelp : List Text → Type 0
-AsksHelp words = IsAmong kind.DisplayHelp (fault_of pgshard words) ⊎ IsAmong kind.DisplayVersion (fault_of pgshard words)
+AsksHelp words = IsAmong kind.DisplayHelp (fault_of pgshard words) ⊎ IsAmong kind.DisplayVersion
+    (fault_of pgshard words)
 
 -- clap finds this fault in the words, which is no call for the help or the version
 pub record IsFaulty (words : List Text) : Type 0 where
@@ -142,7 +147,7 @@ pub record AsksNothing (words : List Text) : Type 0 where
 abbrev pub IsMisworded : List Text → Type 0
 IsMisworded words = IsFaulty words ⊎ AsksNothing words
 
-abbrev pub IsAsking : List Text → Asked → Type 0
+abbrev pub IsAsking : List Text → Invocation → Type 0
 IsAsking words (Help text) = AsksHelp words
 IsAsking words (Answer request) = IsRequest words request
 
@@ -158,12 +163,13 @@ IsOfWords words _ = ⊥
 abbrev pub IsHelpKind : ErrorKind → Type 0
 IsHelpKind found = (found ≡ kind.DisplayHelp) ⊎ (found ≡ kind.DisplayVersion)
 
-abbrev pub IsHelp : Asked → Type 0
+abbrev pub IsHelp : Invocation → Type 0
 IsHelp (Help text) = Unit {0}
 IsHelp (Answer request) = ⊥
 
 -- it is a fault of the words, or want of memory
 abbrev pub IsOfError : ErrorKind → Failure → Type 0
-IsOfError found (f.CommandLine text) = (found ≢ kind.OutOfMemory) × (found ≢ kind.DisplayHelp) × (found ≢ kind.DisplayVersion)
+IsOfError found (f.CommandLine text) = (found ≢ kind.OutOfMemory) × (found ≢ kind.DisplayHelp)
+    × (found ≢ kind.DisplayVersion)
 IsOfError found f.OutOfMemory = Unit {0}
 IsOfError found _ = ⊥

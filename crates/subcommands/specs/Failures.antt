@@ -39,7 +39,8 @@ fault_line (i.Table word) = codes "table " ++ word.now
 fault_line (i.Certificate line error) = counted (codes "certificate") line ++ 32 ∷ error_name error
 fault_line (i.Script error) = counted (codes "script") error.place ++ 32 ∷ kind_name error.kind
 
--- For a command line that asks nothing there is a line, and then the text that says why. Where the writer failed nothing more is written.
+-- For a command line that asks nothing there is a line, and then the text that says why. Where the writer failed
+-- nothing more is written.
 abbrev pub failure_lines : Failure → List (List ℕ)
 failure_lines (f.CommandLine text) = codes "command line" ∷ string_bytes text ∷ []
 failure_lines (f.Input fault) = fault_line fault ∷ []

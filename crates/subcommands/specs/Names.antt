@@ -1,4 +1,5 @@
--- The names of publications, tables, columns and subscribers, as their catalog names them (PostgreSQL 15, "Schemas", 5.9, and "Logical Replication", 31.1 Publication and 31.2 Subscription), and the words of a line.
+-- The names of publications, tables, columns and subscribers, as their catalog names them (PostgreSQL 15, "Schemas",
+-- 5.9, and "Logical Replication", 31.1 Publication and 31.2 Subscription), and the words of a line.
 use Rattle.std.specs.Prelude.{ℕ, List, [], ◌∷◌, ◌++◌, Option, Some, None, slice_get, codes}
 use Rattle.std.specs.Fmt.{decimal}
 use Rattle.std.specs.List.{flat_map}

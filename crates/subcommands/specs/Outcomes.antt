@@ -1,4 +1,5 @@
--- What a run of the program writes, and its exit status: an output that is right for the words of its command line and for its input, or where the writer fails the first bytes of one.
+-- What a run of the program writes, and its exit status: an output that is right for the words of its command line
+-- and for its input, or where the writer fails the first bytes of one.
 use Rattle.std.specs.Prelude.{◌≡◌, ℕ, ◌⊎◌, List, [], ◌∷◌, ◌++◌, Option, Result, Ok, Err, codes}
 use Rattle.std.specs.Io.KnownBytes.{Appends}
 use Rattle.subcommands.specs.CommandLine.{AsksHelp, IsMisworded}
@@ -21,11 +22,13 @@ module _ (words : List (List ℕ)) (known : Option (List ℕ)) where
   -- Status 0 or 1: the answer. 0: some text, where the words ask for the help or the version. 2: a line, and some text.
   -- 3: the line of a fault of the input. 5: no line of the answer or its first ones, and the line of want of memory.
   pub data IsOutput : Status → List ℕ → Type 0 where
-    Answered : (lines : List (List ℕ)) (status : Status) → AnswersWords words known lines status → IsOutput status (text_of lines)
+    Answered : (lines : List (List ℕ)) (status : Status) → AnswersWords words known lines status
+        → IsOutput status (text_of lines)
     Shown : (text : List ℕ) → AsksHelp words → IsOutput Done text
     Misworded : (text : List ℕ) → IsMisworded words → IsOutput CommandLine (text_of (codes "command line" ∷ text ∷ []))
     Rejected : (fault : InputFault) → IsReason words known fault → IsOutput Input (text_of (fault_line fault ∷ []))
-    CutShort : (lines : List (List ℕ)) → IsCutShort lines → IsOutput OutOfMemory (text_of (lines ++ codes "out of memory" ∷ []))
+    CutShort : (lines : List (List ℕ)) → IsCutShort lines
+        → IsOutput OutOfMemory (text_of (lines ++ codes "out of memory" ∷ []))
 
   -- ---- what is written
 
@@ -72,14 +75,16 @@ module _ (words : List (List ℕ)) (known : Option (List ℕ)) where
 
 -- a text is written, and the status is this; or the first bytes of it are, where the writer fails
 abbrev pub IsWritten : List ℕ → Status → Option (List ℕ) → Option (List ℕ) → Status → Type 0
-IsWritten text told old new status = ((status ≡ told) × Appends old new text) ⊎ ((status ≡ Output) × WritesFirst text old new)
+IsWritten text told old new status =
+    ((status ≡ told) × Appends old new text) ⊎ ((status ≡ Output) × WritesFirst text old new)
 
 abbrev pub Reports : Failure → Option (List ℕ) → Option (List ℕ) → Status → Type 0
 Reports failure old new status = IsWritten (text_of (failure_lines failure)) (status_of_failure failure) old new status
 
 -- A failure is reported, or want of memory in its place. Where the writer failed before, nothing more is written.
 abbrev pub IsReport : Failure → Option (List ℕ) → Option (List ℕ) → Status → Type 0
-IsReport (f.CommandLine why) old new status = Reports (f.CommandLine why) old new status ⊎ Reports f.OutOfMemory old new status
+IsReport (f.CommandLine why) old new status =
+    Reports (f.CommandLine why) old new status ⊎ Reports f.OutOfMemory old new status
 IsReport (f.Input fault) old new status = Reports (f.Input fault) old new status ⊎ Reports f.OutOfMemory old new status
 IsReport f.OutOfMemory old new status = Reports f.OutOfMemory old new status
 IsReport f.Output old new status = (status ≡ Output) × (new ≡ old)

@@ -1,4 +1,5 @@
--- What is written to a writer: lines, each with its newline, and where the writer fails the first bytes of them. How an answer is written line by line, and where its writing may stop. The format is this program's own.
+-- What is written to a writer: lines, each with its newline, and where the writer fails the first bytes of them. How
+-- an answer is written line by line, and where its writing may stop. The format is this program's own.
 use Rattle.std.specs.Prelude.{◌≡◌, ℕ, ◌⊎◌, List, [], ◌∷◌, ◌++◌, Option, Result, Ok, Err}
 use Rattle.std.specs.Io.KnownBytes.{Appends}
 use Rattle.std.specs.List.{flat_map}
@@ -21,14 +22,16 @@ pub record WritesFirst (text : List ℕ) (old new : Option (List ℕ)) : Type 0 
   pub is : text ≡ written ++ rest
   pub appends : Appends old new written
 
--- The writing of a text stops: for want of memory before its first byte, or because the writer fails, after some of its first bytes.
+-- The writing of a text stops: for want of memory before its first byte, or because the writer fails, after some of
+-- its first bytes.
 abbrev pub StopsText : List ℕ → Option (List ℕ) → Option (List ℕ) → Failure → Type 0
 StopsText text old new f.Output = WritesFirst text old new
 StopsText text old new f.OutOfMemory = new ≡ old
 StopsText text old new (f.CommandLine why) = ⊥
 StopsText text old new (f.Input fault) = ⊥
 
--- `IsWhole` says of lines and a status that they are an answer, and `IsBegun` of lines that they are the first of an answer and that others are missing.
+-- `IsWhole` says of lines and a status that they are an answer, and `IsBegun` of lines that they are the first of an
+-- answer and that others are missing.
 module _ (IsWhole : List (List ℕ) → Status → Type 0) (IsBegun : List (List ℕ) → Type 0) where
   -- the whole answer is written
   pub record WritesWhole (old new : Option (List ℕ)) (status : Status) : Type 0 where

@@ -1,4 +1,5 @@
--- The parts of an input and the lines of a part, in the program's own format: a newline ends a line, and a last line without one counts if it is not empty. A line that is exactly `%%` is between two parts.
+-- The parts of an input and the lines of a part, in the program's own format: a newline ends a line, and a last line
+-- without one counts if it is not empty. A line that is exactly `%%` is between two parts.
 use Rattle.std.specs.Prelude.{ℕ, ◌==◌, Bool, true, ◌&&◌, if◌then◌else◌, List, [], ◌∷◌, Option, Some, None, is_none, codes}
 use Rattle.std.specs.Option.{option_map}
 use Rattle.std.specs.List.{before_first, after_first}
@@ -45,7 +46,8 @@ is_separator line = bytes_eq line (codes "%%")
 abbrev pub cut_from : Bool → List ℕ → Option Cut
 cut_from starts [] = None
 cut_from starts (byte ∷ text) =
-    if starts && is_separator (first_line (byte ∷ text)) then Some (record { part = []; rest = after_line (byte ∷ text) })
+    if starts && is_separator (first_line (byte ∷ text)) then
+        Some (record { part = []; rest = after_line (byte ∷ text) })
     else option_map (onto_part byte) (cut_from (is_newline byte) text)
 
 abbrev pub cut_of : List ℕ → Option Cut

@@ -40,9 +40,11 @@ IsFault Check input fault = checking.IsFault input fault
 IsFault Make input fault = making.IsFault input fault
 IsFault (Simulate limit) input fault = simulation.IsFault input fault
 
--- the request is answered of this input, as far as memory and the writer go, or the input has a fault and nothing is written
+-- the request is answered of this input, as far as memory and the writer go, or the input has a fault and nothing is
+-- written
 abbrev pub EndsRequest : Request → List ℕ → Option (List ℕ) → Option (List ℕ) → Result Status Failure → Type 0
-EndsRequest request input old new result = Ends (IsAnswer request input) (IsBegun request input) (IsFault request input) old new result
+EndsRequest request input old new result =
+    Ends (IsAnswer request input) (IsBegun request input) (IsFault request input) old new result
 
 -- ---- of the words and what the reader gives
 
@@ -56,7 +58,8 @@ pub record IsAsked (words : List (List ℕ)) (known : Option (List ℕ)) (reques
   pub given : IsInput known input
 
 -- the lines answer what the words ask of the input
-pub record AnswersWords (words : List (List ℕ)) (known : Option (List ℕ)) (lines : List (List ℕ)) (status : Status) : Type 0 where
+pub record AnswersWords (words : List (List ℕ)) (known : Option (List ℕ)) (lines : List (List ℕ)) (status : Status) :
+    Type 0 where
   pub request : Request
   pub input : List ℕ
   pub asked : IsAsked words known request input

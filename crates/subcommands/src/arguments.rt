@@ -3,7 +3,8 @@
 ghost use Rattle.std.specs.Prelude.{◌≡◌, ℕ, None, false, IfErr, IfOk, IfSome, codes, map};
 ghost use Rattle.clap.specs.Words.{app_of, first_of, found_of, kind_of, rows_of, subcommand_rows_of};
 ghost use Rattle.clap.specs.declared.builder.command.Command.TheViews.{out-Command};
-ghost use Rattle.subcommands.specs.CommandLine.{eval, pgshard, simulate, HasLimit, IsAsking, IsEval, IsHelp, IsHelpKind, IsOfError, IsOfWords, IsSimulate, IsTaken, SpellsLimit};
+ghost use Rattle.subcommands.specs.CommandLine.{eval, pgshard, simulate, HasLimit, IsAsking, IsEval, IsHelp};
+ghost use Rattle.subcommands.specs.CommandLine.{IsHelpKind, IsOfError, IsOfWords, IsSimulate, IsTaken, SpellsLimit};
 ghost use Rattle.subcommands.specs.declared.arguments.Request.{Request as RequestType};
 
 use crate::failure::Failure;
@@ -36,7 +37,7 @@ pub enum Request<'a> {
 
 /// What the words of a command line ask.
 #[derive(Debug, Drop)]
-pub enum Asked<'a> {
+pub enum Invocation<'a> {
     /// The help or the version, which is this text.
     Help(String),
     Answer(Request<'a>),
@@ -124,13 +125,13 @@ fn rendered(alloc: Global, error: &clap::Error) -> Result<String, AllocError> {
 }
 
 /// What is asked by words that clap answers with an error.
-fn asked_by<'a>(alloc: Global, error: &clap::Error) -> Result<Asked<'a>, Failure<'a>>
+fn asked_by<'a>(alloc: Global, error: &clap::Error) -> Result<Invocation<'a>, Failure<'a>>
     ensures help { IfOk result (λ asked. IsHelp asked × IsHelpKind (kind_of error.now)) }
     ensures stopped { IfErr result (IsOfError (kind_of error.now)) }
 {
     match error.kind() {
         ErrorKind::OutOfMemory => Err(Failure::OutOfMemory),
-        ErrorKind::DisplayHelp | ErrorKind::DisplayVersion => Ok(Asked::Help(rendered(
+        ErrorKind::DisplayHelp | ErrorKind::DisplayVersion => Ok(Invocation::Help(rendered(
             alloc, error,
         )?)),
         _ => Err(Failure::CommandLine(rendered(alloc, error)?)),
@@ -209,7 +210,7 @@ fn request_of<'a>(matches: &ArgMatches<'a>) -> Option<Request<'a>>
 /// `CommandLine` where the words are neither `check` or `make` alone, nor `eval`, a table's name and at most one
 /// `--insert`, nor `simulate` and at most one `--limit` of 1 to 1,000,000,000, nor ask for the help or the version,
 /// with a text for the user; `OutOfMemory`.
-pub fn parse<'a, S: AsStr>(alloc: Global, words: &'a [S]) -> Result<Asked<'a>, Failure<'a>>
+pub fn parse<'a, S: AsStr>(alloc: Global, words: &'a [S]) -> Result<Invocation<'a>, Failure<'a>>
     ensures asked { IfOk result (IsAsking (map S.text words.entry.now)) }
     ensures stopped { IfErr result (IsOfWords (map S.text words.entry.now)) }
 {
@@ -219,7 +220,7 @@ pub fn parse<'a, S: AsStr>(alloc: Global, words: &'a [S]) -> Result<Asked<'a>, F
         Err(error) => return asked_by(alloc, &error),
     };
     match request_of(&matches) {
-        Some(request) => Ok(Asked::Answer(request)),
+        Some(request) => Ok(Invocation::Answer(request)),
         None => Err(Failure::CommandLine(String::from_str(
             alloc,
             "expected eval TABLE, check, make or simulate, and a limit of 1 to 1000000000",

@@ -8,7 +8,7 @@ ghost use Rattle.subcommands.specs.Requests.{reader_of, EndsRequest};
 ghost use Rattle.subcommands.specs.Outcomes.{IsEnding, IsOutcome, IsReport, IsRun, IsWritten};
 ghost use Rattle.subcommands.specs.Output.{text_of};
 
-use crate::arguments::{Asked, Request, parse};
+use crate::arguments::{Invocation, Request, parse};
 use crate::check::check_input;
 use crate::eval::evaluate;
 use crate::failure::{Failure, Status};
@@ -50,11 +50,11 @@ fn answer_words<'a, S: AsStr, R: Read + Drop, W: Write>(
         (W.contents writer.new) result }
 {
     match parse(alloc, words)? {
-        Asked::Help(mut text) => {
+        Invocation::Help(mut text) => {
             write_line(&mut text, writer)?;
             Ok(Status::Done)
         }
-        Asked::Answer(request) => {
+        Invocation::Answer(request) => {
             let input = read_input(alloc, input)?;
             answer(alloc, request, input.as_str(), writer)
         }

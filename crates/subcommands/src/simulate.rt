@@ -9,7 +9,7 @@ ghost use Rattle.shard_checker.specs.CheckedView.{checked_view};
 ghost use Rattle.shard_world.specs.WorldCalls.{world_checked};
 ghost use Rattle.subcommands.specs.CommandLine.{IsWithin};
 ghost use Rattle.subcommands.specs.Requests.{EndsRequest};
-ghost use Rattle.subcommands.specs.Simulate.Asking.{asked_of, asked_view};
+ghost use Rattle.subcommands.specs.Simulate.Asking.{action_of, action_view};
 ghost use Rattle.subcommands.specs.Simulate.Simulation.{IsOfScript};
 ghost use Rattle.subcommands.specs.Simulate.WorldSteps.{MakesOn, WritesSteps};
 ghost use Rattle.subcommands.specs.declared.arguments.Request.TheVariants.{Simulate};
@@ -32,20 +32,20 @@ use std::io::Write;
 use std::sync::Arc;
 
 /// What a step of a script asks of the world.
-enum Asked {
+enum StepAction {
     Event(Event),
     Pump(usize),
     View,
 }
 
 /// What a step asks, at a time.
-fn asked_by(step: Step, time: u64) -> Asked
-    ensures { asked_view result ≡ asked_of time (step_view step) }
+fn action_at(step: Step, time: u64) -> StepAction
+    ensures { action_view result ≡ action_of time (step_view step) }
 {
     let (subscriber, event) = match step {
-        Step::Commit(commands) => return Asked::Event(Event::Commit { commands, time }),
-        Step::Pump { subscriber } => return Asked::Pump(subscriber),
-        Step::View => return Asked::View,
+        Step::Commit(commands) => return StepAction::Event(Event::Commit { commands, time }),
+        Step::Pump { subscriber } => return StepAction::Pump(subscriber),
+        Step::View => return StepAction::View,
         Step::Open { subscriber } => (subscriber, PeerEvent::Open),
         Step::Hear { subscriber, bytes } => (subscriber, PeerEvent::Hear { bytes }),
         Step::Take { subscriber } => (subscriber, PeerEvent::Take),
@@ -54,7 +54,7 @@ fn asked_by(step: Step, time: u64) -> Asked
         Step::Report { subscriber, want } => (subscriber, PeerEvent::Report { want }),
         Step::Lose { subscriber } => (subscriber, PeerEvent::Lose),
     };
-    Asked::Event(Event::On { subscriber, event })
+    StepAction::Event(Event::On { subscriber, event })
 }
 
 /// Makes a step, and gives the lines of what is answered or shown.
@@ -68,10 +68,10 @@ fn step_text(
     requires { catalog_view catalog.now ≡ (world_checked world.old).catalog }
     ensures { IfOk result (λ text. MakesOn world.old world.new now (step_view step) (string_bytes text)) }
 {
-    match asked_by(step, now) {
-        Asked::Event(event) => answer_text(alloc, world.step(now, &event)),
-        Asked::Pump(subscriber) => answer_text(alloc, world.pump(now, subscriber)),
-        Asked::View => view_text(alloc, catalog, &world.view()?),
+    match action_at(step, now) {
+        StepAction::Event(event) => answer_text(alloc, world.step(now, &event)),
+        StepAction::Pump(subscriber) => answer_text(alloc, world.pump(now, subscriber)),
+        StepAction::View => view_text(alloc, catalog, &world.view()?),
     }
 }
 

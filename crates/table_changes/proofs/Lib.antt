@@ -1,5 +1,5 @@
 pub mod AlwaysLemmas
 pub mod ChangeLemmas
-pub mod GrowingLemmas
+pub mod CommandListLemmas
 pub mod ShowingLemmas
 pub mod TableLemmas

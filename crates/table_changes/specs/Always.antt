@@ -1,4 +1,5 @@
--- Faults that a command has whatever rows there are: no such table, and a row that doesn't fit its table: PostgreSQL 15, Chapter 6 Data Manipulation, and SQL Commands, TRUNCATE.
+-- Faults that a command has whatever rows there are: no such table, and a row that doesn't fit its table: PostgreSQL
+-- 15, Chapter 6 Data Manipulation, and SQL Commands, TRUNCATE.
 use Rattle.std.specs.Prelude.{◌≡◌, ℕ, ◌+◌, Bool, true, false, List, Some, slice_get}
 use Rattle.table_changes.specs.Commands.{Command, CommandFault, NoTable, Unfit, NoSuchRow, DuplicateKey, fault_of, first_fault}
 use Rattle.table_changes.specs.Setting.{Setting}
@@ -21,5 +22,7 @@ pub record HasAlways (setting : Setting) (commands : List Command) (number : ℕ
 
 -- A list that is refused on any tables for such a fault has it always.
 abbrev pub FaultsOfCommandsStay : Type 0
-FaultsOfCommandsStay = (setting : Setting) (tables : Tables) (commands : List Command) (number : ℕ) (fault : CommandFault) → is_of_command fault ≡ true
+FaultsOfCommandsStay =
+    (setting : Setting) (tables : Tables) (commands : List Command) (number : ℕ) (fault : CommandFault)
+    → is_of_command fault ≡ true
     → first_fault setting tables 1 commands ≡ Some (number, fault) → HasAlways setting commands number fault

@@ -1,4 +1,5 @@
--- The values that a row has in some columns, as a key, a unique index or a replica identity names them: PostgreSQL 15, 5.4.4 Primary Keys, 11.6 Unique Indexes, and ALTER TABLE, "REPLICA IDENTITY".
+-- The values that a row has in some columns, as a key, a unique index or a replica identity names them: PostgreSQL
+-- 15, 5.4.4 Primary Keys, 11.6 Unique Indexes, and ALTER TABLE, "REPLICA IDENTITY".
 use Rattle.std.specs.Prelude.{ℕ, ◌+◌, ◌==◌, Bool, true, false, List, [], ◌∷◌, map, Option, Some, None, if◌then◌else◌}
 use Rattle.std.specs.List.{list_any}
 use Rattle.filter_tree.specs.Datum.{Datum, Missing, Known, value_at}
@@ -18,4 +19,5 @@ unless_null values = if list_any is_null values then None else Some values
 abbrev pub blanked_from : List ℕ → ℕ → List Datum → List Datum
 blanked_from columns number [] = []
 blanked_from columns number (value ∷ values) =
-    (if list_any (λ column. column == number) columns then value else Missing) ∷ blanked_from columns (number + 1) values
+    (if list_any (λ column. column == number) columns then value else Missing)
+        ∷ blanked_from columns (number + 1) values

@@ -1,4 +1,5 @@
--- What commands do to tables: which fault a command has, and what one without a fault leaves: PostgreSQL 15, Chapter 6 Data Manipulation, 5.4.3 Unique Constraints, 5.4.4 Primary Keys, 11.6 Unique Indexes, and SQL Commands, TRUNCATE.
+-- What commands do to tables: which fault a command has, and what one without a fault leaves: PostgreSQL 15, Chapter
+-- 6 Data Manipulation, 5.4.3 Unique Constraints, 5.4.4 Primary Keys, 11.6 Unique Indexes, and SQL Commands, TRUNCATE.
 use Rattle.std.specs.Prelude.{ℕ, ◌+◌, Bool, true, false, List, [], ◌∷◌, fold, is_some, Option, Some, None}
 use Rattle.std.specs.List.{list_all}
 use Rattle.filter_tree.specs.Datum.{Datum}
@@ -8,7 +9,8 @@ use Rattle.table_changes.specs.Tables.{Tables, put_in, without, emptied, is_free
 use Rattle.table_changes.specs.declared.command.Command as d
 use Rattle.table_changes.specs.declared.command.Command.TheVariants as v
 
--- Tables and keys are named first; a key has its values in the order of the primary key's columns. TRUNCATE names the tables that it empties.
+-- Tables and keys are named first; a key has its values in the order of the primary key's columns. TRUNCATE names the
+-- tables that it empties.
 pub data Command : Type 0 where
   Insert : ℕ → List Datum → Command
   Update : ℕ → List Datum → List Datum → Command
@@ -49,7 +51,9 @@ abbrev pub all_known : Setting → List ℕ → Bool
 all_known setting [] = false
 all_known setting (table ∷ numbers) = list_all setting.known (table ∷ numbers)
 
--- The first fault of a command: no such table, as of TRUNCATE without any; a row that doesn't fit; no row with the key, as of each key that isn't of the primary key's shape; and a value in a unique key that another row has, which for UPDATE isn't the row that is replaced.
+-- The first fault of a command: no such table, as of TRUNCATE without any; a row that doesn't fit; no row with the
+-- key, as of each key that isn't of the primary key's shape; and a value in a unique key that another row has, which
+-- for UPDATE isn't the row that is replaced.
 abbrev pub fault_of : Setting → Tables → Command → Option CommandFault
 fault_of setting tables (Insert table row) =
     unless (setting.known table) NoTable (unless_unfit (setting.fault table row)
@@ -57,7 +61,8 @@ fault_of setting tables (Insert table row) =
 fault_of setting tables (Update table key row) =
     unless (setting.known table) NoTable (unless_unfit (setting.fault table row)
     (unless (is_some (named tables table key)) NoSuchRow
-    (unless (is_free setting.keys (without setting.keys tables table (named tables table key)) table row) DuplicateKey None)))
+    (unless (is_free setting.keys (without setting.keys tables table (named tables table key)) table row) DuplicateKey
+        None)))
 fault_of setting tables (Delete table key) =
     unless (setting.known table) NoTable (unless (is_some (named tables table key)) NoSuchRow None)
 fault_of setting tables (Truncate numbers) = unless (all_known setting numbers) NoTable None
@@ -67,7 +72,8 @@ fault_of setting tables (Truncate numbers) = unless (all_known setting numbers) 
 -- the tables after a command that has no fault on them
 abbrev pub applied : Setting → Tables → Command → Tables
 applied setting tables (Insert table row) = put_in setting.keys tables table row
-applied setting tables (Update table key row) = put_in setting.keys (without setting.keys tables table (named tables table key)) table row
+applied setting tables (Update table key row) =
+    put_in setting.keys (without setting.keys tables table (named tables table key)) table row
 applied setting tables (Delete table key) = without setting.keys tables table (named tables table key)
 applied setting tables (Truncate numbers) = emptied tables numbers
 
@@ -84,4 +90,5 @@ numbered number (Some fault) next = Some (number, fault)
 abbrev pub first_fault : Setting → Tables → ℕ → List Command → Option (ℕ × CommandFault)
 first_fault setting tables number [] = None
 first_fault setting tables number (command ∷ commands) =
-    numbered number (fault_of setting tables command) (first_fault setting (applied setting tables command) (number + 1) commands)
+    numbered number (fault_of setting tables command)
+        (first_fault setting (applied setting tables command) (number + 1) commands)

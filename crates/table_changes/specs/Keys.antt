@@ -1,4 +1,5 @@
--- The unique keys of tables: the primary key, and each unique index, in which a row with a null has no value, since nulls are not equal: PostgreSQL 15, 5.4.3 Unique Constraints, 5.4.4 Primary Keys and 11.6 Unique Indexes.
+-- The unique keys of tables: the primary key, and each unique index, in which a row with a null has no value, since
+-- nulls are not equal: PostgreSQL 15, 5.4.3 Unique Constraints, 5.4.4 Primary Keys and 11.6 Unique Indexes.
 use Rattle.std.specs.Prelude.{◌≡◌, ℕ, true, List, is_some, Option, Some, None, slice_get}
 use Rattle.filter_tree.specs.Datum.{Datum}
 

@@ -2,7 +2,7 @@ pub mod Always
 pub mod Changes
 pub mod Columns
 pub mod Commands
-pub mod Growing
+pub mod CommandLists
 pub mod Keys
 pub mod Outs
 pub mod Records

@@ -1,4 +1,5 @@
--- What a subscriber gets of a recorded change, where the old row is known by its part alone: PostgreSQL 15, "Logical Replication", 31.3.1 Row Filter Rules and 31.3.3 UPDATE Transformations.
+-- What a subscriber gets of a recorded change, where the old row is known by its part alone: PostgreSQL 15, "Logical
+-- Replication", 31.3.1 Row Filter Rules and 31.3.3 UPDATE Transformations.
 use Rattle.std.specs.Prelude.{ℕ, Bool, true, false, List, filter, Option, Some, None, option_map, if◌then◌else◌}
 use Rattle.std.specs.List.{list_any}
 use Rattle.filter_tree.specs.Datum.{Datum}
@@ -32,10 +33,12 @@ out_gone passes None = None
 out_gone passes (Some (r.Key part)) = if passes part then Some (Delete (Some (r.Key part))) else None
 out_gone passes (Some (r.Full old)) = if passes old then Some (Delete (Some (r.Full old))) else None
 
--- What a subscriber gets of a change, if anything. `passes` tells which rows of a table pass to it, and `carries` which tables it takes anything of.
+-- What a subscriber gets of a change, if anything. `passes` tells which rows of a table pass to it, and `carries`
+-- which tables it takes anything of.
 abbrev pub transform_of : (ℕ → List Datum → Bool) → (ℕ → Bool) → r.ChangeOf → Option OutOf
 transform_of passes carries (r.Insert table new) = if passes table new then Some (Insert new) else None
-transform_of passes carries (r.Update table part new) = out_by (passes table (asked part new)) (passes table new) part new
+transform_of passes carries (r.Update table part new) =
+    out_by (passes table (asked part new)) (passes table new) part new
 transform_of passes carries (r.Delete table part) = out_gone (passes table) part
 transform_of passes carries (r.Truncate numbers) = if list_any carries numbers then Some (Truncate numbers) else None
 
@@ -58,7 +61,8 @@ stands_for table carries (Truncate numbers) = r.Truncate (filter carries numbers
 -- what the subscriber of this number gets of a change, as a change
 abbrev pub got : Setting → ℕ → r.ChangeOf → Option r.ChangeOf
 got setting subscriber change =
-    option_map (stands_for (table_of change) (setting.carries subscriber)) (transform_of (setting.passes subscriber) (setting.carries subscriber) change)
+    option_map (stands_for (table_of change) (setting.carries subscriber))
+        (transform_of (setting.passes subscriber) (setting.carries subscriber) change)
 
 -- what is seen, as it is recorded
 abbrev pub as_recorded : Setting → s.Seen → r.ChangeOf

@@ -1,4 +1,6 @@
--- What is recorded of commands for those who follow the tables: the parts of old rows that the replica identity gives, the new rows, and the tables that are emptied: PostgreSQL 15, "Logical Replication", 31.1 Publication, and SQL Commands, ALTER TABLE (REPLICA IDENTITY) and TRUNCATE.
+-- What is recorded of commands for those who follow the tables: the parts of old rows that the replica identity
+-- gives, the new rows, and the tables that are emptied: PostgreSQL 15, "Logical Replication", 31.1 Publication, and
+-- SQL Commands, ALTER TABLE (REPLICA IDENTITY) and TRUNCATE.
 use Rattle.std.specs.Prelude.{ℕ, nat_eq, Bool, false, List, [], ◌∷◌, Option, Some, None, if◌then◌else◌}
 use Rattle.filter_tree.specs.Datum.{Datum}
 use Rattle.filter_tree.specs.Lists.{distinct}
@@ -9,7 +11,8 @@ use Rattle.table_changes.specs.Tables.{Tables}
 
 -- ---- parts of old rows
 
--- what is recorded of an old row, where anything is: the row with nulls outside the columns of the identity, or the whole row
+-- what is recorded of an old row, where anything is: the row with nulls outside the columns of the identity, or the
+-- whole row
 pub data PartOf : Type 0 where
   Key : List Datum → PartOf
   Full : List Datum → PartOf
@@ -19,15 +22,19 @@ abbrev pub is_kept : (List Datum → List Datum) → List Datum → Option (List
 is_kept identity old None = false
 is_kept identity old (Some new) = same_row (identity old) (identity new)
 
--- What is recorded of an old row that goes, or that a new one replaces. Where columns identify rows it is recorded only if one of them changes; a whole row always is. `identity` gives the values that identify a row, and `blanked` the row with nulls outside them.
-abbrev pub part_by : Recorded → (List Datum → List Datum) → (List Datum → List Datum) → List Datum → Option (List Datum) → Option PartOf
+-- What is recorded of an old row that goes, or that a new one replaces. Where columns identify rows it is recorded
+-- only if one of them changes; a whole row always is. `identity` gives the values that identify a row, and `blanked`
+-- the row with nulls outside them.
+abbrev pub part_by : Recorded → (List Datum → List Datum) → (List Datum → List Datum) → List Datum
+    → Option (List Datum) → Option PartOf
 part_by Columns identity blanked old new = if is_kept identity old new then None else Some (Key (blanked old))
 part_by Whole identity blanked old new = Some (Full old)
 part_by Nowhere identity blanked old new = None
 
 -- the part of an old row of the table
 abbrev pub part_of : Setting → ℕ → List Datum → Option (List Datum) → Option PartOf
-part_of setting table old new = part_by (setting.recorded table) (setting.identity table) (setting.blanked table) old new
+part_of setting table old new =
+    part_by (setting.recorded table) (setting.identity table) (setting.blanked table) old new
 
 -- and of one that was found
 abbrev pub part_found : Setting → ℕ → Option (List Datum) → Option (List Datum) → Option PartOf
@@ -46,11 +53,13 @@ pub data ChangeOf : Type 0 where
 -- the change that a command makes on tables; TRUNCATE empties each table once that it names
 abbrev pub change_of : Setting → Tables → c.Command → ChangeOf
 change_of setting tables (c.Insert table row) = Insert table row
-change_of setting tables (c.Update table key row) = Update table (part_found setting table (c.named tables table key) (Some row)) row
+change_of setting tables (c.Update table key row) =
+    Update table (part_found setting table (c.named tables table key) (Some row)) row
 change_of setting tables (c.Delete table key) = Delete table (part_found setting table (c.named tables table key) None)
 change_of setting tables (c.Truncate numbers) = Truncate (distinct nat_eq numbers)
 
 -- the changes that commands make, each on what the earlier ones leave
 abbrev pub record_of : Setting → Tables → List c.Command → List ChangeOf
 record_of setting tables [] = []
-record_of setting tables (command ∷ commands) = change_of setting tables command ∷ record_of setting (c.applied setting tables command) commands
+record_of setting tables (command ∷ commands) =
+    change_of setting tables command ∷ record_of setting (c.applied setting tables command) commands

@@ -1,4 +1,6 @@
--- What a subscriber sees of commands: an UPDATE whose old row alone passes takes the row away, and one whose new row alone passes brings it; row filters have no effect on TRUNCATE: PostgreSQL 15, "Logical Replication", 31.3.1 Row Filter Rules and 31.3.3 UPDATE Transformations, and SQL Commands, TRUNCATE.
+-- What a subscriber sees of commands: an UPDATE whose old row alone passes takes the row away, and one whose new row
+-- alone passes brings it; row filters have no effect on TRUNCATE: PostgreSQL 15, "Logical Replication", 31.3.1 Row
+-- Filter Rules and 31.3.3 UPDATE Transformations, and SQL Commands, TRUNCATE.
 use Rattle.std.specs.Prelude.{ℕ, nat_eq, Bool, List, [], ◌∷◌, filter, filter_map, Option, Some, None, if◌then◌else◌}
 use Rattle.filter_tree.specs.Datum.{Datum}
 use Rattle.filter_tree.specs.Lists.{distinct}
@@ -32,11 +34,15 @@ seen_tables (table ∷ numbers) = Some (Truncate (table ∷ numbers))
 
 -- what the subscriber of this number sees of a command on tables, if anything
 abbrev pub seen_of : Setting → ℕ → Tables → c.Command → Option Seen
-seen_of setting subscriber tables (c.Insert table row) = seen_rows table None (passing (setting.passes subscriber table) (Some row))
+seen_of setting subscriber tables (c.Insert table row) =
+    seen_rows table None (passing (setting.passes subscriber table) (Some row))
 seen_of setting subscriber tables (c.Update table key row) =
-    seen_rows table (passing (setting.passes subscriber table) (c.named tables table key)) (passing (setting.passes subscriber table) (Some row))
-seen_of setting subscriber tables (c.Delete table key) = seen_rows table (passing (setting.passes subscriber table) (c.named tables table key)) None
-seen_of setting subscriber tables (c.Truncate numbers) = seen_tables (filter (setting.carries subscriber) (distinct nat_eq numbers))
+    seen_rows table (passing (setting.passes subscriber table) (c.named tables table key))
+        (passing (setting.passes subscriber table) (Some row))
+seen_of setting subscriber tables (c.Delete table key) =
+    seen_rows table (passing (setting.passes subscriber table) (c.named tables table key)) None
+seen_of setting subscriber tables (c.Truncate numbers) =
+    seen_tables (filter (setting.carries subscriber) (distinct nat_eq numbers))
 
 -- of each command, on what the earlier ones leave
 abbrev pub seen_each : Setting → ℕ → Tables → List c.Command → List (Option Seen)

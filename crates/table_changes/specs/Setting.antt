@@ -1,4 +1,6 @@
--- What changes of tables depend on, told apart from the catalog that says it: which tables there are, which rows fit them, their unique keys, what the replica identity records of a row, which subscribers get it, and which take anything of a table: PostgreSQL 15, "Logical Replication", 31.1 Publication and 31.3 Row Filters.
+-- What changes of tables depend on, told apart from the catalog that says it: which tables there are, which rows fit
+-- them, their unique keys, what the replica identity records of a row, which subscribers get it, and which take
+-- anything of a table: PostgreSQL 15, "Logical Replication", 31.1 Publication and 31.3 Row Filters.
 use Rattle.std.specs.Prelude.{ℕ, Bool, ◌&&◌, List, is_none, Option}
 use Rattle.filter_tree.specs.Datum.{Datum}
 use Rattle.filter_tree.specs.declared.validity.RowFault.{RowFault}

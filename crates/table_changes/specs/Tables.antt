@@ -1,4 +1,5 @@
--- Tables, in which a row is found by each of its unique keys: PostgreSQL 15, Chapter 6 Data Manipulation, 5.4.3 Unique Constraints, 5.4.4 Primary Keys and 11.6 Unique Indexes.
+-- Tables, in which a row is found by each of its unique keys: PostgreSQL 15, Chapter 6 Data Manipulation, 5.4.3
+-- Unique Constraints, 5.4.4 Primary Keys and 11.6 Unique Indexes.
 use Rattle.std.specs.Prelude.{◌≡◌, ℕ, ◌+◌, ◌==◌, Bool, true, false, ◌&&◌, List, [], ◌∷◌, is_none, Option, Some, None, if◌then◌else◌}
 use Rattle.std.specs.List.{list_any}
 use Rattle.filter_tree.specs.Datum.{Datum}
@@ -25,7 +26,8 @@ is_own keys table row other number value = (table == other) && is_row (key_at ke
 
 -- the tables with this row, or none, in each place of a row
 abbrev pub put : Keys → Tables → ℕ → List Datum → Option (List Datum) → Tables
-put keys tables table row found other number value = if is_own keys table row other number value then found else tables other number value
+put keys tables table row found other number value = if is_own keys table row other number value then
+    found else tables other number value
 
 abbrev pub put_in : Keys → Tables → ℕ → List Datum → Tables
 put_in keys tables table row = put keys tables table row (Some row)
@@ -40,7 +42,8 @@ without keys tables table (Some row) = take_out keys tables table row
 
 -- without any row of the tables of these numbers
 abbrev pub emptied : Tables → List ℕ → Tables
-emptied tables numbers other number value = if list_any (λ table. table == other) numbers then None else tables other number value
+emptied tables numbers other number value = if list_any (λ table. table == other) numbers then
+    None else tables other number value
 
 -- ---- which rows are there
 
@@ -52,7 +55,8 @@ found_at place (Some value) = place value
 -- at none of these unique keys, which begin at this number, there is a row with the row's value
 abbrev pub is_free_from : (ℕ → List Datum → Option (List Datum)) → ℕ → List UniqueKey → List Datum → Bool
 is_free_from places number [] row = true
-is_free_from places number (key ∷ keys) row = is_none (found_at (places number) (key row)) && is_free_from places (number + 1) keys row
+is_free_from places number (key ∷ keys) row =
+    is_none (found_at (places number) (key row)) && is_free_from places (number + 1) keys row
 
 -- no row of the table has the row's value in any of its unique keys
 abbrev pub is_free : Keys → Tables → ℕ → List Datum → Bool
@@ -67,9 +71,11 @@ holds keys tables table row = is_row (found_at (tables table 0) (key_at keys tab
 -- Rows are found where they belong.
 pub record Stands (keys : Keys) (tables : Tables) : Type 0 where
   -- a row that is found by a value in a unique key has that value
-  pub keyed : (table number : ℕ) (value row : List Datum) → tables table number value ≡ Some row → key_at keys table number row ≡ Some value
+  pub keyed : (table number : ℕ) (value row : List Datum) → tables table number value ≡ Some row
+      → key_at keys table number row ≡ Some value
   -- a row that is found by one of its unique keys is found by each
-  pub whole : (table number other : ℕ) (value another row : List Datum) → tables table number value ≡ Some row → key_at keys table other row ≡ Some another
+  pub whole : (table number other : ℕ) (value another row : List Datum) → tables table number value ≡ Some row
+      → key_at keys table other row ≡ Some another
       → tables table other another ≡ Some row
 
 -- The same row is in each place.

@@ -1,5 +1,6 @@
 -- A book may go to another thread, and what it shares of its catalog and its commits may be read in several.
--- The search stops at its limits where it goes through a filter, which may hold itself. So each type that reaches a filter has a lemma, and the types that hold it name that.
+-- The search stops at its limits where it goes through a filter, which may hold itself. So each type that reaches a
+-- filter has a lemma, and the types that hold it name that.
 use denote.Param.Send.{IsSend, IsSync, sendable, struct_send, struct_sync, recorded_send, recorded_sync}
 use denote.Struct.Declared.{shape}
 use Rattle.std.proofs.Crossing.{crosses, Arc-send, Vec-send}
@@ -67,10 +68,12 @@ plan_sync : IsSync Pl.the_field.row
 plan_sync = search (share_sync, all) depth 200 fits 3000 parts 0
 
 pub checked_send : IsSend C.the_row
-checked_send = recorded_send C.the_field.row _ _ C.the_type.to_one (struct_send (shape C.the_type) (catalog_send, (plan_send, tt)))
+checked_send = recorded_send C.the_field.row _ _ C.the_type.to_one
+    (struct_send (shape C.the_type) (catalog_send, (plan_send, tt)))
 
 pub checked_sync : IsSync C.the_row
-checked_sync = recorded_sync C.the_field.row _ _ C.the_type.to_one (struct_sync (shape C.the_type) (catalog_sync, (plan_sync, tt)))
+checked_sync = recorded_sync C.the_field.row _ _ C.the_type.to_one
+    (struct_sync (shape C.the_type) (catalog_sync, (plan_sync, tt)))
 
 -- ---- books
 

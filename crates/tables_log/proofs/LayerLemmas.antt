@@ -13,20 +13,24 @@ use Rattle.tables_log.specs.Layers.{flat, over, below, has_place, is_made, was_i
 
 -- ---- by cases
 
-flat_if : {V : Type 0} (b : Bool) (one another : Option (Option V)) → flat (if b then one else another) ≡ (if b then flat one else flat another)
+flat_if : {V : Type 0} (b : Bool) (one another : Option (Option V))
+    → flat (if b then one else another) ≡ (if b then flat one else flat another)
 flat_if true one another = refl
 flat_if false one another = refl
 
-over_if : {V : Type 0} (b : Bool) (place found : Option V) → over (if b then Some place else None) found ≡ (if b then place else found)
+over_if : {V : Type 0} (b : Bool) (place found : Option V)
+    → over (if b then Some place else None) found ≡ (if b then place else found)
 over_if true place found = refl
 over_if false place found = refl
 
-over_first : {V : Type 0} (b : Bool) (place : Option V) (rest other : Option (Option V)) (found under : Option V) → over rest found ≡ over other under
+over_first : {V : Type 0} (b : Bool) (place : Option V) (rest other : Option (Option V)) (found under : Option V)
+    → over rest found ≡ over other under
     → over (if b then Some place else rest) found ≡ over (if b then Some place else other) under
 over_first true place rest other found under h = refl
 over_first false place rest other found under h = h
 
-some_first : {V : Type 0} (b : Bool) (place : V) (rest : Option V) → is_some rest ≡ true → is_some (if b then Some place else rest) ≡ true
+some_first : {V : Type 0} (b : Bool) (place : V) (rest : Option V) → is_some rest ≡ true
+    → is_some (if b then Some place else rest) ≡ true
 some_first true place rest h = refl
 some_first false place rest h = h
 
@@ -55,20 +59,24 @@ over_append : {K V : Type 0} (test : K → Bool) (undo : List (K × Option V)) (
     → over (lookup test (undo ++ (key, place) ∷ [])) found ≡ over (lookup test undo) (if test key then place else found)
 over_append test [] key place found = over_if (test key) place found
 over_append test ((other, was) ∷ undo) key place found =
-    over_first (test other) was (lookup test (undo ++ (key, place) ∷ [])) (lookup test undo) found (if test key then place else found)
+    over_first (test other) was (lookup test (undo ++ (key, place) ∷ [])) (lookup test undo) found
+        (if test key then place else found)
     (over_append test undo key place found)
 
-some_append : {K V : Type 0} (test : K → Bool) (undo : List (K × V)) (key : K) (place : V) → is_some (lookup test undo) ≡ true
+some_append : {K V : Type 0} (test : K → Bool) (undo : List (K × V)) (key : K) (place : V)
+    → is_some (lookup test undo) ≡ true
     → is_some (lookup test (undo ++ (key, place) ∷ [])) ≡ true
 some_append test [] key place h = absurd cc
 some_append test ((other, was) ∷ undo) key place h =
-    some_if (test other) was (lookup test undo) (lookup test (undo ++ (key, place) ∷ [])) (some_append test undo key place) h
+    some_if (test other) was (lookup test undo) (lookup test (undo ++ (key, place) ∷ []))
+        (some_append test undo key place) h
 
 some_before : {K V : Type 0} (test : K → Bool) (undo : List (K × V)) (key : K) (place : V) → test key ≡ false
     → is_some (lookup test (undo ++ (key, place) ∷ [])) ≡ true → is_some (lookup test undo) ≡ true
 some_before test [] key place apart h = sym (ap (λ b. is_some (if b then Some place else None)) apart) ∙ h
 some_before test ((other, was) ∷ undo) key place apart h =
-    some_if (test other) was (lookup test (undo ++ (key, place) ∷ [])) (lookup test undo) (some_before test undo key place apart) h
+    some_if (test other) was (lookup test (undo ++ (key, place) ∷ [])) (lookup test undo)
+        (some_before test undo key place apart) h
 
 module _ {K : Type 0} (cmp : K → K → Ordering) where
   -- ---- one map
@@ -88,27 +96,33 @@ module _ {K : Type 0} (cmp : K → K → Ordering) where
   get_beside old new key place updates other apart =
       get_after old new key place updates other ∙ ap (λ b. if b then place else get cmp old other) apart
 
-  pub below_unchanged : {V : Type 0} (old new : BTreeMap K (Option V)) → IsUnchanged old new → (key : K) → below cmp new key ≡ below cmp old key
+  pub below_unchanged : {V : Type 0} (old new : BTreeMap K (Option V)) → IsUnchanged old new → (key : K)
+      → below cmp new key ≡ below cmp old key
   below_unchanged old new same key = ap (λ entries. flat (lookup (is_at (cmp key)) entries)) same
 
-  pub below_after : {V : Type 0} (old new : BTreeMap K (Option V)) (key : K) (place : Option (Option V)) → Updates cmp old new key place
+  pub below_after : {V : Type 0} (old new : BTreeMap K (Option V)) (key : K) (place : Option (Option V))
+      → Updates cmp old new key place
       → (other : K) → below cmp new other ≡ (if eq_by_cmp cmp key other then flat place else below cmp old other)
   below_after old new key place updates other =
       ap flat (get_after old new key place updates other) ∙ flat_if (eq_by_cmp cmp key other) place (get cmp old other)
 
-  no_place : {V : Type 0} (map : BTreeMap K (Option V)) (key : K) → has_place cmp map key ≡ true → get cmp map key ≡ None → ⊥
+  no_place : {V : Type 0} (map : BTreeMap K (Option V)) (key : K) → has_place cmp map key ≡ true
+      → get cmp map key ≡ None → ⊥
   no_place map key has none = let lacks : has_place cmp map key ≡ false = ap is_some none in cc
 
   -- an insert at a place that is there
-  pub writes : {V E : Type 0} (old new : BTreeMap K (Option V)) (key : K) (value : Option V) (result : Result (Option (Option V)) E)
-      → OnOk result (Updates cmp old new key (Some value)) → OnErr result (get cmp old key ≡ None) → has_place cmp old key ≡ true
+  pub writes : {V E : Type 0} (old new : BTreeMap K (Option V)) (key : K) (value : Option V)
+      (result : Result (Option (Option V)) E)
+      → OnOk result (Updates cmp old new key (Some value)) → OnErr result (get cmp old key ≡ None)
+      → has_place cmp old key ≡ true
       → Updates cmp old new key (Some value)
   writes old new key value result ok err has =
       did_not_fail result (Updates cmp old new key (Some value)) (get cmp old key ≡ None) ok err (no_place old key has)
 
   -- ---- what was kept, where nothing is undone, and after a call that changes nothing
 
-  pub kept_same : {V : Type 0} (base new_base : BTreeMap K (Option V)) (made new_made : List K) (undo new_undo : List (K × Option V))
+  pub kept_same : {V : Type 0} (base new_base : BTreeMap K (Option V)) (made new_made : List K)
+      (undo new_undo : List (K × Option V))
       → new_made ≡ made → new_undo ≡ undo → ((other : K) → below cmp new_base other ≡ below cmp base other)
       → (other : K) → kept_under cmp new_base new_made new_undo other ≡ kept_under cmp base made undo other
   kept_same base new_base made new_made undo new_undo same_made same_undo same other =
@@ -116,7 +130,8 @@ module _ {K : Type 0} (cmp : K → K → Ordering) where
       ∙ ap (λ places. rewound cmp made places other (below cmp new_base other)) same_undo
       ∙ ap (rewound cmp made undo other) (same other)
 
-  pub room_same : {V : Type 0} (base new_base : BTreeMap K (Option V)) (undo new_undo : List (K × Option V)) → new_undo ≡ undo
+  pub room_same : {V : Type 0} (base new_base : BTreeMap K (Option V)) (undo new_undo : List (K × Option V))
+      → new_undo ≡ undo
       → ((other : K) → has_place cmp base other ≡ true → has_place cmp new_base other ≡ true)
       → HasRoom cmp base undo → HasRoom cmp new_base new_undo
   room_same base new_base undo new_undo same stay room = λ key has.
@@ -124,8 +139,10 @@ module _ {K : Type 0} (cmp : K → K → Ordering) where
 
   -- ---- while the places get what they had
 
-  pub record Rewinds {V : Type 0} (base first_base : BTreeMap K (Option V)) (undo first_undo : List (K × Option V)) : Type 0 where
-    pub back : (key : K) → over (was_in cmp undo key) (below cmp base key) ≡ over (was_in cmp first_undo key) (below cmp first_base key)
+  pub record Rewinds {V : Type 0} (base first_base : BTreeMap K (Option V)) (undo first_undo : List (K × Option V)) :
+      Type 0 where
+    pub back : (key : K) → over (was_in cmp undo key) (below cmp base key)
+        ≡ over (was_in cmp first_undo key) (below cmp first_base key)
     pub room : HasRoom cmp base undo
 
 -- ---- with keys in a total order, of which those that tie find the same
@@ -140,40 +157,51 @@ module _ {K : Type 0} {cmp : K → K → Ordering} (total : IsTotalOrder cmp) wh
       let tied : cmp key other ≡ Equal = (Equal-is (cmp key other)).0 same in
       λ i k. is_eq (total.congr key other k tied i)
 
-  get_same : {V : Type 0} (map : BTreeMap K V) (key other : K) → eq_by_cmp cmp key other ≡ true → get cmp map other ≡ get cmp map key
+  get_same : {V : Type 0} (map : BTreeMap K V) (key other : K) → eq_by_cmp cmp key other ≡ true
+      → get cmp map other ≡ get cmp map key
   get_same map key other same = sym (ap (λ (test : K → Bool). lookup test map.entries) (tests_same key other same))
 
   -- ---- places
 
-  pub stay_after : {V : Type 0} (old new : BTreeMap K (Option V)) (key : K) (place : Option V) → Updates cmp old new key (Some place)
+  pub stay_after : {V : Type 0} (old new : BTreeMap K (Option V)) (key : K) (place : Option V)
+      → Updates cmp old new key (Some place)
       → (other : K) → has_place cmp old other ≡ true → has_place cmp new other ≡ true
   stay_after old new key place updates other h = by_test (eq_by_cmp cmp key other)
       (λ same. ap is_some (get_at cmp old new key (Some place) updates other same))
       (λ apart. ap is_some (get_beside cmp old new key (Some place) updates other apart) ∙ h)
 
-  pub there_after : {V : Type 0} (old new : BTreeMap K (Option V)) (key : K) (place : Option V) → Updates cmp old new key (Some place)
+  pub there_after : {V : Type 0} (old new : BTreeMap K (Option V)) (key : K) (place : Option V)
+      → Updates cmp old new key (Some place)
       → has_place cmp new key ≡ true
-  there_after old new key place updates = ap is_some (get_at cmp old new key (Some place) updates key ((eq_by_cmp_equiv total).refl key))
+  there_after old new key place updates =
+      ap is_some (get_at cmp old new key (Some place) updates key ((eq_by_cmp_equiv total).refl key))
 
   -- ---- a change of a place that was there
 
-  pub keeps_undone : {V : Type 0} (base new_base : BTreeMap K (Option V)) (made : List K) (undo : List (K × Option V)) (key : K) (was value : Option V)
-      → get cmp base key ≡ Some was → ((other : K) → below cmp new_base other ≡ (if eq_by_cmp cmp key other then value else below cmp base other))
+  pub keeps_undone : {V : Type 0} (base new_base : BTreeMap K (Option V)) (made : List K) (undo : List (K × Option V))
+      (key : K) (was value : Option V)
+      → get cmp base key ≡ Some was
+      → ((other : K) → below cmp new_base other ≡ (if eq_by_cmp cmp key other then value else below cmp base other))
       → (other : K) → kept_under cmp new_base made (undo ++ (key, was) ∷ []) other ≡ kept_under cmp base made undo other
   keeps_undone {V} base new_base made undo key was value is puts other =
-      let there : (if eq_by_cmp cmp key other then was else below cmp new_base other) ≡ below cmp base other = by_test (eq_by_cmp cmp key other)
-      (λ same. ap (λ (b : Bool). if b then was else below cmp new_base other) same ∙ sym (ap flat (get_same base key other same ∙ is)))
+      let there : (if eq_by_cmp cmp key other then was else below cmp new_base other) ≡ below cmp base other =
+          by_test (eq_by_cmp cmp key other)
+      (λ same. ap (λ (b : Bool). if b then was else below cmp new_base other) same
+          ∙ sym (ap flat (get_same base key other same ∙ is)))
       (λ apart.
       ap (λ (b : Bool). if b then was else below cmp new_base other) apart ∙ puts other
       ∙ ap (λ (b : Bool). if b then value else below cmp base other) apart) in
-      let found : over (was_in cmp (undo ++ (key, was) ∷ []) other) (below cmp new_base other) ≡ over (was_in cmp undo other) (below cmp base other) =
+      let found : over (was_in cmp (undo ++ (key, was) ∷ []) other) (below cmp new_base other)
+          ≡ over (was_in cmp undo other) (below cmp base other) =
       over_append (is_at (cmp other)) undo key was (below cmp new_base other)
       ∙ ap (λ (b : Bool). over (was_in cmp undo other) (if b then was else below cmp new_base other)) (turned key other)
       ∙ ap (λ (x : Option V). over (was_in cmp undo other) x) there in
       ap (λ (x : Option V). if is_made cmp made other then None else x) found
 
-  pub room_undone : {V : Type 0} (base new_base : BTreeMap K (Option V)) (undo : List (K × Option V)) (key : K) (was : Option V)
-      → ((other : K) → has_place cmp base other ≡ true → has_place cmp new_base other ≡ true) → has_place cmp new_base key ≡ true
+  pub room_undone : {V : Type 0} (base new_base : BTreeMap K (Option V)) (undo : List (K × Option V)) (key : K)
+      (was : Option V)
+      → ((other : K) → has_place cmp base other ≡ true → has_place cmp new_base other ≡ true)
+      → has_place cmp new_base key ≡ true
       → HasRoom cmp base undo → HasRoom cmp new_base (undo ++ (key, was) ∷ [])
   room_undone base new_base undo key was stay there room = λ other has. by_test (eq_by_cmp cmp key other)
       (λ same. ap is_some (get_same new_base key other same) ∙ there)
@@ -181,13 +209,16 @@ module _ {K : Type 0} {cmp : K → K → Ordering} (total : IsTotalOrder cmp) wh
 
   -- ---- while the places get what they had
 
-  pub rewinds_one : {V : Type 0} (base new_base first_base : BTreeMap K (Option V)) (undo new_undo first_undo : List (K × Option V)) (key : K) (was : Option V)
-      → undo ≡ new_undo ++ (key, was) ∷ [] → ((other : K) → below cmp new_base other ≡ (if eq_by_cmp cmp key other then was else below cmp base other))
+  pub rewinds_one : {V : Type 0} (base new_base first_base : BTreeMap K (Option V))
+      (undo new_undo first_undo : List (K × Option V)) (key : K) (was : Option V)
+      → undo ≡ new_undo ++ (key, was) ∷ []
+      → ((other : K) → below cmp new_base other ≡ (if eq_by_cmp cmp key other then was else below cmp base other))
       → ((other : K) → has_place cmp base other ≡ true → has_place cmp new_base other ≡ true)
       → Rewinds cmp base first_base undo first_undo → Rewinds cmp new_base first_base new_undo first_undo
   rewinds_one base new_base first_base undo new_undo first_undo key was is puts stay rewinds = record {
     back = λ other.
-        ap (over (was_in cmp new_undo other)) (puts other ∙ sym (ap (λ b. if b then was else below cmp base other) (turned key other)))
+        ap (over (was_in cmp new_undo other))
+            (puts other ∙ sym (ap (λ b. if b then was else below cmp base other) (turned key other)))
         ∙ sym (over_append (is_at (cmp other)) new_undo key was (below cmp base other))
         ∙ sym (ap (λ places. over (was_in cmp places other) (below cmp base other)) is)
         ∙ rewinds.back other;
@@ -195,11 +226,15 @@ module _ {K : Type 0} {cmp : K → K → Ordering} (total : IsTotalOrder cmp) wh
         (ap (λ places. is_some (was_in cmp places other)) is ∙ some_append (is_at (cmp other)) new_undo key was has));
   }
 
-  last_found : {V : Type 0} (places : List (K × Option V)) (key : K) (was : Option V) → is_some (was_in cmp (places ++ (key, was) ∷ []) key) ≡ true
+  last_found : {V : Type 0} (places : List (K × Option V)) (key : K) (was : Option V)
+      → is_some (was_in cmp (places ++ (key, was) ∷ []) key) ≡ true
   last_found [] key was = ap (λ (b : Bool). is_some (if b then Some was else None)) ((eq_by_cmp_equiv total).refl key)
-  last_found ((other, place) ∷ places) key was = some_first (is_at (cmp key) other) place (was_in cmp (places ++ (key, was) ∷ []) key) (last_found places key was)
+  last_found ((other, place) ∷ places) key was =
+      some_first (is_at (cmp key) other) place (was_in cmp (places ++ (key, was) ∷ []) key)
+      (last_found places key was)
 
-  pub last_room : {V : Type 0} (base first_base : BTreeMap K (Option V)) (undo new_undo first_undo : List (K × Option V)) (key : K) (was : Option V)
+  pub last_room : {V : Type 0} (base first_base : BTreeMap K (Option V))
+      (undo new_undo first_undo : List (K × Option V)) (key : K) (was : Option V)
       → undo ≡ new_undo ++ (key, was) ∷ [] → Rewinds cmp base first_base undo first_undo → has_place cmp base key ≡ true
   last_room base first_base undo new_undo first_undo key was is rewinds = rewinds.room key
       (ap (λ places. is_some (was_in cmp places key)) is ∙ last_found new_undo key was)

@@ -23,8 +23,12 @@ use Rattle.tables_log.specs.Sendable.{IsSendableValue, IsSendableRow, IsSendable
 -- ---- values
 
 wide_integer : (kind : ColType) (number : ℤ) → IsWithin kind number → IsWithin BigInt number
-wide_integer SmallInt number h = record { above_least = omega (arith, ints, h.above_least); below_greatest = omega (arith, ints, h.below_greatest) }
-wide_integer Integer number h = record { above_least = omega (arith, ints, h.above_least); below_greatest = omega (arith, ints, h.below_greatest) }
+wide_integer SmallInt number h =
+    record { above_least = omega (arith, ints, h.above_least); below_greatest =
+    omega (arith, ints, h.below_greatest) }
+wide_integer Integer number h =
+    record { above_least = omega (arith, ints, h.above_least); below_greatest =
+    omega (arith, ints, h.below_greatest) }
 wide_integer BigInt number h = h
 wide_integer Boolean number h = record { above_least = h.above_least; below_greatest = h.below_greatest }
 wide_integer Text number h = record { above_least = h.above_least; below_greatest = h.below_greatest }
@@ -60,7 +64,8 @@ values_sendable (column ∷ columns) (cell ∷ cells) wide fits =
     All-cons IsSendableValue cell cells (value_sendable column cell (fits 0))
     (values_sendable columns cells (omega (arith, wide)) (λ k. fits (suc k)))
 
-pub valid_sendable : (columns : List Column) (cells : List Datum) → row_fault columns cells ≡ None → length columns ≤ 100 → IsSendableRow cells
+pub valid_sendable : (columns : List Column) (cells : List Datum) → row_fault columns cells ≡ None
+    → length columns ≤ 100 → IsSendableRow cells
 valid_sendable columns cells h narrow =
     let valid : IsValid columns cells = valid_from_no_fault columns cells h in
     let wide : length cells ≡ length columns = valid.wide in
@@ -76,18 +81,22 @@ cell_sendable : (b : Bool) (cell : Datum) → IsSendableValue cell → IsSendabl
 cell_sendable true cell h = h
 cell_sendable false cell h = tt
 
-blanked_values : (columns : List ℕ) (number : ℕ) (cells : List Datum) → All IsSendableValue cells → All IsSendableValue (blanked_from columns number cells)
+blanked_values : (columns : List ℕ) (number : ℕ) (cells : List Datum) → All IsSendableValue cells
+    → All IsSendableValue (blanked_from columns number cells)
 blanked_values columns number [] h = All-nil IsSendableValue
 blanked_values columns number (cell ∷ cells) h =
-    All-cons IsSendableValue (if list_any (λ column. column == number) columns then cell else Missing) (blanked_from columns (number + 1) cells)
+    All-cons IsSendableValue (if list_any (λ column. column == number) columns then cell else Missing)
+        (blanked_from columns (number + 1) cells)
     (cell_sendable (list_any (λ column. column == number) columns) cell (All-head IsSendableValue cell cells h))
     (blanked_values columns (number + 1) cells (All-tail IsSendableValue cell cells h))
 
-blanked_length : (columns : List ℕ) (number : ℕ) (cells : List Datum) → length (blanked_from columns number cells) ≡ length cells
+blanked_length : (columns : List ℕ) (number : ℕ) (cells : List Datum)
+    → length (blanked_from columns number cells) ≡ length cells
 blanked_length columns number [] = refl
 blanked_length columns number (cell ∷ cells) = ap suc (blanked_length columns (number + 1) cells)
 
-blanked_sendable : (recorded : Recorded) (table : Table) (row : List Datum) → IsSendableRow row → IsSendableRow (blanked_by recorded table row)
+blanked_sendable : (recorded : Recorded) (table : Table) (row : List Datum) → IsSendableRow row
+    → IsSendableRow (blanked_by recorded table row)
 blanked_sendable Columns table row h = record {
   few = let same = blanked_length (identity_columns table) 0 row in omega (arith, same, h.few);
   values = blanked_values (identity_columns table) 0 row h.values;
@@ -98,16 +107,20 @@ blanked_sendable Nowhere table row h = record {
   values = blanked_values (identity_columns table) 0 row h.values;
 }
 
-key_sendable : (b : Bool) (part : List Datum) → IsSendableRow part → IsSendablePart (if b then None else Some (Key part))
+key_sendable : (b : Bool) (part : List Datum) → IsSendableRow part
+    → IsSendablePart (if b then None else Some (Key part))
 key_sendable true part h = tt
 key_sendable false part h = h
 
-by_sendable : (recorded : Recorded) (identity blanked : List Datum → List Datum) (old : List Datum) (new : Option (List Datum)) → IsSendableRow old → IsSendableRow (blanked old)
+by_sendable : (recorded : Recorded) (identity blanked : List Datum → List Datum) (old : List Datum)
+    (new : Option (List Datum)) → IsSendableRow old → IsSendableRow (blanked old)
     → IsSendablePart (part_by recorded identity blanked old new)
 by_sendable Columns identity blanked old new whole part = key_sendable (is_kept identity old new) (blanked old) part
 by_sendable Whole identity blanked old new whole part = whole
 by_sendable Nowhere identity blanked old new whole part = tt
 
-pub part_sendable : (table : Table) (old : List Datum) (new : Option (List Datum)) → IsSendableRow old → IsSendablePart (part_in table old new)
+pub part_sendable : (table : Table) (old : List Datum) (new : Option (List Datum)) → IsSendableRow old
+    → IsSendablePart (part_in table old new)
 part_sendable table old new h =
-    by_sendable (recorded_as table.identity) (identity_in (Some table)) (blanked_in (Some table)) old new h (blanked_sendable (recorded_as table.identity) table old h)
+    by_sendable (recorded_as table.identity) (identity_in (Some table)) (blanked_in (Some table)) old new h
+        (blanked_sendable (recorded_as table.identity) table old h)

@@ -1,4 +1,5 @@
--- What commands do to the rows of one table and of all: PostgreSQL 15, Chapter 6 Data Manipulation, and SQL Commands, TRUNCATE.
+-- What commands do to the rows of one table and of all: PostgreSQL 15, Chapter 6 Data Manipulation, and SQL Commands,
+-- TRUNCATE.
 use Rattle.std.specs.Prelude.{◌≡◌, ℕ, ◌≤◌, List, map, length, slice_get, is_some, Option, Some, None}
 use Rattle.filter_tree.specs.Datum.{Datum}
 use Rattle.filter_tree.specs.declared.table.Table.{Table}
@@ -28,7 +29,8 @@ abbrev pub delete_fault : Places → List Datum → Option CommandFault
 delete_fault places key = unless (is_some (places 0 key)) NoSuchRow None
 
 abbrev pub replace_fault : List UniqueKey → Places → List Datum → List Datum → Option CommandFault
-replace_fault keys places key row = unless (is_some (places 0 key)) NoSuchRow (unless_taken keys (without_at keys places (places 0 key)) row)
+replace_fault keys places key row =
+    unless (is_some (places 0 key)) NoSuchRow (unless_taken keys (without_at keys places (places 0 key)) row)
 
 -- the old row is no more there, and then the new one is
 pub record ReplacesRow (old new : TableRows) (keys : List UniqueKey) (gone row : List Datum) : Type 0 where
@@ -37,19 +39,22 @@ pub record ReplacesRow (old new : TableRows) (keys : List UniqueKey) (gone row :
 
 -- ---- what a command does in the table of this number, and what is recorded of it
 
-pub record InsertsRow (table : Table) (number : ℕ) (old new : TableRows) (row : List Datum) (change : ChangeOf) : Type 0 where
+pub record InsertsRow (table : Table) (number : ℕ) (old new : TableRows) (row : List Datum) (change : ChangeOf) : Type
+    0 where
   pub puts : PutsRow old new (values_in (keys_in (Some table)) row) (Some row)
   pub sendable : IsSendableRow row
   pub records : change ≡ r.Insert number row
 
-pub record DeletesRow (table : Table) (number : ℕ) (old new : TableRows) (key : List Datum) (change : ChangeOf) : Type 0 where
+pub record DeletesRow (table : Table) (number : ℕ) (old new : TableRows) (key : List Datum) (change : ChangeOf) : Type
+    0 where
   pub gone : List Datum
   pub found : seen_at old.maps.items 0 key ≡ Some gone
   pub puts : PutsRow old new (values_in (keys_in (Some table)) gone) None
   pub gone_sendable : IsSendableRow gone
   pub records : change ≡ r.Delete number (part_in table gone None)
 
-pub record UpdatesRow (table : Table) (number : ℕ) (old new : TableRows) (key row : List Datum) (change : ChangeOf) : Type 0 where
+pub record UpdatesRow (table : Table) (number : ℕ) (old new : TableRows) (key row : List Datum) (change : ChangeOf) :
+    Type 0 where
   pub gone : List Datum
   pub found : seen_at old.maps.items 0 key ≡ Some gone
   pub puts : ReplacesRow old new (keys_in (Some table)) gone row

@@ -1,4 +1,5 @@
--- What lists of commands do to the rows of tables, and how they are refused: PostgreSQL 15, Chapter 6 Data Manipulation, and 3.4. Transactions.
+-- What lists of commands do to the rows of tables, and how they are refused: PostgreSQL 15, Chapter 6 Data
+-- Manipulation, and 3.4. Transactions.
 use Rattle.std.specs.Prelude.{◌≡◌, ℕ, ◌<◌, List, All, Some, None}
 use Rattle.table_changes.specs.Commands.{Command, first_fault, all_applied}
 use Rattle.table_changes.specs.Records.{ChangeOf, record_of}
@@ -15,20 +16,23 @@ use Rattle.tables_log.specs.declared.error.Refused.TheVariants as r
 use Rattle.tables_log.specs.declared.table_rows.TableRows.{TableRows}
 
 -- The commands have no fault, and leave these rows and these changes, which can be sent.
-pub record AppliesAll (setting : Setting) (old new : List TableRows) (commands : List Command) (changes : List ChangeOf) : Type 0 where
+pub record AppliesAll (setting : Setting) (old new : List TableRows) (commands : List Command)
+    (changes : List ChangeOf) : Type 0 where
   pub no_fault : first_fault setting (seen_in old) 1 commands ≡ None
   pub leaves : SameTables (seen_in new) (all_applied setting (seen_in old) commands)
   pub records : changes ≡ record_of setting (seen_in old) commands
   pub sendable : All IsSendableChange changes
 
 -- The commands have no fault, and leave these rows and this entry.
-pub record StagesCommit (setting : Setting) (old new : List TableRows) (commands : List Command) (time number : ℕ) (entry : CommitOf) : Type 0 where
+pub record StagesCommit (setting : Setting) (old new : List TableRows) (commands : List Command) (time number : ℕ)
+    (entry : CommitOf) : Type 0 where
   pub no_fault : first_fault setting (seen_in old) 1 commands ≡ None
   pub leaves : SameTables (seen_in new) (all_applied setting (seen_in old) commands)
   pub records : entry ≡ commit_of number time (record_of setting (seen_in old) commands)
 
 -- The commands have no fault on what was kept, and these rows and this entry are kept of them.
-pub record CommitsTables (setting : Setting) (old new : List TableRows) (commands : List Command) (time number : ℕ) (entry : CommitOf) : Type 0 where
+pub record CommitsTables (setting : Setting) (old new : List TableRows) (commands : List Command) (time number : ℕ)
+    (entry : CommitOf) : Type 0 where
   pub no_fault : first_fault setting (kept_in old) 1 commands ≡ None
   pub leaves : SameTables (kept_in new) (all_applied setting (kept_in old) commands)
   pub records : entry ≡ commit_of number time (record_of setting (kept_in old) commands)
@@ -47,6 +51,7 @@ RefusesCount commands _ = ⊥
 
 -- the error is the first fault of the commands, or want of memory
 abbrev pub StopsAt : Setting → Tables → List Command → CommitError → Type 0
-StopsAt setting tables commands (e.At number fault) = first_fault setting tables 1 commands ≡ Some (number, fault_view fault)
+StopsAt setting tables commands (e.At number fault) =
+    first_fault setting tables 1 commands ≡ Some (number, fault_view fault)
 StopsAt setting tables commands e.OutOfMemory = Unit {0}
 StopsAt setting tables commands _ = ⊥

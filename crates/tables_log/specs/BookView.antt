@@ -1,4 +1,5 @@
--- What a book shows: the catalog that was checked, its tables, its log and its slots: PostgreSQL 15, "Logical Replication", 31.1 Publication.
+-- What a book shows: the catalog that was checked, its tables, its log and its slots: PostgreSQL 15, "Logical
+-- Replication", 31.1 Publication.
 use Rattle.std.specs.Prelude.{ℕ, List, map}
 use Rattle.std.specs.Arc.{arc_value}
 use Rattle.filter_tree.specs.Datum.{Datum}

@@ -1,4 +1,5 @@
--- The entries of the log: each commit's number, counted from 1, its time, and what it recorded: PostgreSQL 15, "Logical Replication", 31.1 Publication, and 55.9. Logical Replication Message Formats (Begin).
+-- The entries of the log: each commit's number, counted from 1, its time, and what it recorded: PostgreSQL 15,
+-- "Logical Replication", 31.1 Publication, and 55.9. Logical Replication Message Formats (Begin).
 use Rattle.std.specs.Prelude.{ℕ, List}
 use Rattle.table_changes.specs.Records.{ChangeOf}
 

@@ -1,4 +1,5 @@
--- What calls do to a book, and when a list of commands is refused: PostgreSQL 15, 3.4. Transactions, and Chapter 6 Data Manipulation.
+-- What calls do to a book, and when a list of commands is refused: PostgreSQL 15, 3.4. Transactions, and Chapter 6
+-- Data Manipulation.
 use Rattle.std.specs.Prelude.{◌≡◌, ℕ, ◌+◌, ◌≤◌, ◌<◌, List, [], ◌∷◌, ◌++◌, length, replicate, Some, None, false}
 use Rattle.shard_checker.specs.CheckedView.{CheckedOf}
 use Rattle.table_changes.specs.Commands.{Command, CommandFault, first_fault, all_applied}
@@ -18,7 +19,8 @@ pub record IsNew (book : Book) (checked : CheckedOf) (limit : ℕ) : Type 0 wher
   pub limit_is : book_limit book ≡ limit
   pub rows : SameTables (book_rows book) no_rows
   pub log : book_log book ≡ []
-  pub slots : book_slots book ≡ replicate (length checked.catalog.subscriptions) (record { confirmed = 0; taken = false })
+  pub slots : book_slots book
+      ≡ replicate (length checked.catalog.subscriptions) (record { confirmed = 0; taken = false })
 
 -- The slots are these, and all else stays.
 pub record ChangesSlots (old new : Book) (slots : List Slot) : Type 0 where
@@ -44,7 +46,8 @@ pub record HasRoomFor (book : Book) (commands : List Command) : Type 0 where
   pub transaction : IsTransaction commands
   pub room : length (book_log book) < book_limit book
 
--- The commands are accepted, each on what the earlier ones leave: the tables are what they leave, and the log has what is recorded of them as its last entry.
+-- The commands are accepted, each on what the earlier ones leave: the tables are what they leave, and the log has
+-- what is recorded of them as its last entry.
 pub record Commits (old new : Book) (commands : List Command) (time number : ℕ) : Type 0 where
   pub transaction : IsTransaction commands
   pub room : length (book_log old) < book_limit old
@@ -53,7 +56,8 @@ pub record Commits (old new : Book) (commands : List Command) (time number : ℕ
   pub limit : book_limit new ≡ book_limit old
   pub number_is : number ≡ length (book_log old) + 1
   pub rows : SameTables (book_rows new) (all_applied (book_setting old) (book_rows old) commands)
-  pub log : book_log new ≡ book_log old ++ commit_of number time (record_of (book_setting old) (book_rows old) commands) ∷ []
+  pub log : book_log new ≡ book_log old
+      ++ commit_of number time (record_of (book_setting old) (book_rows old) commands) ∷ []
   pub slots : book_slots new ≡ book_slots old
 
 -- ---- refusals, each of which passes what comes before it

@@ -1,4 +1,5 @@
--- What the faults of commands are the view of, and what a call answers that may be refused for one: PostgreSQL 15, 5.4.3 Unique Constraints, 5.4.4 Primary Keys and 11.6 Unique Indexes.
+-- What the faults of commands are the view of, and what a call answers that may be refused for one: PostgreSQL 15,
+-- 5.4.3 Unique Constraints, 5.4.4 Primary Keys and 11.6 Unique Indexes.
 use Rattle.std.specs.Prelude.{◌≡◌, Option, Some, None, Result, Ok, Err}
 use Rattle.table_changes.specs.Commands as c
 use Rattle.tables_log.specs.declared.error.CommandFault.{CommandFault}

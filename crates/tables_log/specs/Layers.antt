@@ -1,4 +1,5 @@
--- A map that is changed in place, beside what undoes the changes: what is seen in it, what was kept, and that each key that was changed has a place.
+-- A map that is changed in place, beside what undoes the changes: what is seen in it, what was kept, and that each
+-- key that was changed has a place.
 use Rattle.std.specs.Prelude.{◌≡◌, Bool, true, List, [], ◌∷◌, map, is_some, Option, Some, None, if◌then◌else◌}
 use Rattle.std.specs.BTreeMap.{BTreeMap, get, is_at}
 use Rattle.std.specs.List.{list_any}
@@ -25,7 +26,8 @@ abbrev pub below : {K V : Type 0} → (K → K → Ordering) → BTreeMap K (Opt
 below cmp base key = flat (get cmp base key)
 
 -- what is seen: in a new map, once all was taken away
-abbrev pub shown : {K V : Type 0} → (K → K → Ordering) → BTreeMap K (Option V) → BTreeMap K (Option V) → Bool → K → Option V
+abbrev pub shown : {K V : Type 0} → (K → K → Ordering) → BTreeMap K (Option V) → BTreeMap K (Option V) → Bool → K
+    → Option V
 shown cmp base fresh emptied key = if emptied then below cmp fresh key else below cmp base key
 
 abbrev pub has_place : {K V : Type 0} → (K → K → Ordering) → BTreeMap K (Option V) → K → Bool
@@ -45,11 +47,13 @@ was_in cmp undo key = lookup (is_at (cmp key)) undo
 abbrev pub rewound : {K V : Type 0} → (K → K → Ordering) → List K → List (K × Option V) → K → Option V → Option V
 rewound cmp made undo key found = if is_made cmp made key then None else over (was_in cmp undo key) found
 
-abbrev pub kept_under : {K V : Type 0} → (K → K → Ordering) → BTreeMap K (Option V) → List K → List (K × Option V) → K → Option V
+abbrev pub kept_under : {K V : Type 0} → (K → K → Ordering) → BTreeMap K (Option V) → List K → List (K × Option V) → K
+    → Option V
 kept_under cmp base made undo key = rewound cmp made undo key (below cmp base key)
 
 -- what was kept in each place, in the order of the keys
-abbrev pub kept_places : {K V : Type 0} → (K → K → Ordering) → BTreeMap K (Option V) → List K → List (K × Option V) → List (Option V)
+abbrev pub kept_places : {K V : Type 0} → (K → K → Ordering) → BTreeMap K (Option V) → List K → List (K × Option V)
+    → List (Option V)
 kept_places cmp base made undo = map (λ entry. rewound cmp made undo entry.0 entry.1) base.entries
 
 -- each key whose place was changed has it still

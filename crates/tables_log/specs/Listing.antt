@@ -1,4 +1,5 @@
--- What a list of all that is found by keys says, and which rows a table has in their order: PostgreSQL 15, 5.4.4 Primary Keys, and 7.5 Sorting Rows.
+-- What a list of all that is found by keys says, and which rows a table has in their order: PostgreSQL 15, 5.4.4
+-- Primary Keys, and 7.5 Sorting Rows.
 use Rattle.std.specs.Prelude.{◌≡◌, List, map, Contains, Option, Some}
 use Rattle.std.specs.List.{IsDistinct}
 use Rattle.std.specs.List.Sorted.{IsStrictlySortedBy}

@@ -1,4 +1,5 @@
--- Keys that are one number, and other keys, which are kept apart: PostgreSQL 15, 5.4.4 Primary Keys, and 8.1.1 Integer Types.
+-- Keys that are one number, and other keys, which are kept apart: PostgreSQL 15, 5.4.4 Primary Keys, and 8.1.1
+-- Integer Types.
 use Rattle.std.specs.Prelude.{◌≡◌, ℤ, false, is_some, List, [], ◌∷◌, Option, Some, None}
 use Rattle.filter_tree.specs.Datum.{Datum, Number, Known}
 

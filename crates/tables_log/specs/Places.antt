@@ -1,4 +1,5 @@
--- Where rows are in the maps of tables, of which each table has one for each of its unique keys: PostgreSQL 15, 5.4.4 Primary Keys and 11.6 Unique Indexes.
+-- Where rows are in the maps of tables, of which each table has one for each of its unique keys: PostgreSQL 15, 5.4.4
+-- Primary Keys and 11.6 Unique Indexes.
 use Rattle.std.specs.Prelude.{◌≡◌, ℕ, ◌+◌, ◌==◌, Bool, true, ◌&&◌, List, [], ◌∷◌, map, length, slice_get, is_none, Option, Some, None, if◌then◌else◌}
 use Rattle.filter_tree.specs.Datum.{Datum}
 use Rattle.filter_tree.specs.Order.{row_cmp}
@@ -17,7 +18,8 @@ Places = ℕ → List Datum → Option (List Datum)
 -- ---- in maps
 
 -- what a map shows, if there is one
-abbrev pub shown : (Staged (List Datum) → List Datum → Option (List Datum)) → Option (Staged (List Datum)) → List Datum → Option (List Datum)
+abbrev pub shown : (Staged (List Datum) → List Datum → Option (List Datum)) → Option (Staged (List Datum))
+    → List Datum → Option (List Datum)
 shown show None value = None
 shown show (Some map) value = show map value
 
@@ -69,7 +71,8 @@ put_at places values row number value = if is_row (value_of values number) value
 -- nothing is found by these values, which are those of the keys from this number on
 abbrev pub are_free : Places → ℕ → List (Option (List Datum)) → Bool
 are_free places number [] = true
-are_free places number (value ∷ values) = is_none (found_at (places number) value) && are_free places (number + 1) values
+are_free places number (value ∷ values) =
+    is_none (found_at (places number) value) && are_free places (number + 1) values
 
 -- a row's value in each of these keys
 abbrev pub values_in : List UniqueKey → List Datum → List (Option (List Datum))
@@ -78,31 +81,39 @@ values_in keys row = map (λ key. key row) keys
 -- ---- what calls do to the rows of one table
 
 pub record KeepsRows (old new : TableRows) : Type 0 where
-  pub keeps : (number : ℕ) (value : List Datum) → kept_at new.maps.items number value ≡ kept_at old.maps.items number value
+  pub keeps : (number : ℕ) (value : List Datum)
+      → kept_at new.maps.items number value ≡ kept_at old.maps.items number value
   pub width : length new.maps.items ≡ length old.maps.items
 
 -- in the place of this value, if there is one, of the key of this number there is this row, or none
-pub record PutsOne (old new : TableRows) (number : ℕ) (value : Option (List Datum)) (row : Option (List Datum)) : Type 0 where
+pub record PutsOne (old new : TableRows) (number : ℕ) (value : Option (List Datum)) (row : Option (List Datum)) : Type
+    0 where
   pub sees : (other : ℕ) (found : List Datum) → seen_at new.maps.items other found
       ≡ (if (other == number) && is_row value found then row else seen_at old.maps.items other found)
 
 -- in the places of these values there is this row, or none
-pub record PutsRow (old new : TableRows) (values : List (Option (List Datum))) (row : Option (List Datum)) : Type 0 where
-  pub sees : (number : ℕ) (value : List Datum) → seen_at new.maps.items number value ≡ put_at (seen_at old.maps.items) values row number value
+pub record PutsRow (old new : TableRows) (values : List (Option (List Datum))) (row : Option (List Datum)) : Type 0
+    where
+  pub sees : (number : ℕ) (value : List Datum)
+      → seen_at new.maps.items number value ≡ put_at (seen_at old.maps.items) values row number value
 
 pub record EmptiesRows (new : TableRows) : Type 0 where
   pub sees : (number : ℕ) (value : List Datum) → seen_at new.maps.items number value ≡ None
 
 -- what was seen is kept
 pub record SettlesRows (old new : TableRows) : Type 0 where
-  pub keeps : (number : ℕ) (value : List Datum) → kept_at new.maps.items number value ≡ seen_at old.maps.items number value
-  pub sees : (number : ℕ) (value : List Datum) → seen_at new.maps.items number value ≡ seen_at old.maps.items number value
+  pub keeps : (number : ℕ) (value : List Datum)
+      → kept_at new.maps.items number value ≡ seen_at old.maps.items number value
+  pub sees : (number : ℕ) (value : List Datum)
+      → seen_at new.maps.items number value ≡ seen_at old.maps.items number value
   pub width : length new.maps.items ≡ length old.maps.items
 
 -- what was kept is seen
 pub record DiscardsRows (old new : TableRows) : Type 0 where
-  pub keeps : (number : ℕ) (value : List Datum) → kept_at new.maps.items number value ≡ kept_at old.maps.items number value
-  pub sees : (number : ℕ) (value : List Datum) → seen_at new.maps.items number value ≡ kept_at old.maps.items number value
+  pub keeps : (number : ℕ) (value : List Datum)
+      → kept_at new.maps.items number value ≡ kept_at old.maps.items number value
+  pub sees : (number : ℕ) (value : List Datum)
+      → seen_at new.maps.items number value ≡ kept_at old.maps.items number value
   pub width : length new.maps.items ≡ length old.maps.items
 
 -- ---- and to those of all tables
@@ -113,7 +124,8 @@ pub record KeepsTables (old new : List TableRows) : Type 0 where
 
 -- of the table of this number nothing is seen, and of the others what was seen before
 pub record EmptiesTable (old new : List TableRows) (number : ℕ) : Type 0 where
-  pub sees : (other key : ℕ) (value : List Datum) → seen_in new other key value ≡ (if number == other then None else seen_in old other key value)
+  pub sees : (other key : ℕ) (value : List Datum)
+      → seen_in new other key value ≡ (if number == other then None else seen_in old other key value)
 
 -- what was seen is kept
 pub record SettlesTables (old new : List TableRows) : Type 0 where

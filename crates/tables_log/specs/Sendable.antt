@@ -1,4 +1,5 @@
--- How large a commit is at most, so that each of its messages has room for it: PostgreSQL 15, 55.9. Logical Replication Message Formats.
+-- How large a commit is at most, so that each of its messages has room for it: PostgreSQL 15, 55.9. Logical
+-- Replication Message Formats.
 use Rattle.std.specs.Prelude.{ℕ, ◌<◌, ◌≤◌, ◌^◌, List, All, length, Option, Some, None}
 use Rattle.filter_tree.specs.Datum.{Number, Truth, Bytes, Datum, Missing, Known}
 use Rattle.filter_tree.specs.Valid.{IsWithin}

@@ -1,4 +1,5 @@
--- Which tables commands name, and what is kept of them and of the others once they settle: PostgreSQL 15, 3.4. Transactions.
+-- Which tables commands name, and what is kept of them and of the others once they settle: PostgreSQL 15, 3.4.
+-- Transactions.
 use Rattle.std.specs.Prelude.{◌≡◌, ℕ, ◌==◌, Bool, false, ◌||◌, List, [], ◌∷◌, if◌then◌else◌}
 use Rattle.std.specs.List.{list_any}
 use Rattle.filter_tree.specs.Datum.{Datum}
@@ -31,11 +32,14 @@ IsSettled tables = SameTables (kept_in tables) (seen_in tables)
 
 -- all that is seen of other tables than these
 abbrev pub IsSettledBut : (ℕ → Bool) → List TableRows → Type 0
-IsSettledBut named tables = (table : ℕ) → named table ≡ false → (key : ℕ) (value : List Datum) → kept_in tables table key value ≡ seen_in tables table key value
+IsSettledBut named tables = (table : ℕ) → named table ≡ false → (key : ℕ) (value : List Datum)
+    → kept_in tables table key value ≡ seen_in tables table key value
 
 -- what was seen of these tables is kept, and what was kept of the others
 pub record SettlesNamed (old new : List TableRows) (named : ℕ → Bool) : Type 0 where
-  pub keeps : (table key : ℕ) (value : List Datum) → kept_in new table key value ≡ (if named table then seen_in old table key value else kept_in old table key value)
+  pub keeps : (table key : ℕ) (value : List Datum)
+      → kept_in new table key value
+      ≡ (if named table then seen_in old table key value else kept_in old table key value)
   pub sees : SameTables (seen_in new) (seen_in old)
   pub width : widths new ≡ widths old
 

@@ -1,4 +1,6 @@
--- Slots and the positions up to which they are confirmed: PostgreSQL 15, "Logical Replication", 31.2.1 Replication Slot Management, and 27.2.6 Replication Slots. Commit n, from 1, is at position 64 * n, and ends at 64 * n + 64 (the project's own).
+-- Slots and the positions up to which they are confirmed: PostgreSQL 15, "Logical Replication", 31.2.1 Replication
+-- Slot Management, and 27.2.6 Replication Slots. Commit n, from 1, is at position 64 * n, and ends at 64 * n + 64
+-- (the project's own).
 use Rattle.std.specs.Prelude.{ℕ, ◌+◌, ◌*◌, ◌≤◌, max, nat_lt, Bool, true, false, List, slice_get, slice_set, Option, Some, None, if◌then◌else◌}
 use Rattle.tables_log.specs.declared.error.StartError.{StartError}
 use Rattle.tables_log.specs.declared.error.StartError.TheVariants.{NoSlot, Ahead, InUse}
@@ -25,7 +27,8 @@ IsBounded slots commits = (number : ℕ) → confirmed_at slots number ≤ end_a
 -- the first of the faults of a start: no such slot, a position after the log's end, and a slot that a stream has
 abbrev pub slot_fault : Option Slot → ℕ → ℕ → Option StartError
 slot_fault None end position = Some NoSlot
-slot_fault (Some slot) end position = if nat_lt end position then Some Ahead else (if slot.taken then Some InUse else None)
+slot_fault (Some slot) end position = if nat_lt end position then
+    Some Ahead else (if slot.taken then Some InUse else None)
 
 abbrev pub start_fault : List Slot → ℕ → ℕ → ℕ → Option StartError
 start_fault slots end number position = slot_fault (slice_get slots number) end position

@@ -1,4 +1,5 @@
--- What a map holds in which changes are staged: what is kept, and what is seen with the changes: PostgreSQL 15, 3.4. Transactions.
+-- What a map holds in which changes are staged: what is kept, and what is seen with the changes: PostgreSQL 15, 3.4.
+-- Transactions.
 use Rattle.std.specs.Prelude.{◌≡◌, List, ◌++◌, Option, None, if◌then◌else◌}
 use Rattle.std.specs.Ordering.{int_cmp}
 use Rattle.filter_tree.specs.Datum.{Datum}
@@ -10,7 +11,8 @@ use Rattle.tables_log.specs.declared.staged.Staged.{Staged}
 
 -- what is kept under a key
 unfoldable pub kept : {V : Type 0} → Staged V → List Datum → Option V
-kept map key = by_number (kept_under int_cmp map.numbers.base map.numbers.made.items map.numbers.undo.items) (kept_under row_cmp map.rows.base map.rows.made.items map.rows.undo.items) key
+kept map key = by_number (kept_under int_cmp map.numbers.base map.numbers.made.items map.numbers.undo.items)
+    (kept_under row_cmp map.rows.base map.rows.made.items map.rows.undo.items) key
 
 -- all that is kept: in the order of the keys that are one number, and then in that of the others
 abbrev pub kept_values : {V : Type 0} → Staged V → List V
@@ -20,7 +22,8 @@ kept_values map =
 
 -- what is seen under it: the change, if it was changed
 unfoldable pub seen : {V : Type 0} → Staged V → List Datum → Option V
-seen map key = by_number (shown int_cmp map.numbers.base map.numbers.fresh map.numbers.emptied) (shown row_cmp map.rows.base map.rows.fresh map.rows.emptied) key
+seen map key = by_number (shown int_cmp map.numbers.base map.numbers.fresh map.numbers.emptied)
+    (shown row_cmp map.rows.base map.rows.fresh map.rows.emptied) key
 
 -- ---- what calls do
 

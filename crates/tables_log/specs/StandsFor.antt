@@ -1,4 +1,5 @@
--- The transactions of a book: a list of transactions, each of which is accepted on what the earlier ones leave of tables without rows: PostgreSQL 15, 3.4. Transactions, and "Logical Replication", 31.1 Publication.
+-- The transactions of a book: a list of transactions, each of which is accepted on what the earlier ones leave of
+-- tables without rows: PostgreSQL 15, 3.4. Transactions, and "Logical Replication", 31.1 Publication.
 use Rattle.std.specs.Prelude.{◌≡◌, ℕ, ◌+◌, ◌++◌, List, [], ◌∷◌, fold, length, None}
 use Rattle.filter_tree.specs.Datum.{Datum}
 use Rattle.table_changes.specs.Commands.{Command, first_fault, all_applied}
@@ -34,13 +35,15 @@ pub record IsAccepted (setting : Setting) (tables : Tables) (transaction : Trans
 -- each is accepted on what the earlier ones leave
 abbrev pub AreAccepted : Setting → Tables → List Transaction → Type 0
 AreAccepted setting tables [] = Unit {0}
-AreAccepted setting tables (transaction ∷ transactions) = IsAccepted setting tables transaction × AreAccepted setting (left_by setting tables transaction) transactions
+AreAccepted setting tables (transaction ∷ transactions) = IsAccepted setting tables transaction
+    × AreAccepted setting (left_by setting tables transaction) transactions
 
 -- what is recorded of them, each on what the earlier ones leave, with their numbers from this one on
 abbrev pub entries_from : Setting → Tables → ℕ → List Transaction → List CommitOf
 entries_from setting tables number [] = []
 entries_from setting tables number (transaction ∷ transactions) =
-    commit_of number transaction.time (record_of setting tables transaction.commands) ∷ entries_from setting (left_by setting tables transaction) (number + 1) transactions
+    commit_of number transaction.time (record_of setting tables transaction.commands)
+        ∷ entries_from setting (left_by setting tables transaction) (number + 1) transactions
 
 pub record StandsFor (book : Book) (transactions : List Transaction) : Type 0 where
   pub accepted : AreAccepted (book_setting book) no_rows transactions
@@ -56,15 +59,18 @@ NewStands = (book : Book) (checked : CheckedOf) (limit : ℕ) → IsNew book che
 -- After a commit it is of one more.
 abbrev pub CommitsAddOne : Type 0
 CommitsAddOne = (old new : Book) (commands : List Command) (time number : ℕ) → Commits old new commands time number
-    → (transactions : List Transaction) → StandsFor old transactions → StandsFor new (transactions ++ record { commands = commands; time = time } ∷ [])
+    → (transactions : List Transaction) → StandsFor old transactions
+    → StandsFor new (transactions ++ record { commands = commands; time = time } ∷ [])
 
 -- After a refusal, and whatever happens to its slots, it is of the same.
 abbrev pub SlotsKeepIt : Type 0
-SlotsKeepIt = (old new : Book) (slots : List Slot) → ChangesSlots old new slots → (transactions : List Transaction) → StandsFor old transactions → StandsFor new transactions
+SlotsKeepIt = (old new : Book) (slots : List Slot) → ChangesSlots old new slots → (transactions : List Transaction)
+    → StandsFor old transactions → StandsFor new transactions
 
 -- The log has an entry for each transaction.
 abbrev pub EachIsLogged : Type 0
-EachIsLogged = (book : Book) (transactions : List Transaction) → StandsFor book transactions → length (book_log book) ≡ length transactions
+EachIsLogged = (book : Book) (transactions : List Transaction) → StandsFor book transactions
+    → length (book_log book) ≡ length transactions
 
 -- Rows are where each of their unique keys has them, and fit their tables.
 pub record RowsAreRight (book : Book) : Type 0 where
@@ -77,5 +83,7 @@ BooksAreRight = (book : Book) (transactions : List Transaction) → StandsFor bo
 
 -- What `Book::rows` answers are the rows of the table.
 abbrev pub ListedAreRows : Type 0
-ListedAreRows = (book : Book) (transactions : List Transaction) (table : ℕ) (rows : List (List Datum)) → StandsFor book transactions
-    → ListsFound (book_rows book table 0) (book_listed book table) → IsInOrder (book_listed book table) rows → AreRowsOf (book_rows book table 0) rows
+ListedAreRows = (book : Book) (transactions : List Transaction) (table : ℕ) (rows : List (List Datum))
+    → StandsFor book transactions
+    → ListsFound (book_rows book table 0) (book_listed book table) → IsInOrder (book_listed book table) rows
+    → AreRowsOf (book_rows book table 0) rows

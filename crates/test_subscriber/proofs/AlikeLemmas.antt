@@ -56,7 +56,8 @@ same_both (Err a) (Err b) (Ok c) first second = absurd second
 
 pub same_table : (one other : Machine) (oid : ℕ) → Alike one other → table_of one oid ≡ table_of other oid
 same_table one other oid alike =
-    ap (λ known. if known then one.kept oid else None) (alike.known oid) ∙ ap (λ shape. if other.known oid then shape else None) (alike.kept oid)
+    ap (λ known. if known then one.kept oid else None) (alike.known oid)
+        ∙ ap (λ shape. if other.known oid then shape else None) (alike.kept oid)
 
 empty_in : (one other : Machine) (oid : ℕ) (table : Option TableShape) → Alike one other
     → SameOutcome (change_of table (one.work oid) oid emptied one) (change_of table (other.work oid) oid emptied other)
@@ -71,12 +72,15 @@ empty_in one other oid (Some shape) alike = record {
   work = λ some key. by_test (some == oid) (λ here. rw here refl) (λ apart. rw apart (alike.work some key));
 }
 
-pub empty_alike : (one other : Machine) (oid : ℕ) → Alike one other → SameOutcome (hear_empty oid one) (hear_empty oid other)
+pub empty_alike : (one other : Machine) (oid : ℕ) → Alike one other
+    → SameOutcome (hear_empty oid one) (hear_empty oid other)
 empty_alike one other oid alike =
-    subst (λ table. SameOutcome (change_of (table_of one oid) (one.work oid) oid emptied one) (change_of table (other.work oid) oid emptied other))
+    subst (λ table. SameOutcome (change_of (table_of one oid) (one.work oid) oid emptied one)
+        (change_of table (other.work oid) oid emptied other))
     (same_table one other oid alike) (empty_in one other oid (table_of one oid) alike)
 
-truncate_opens : (oid : ℕ) (oids : List ℕ) (machine : Machine) → hear_truncate (oid ∷ oids) machine ≡ empty_rest (hear_empty oid machine) (hear_truncate oids)
+truncate_opens : (oid : ℕ) (oids : List ℕ) (machine : Machine)
+    → hear_truncate (oid ∷ oids) machine ≡ empty_rest (hear_empty oid machine) (hear_truncate oids)
 unfolding hear_truncate
 truncate_opens oid oids machine = refl
 
@@ -84,18 +88,21 @@ truncate_ends : (machine : Machine) → hear_truncate [] machine ≡ Ok machine
 unfolding hear_truncate
 truncate_ends machine = refl
 
-rest_alike : (others : Machine → Outcome) → ((one other : Machine) → Alike one other → SameOutcome (others one) (others other))
+rest_alike : (others : Machine → Outcome)
+    → ((one other : Machine) → Alike one other → SameOutcome (others one) (others other))
     → (one other : Outcome) → SameOutcome one other → SameOutcome (empty_rest one others) (empty_rest other others)
 rest_alike others keeps (Ok one) (Ok other) same = keeps one other same
 rest_alike others keeps (Err one) (Err other) same = same
 rest_alike others keeps (Ok one) (Err other) same = absurd same
 rest_alike others keeps (Err one) (Ok other) same = absurd same
 
-pub truncate_alike : (oids : List ℕ) (one other : Machine) → Alike one other → SameOutcome (hear_truncate oids one) (hear_truncate oids other)
+pub truncate_alike : (oids : List ℕ) (one other : Machine) → Alike one other
+    → SameOutcome (hear_truncate oids one) (hear_truncate oids other)
 unfolding hear_truncate
 truncate_alike [] one other alike = alike
 truncate_alike (oid ∷ oids) one other alike =
-    rest_alike (hear_truncate oids) (truncate_alike oids) (hear_empty oid one) (hear_empty oid other) (empty_alike one other oid alike)
+    rest_alike (hear_truncate oids) (truncate_alike oids) (hear_empty oid one) (hear_empty oid other)
+        (empty_alike one other oid alike)
 
 pub same_itself : (one : Outcome) → SameOutcome one one
 same_itself (Ok machine) = alike_itself machine
@@ -108,21 +115,25 @@ drop_step : (oids : List ℕ) (i : ℕ) → i < length oids → drop i oids ≡ 
 drop_step oids i low = rw (add-one, drop-cons oids i 0 low) refl
 
 -- the next table is emptied
-after_one : (oids : List ℕ) (new : Machine) (one : Outcome) → Reaches new one → SameOutcome (hear_truncate oids new) (empty_rest one (hear_truncate oids))
+after_one : (oids : List ℕ) (new : Machine) (one : Outcome) → Reaches new one
+    → SameOutcome (hear_truncate oids new) (empty_rest one (hear_truncate oids))
 after_one oids new (Ok machine) reached = truncate_alike oids new machine reached
 after_one oids new (Err fault) reached = absurd reached
 
-pub empties_next : (oids : List ℕ) (i : ℕ) (old new : Machine) (whole : Outcome) → i < length oids → Reaches new (hear_empty (get_or oids i 0) old)
+pub empties_next : (oids : List ℕ) (i : ℕ) (old new : Machine) (whole : Outcome) → i < length oids
+    → Reaches new (hear_empty (get_or oids i 0) old)
     → SameOutcome (hear_truncate (drop i oids) old) whole → SameOutcome (hear_truncate (drop (i + 1) oids) new) whole
 empties_next oids i old new whole low reached same =
     same_both (hear_truncate (drop (i + 1) oids) new) (hear_truncate (drop i oids) old) whole
     (subst (λ out. SameOutcome (hear_truncate (drop (i + 1) oids) new) out)
-    (sym (ap (λ list. hear_truncate list old) (drop_step oids i low) ∙ truncate_opens (get_or oids i 0) (drop (i + 1) oids) old))
+    (sym (ap (λ list. hear_truncate list old) (drop_step oids i low)
+        ∙ truncate_opens (get_or oids i 0) (drop (i + 1) oids) old))
     (after_one (drop (i + 1) oids) new (hear_empty (get_or oids i 0) old) reached))
     same
 
 -- one that is refused refuses all
-stops_one : (oids : List ℕ) (one : Outcome) (fault : SubFault) → one ≡ Err fault → empty_rest one (hear_truncate oids) ≡ Err fault
+stops_one : (oids : List ℕ) (one : Outcome) (fault : SubFault) → one ≡ Err fault
+    → empty_rest one (hear_truncate oids) ≡ Err fault
 stops_one oids one fault stops = ap (λ out. empty_rest out (hear_truncate oids)) stops
 
 faults_so : (fault : SubFault) (one whole : Outcome) → one ≡ Err fault → SameOutcome one whole → whole ≡ Err fault
@@ -131,22 +142,27 @@ faults_so fault (Err found) (Err other) stops same = ap Err (sym same) ∙ stops
 faults_so fault (Err found) (Ok machine) stops same = absurd same
 
 refused_so : (oids : List ℕ) (i : ℕ) (old : Machine) (whole : Outcome) (fault : Option SubFault) → i < length oids
-    → TellsFault fault (hear_empty (get_or oids i 0) old) → SameOutcome (hear_truncate (drop i oids) old) whole → TellsFault fault whole
+    → TellsFault fault (hear_empty (get_or oids i 0) old) → SameOutcome (hear_truncate (drop i oids) old) whole
+    → TellsFault fault whole
 refused_so oids i old whole None low tells same = tt
 refused_so oids i old whole (Some fault) low tells same =
     faults_so fault (hear_truncate (drop i oids) old) whole
-    (ap (λ list. hear_truncate list old) (drop_step oids i low) ∙ truncate_opens (get_or oids i 0) (drop (i + 1) oids) old
+    (ap (λ list. hear_truncate list old) (drop_step oids i low)
+        ∙ truncate_opens (get_or oids i 0) (drop (i + 1) oids) old
     ∙ stops_one (drop (i + 1) oids) (hear_empty (get_or oids i 0) old) fault tells)
     same
 
 pub refuses_next : (oids : List ℕ) (i : ℕ) (old : Machine) (whole : Outcome) (error : SubFault) → i < length oids
-    → RefusedBy (hear_empty (get_or oids i 0) old) error → SameOutcome (hear_truncate (drop i oids) old) whole → RefusedBy whole error
+    → RefusedBy (hear_empty (get_or oids i 0) old) error → SameOutcome (hear_truncate (drop i oids) old) whole
+    → RefusedBy whole error
 refuses_next oids i old whole error low refused same = refused_so oids i old whole (told error) low refused same
 
 reaches_so : (new : Machine) (one whole : Outcome) → one ≡ Ok new → SameOutcome one whole → Reaches new whole
 reaches_so new one (Ok machine) is same = subst (λ out. SameOutcome out (Ok machine)) is same
 reaches_so new one (Err fault) is same = subst (λ out. SameOutcome out (Err fault)) is same
 
-pub all_emptied : (oids : List ℕ) (i : ℕ) (new : Machine) (whole : Outcome) → length oids ≤ i → SameOutcome (hear_truncate (drop i oids) new) whole → Reaches new whole
+pub all_emptied : (oids : List ℕ) (i : ℕ) (new : Machine) (whole : Outcome) → length oids ≤ i
+    → SameOutcome (hear_truncate (drop i oids) new) whole → Reaches new whole
 all_emptied oids i new whole past same =
-    reaches_so new (hear_truncate (drop i oids) new) whole (ap (λ list. hear_truncate list new) (drop_of_length-le oids past) ∙ truncate_ends new) same
+    reaches_so new (hear_truncate (drop i oids) new) whole
+        (ap (λ list. hear_truncate list new) (drop_of_length-le oids past) ∙ truncate_ends new) same

@@ -35,18 +35,23 @@ past_end first count h = by_test (nat_lt first count)
     (λ low. let here : Some first ≡ None = sym (rw low refl) ∙ h in absurd cc)
     (λ high. ltb-false first count high)
 
-pub found_at : (copies : List TableCopy) (oid place : ℕ) → place_of copies oid ≡ Some place → copy_of copies oid ≡ slice_get copies place
+pub found_at : (copies : List TableCopy) (oid place : ℕ) → place_of copies oid ≡ Some place
+    → copy_of copies oid ≡ slice_get copies place
 found_at copies oid place h =
-    find_at (has_oid oid) copies ∙ ap (slice_get copies) (at_place (position_or_len (has_oid oid) copies) (length copies) place h)
+    find_at (has_oid oid) copies
+        ∙ ap (slice_get copies) (at_place (position_or_len (has_oid oid) copies) (length copies) place h)
 
 pub found_nowhere : (copies : List TableCopy) (oid : ℕ) → place_of copies oid ≡ None → copy_of copies oid ≡ None
 found_nowhere copies oid h =
-    find_at (has_oid oid) copies ∙ slice_get_past copies (position_or_len (has_oid oid) copies) (past_end (position_or_len (has_oid oid) copies) (length copies) h)
+    find_at (has_oid oid) copies
+        ∙ slice_get_past copies (position_or_len (has_oid oid) copies)
+        (past_end (position_or_len (has_oid oid) copies) (length copies) h)
 
 -- ---- one copy changes
 
 -- what is found has the OID
-pub found_oid : (copies : List TableCopy) (oid : ℕ) (copy : TableCopy) → copy_of copies oid ≡ Some copy → copy.shape.relation.oid ≡ oid
+pub found_oid : (copies : List TableCopy) (oid : ℕ) (copy : TableCopy) → copy_of copies oid ≡ Some copy
+    → copy.shape.relation.oid ≡ oid
 found_oid [] oid copy h = absurd cc
 found_oid (first ∷ rest) oid copy h = by_test (first.shape.relation.oid == oid)
     (λ here. let same : Some first ≡ Some copy = sym (rw here refl) ∙ h in
@@ -59,7 +64,8 @@ pub record IsFirst (copies : List TableCopy) (oid place : ℕ) (copy : TableCopy
   pub there : place_of copies oid ≡ Some place
   pub at : slice_get copies place ≡ Some copy
 
-pub first_has : (copies : List TableCopy) (oid place : ℕ) (copy : TableCopy) → IsFirst copies oid place copy → copy.shape.relation.oid ≡ oid
+pub first_has : (copies : List TableCopy) (oid place : ℕ) (copy : TableCopy) → IsFirst copies oid place copy
+    → copy.shape.relation.oid ≡ oid
 first_has copies oid place copy first = found_oid copies oid copy (found_at copies oid place first.there ∙ first.at)
 
 inside : {X : Type 0} (xs : List X) (i : ℕ) (x : X) → slice_get xs i ≡ Some x → i < length xs
@@ -81,29 +87,35 @@ apart one two other same h = by_test (one == other)
 
 -- another copy is written over it, with the same OID
 pub written : (copies : List TableCopy) (oid place : ℕ) (old new : TableCopy) (other : ℕ) → IsFirst copies oid place old
-    → new.shape.relation.oid ≡ oid → copy_of (slice_set copies place new) other ≡ (if other == oid then Some new else copy_of copies other)
+    → new.shape.relation.oid ≡ oid
+    → copy_of (slice_set copies place new) other ≡ (if other == oid then Some new else copy_of copies other)
 written copies oid place old new other first same = by_test (other == oid)
     (λ here. let equal : other ≡ oid = number_is other oid here in
     let test : has_oid oid new ≡ true = subst (λ n. (n == oid) ≡ true) (sym same) (number_itself oid) in
     let found : copy_of (slice_set copies place new) oid ≡ Some new =
-    find-set (has_oid oid) copies place new (sym (at_place (position_or_len (has_oid oid) copies) (length copies) place first.there))
+    find-set (has_oid oid) copies place new
+        (sym (at_place (position_or_len (has_oid oid) copies) (length copies) place first.there))
     (inside copies place old first.at) test in
     rw here (subst (λ n. copy_of (slice_set copies place new) n ≡ Some new) (sym equal) found))
     (λ differs.
     let has : old.shape.relation.oid ≡ oid = first_has copies oid place old first in
     let old_differs : has_oid other (get_or copies place old) ≡ false =
-    subst (λ (c : TableCopy). (c.shape.relation.oid == other) ≡ false) (sym (read_at copies place old old first.at)) (apart old.shape.relation.oid oid other has differs) in
+    subst (λ (c : TableCopy). (c.shape.relation.oid == other) ≡ false) (sym (read_at copies place old old first.at))
+        (apart old.shape.relation.oid oid other has differs) in
     let new_differs : has_oid other new ≡ false = apart new.shape.relation.oid oid other same differs in
     rw differs (find_past (has_oid other) copies place new old old_differs new_differs))
 
 -- ---- a new copy
 
-pub added : (copies : List TableCopy) (oid : ℕ) (new : TableCopy) (other : ℕ) → place_of copies oid ≡ None → new.shape.relation.oid ≡ oid
+pub added : (copies : List TableCopy) (oid : ℕ) (new : TableCopy) (other : ℕ) → place_of copies oid ≡ None
+    → new.shape.relation.oid ≡ oid
     → copy_of (copies ++ new ∷ []) other ≡ (if other == oid then Some new else copy_of copies other)
 added copies oid new other none same = by_test (other == oid)
     (λ here. let equal : other ≡ oid = number_is other oid here in
-    let test : has_oid other new ≡ true = subst (λ n. (new.shape.relation.oid == n) ≡ true) (same ∙ sym equal) (number_itself new.shape.relation.oid) in
-    let absent : copy_of copies other ≡ None = subst (λ n. copy_of copies n ≡ None) (sym equal) (found_nowhere copies oid none) in
+    let test : has_oid other new ≡ true =
+        subst (λ n. (new.shape.relation.oid == n) ≡ true) (same ∙ sym equal) (number_itself new.shape.relation.oid) in
+    let absent : copy_of copies other ≡ None =
+        subst (λ n. copy_of copies n ≡ None) (sym equal) (found_nowhere copies oid none) in
     rw here (find-append (has_oid other) copies (new ∷ []) ∙ rw (absent, test) refl))
     (λ differs.
     let test : has_oid other new ≡ false = apart new.shape.relation.oid oid other same differs in
@@ -111,15 +123,19 @@ added copies oid new other none same = by_test (other == oid)
 
 -- ---- each copy changes
 
-pub each : (Does : TableCopy → TableCopy → Type 0) → ((old new : TableCopy) → Does old new → new.shape.relation.oid ≡ old.shape.relation.oid)
-    → (olds news : List TableCopy) → ((place : ℕ) → OfEach Does (slice_get olds place) (slice_get news place)) → (oid : ℕ) → OfEach Does (copy_of olds oid) (copy_of news oid)
+pub each : (Does : TableCopy → TableCopy → Type 0)
+    → ((old new : TableCopy) → Does old new → new.shape.relation.oid ≡ old.shape.relation.oid)
+    → (olds news : List TableCopy) → ((place : ℕ) → OfEach Does (slice_get olds place) (slice_get news place))
+    → (oid : ℕ) → OfEach Does (copy_of olds oid) (copy_of news oid)
 each Does keeps [] [] does oid = tt
 each Does keeps [] (new ∷ news) does oid = absurd (does 0)
 each Does keeps (old ∷ olds) [] does oid = absurd (does 0)
 each Does keeps (old ∷ olds) (new ∷ news) does oid = by_test (old.shape.relation.oid == oid)
-    (λ here. let also : (new.shape.relation.oid == oid) ≡ true = subst (λ n. (n == oid) ≡ true) (sym (keeps old new (does 0))) here in
+    (λ here. let also : (new.shape.relation.oid == oid) ≡ true =
+        subst (λ n. (n == oid) ≡ true) (sym (keeps old new (does 0))) here in
     rw (here, also) (does 0))
-    (λ later. let also : (new.shape.relation.oid == oid) ≡ false = subst (λ n. (n == oid) ≡ false) (sym (keeps old new (does 0))) later in
+    (λ later. let also : (new.shape.relation.oid == oid) ≡ false =
+        subst (λ n. (n == oid) ≡ false) (sym (keeps old new (does 0))) later in
     rw (later, also) (each Does keeps olds news (λ place. does (suc place)) oid))
 
 -- the copies before this one were changed, and the others are as they were
@@ -152,22 +168,30 @@ get_there [] i d h = absurd (omega arith)
 get_there (y ∷ ys) zero d h = refl
 get_there (y ∷ ys) (suc i) d h = get_there ys i d (omega arith)
 
-pub goes_on : (Does : TableCopy → TableCopy → Type 0) (olds news : List TableCopy) (index : ℕ) (d new : TableCopy) → index < length news
-    → Does (get_or news index d) new → Going Does olds news index → Going Does olds (slice_set news index new) (index + 1)
+pub goes_on : (Does : TableCopy → TableCopy → Type 0) (olds news : List TableCopy) (index : ℕ) (d new : TableCopy)
+    → index < length news
+    → Does (get_or news index d) new → Going Does olds news index
+    → Going Does olds (slice_set news index new) (index + 1)
 goes_on Does olds news index d new low does going = record {
   done = λ place below. by_test (place == index)
       (λ here. let same : place ≡ index = number_is place index here in
-      let old : slice_get olds index ≡ Some (get_or news index d) = sym (going.rest index (omega arith)) ∙ get_there news index d low in
+      let old : slice_get olds index ≡ Some (get_or news index d) = sym (going.rest index (omega arith))
+          ∙ get_there news index d low in
       subst (λ p. OfEach Does (slice_get olds p) (slice_get (slice_set news index new) p)) (sym same)
       (rw (old, set_here news index new low) does))
-      (λ differs. let apart : place ≢ index = (λ same. let equal : (place == index) ≡ true = (unsigned_Decides place index).1 same in absurd cc) in
-      subst (λ found. OfEach Does (slice_get olds place) found) (sym (set_beside news index place new apart)) (going.done place (omega arith)));
-  rest = λ place high. let apart : place ≢ index = omega arith in set_beside news index place new apart ∙ going.rest place (omega arith);
+      (λ differs. let apart : place ≢ index =
+          (λ same. let equal : (place == index) ≡ true = (unsigned_Decides place index).1 same in absurd cc) in
+      subst (λ found. OfEach Does (slice_get olds place) found) (sym (set_beside news index place new apart))
+          (going.done place (omega arith)));
+  rest = λ place high. let apart : place ≢ index = omega arith in set_beside news index place new apart
+      ∙ going.rest place (omega arith);
   width = length-set news index new ∙ going.width;
 }
 
-pub all_done : (Does : TableCopy → TableCopy → Type 0) → ((old new : TableCopy) → Does old new → new.shape.relation.oid ≡ old.shape.relation.oid)
-    → (olds news : List TableCopy) (index : ℕ) → length news ≤ index → Going Does olds news index → (oid : ℕ) → OfEach Does (copy_of olds oid) (copy_of news oid)
+pub all_done : (Does : TableCopy → TableCopy → Type 0)
+    → ((old new : TableCopy) → Does old new → new.shape.relation.oid ≡ old.shape.relation.oid)
+    → (olds news : List TableCopy) (index : ℕ) → length news ≤ index → Going Does olds news index → (oid : ℕ)
+    → OfEach Does (copy_of olds oid) (copy_of news oid)
 all_done Does keeps olds news index past going oid = each Does keeps olds news
     (λ place. by_test (nat_lt place index)
     (λ low. going.done place (ltb-true place index low))
@@ -179,11 +203,13 @@ all_done Does keeps olds news index past going oid = each Does keeps olds news
 
 -- ---- whether its Relation came
 
-there : (copies : List TableCopy) (oid place : ℕ) (d : TableCopy) → place_of copies oid ≡ Some place → place < length copies
+there : (copies : List TableCopy) (oid place : ℕ) (d : TableCopy) → place_of copies oid ≡ Some place
+    → place < length copies
     → copy_of copies oid ≡ Some (get_or copies place d)
 there copies oid place d at low = found_at copies oid place at ∙ get_there copies place d low
 
-pub known_here : (copies : List TableCopy) (oid place : ℕ) (copy : TableCopy) → place_of copies oid ≡ Some place → place < length copies
+pub known_here : (copies : List TableCopy) (oid place : ℕ) (copy : TableCopy) → place_of copies oid ≡ Some place
+    → place < length copies
     → copy ≡ get_or copies place copy → copy.is_known ≡ true → IsKnownAt copies oid place
 known_here copies oid place copy at low is known = record {
   there = at;
@@ -191,26 +217,33 @@ known_here copies oid place copy at low is known = record {
   known = ap known_in (there copies oid place copy at low) ∙ ap (λ (c : TableCopy). c.is_known) (sym is) ∙ known;
 }
 
-pub unknown_here : (copies : List TableCopy) (oid place : ℕ) (copy : TableCopy) → place_of copies oid ≡ Some place → place < length copies
+pub unknown_here : (copies : List TableCopy) (oid place : ℕ) (copy : TableCopy) → place_of copies oid ≡ Some place
+    → place < length copies
     → copy ≡ get_or copies place copy → copy.is_known ≡ false → known_in (copy_of copies oid) ≡ false
 unknown_here copies oid place copy at low is unknown =
     ap known_in (there copies oid place copy at low) ∙ ap (λ (c : TableCopy). c.is_known) (sym is) ∙ unknown
 
-pub unknown_nowhere : (copies : List TableCopy) (oid : ℕ) → place_of copies oid ≡ None → known_in (copy_of copies oid) ≡ false
+pub unknown_nowhere : (copies : List TableCopy) (oid : ℕ) → place_of copies oid ≡ None
+    → known_in (copy_of copies oid) ≡ false
 unknown_nowhere copies oid nowhere = ap known_in (found_nowhere copies oid nowhere)
 
-pub first_there : (copies : List TableCopy) (oid place : ℕ) (d : TableCopy) → place_of copies oid ≡ Some place → place < length copies
+pub first_there : (copies : List TableCopy) (oid place : ℕ) (d : TableCopy) → place_of copies oid ≡ Some place
+    → place < length copies
     → IsFirst copies oid place (get_or copies place d)
 first_there copies oid place d at low = record { there = at; at = get_there copies place d low }
 
 pub place_within : (copies : List TableCopy) (oid place : ℕ) → place_of copies oid ≡ Some place → place < length copies
 place_within copies oid place h = by_test (nat_lt (position_or_len (has_oid oid) copies) (length copies))
-    (λ low. let at : position_or_len (has_oid oid) copies ≡ place = at_place (position_or_len (has_oid oid) copies) (length copies) place h in
-    let below : position_or_len (has_oid oid) copies < length copies = ltb-true (position_or_len (has_oid oid) copies) (length copies) low in omega arith)
+    (λ low. let at : position_or_len (has_oid oid) copies ≡ place =
+        at_place (position_or_len (has_oid oid) copies) (length copies) place h in
+    let below : position_or_len (has_oid oid) copies < length copies =
+        ltb-true (position_or_len (has_oid oid) copies) (length copies) low in omega arith)
     (λ high. let none : None ≡ Some place = sym (rw high refl) ∙ h in absurd cc)
 
 -- what is read at one place
-pub read_same : {X : Type 0} (xs : List X) (i : ℕ) (one other : X) → i < length xs → one ≡ get_or xs i one → other ≡ get_or xs i other → one ≡ other
+pub read_same : {X : Type 0} (xs : List X) (i : ℕ) (one other : X) → i < length xs → one ≡ get_or xs i one
+    → other ≡ get_or xs i other → one ≡ other
 read_same xs i one other low is also =
-    let met : Some (get_or xs i one) ≡ Some (get_or xs i other) = sym (get_there xs i one low) ∙ get_there xs i other low in
+    let met : Some (get_or xs i one) ≡ Some (get_or xs i other) = sym (get_there xs i one low)
+        ∙ get_there xs i other low in
     let same : get_or xs i one ≡ get_or xs i other = cc in is ∙ same ∙ sym also

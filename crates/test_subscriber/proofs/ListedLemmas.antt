@@ -23,20 +23,26 @@ none_in_order = record { same = IsPermutation-refl []; ascending = λ k d low wi
 
 -- ---- where there is no copy
 
-pub nowhere_in_order : (copies : List TableCopy) (oid : ℕ) (rows : List (List Datum)) → place_of copies oid ≡ None → rows ≡ [] → InOrder rows (copy_of copies oid)
+pub nowhere_in_order : (copies : List TableCopy) (oid : ℕ) (rows : List (List Datum)) → place_of copies oid ≡ None
+    → rows ≡ [] → InOrder rows (copy_of copies oid)
 nowhere_in_order copies oid rows none empty =
-    subst (InOrder rows) (sym (found_nowhere copies oid none)) (subst (λ listed. IsInOrder [] listed) (sym empty) none_in_order)
+    subst (InOrder rows) (sym (found_nowhere copies oid none))
+        (subst (λ listed. IsInOrder [] listed) (sym empty) none_in_order)
 
 pub nowhere_listed : (copies : List TableCopy) (oid : ℕ) → place_of copies oid ≡ None → Lists (copy_of copies oid)
-nowhere_listed copies oid none = subst Lists (sym (found_nowhere copies oid none)) (lists_none (kept_in None) (λ key. refl))
+nowhere_listed copies oid none =
+    subst Lists (sym (found_nowhere copies oid none)) (lists_none (kept_in None) (λ key. refl))
 
 -- ---- where there is one
 
-module _ (copies : List TableCopy) (oid place : ℕ) (copy : TableCopy) (there : place_of copies oid ≡ Some place) (is : copy ≡ get_or copies place copy) where
+module _ (copies : List TableCopy) (oid place : ℕ) (copy : TableCopy) (there : place_of copies oid ≡ Some place)
+    (is : copy ≡ get_or copies place copy) where
   copy_is : Some copy ≡ copy_of copies oid
-  copy_is = ap Some is ∙ sym (slice_get-get_or copies place copy (place_within copies oid place there)) ∙ sym (found_at copies oid place there)
+  copy_is = ap Some is ∙ sym (slice_get-get_or copies place copy (place_within copies oid place there))
+      ∙ sym (found_at copies oid place there)
 
-  pub copy_in_order : (rows : List (List Datum)) → IsInOrder (kept_values copy.rows) rows → InOrder rows (copy_of copies oid)
+  pub copy_in_order : (rows : List (List Datum)) → IsInOrder (kept_values copy.rows) rows
+      → InOrder rows (copy_of copies oid)
   copy_in_order rows h = subst (InOrder rows) copy_is h
 
   pub copy_listed : ListsFound (kept copy.rows) (kept_values copy.rows) → Lists (copy_of copies oid)

@@ -30,7 +30,8 @@ module _ (phase : Phase) (at : ℕ) (wants : Bool) (copies : List TableCopy) (oi
       ≡ staged (machine_with phase at wants copies) oid (change old.shape (seen old.rows))
   is_staged change =
       let came : known_in (copy_of copies oid) ≡ true = known.known in
-      rw came (ap (λ found. change_of (shape_in found) (seen_in found) oid change (machine_with phase at wants copies)) old_there)
+      rw came (ap (λ found. change_of (shape_in found) (seen_in found) oid change
+          (machine_with phase at wants copies)) old_there)
 
   module _ (has : new.shape ≡ old.shape) where
     new_oid : new.shape.relation.oid ≡ oid
@@ -45,7 +46,8 @@ module _ (phase : Phase) (at : ℕ) (wants : Bool) (copies : List TableCopy) (oi
         (λ differs. rw differs refl)
 
   module _ (stays : StaysCopy old new) where
-    pub stays_there : Stays (machine_with phase at wants copies) (machine_with phase at wants (slice_set copies place new))
+    pub stays_there : Stays (machine_with phase at wants copies)
+        (machine_with phase at wants (slice_set copies place new))
     stays_there = record {
       phase = refl;
       position = refl;
@@ -57,7 +59,8 @@ module _ (phase : Phase) (at : ℕ) (wants : Bool) (copies : List TableCopy) (oi
     }
 
     reaches : (outcome : Result Found SubFault) → Leaves outcome (seen new.rows)
-        → Reaches (machine_with phase at wants (slice_set copies place new)) (staged (machine_with phase at wants copies) oid outcome)
+        → Reaches (machine_with phase at wants (slice_set copies place new))
+            (staged (machine_with phase at wants copies) oid outcome)
     reaches (Err fault) leaves = leaves
     reaches (Ok found) leaves = record {
       phase = refl;
@@ -66,12 +69,14 @@ module _ (phase : Phase) (at : ℕ) (wants : Bool) (copies : List TableCopy) (oi
       kept = as_before stays.shape shape_in (ap Some stays.shape);
       known = as_before stays.shape known_in stays.is_known;
       rows = λ other key. as_before stays.shape (λ shown. kept_in shown key) (stays.keeps key) other;
-      work = λ other key. ap (λ shown. seen_in shown key) (written copies oid place old new other first (new_oid stays.shape))
+      work = λ other key. ap (λ shown. seen_in shown key)
+          (written copies oid place old new other first (new_oid stays.shape))
           ∙ by_test (other == oid) (λ here. rw here (leaves key)) (λ differs. rw differs refl);
     }
 
     pub changes : (change : Change) → Leaves (change old.shape (seen old.rows)) (seen new.rows)
-        → Reaches (machine_with phase at wants (slice_set copies place new)) (change_in oid change (machine_with phase at wants copies))
+        → Reaches (machine_with phase at wants (slice_set copies place new))
+            (change_in oid change (machine_with phase at wants copies))
     changes change leaves =
         subst (Reaches (machine_with phase at wants (slice_set copies place new))) (sym (is_staged change))
         (reaches (change old.shape (seen old.rows)) leaves)
@@ -88,5 +93,6 @@ module _ (phase : Phase) (at : ℕ) (wants : Bool) (copies : List TableCopy) (oi
 
 -- a change of a table whose Relation did not come
 pub unknown_refuses : (phase : Phase) (at : ℕ) (wants : Bool) (copies : List TableCopy) (oid : ℕ) (change : Change)
-    → known_in (copy_of copies oid) ≡ false → change_in oid change (machine_with phase at wants copies) ≡ Err (NoRelation oid)
+    → known_in (copy_of copies oid) ≡ false
+    → change_in oid change (machine_with phase at wants copies) ≡ Err (NoRelation oid)
 unknown_refuses phase at wants copies oid change unknown = rw unknown refl

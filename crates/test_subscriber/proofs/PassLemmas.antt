@@ -24,13 +24,15 @@ settled_known (Some old) (Some new) does = does.is_known
 settled_known None (Some new) does = absurd does
 settled_known (Some old) None does = absurd does
 
-settled_kept : (old new : Option TableCopy) (key : List Datum) → OfEach SettlesCopy old new → kept_in new key ≡ seen_in old key
+settled_kept : (old new : Option TableCopy) (key : List Datum) → OfEach SettlesCopy old new
+    → kept_in new key ≡ seen_in old key
 settled_kept None None key does = refl
 settled_kept (Some old) (Some new) key does = does.keeps key
 settled_kept None (Some new) key does = absurd does
 settled_kept (Some old) None key does = absurd does
 
-settled_seen : (old new : Option TableCopy) (key : List Datum) → OfEach SettlesCopy old new → seen_in new key ≡ seen_in old key
+settled_seen : (old new : Option TableCopy) (key : List Datum) → OfEach SettlesCopy old new
+    → seen_in new key ≡ seen_in old key
 settled_seen None None key does = refl
 settled_seen (Some old) (Some new) key does = does.sees key
 settled_seen None (Some new) key does = absurd does
@@ -63,19 +65,22 @@ forgotten_known (Some old) (Some new) does = does.is_known
 forgotten_known None (Some new) does = absurd does
 forgotten_known (Some old) None does = absurd does
 
-forgotten_kept : (old new : Option TableCopy) (key : List Datum) → OfEach ForgetsCopy old new → kept_in new key ≡ kept_in old key
+forgotten_kept : (old new : Option TableCopy) (key : List Datum) → OfEach ForgetsCopy old new
+    → kept_in new key ≡ kept_in old key
 forgotten_kept None None key does = refl
 forgotten_kept (Some old) (Some new) key does = does.keeps key
 forgotten_kept None (Some new) key does = absurd does
 forgotten_kept (Some old) None key does = absurd does
 
-forgotten_seen : (old new : Option TableCopy) (key : List Datum) → OfEach ForgetsCopy old new → seen_in new key ≡ kept_in old key
+forgotten_seen : (old new : Option TableCopy) (key : List Datum) → OfEach ForgetsCopy old new
+    → seen_in new key ≡ kept_in old key
 forgotten_seen None None key does = refl
 forgotten_seen (Some old) (Some new) key does = does.sees key
 forgotten_seen None (Some new) key does = absurd does
 forgotten_seen (Some old) None key does = absurd does
 
-pub forgotten : (phase : Phase) (at : ℕ) (wants : Bool) (olds news : List TableCopy) → ((oid : ℕ) → OfEach ForgetsCopy (copy_of olds oid) (copy_of news oid))
+pub forgotten : (phase : Phase) (at : ℕ) (wants : Bool) (olds news : List TableCopy)
+    → ((oid : ℕ) → OfEach ForgetsCopy (copy_of olds oid) (copy_of news oid))
     → Alike (machine_with Shut at wants news) (stopped (machine_with phase at wants olds))
 forgotten phase at wants olds news does = record {
   phase = refl;
@@ -93,5 +98,7 @@ take_front : {X : Type 0} (xs rest : List X) → take (length xs) (xs ++ rest) �
 take_front [] rest = refl
 take_front (x ∷ xs) rest = ap (λ more. x ∷ more) (take_front xs rest)
 
-pub written_over : {X : Type 0} (count : ℕ) (xs items : List X) → length xs ≡ count → take count (xs ++ drop (length xs) items) ≡ xs
-written_over count xs items same = ap (λ n. take n (xs ++ drop (length xs) items)) (sym same) ∙ take_front xs (drop (length xs) items)
+pub written_over : {X : Type 0} (count : ℕ) (xs items : List X) → length xs ≡ count
+    → take count (xs ++ drop (length xs) items) ≡ xs
+written_over count xs items same = ap (λ n. take n (xs ++ drop (length xs) items)) (sym same)
+    ∙ take_front xs (drop (length xs) items)

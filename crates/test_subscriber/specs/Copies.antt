@@ -1,4 +1,5 @@
--- What calls do to a subscriber's copy of a table, in which the changes of a transaction are staged until it commits: PostgreSQL 15, 3.4. Transactions.
+-- What calls do to a subscriber's copy of a table, in which the changes of a transaction are staged until it commits:
+-- PostgreSQL 15, 3.4. Transactions.
 use Rattle.std.specs.Prelude.{◌≡◌, false, List, Option, Some, None, Result, Ok, Err}
 use Rattle.filter_tree.specs.Datum.{Datum}
 use Rattle.filter_tree.specs.Memory.{TellsFault}

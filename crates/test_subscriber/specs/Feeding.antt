@@ -1,4 +1,5 @@
--- What a subscriber makes of bytes that come in pieces, which are cut into frames, and what stays where it stops: PostgreSQL 15, 55.7. Message Formats.
+-- What a subscriber makes of bytes that come in pieces, which are cut into frames, and what stays where it stops:
+-- PostgreSQL 15, 55.7. Message Formats.
 use Rattle.std.specs.Prelude.{◌≡◌, ℕ, List, [], ◌∷◌, Option, Some, None, Ok, Err}
 use Rattle.std.specs.Option.{option_map}
 use Rattle.copy_frames.specs.Frames.{Cut, after_frames, fault_of}

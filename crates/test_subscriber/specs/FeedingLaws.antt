@@ -1,4 +1,5 @@
--- That a subscriber makes the same of pieces that are fed one after another and of the pieces as one ("55.7. Message Formats").
+-- That a subscriber makes the same of pieces that are fed one after another and of the pieces as one ("55.7. Message
+-- Formats").
 use Rattle.std.specs.Prelude.{◌≡◌, ℕ, List, ◌++◌, None}
 use Rattle.copy_frames.specs.Frames.{Cut, after_frames, frames_of}
 use Rattle.copy_frames.specs.declared.frame.Frame.{Frame}
@@ -10,7 +11,8 @@ use Rattle.test_subscriber.specs.declared.subscriber.Subscriber.{Subscriber}
 
 -- what two pieces leave, neither of which has a fault, is what they leave as one piece
 abbrev pub PiecesAreFedAsOne : Type 0
-PiecesAreFedAsOne = (old between new : Subscriber) (first second : List ℕ) → Feeds old first between → Feeds between second new → Feeds old (first ++ second) new
+PiecesAreFedAsOne = (old between new : Subscriber) (first second : List ℕ) → Feeds old first between
+    → Feeds between second new → Feeds old (first ++ second) new
 
 -- where the second one stops it by an error, both as one piece stop it by that error, and leave the same
 abbrev pub StopsComeAtOnce : Type 0
@@ -27,4 +29,5 @@ pub record StopsBeyond (old : Subscriber) (first second : List ℕ) (new : Subsc
 -- where memory is refused to the second one, what is left comes of these
 abbrev pub FirstPiecesStay : Type 0
 FirstPiecesStay = (old between new : Subscriber) (first second : List ℕ) (error : SubFault)
-    → Feeds old first between → FeedStops between second error new → told error ≡ None → StopsBeyond old first second new
+    → Feeds old first between → FeedStops between second error new → told error ≡ None
+    → StopsBeyond old first second new

@@ -1,4 +1,5 @@
--- What a subscriber does with the frames of a connection: PostgreSQL 15, 55.4. Streaming Replication Protocol, 55.7. Message Formats (CopyBothResponse, ErrorResponse, CopyData), and 55.8. Error and Notice Message Fields.
+-- What a subscriber does with the frames of a connection: PostgreSQL 15, 55.4. Streaming Replication Protocol, 55.7.
+-- Message Formats (CopyBothResponse, ErrorResponse, CopyData), and 55.8. Error and Notice Message Fields.
 use Rattle.std.specs.Prelude.{ℕ, ◌-◌, ◌==◌, ◌&&◌, ◌||◌, max, nat_le, if◌then◌else◌, List, [], ◌∷◌, ◌++◌, length, take, drop, slice_index, codes, Option, Some, None, Result, Ok, Err}
 use Rattle.std.specs.Str.{bytes_eq}
 use Rattle.copy_frames.specs.Contents.{xlog_data_in, keepalive_in}
@@ -26,7 +27,8 @@ code_in body =
     if nat_le 24 (length body)
     && (bytes_eq (take 15 body) (codes "SERROR" ++ (0 ∷ (codes "VERROR" ++ (0 ∷ codes "C"))))
     && (bytes_eq (take 2 (drop 20 body)) (0 ∷ 77 ∷ []) && bytes_eq (drop (length body - 2) body) (0 ∷ 0 ∷ [])))
-    then Some (slice_index body 15 ∷ slice_index body 16 ∷ slice_index body 17 ∷ slice_index body 18 ∷ slice_index body 19 ∷ []) else None
+    then Some (slice_index body 15 ∷ slice_index body 16 ∷ slice_index body 17 ∷ slice_index body 18
+        ∷ slice_index body 19 ∷ []) else None
 
 abbrev pub refusal : Option (List ℕ) → SubFault
 refusal None = f.OutOfPlace

@@ -1,4 +1,5 @@
--- What a subscriber does with the messages of a stream: PostgreSQL 15, 55.5.3. Logical Replication Protocol Message Flow, 55.9. Logical Replication Message Formats, and 3.4. Transactions.
+-- What a subscriber does with the messages of a stream: PostgreSQL 15, 55.5.3. Logical Replication Protocol Message
+-- Flow, 55.9. Logical Replication Message Formats, and 3.4. Transactions.
 use Rattle.std.specs.Prelude.{ℕ, ◌==◌, ◌||◌, Bool, max, if◌then◌else◌, List, [], ◌∷◌, Option, Some, None, Result, Ok, Err}
 use Rattle.pgoutput_msgs.specs.declared.message.Msg.{Msg}
 use Rattle.pgoutput_msgs.specs.declared.message.Msg.TheVariants as m

@@ -1,4 +1,5 @@
--- A subscriber as it applies a stream: what it is ready for, how far it is, what it keeps of tables, and their rows: PostgreSQL 15, 31.2. Subscription, and 3.4. Transactions.
+-- A subscriber as it applies a stream: what it is ready for, how far it is, what it keeps of tables, and their rows:
+-- PostgreSQL 15, 31.2. Subscription, and 3.4. Transactions.
 use Rattle.std.specs.Prelude.{◌≡◌, ℕ, Bool, false, List, Option}
 use Rattle.filter_tree.specs.Datum.{Datum}
 use Rattle.test_subscriber.specs.RowChanges.{Found}

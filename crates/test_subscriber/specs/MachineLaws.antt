@@ -6,4 +6,5 @@ use Rattle.test_subscriber.specs.Machine.{Machine, Alike}
 
 -- machines that are alike hear a message alike
 abbrev pub HearAlike : Type 0
-HearAlike = (message : Msg) (one other : Machine) → Alike one other → SameOutcome (hear message one) (hear message other)
+HearAlike = (message : Msg) (one other : Machine) → Alike one other
+    → SameOutcome (hear message one) (hear message other)

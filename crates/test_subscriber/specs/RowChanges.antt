@@ -1,4 +1,6 @@
--- What changes do to the rows of a subscriber's copy of a table, which are found by their values in the columns of the replica identity: PostgreSQL 15, 55.9. Logical Replication Message Formats (Insert, Update, Delete), and 31.5. Conflicts.
+-- What changes do to the rows of a subscriber's copy of a table, which are found by their values in the columns of
+-- the replica identity: PostgreSQL 15, 55.9. Logical Replication Message Formats (Insert, Update, Delete), and 31.5.
+-- Conflicts.
 use Rattle.std.specs.Prelude.{is_some, if◌then◌else◌, List, Option, Some, None, Result, Ok, Err}
 use Rattle.filter_tree.specs.Datum.{Datum}
 use Rattle.filter_tree.specs.Same.{same_row}

@@ -1,4 +1,5 @@
--- Whether two Relation messages say the same, field by field: PostgreSQL 15, 55.9. Logical Replication Message Formats (Relation).
+-- Whether two Relation messages say the same, field by field: PostgreSQL 15, 55.9. Logical Replication Message
+-- Formats (Relation).
 use Rattle.std.specs.Prelude.{Bool, true, false, ◌&&◌, nat_eq, List, [], ◌∷◌}
 use Rattle.std.specs.Bool.{beq}
 use Rattle.std.specs.Ordering.{int_eq}
@@ -18,7 +19,8 @@ same_identity _ _ = false
 abbrev pub same_column : RelationColumn → RelationColumn → Bool
 same_column one other =
     beq one.is_key other.is_key
-    && (bytes_eq one.name other.name && (nat_eq one.type_oid other.type_oid && int_eq one.type_modifier other.type_modifier))
+    && (bytes_eq one.name other.name
+        && (nat_eq one.type_oid other.type_oid && int_eq one.type_modifier other.type_modifier))
 
 abbrev pub same_columns : List RelationColumn → List RelationColumn → Bool
 same_columns [] [] = true

@@ -1,4 +1,5 @@
--- What a Relation message says of the rows of its table: the types of the columns, and the columns of the replica identity: PostgreSQL 15, 55.9. Logical Replication Message Formats (Relation), and 53.64. pg_type.
+-- What a Relation message says of the rows of its table: the types of the columns, and the columns of the replica
+-- identity: PostgreSQL 15, 55.9. Logical Replication Message Formats (Relation), and 53.64. pg_type.
 use Rattle.std.specs.Prelude.{ℕ, ◌+◌, ◌==◌, Bool, true, false, if◌then◌else◌, List, [], ◌∷◌, Option, Some, None}
 use Rattle.std.specs.Option.{option_map}
 use Rattle.filter_tree.specs.declared.table.ColType.{ColType}

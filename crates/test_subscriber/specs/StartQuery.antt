@@ -1,4 +1,6 @@
--- The frame that asks for the stream of a slot: PostgreSQL 15, 55.4. Streaming Replication Protocol (START_REPLICATION SLOT slot_name LOGICAL), 55.5.1. Logical Streaming Replication Parameters, 8.20. pg_lsn Type, 4.1.1. Identifiers and Key Words, 4.1.2.1. String Constants, and 55.7. Message Formats (Query).
+-- The frame that asks for the stream of a slot: PostgreSQL 15, 55.4. Streaming Replication Protocol
+-- (START_REPLICATION SLOT slot_name LOGICAL), 55.5.1. Logical Streaming Replication Parameters, 8.20. pg_lsn Type,
+-- 4.1.1. Identifiers and Key Words, 4.1.2.1. String Constants, and 55.7. Message Formats (Query).
 use Rattle.std.specs.Prelude.{◌≡◌, ℕ, ◌/◌, ◌%◌, ◌^◌, nat_lt, true, if◌then◌else◌, List, [], ◌∷◌, ◌++◌, length, codes, Result, Ok, Err}
 use Rattle.std.specs.Fmt.{digits}
 use Rattle.std.specs.List.{join_by}

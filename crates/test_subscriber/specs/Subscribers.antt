@@ -1,4 +1,5 @@
--- What is seen of a subscriber, and what its calls leave: PostgreSQL 15, 31.2. Subscription, and 55.4. Streaming Replication Protocol.
+-- What is seen of a subscriber, and what its calls leave: PostgreSQL 15, 31.2. Subscription, and 55.4. Streaming
+-- Replication Protocol.
 use Rattle.std.specs.Prelude.{◌≡◌, ℕ, Bool, false, List, [], ◌++◌, drop, map, None, Result, Ok, Err}
 use Rattle.std.specs.String.{string_bytes}
 use Rattle.filter_tree.specs.Datum.{Datum}
@@ -80,7 +81,8 @@ abbrev pub fed_cut : Subscriber → List ℕ → Cut
 fed_cut subscriber piece = cut limit (sub_held subscriber ++ piece)
 
 abbrev pub fed_heard : Subscriber → List ℕ → Heard
-fed_heard subscriber piece = hear_while (sub_machine subscriber).phase (fed_cut subscriber piece) (sub_machine subscriber)
+fed_heard subscriber piece =
+    hear_while (sub_machine subscriber).phase (fed_cut subscriber piece) (sub_machine subscriber)
 
 pub record Feeds (old : Subscriber) (piece : List ℕ) (new : Subscriber) : Type 0 where
   pub fault : (fed_heard old piece).fault ≡ None
@@ -107,12 +109,14 @@ reported machine = record machine { wants_reply = false }
 
 -- all up to the position is written, flushed and applied
 abbrev pub status_at : ℕ → ℕ → Bool → Status
-status_at position clock want = record { written = position; flushed = position; applied = position; clock = clock; wants_reply = want }
+status_at position clock want =
+    record { written = position; flushed = position; applied = position; clock = clock; wants_reply = want }
 
 pub record Reports (old : Subscriber) (clock : ℕ) (want : Bool) (new : Subscriber) : Type 0 where
   pub machine : Alike (sub_machine new) (reported (sub_machine old))
   pub held : sub_held new ≡ sub_held old
-  pub output : sub_output new ≡ sub_output old ++ copy_data (status_body (status_at (sub_machine old).position clock want))
+  pub output : sub_output new ≡ sub_output old
+      ++ copy_data (status_body (status_at (sub_machine old).position clock want))
   pub names : SameNames old new
 
 -- ---- output: so many of the first bytes that wait are dropped, or all

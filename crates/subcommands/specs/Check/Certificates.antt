@@ -1,4 +1,5 @@
--- Why there is no verdict on a sharding by the texts of its certificates: the first line that is no certificate, or want of memory. The format is this project's own.
+-- Why there is no verdict on a sharding by the texts of its certificates: the first line that is no certificate, or
+-- want of memory. The format is this project's own.
 use Rattle.std.specs.Prelude.{◌≡◌, ℕ, List, Some, Result, Ok, Err}
 use Rattle.shard_checker.specs.Texts.{text_fault}
 use Rattle.shard_checker.specs.declared.error.CheckError.{CheckError}

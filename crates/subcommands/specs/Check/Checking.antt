@@ -1,4 +1,5 @@
--- What `check` answers: the first part of its input is a catalog, and the second has the texts of the certificates of its tables, one a line in the order of the tables. The format is this project's own.
+-- What `check` answers: the first part of its input is a catalog, and the second has the texts of the certificates of
+-- its tables, one a line in the order of the tables. The format is this project's own.
 use Rattle.std.specs.Prelude.{◌≡◌, ℕ, List, [], ◌∷◌, Option, Some, None, Ok, codes}
 use Rattle.filter_tree.specs.Expr.{Expr}
 use Rattle.pub_catalog.specs.Catalogs.{CatalogOf}
@@ -27,9 +28,11 @@ use Rattle.subcommands.specs.declared.failure.Status.TheVariants.{Done, Refused}
 abbrev pub checked_by : CatalogOf Expr → CheckedOf
 checked_by catalog = record { catalog = catalog; plan = plan_of catalog }
 
--- this is the first reason to refuse the sharding of a catalog with these certificates, by the catalog's own plan; none where there is no reason
+-- this is the first reason to refuse the sharding of a catalog with these certificates, by the catalog's own plan;
+-- none where there is no reason
 abbrev pub IsFirstRefusal : CatalogOf Expr → List Tree → Option CheckError → Type 0
-IsFirstRefusal catalog trees refusal = (test : Test) → IsEmptiness test → sharding_refusal test catalog (plan_of catalog) trees ≡ refusal
+IsFirstRefusal catalog trees refusal = (test : Test) → IsEmptiness test
+    → sharding_refusal test catalog (plan_of catalog) trees ≡ refusal
 
 -- ---- what is answered
 
@@ -51,7 +54,8 @@ IsVerdict catalog trees lines Done = IsAccepted catalog trees lines
 IsVerdict catalog trees lines Refused = IsRefused catalog trees lines
 IsVerdict catalog trees lines _ = ⊥
 
--- the input has two parts, the first is a catalog, each line of the second is a certificate, and the sharding is accepted or refused
+-- the input has two parts, the first is a catalog, each line of the second is a certificate, and the sharding is
+-- accepted or refused
 pub record IsCheck (input : List ℕ) (lines : List (List ℕ)) (status : Status) : Type 0 where
   pub cut : Cut
   pub catalog : CatalogOf Expr
@@ -62,7 +66,8 @@ pub record IsCheck (input : List ℕ) (lines : List (List ℕ)) (status : Status
 
 -- ---- why there is no answer
 
--- the input has two parts, the first is a catalog, and the first line of the second that is no certificate has this number and this fault
+-- the input has two parts, the first is a catalog, and the first line of the second that is no certificate has this
+-- number and this fault
 pub record IsBadCertificate (input : List ℕ) (number : ℕ) (error : CertError) : Type 0 where
   pub cut : Cut
   pub catalog : CatalogOf Expr

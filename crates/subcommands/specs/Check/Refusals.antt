@@ -1,4 +1,5 @@
--- The line of a refused sharding: `refused`, the refusal's name and its arguments, a space before each. Publications, tables, columns and subscribers are named as their catalog names them. The format is this project's own.
+-- The line of a refused sharding: `refused`, the refusal's name and its arguments, a space before each. Publications,
+-- tables, columns and subscribers are named as their catalog names them. The format is this project's own.
 use Rattle.std.specs.Prelude.{ℕ, List, [], ◌∷◌, ◌++◌, codes}
 use Rattle.std.specs.Fmt.{decimal}
 use Rattle.filter_tree.specs.Expr.{Expr}
@@ -36,16 +37,20 @@ node_words tables table node = table_name tables table ∷ decimal node ∷ []
 
 -- and a subscriber that it gives rows to
 abbrev pub owner_words : CatalogOf Expr → ℕ → ℕ → ℕ → List (List ℕ)
-owner_words catalog table node subscriber = node_words catalog.tables table node ++ subscriber_name catalog.subscriptions subscriber ∷ []
+owner_words catalog table node subscriber =
+    node_words catalog.tables table node ++ subscriber_name catalog.subscriptions subscriber ∷ []
 
 -- a publication, and a table that it carries
 abbrev pub entry_words : CatalogOf Expr → ℕ → ℕ → List (List ℕ)
-entry_words catalog publication table = publication_name catalog.publications publication ∷ table_name catalog.tables table ∷ []
+entry_words catalog publication table =
+    publication_name catalog.publications publication ∷ table_name catalog.tables table ∷ []
 
 abbrev pub arguments_of : CatalogOf Expr → CheckError → List (List ℕ)
-arguments_of catalog (e.PublishMissing publication operation) = publication_name catalog.publications publication ∷ operation_word operation ∷ []
+arguments_of catalog (e.PublishMissing publication operation) =
+    publication_name catalog.publications publication ∷ operation_word operation ∷ []
 arguments_of catalog (e.NoIdentity table) = table_name catalog.tables table ∷ []
-arguments_of catalog (e.NotCovered publication table column) = entry_words catalog publication table ++ column_name catalog.tables table column ∷ []
+arguments_of catalog (e.NotCovered publication table column) =
+    entry_words catalog publication table ++ column_name catalog.tables table column ∷ []
 arguments_of catalog e.CertCount = []
 arguments_of catalog (e.BadIndex table node) = node_words catalog.tables table node
 arguments_of catalog (e.NotEmpty table node) = node_words catalog.tables table node

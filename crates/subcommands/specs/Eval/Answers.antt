@@ -1,4 +1,5 @@
--- What publications say of a row of a table: PostgreSQL 15, "Logical Replication", 31.1 Publication and 31.3 Row Filters.
+-- What publications say of a row of a table: PostgreSQL 15, "Logical Replication", 31.1 Publication and 31.3 Row
+-- Filters.
 use Rattle.std.specs.Prelude.{ℕ, List, [], ◌∷◌, ◌++◌, Option, Some, None, map, codes}
 use Rattle.std.specs.List.{join_with_byte}
 use Rattle.filter_tree.specs.Datum.{Datum}

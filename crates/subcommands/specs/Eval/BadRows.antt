@@ -1,4 +1,5 @@
--- Which rows have an answer, those that are read and fit their table, and the line of a row that has none, in the program's own format.
+-- Which rows have an answer, those that are read and fit their table, and the line of a row that has none, in the
+-- program's own format.
 use Rattle.std.specs.Prelude.{◌≡◌, ℕ, Bool, false, List, ◌∷◌, ◌++◌, Some, None, Result, Ok, Err, is_none, codes}
 use Rattle.filter_tree.specs.Datum.{Datum}
 use Rattle.filter_tree.specs.Valid.{row_fault}
@@ -19,7 +20,8 @@ is_out_of_memory (Invalid fault) = false
 abbrev pub IsReading : List Column → List ℕ → Result (List Datum) BadRow → Type 0
 IsReading columns text (Ok row) = (row_of text ≡ Ok row) × (row_fault columns row ≡ None)
 IsReading columns text (Err (Unreadable error)) = Tells error (row_of text)
-IsReading columns text (Err (Invalid fault)) = (row : List Datum) × (row_of text ≡ Ok row) × (row_fault columns row ≡ Some fault)
+IsReading columns text (Err (Invalid fault)) = (row : List Datum) × (row_of text ≡ Ok row)
+    × (row_fault columns row ≡ Some fault)
 
 abbrev pub fits : List Column → Result (List Datum) Fault → Bool
 fits columns (Ok row) = is_none (row_fault columns row)

@@ -23,7 +23,8 @@ is_whole table entry = is_for table entry && is_none entry.filter
 abbrev pub carried_by : ℕ → Publication → Option CarrierOf
 carried_by table publication =
     if list_any (is_whole table) publication.entries.items then Some (record { name = publication.name; filter = None })
-    else option_map (λ filter. record { name = publication.name; filter = Some (expr_view filter) }) (option_and_then (λ entry. entry.filter) (find (is_for table) publication.entries.items))
+    else option_map (λ filter. record { name = publication.name; filter = Some (expr_view filter) })
+        (option_and_then (λ entry. entry.filter) (find (is_for table) publication.entries.items))
 
 -- the publications that carry the table, in their order
 abbrev pub carriers_of : ℕ → List Publication → List CarrierOf
@@ -31,4 +32,5 @@ carriers_of table publications = filter_map (carried_by table) publications
 
 -- what a carrier of the code is the view of
 abbrev pub carrier_view : Carrier → CarrierOf
-carrier_view carrier = record { name = carrier.name.now; filter = option_map (λ filter. expr_view filter.now) carrier.filter }
+carrier_view carrier =
+    record { name = carrier.name.now; filter = option_map (λ filter. expr_view filter.now) carrier.filter }

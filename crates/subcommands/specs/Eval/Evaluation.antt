@@ -1,4 +1,5 @@
--- What `eval` answers: the first part of its input is a catalog, and the second has rows of one of its tables, one a line.
+-- What `eval` answers: the first part of its input is a catalog, and the second has rows of one of its tables, one a
+-- line.
 use Rattle.std.specs.Prelude.{◌≡◌, ℕ, if◌then◌else◌, List, [], ◌∷◌, ◌++◌, Option, Some, None, slice_get, Result, Ok, Err}
 use Rattle.std.specs.List.{list_all}
 use Rattle.filter_tree.specs.Datum.{Datum}
@@ -57,7 +58,8 @@ module _ (wanted : RowOutput) (number : ℕ) (carriers : List CarrierOf) (column
   -- a line for each row, in the order of the rows
   pub data AreLines : List (List ℕ) → List (List ℕ) → Type 0 where
     NoRow : AreLines [] []
-    OneMore : (rows lines : List (List ℕ)) (row line : List ℕ) → AreLines rows lines → IsLine row line → AreLines (rows ++ row ∷ []) (lines ++ line ∷ [])
+    OneMore : (rows lines : List (List ℕ)) (row line : List ℕ) → AreLines rows lines → IsLine row line
+        → AreLines (rows ++ row ∷ []) (lines ++ line ∷ [])
 
   -- the lines are those of the first rows, by which the status goes, and the other rows are left
   pub record AreFirstLines (rows left lines : List (List ℕ)) (status : Status) : Type 0 where
@@ -79,8 +81,10 @@ module _ (wanted : RowOutput) (number : ℕ) (carriers : List CarrierOf) (column
 
 -- ---- what is answered
 
--- The input has two parts, the first is a catalog, it has the table, and the lines are those of the first rows of the second. The other rows are left.
-pub record IsEvaluation (wanted : RowOutput) (input word : List ℕ) (left lines : List (List ℕ)) (status : Status) : Type 0 where
+-- The input has two parts, the first is a catalog, it has the table, and the lines are those of the first rows of the
+-- second. The other rows are left.
+pub record IsEvaluation (wanted : RowOutput) (input word : List ℕ) (left lines : List (List ℕ)) (status : Status) :
+    Type 0 where
   pub cut : Cut
   pub catalog : Catalog
   pub number : ℕ
@@ -89,7 +93,8 @@ pub record IsEvaluation (wanted : RowOutput) (input word : List ℕ) (left lines
   pub reads : catalog_by as_filter cut.part ≡ Ok (catalog_view catalog)
   pub named : table_of word catalog.tables.items ≡ Some number
   pub found : slice_get catalog.tables.items number ≡ Some table
-  pub rows : AreFirstLines wanted number (carriers_of number catalog.publications.items) table.columns (lines_of cut.rest) left lines status
+  pub rows : AreFirstLines wanted number (carriers_of number catalog.publications.items) table.columns
+      (lines_of cut.rest) left lines status
 
 -- some row is left
 pub record IsBegunEvaluation (wanted : RowOutput) (input word : List ℕ) (lines : List (List ℕ)) : Type 0 where

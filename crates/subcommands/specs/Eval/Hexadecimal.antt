@@ -1,4 +1,5 @@
--- Bytes as hexadecimal digits in lower case, two for each byte, the high one first (PostgreSQL 15, "bytea Hex Format", 8.4.1, without its `\x`).
+-- Bytes as hexadecimal digits in lower case, two for each byte, the high one first (PostgreSQL 15, "bytea Hex
+-- Format", 8.4.1, without its `\x`).
 use Rattle.std.specs.Prelude.{ℕ, ◌+◌, ◌/◌, ◌%◌, if◌then◌else◌, nat_lt, List, [], ◌∷◌}
 use Rattle.std.specs.List.{flat_map}
 

@@ -1,4 +1,5 @@
--- The Insert message of a row that some publication carries: PostgreSQL 15, "Row Filters", 31.3, and "Logical Replication Message Formats", 55.9.
+-- The Insert message of a row that some publication carries: PostgreSQL 15, "Row Filters", 31.3, and "Logical
+-- Replication Message Formats", 55.9.
 use Rattle.std.specs.Prelude.{ℕ, Bool, true, false, if◌then◌else◌, List, codes}
 use Rattle.std.specs.List.{list_any}
 use Rattle.filter_tree.specs.Datum.{Datum}

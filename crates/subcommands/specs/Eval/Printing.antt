@@ -1,4 +1,5 @@
--- What is printed of the rows of a table of a catalog, over the code's own record of the table and the publications that carry it.
+-- What is printed of the rows of a table of a catalog, over the code's own record of the table and the publications
+-- that carry it.
 use Rattle.std.specs.Prelude.{ℕ, List, Option, Result, map}
 use Rattle.filter_tree.specs.Datum.{Datum}
 use Rattle.subcommands.specs.Eval.Carriers.{CarrierOf, carrier_view}
@@ -16,7 +17,10 @@ abbrev pub told_in : RowOutput → CatalogTable → List Datum → List ℕ
 told_in wanted carried row = told wanted carried.number row (carriers_in carried)
 
 abbrev pub IsLineIn : RowOutput → CatalogTable → List ℕ → List ℕ → Type 0
-IsLineIn wanted carried text line = IsLine wanted carried.number (carriers_in carried) carried.table.now.columns text line
+IsLineIn wanted carried text line =
+    IsLine wanted carried.number (carriers_in carried) carried.table.now.columns text line
 
-abbrev pub WritesRowsIn : RowOutput → CatalogTable → List (List ℕ) → Option (List ℕ) → Option (List ℕ) → Result Status Failure → Type 0
-WritesRowsIn wanted carried rows old new result = WritesRows wanted carried.number (carriers_in carried) carried.table.now.columns rows old new result
+abbrev pub WritesRowsIn : RowOutput → CatalogTable → List (List ℕ) → Option (List ℕ) → Option (List ℕ)
+    → Result Status Failure → Type 0
+WritesRowsIn wanted carried rows old new result =
+    WritesRows wanted carried.number (carriers_in carried) carried.table.now.columns rows old new result

@@ -1,4 +1,5 @@
--- Which table of a catalog a word names: `name` of the schema public, or `schema.name`, split at the first dot (PostgreSQL 15, "Schemas", 5.9).
+-- Which table of a catalog a word names: `name` of the schema public, or `schema.name`, split at the first dot
+-- (PostgreSQL 15, "Schemas", 5.9).
 use Rattle.std.specs.Prelude.{ℕ, ◌==◌, Bool, ◌&&◌, if◌then◌else◌, List, length, nat_lt, Option, position, codes}
 use Rattle.std.specs.List.{position_or_len, before_first, after_first}
 use Rattle.std.specs.Str.{bytes_eq}

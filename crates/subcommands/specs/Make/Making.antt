@@ -1,4 +1,5 @@
--- What `make` answers: its input is a catalog, and for each of its tables, in their order, a line is written: a certificate of the table, or a row that shows that it is not sharded well, or that neither was found.
+-- What `make` answers: its input is a catalog, and for each of its tables, in their order, a line is written: a
+-- certificate of the table, or a row that shows that it is not sharded well, or that neither was found.
 use Rattle.std.specs.Prelude.{◌≡◌, ◌≢◌, ℕ, ◌+◌, Bool, true, false, ◌&&◌, if◌then◌else◌, List, [], ◌∷◌, ◌++◌, length, Option, None, is_none, Result, Ok, codes}
 use Rattle.std.specs.Io.KnownBytes.{Appends}
 use Rattle.std.specs.List.{join_by}
@@ -43,7 +44,8 @@ finding_view m.Unknown = Unknown
 finding_view m.TooLarge = TooLarge
 finding_view m.OutOfMemory = Unknown
 
--- The check accepts the certificate with the catalog's own plan; the row fits the table and passes to exactly these subscribers, which are none or several. The others say nothing of the table.
+-- The check accepts the certificate with the catalog's own plan; the row fits the table and passes to exactly these
+-- subscribers, which are none or several. The others say nothing of the table.
 abbrev pub IsTrueOf : CatalogOf Expr → ℕ → Finding → Type 0
 IsTrueOf catalog number (Cert tree) = IsAccepted catalog (plan_of catalog) number tree
 IsTrueOf catalog number (Counter row owners) = IsCounter catalog (plan_of catalog) number row owners
@@ -62,7 +64,8 @@ owners_text subscriptions [] = codes "none"
 owners_text subscriptions (owner ∷ owners) = join_by (subscriber_name subscriptions) (codes ",") (owner ∷ owners)
 
 abbrev pub counter_words : CatalogOf Expr → ℕ → List Datum → List ℕ → List (List ℕ)
-counter_words catalog number row owners = table_name catalog.tables number ∷ row_text row ∷ codes "owners" ∷ owners_text catalog.subscriptions owners ∷ []
+counter_words catalog number row owners =
+    table_name catalog.tables number ∷ row_text row ∷ codes "owners" ∷ owners_text catalog.subscriptions owners ∷ []
 
 abbrev pub line_for : CatalogOf Expr → ℕ → Finding → List ℕ
 line_for catalog number (Cert tree) = spelling_of tree
@@ -76,7 +79,8 @@ module _ (catalog : CatalogOf Expr) where
   -- a line for each of the first tables, so many, and whether each of the lines is a certificate
   pub data AreLines : ℕ → Bool → List (List ℕ) → Type 0 where
     NoTable : AreLines 0 true []
-    OneMore : (number : ℕ) (all : Bool) (lines : List (List ℕ)) (finding : Finding) → AreLines number all lines → IsTrueOf catalog number finding
+    OneMore : (number : ℕ) (all : Bool) (lines : List (List ℕ)) (finding : Finding) → AreLines number all lines
+        → IsTrueOf catalog number finding
         → AreLines (number + 1) (all && is_certificate finding) (lines ++ line_for catalog number finding ∷ [])
 
 abbrev pub status_for : Bool → Status
@@ -114,7 +118,8 @@ pub record IsBegunMaking (input : List ℕ) (lines : List (List ℕ)) : Type 0 w
 abbrev pub IsFault : List ℕ → InputFault → Type 0
 IsFault input i.Unread = ⊥
 IsFault input i.Parts = cut_of input ≢ None
-IsFault input (i.Catalog error) = (cut_of input ≡ None) × Tells error (catalog_by as_filter input) × (is_none (told error) ≡ false)
+IsFault input (i.Catalog error) = (cut_of input ≡ None) × Tells error (catalog_by as_filter input)
+    × (is_none (told error) ≡ false)
 IsFault input (i.Table name) = ⊥
 IsFault input (i.Certificate number error) = ⊥
 IsFault input (i.Script error) = ⊥
@@ -122,14 +127,16 @@ IsFault input (i.Script error) = ⊥
 -- ---- the line of a table
 
 -- what is found of the table is so, and the writer's bytes grow by its line
-pub record WritesTable (catalog : CatalogOf Expr) (number : ℕ) (old new : Option (List ℕ)) (certified : Bool) : Type 0 where
+pub record WritesTable (catalog : CatalogOf Expr) (number : ℕ) (old new : Option (List ℕ)) (certified : Bool) : Type 0
+    where
   pub finding : Finding
   pub true_of : IsTrueOf catalog number finding
   pub is : certified ≡ is_certificate finding
   pub appends : Appends old new (ended (line_for catalog number finding))
 
 -- or by the line's first bytes, where writing it stops
-pub record StopsTable (catalog : CatalogOf Expr) (number : ℕ) (old new : Option (List ℕ)) (failure : Failure) : Type 0 where
+pub record StopsTable (catalog : CatalogOf Expr) (number : ℕ) (old new : Option (List ℕ)) (failure : Failure) : Type 0
+    where
   pub finding : Finding
   pub true_of : IsTrueOf catalog number finding
   pub stops : StopsText (ended (line_for catalog number finding)) old new failure

@@ -1,4 +1,6 @@
--- What `simulate` answers: the first part of its input is a catalog, the second has the texts of the certificates of its tables, one a line, and the third is a script, whose steps are made where the sharding is sound. The format is this project's own.
+-- What `simulate` answers: the first part of its input is a catalog, the second has the texts of the certificates of
+-- its tables, one a line, and the third is a script, whose steps are made where the sharding is sound. The format is
+-- this project's own.
 use Rattle.std.specs.Prelude.{◌≡◌, ℕ, false, List, ◌∷◌, Some, None, is_none, Ok}
 use Rattle.filter_tree.specs.Expr.{Expr}
 use Rattle.pub_catalog.specs.Catalogs.{CatalogOf}
@@ -24,8 +26,10 @@ use Rattle.subcommands.specs.declared.failure.Status.TheVariants.{Done, Refused}
 
 -- ---- what is answered
 
--- there is no reason to refuse the sharding, it is sound, and the lines are those of the first steps, with a log of at most so many commits
-pub record AreMade (limit : ℕ) (catalog : CatalogOf Expr) (trees : List Tree) (steps left : List LineOf) (lines : List (List ℕ)) : Type 0 where
+-- there is no reason to refuse the sharding, it is sound, and the lines are those of the first steps, with a log of
+-- at most so many commits
+pub record AreMade (limit : ℕ) (catalog : CatalogOf Expr) (trees : List Tree) (steps left : List LineOf)
+    (lines : List (List ℕ)) : Type 0 where
   pub sound : IsSound catalog
   pub unrefused : IsFirstRefusal catalog trees None
   pub first : AreFirstSteps (checked_by catalog) limit steps left lines
@@ -36,8 +40,10 @@ IsResult limit catalog trees steps left lines Done = AreMade limit catalog trees
 IsResult limit catalog trees steps left lines Refused = IsRefused catalog trees lines
 IsResult limit catalog trees steps left lines _ = ⊥
 
--- The input has three parts, the first is a catalog, each line of the second is a certificate, and the third is a script of its tables. The last steps are left.
-pub record IsSimulation (limit : ℕ) (input : List ℕ) (left : List LineOf) (lines : List (List ℕ)) (status : Status) : Type 0 where
+-- The input has three parts, the first is a catalog, each line of the second is a certificate, and the third is a
+-- script of its tables. The last steps are left.
+pub record IsSimulation (limit : ℕ) (input : List ℕ) (left : List LineOf) (lines : List (List ℕ)) (status : Status) :
+    Type 0 where
   pub cut : CutTwice
   pub catalog : CatalogOf Expr
   pub steps : List LineOf
@@ -75,7 +81,8 @@ pub record TellsScript (outcome : Verdict (List LineOf)) (error : ReadError) : T
   pub tells : Tells error outcome
   pub known : is_none (told error) ≡ false
 
--- the first is a catalog, each line of the second is a certificate, and the third is no script of its tables, for the fault that the error tells
+-- the first is a catalog, each line of the second is a certificate, and the third is no script of its tables, for the
+-- fault that the error tells
 pub record IsBadScript (input : List ℕ) (error : ReadError) : Type 0 where
   pub cut : CutTwice
   pub catalog : CatalogOf Expr

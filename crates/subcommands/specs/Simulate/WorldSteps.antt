@@ -14,8 +14,10 @@ use Rattle.subcommands.specs.declared.failure.Status.TheVariants.{Done}
 
 -- ---- one step
 
--- The step is made in the world that the program's matches, the text is its lines, and the program's world matches what is left.
-pub record MakesInto (before after : World) (most : ℕ) (events : List (ℕ × w.Event)) (world : w.World) (now : ℕ) (step : StepOf) (text : List ℕ) : Type 0 where
+-- The step is made in the world that the program's matches, the text is its lines, and the program's world matches
+-- what is left.
+pub record MakesInto (before after : World) (most : ℕ) (events : List (ℕ × w.Event)) (world : w.World) (now : ℕ)
+    (step : StepOf) (text : List ℕ) : Type 0 where
   pub lines : List (List ℕ)
   pub happened : List (ℕ × w.Event)
   pub next : w.World
@@ -27,7 +29,8 @@ pub record MakesInto (before after : World) (most : ℕ) (events : List (ℕ × 
 -- in each world that it matches
 abbrev pub MakesOn : World → World → ℕ → StepOf → List ℕ → Type 0
 MakesOn before after now step text =
-    (most : ℕ) (events : List (ℕ × w.Event)) (world : w.World) → IsWorld before most events world → MakesInto before after most events world now step text
+    (most : ℕ) (events : List (ℕ × w.Event)) (world : w.World) → IsWorld before most events world
+        → MakesInto before after most events world now step text
 
 -- ---- a script
 
@@ -40,5 +43,7 @@ abbrev pub AreBegunLines : CheckedOf → ℕ → List LineOf → List (List ℕ)
 AreBegunLines checked most steps lines = (lines ≡ []) ⊎ AreSomeSteps checked most steps lines
 
 -- the lines of each step are written, as far as memory and the writer go
-abbrev pub WritesSteps : CheckedOf → ℕ → List LineOf → Option (List ℕ) → Option (List ℕ) → Result Status Failure → Type 0
-WritesSteps checked most steps old new result = Writes (AreAllLines checked most steps) (AreBegunLines checked most steps) old new result
+abbrev pub WritesSteps : CheckedOf → ℕ → List LineOf → Option (List ℕ) → Option (List ℕ) → Result Status Failure
+    → Type 0
+WritesSteps checked most steps old new result =
+    Writes (AreAllLines checked most steps) (AreBegunLines checked most steps) old new result

@@ -6,7 +6,8 @@ use Rattle.copy_both.proofs.listening.hear_frames.Given as goal
 abbrev pub invariant-loop-frames : goal.invariant-loop-frames
 invariant-loop-frames l = record {
   kept : KeepsRest l.initial.session l.session l.initial.book l.book;
-  listens : IsListening (served_by l.initial.session l.initial.book) (hearing_view l.initial.session l.initial.hearing l.initial.book)
+  listens : IsListening (served_by l.initial.session l.initial.book)
+      (hearing_view l.initial.session l.initial.hearing l.initial.book)
       (hearing_view l.session l.hearing l.book) l.initial.frames l.frames;
   counted : l.hearing.replies + length l.frames.bytes < 2 ^ 63;
 }

@@ -2,7 +2,7 @@ use Rattle.std.proofs.Common.{◌≡◌, suc, length}
 use Rattle.std.specs.Prelude.{map}
 use Rattle.std.specs.Option.{option_map_or}
 use Rattle.copy_both.specs.CommandTokens.{all_of, lone_name, names_in as spec}
-use Rattle.copy_both.proofs.ListTurns.{after_all, parts_left}
+use Rattle.copy_both.proofs.ListLoops.{after_all, parts_left}
 use Rattle.copy_both.proofs.names.names_in.Given as goal
 
 abbrev pub invariant-loop-rest : goal.invariant-loop-rest

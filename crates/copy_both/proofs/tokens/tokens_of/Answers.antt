@@ -4,7 +4,7 @@ use Rattle.copy_both.specs.declared.token.Piece.TheVariants.{Blank, Whole, Bad}
 use Rattle.copy_both.specs.CommandTokens.{front, tokens_from}
 use Rattle.copy_both.specs.TokenPlaces.{EndsAscii}
 use Rattle.copy_both.proofs.Cuts.{cut_after, front_piece}
-use Rattle.copy_both.proofs.TokenTurns.{after_tokens, at_end, at_blank, at_bad, one_more}
+use Rattle.copy_both.proofs.TokenLoops.{after_tokens, at_end, at_blank, at_bad, one_more}
 use Rattle.copy_both.proofs.tokens.tokens_of.Goals as goal
 
 pub split_at-requires : goal.split_at-requires
@@ -17,7 +17,8 @@ split_at-requires c =
 pub split_at-requires-in-Whole : goal.split_at-requires-in-Whole
 split_at-requires-in-Whole c =
     let some : 0 < length c.loop-rest.rest.now = search rules in
-    let e : front c.loop-rest.rest.now ≡ Whole c.in-Whole.token c.in-Whole.length = cc (c.in_ok-front.ensures, c.in-Whole.is) in
+    let e : front c.loop-rest.rest.now ≡ Whole c.in-Whole.token c.in-Whole.length =
+        cc (c.in_ok-front.ensures, c.in-Whole.is) in
     let ends : EndsAscii c.loop-rest.rest.now c.in-Whole.length = rw e at (front_piece c.loop-rest.rest.now some) in
     cut_after c.loop-rest.rest.now c.in-Whole.length c.loop-rest.invariant.utf8 ends
 
@@ -31,7 +32,8 @@ loop-rest-preserved-in-Blank c =
       so_far =
           ap (λ left. after_tokens c.loop-rest.tokens.items (tokens_from 0 left)) c.split_at.ensures.back
           ∙ ap (after_tokens c.loop-rest.tokens.items) (sym (at_blank rest some e)) ∙ c.loop-rest.invariant.so_far;
-      utf8 = subst IsUtf8 (sym c.split_at.ensures.back) (IsUtf8-drop rest 1 c.loop-rest.invariant.utf8 (cut_after rest 1 c.loop-rest.invariant.utf8 ends));
+      utf8 = subst IsUtf8 (sym c.split_at.ensures.back)
+          (IsUtf8-drop rest 1 c.loop-rest.invariant.utf8 (cut_after rest 1 c.loop-rest.invariant.utf8 ends));
     }
 
 pub loop-rest-smaller : goal.loop-rest-smaller
@@ -53,8 +55,10 @@ loop-rest-preserved c =
       so_far =
           ap (λ left. after_tokens c.push.new.self.items (tokens_from 0 left)) c.split_at-in-Whole.ensures.back
           ∙ ap (λ tokens. after_tokens tokens (tokens_from 0 (drop n rest))) c.in_ok-push-in-Whole.ensures.items
-          ∙ sym (one_more c.loop-rest.tokens.items rest c.in-Whole.token n ends.some ends.within e) ∙ c.loop-rest.invariant.so_far;
-      utf8 = subst IsUtf8 (sym c.split_at-in-Whole.ensures.back) (IsUtf8-drop rest n c.loop-rest.invariant.utf8 (cut_after rest n c.loop-rest.invariant.utf8 ends));
+          ∙ sym (one_more c.loop-rest.tokens.items rest c.in-Whole.token n ends.some ends.within e)
+          ∙ c.loop-rest.invariant.so_far;
+      utf8 = subst IsUtf8 (sym c.split_at-in-Whole.ensures.back)
+          (IsUtf8-drop rest n c.loop-rest.invariant.utf8 (cut_after rest n c.loop-rest.invariant.utf8 ends));
     }
 
 pub returns-in-Bad : goal.returns-in-Bad

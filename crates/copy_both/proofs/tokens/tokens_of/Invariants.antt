@@ -2,7 +2,7 @@ use denote.Shadow.{shadow}
 use denote.Text.{Utf8}
 use Rattle.std.proofs.Common.{◌≡◌, length}
 use Rattle.copy_both.specs.CommandTokens.{tokens_of as spec}
-use Rattle.copy_both.proofs.TokenTurns.{after_tokens}
+use Rattle.copy_both.proofs.TokenLoops.{after_tokens}
 use Rattle.copy_both.proofs.tokens.tokens_of.Given as goal
 
 abbrev pub invariant-loop-rest : goal.invariant-loop-rest

@@ -7,4 +7,5 @@ use Rattle.filter_tree.proofs.comparison.is_among.Given as goal
 -- the value is among the literals that are left exactly if it is among all
 abbrev pub invariant-loop-literal : goal.invariant-loop-literal
 invariant-loop-literal g l =
-    list_any (equals (datum_view l.value)) (map constant_view (drop l.literal-index l.literals)) ≡ list_any (equals (datum_view l.value)) (map constant_view l.literals)
+    list_any (equals (datum_view l.value)) (map constant_view (drop l.literal-index l.literals))
+        ≡ list_any (equals (datum_view l.value)) (map constant_view l.literals)

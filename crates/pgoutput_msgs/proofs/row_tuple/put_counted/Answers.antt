@@ -7,4 +7,5 @@ use Rattle.pgoutput_msgs.proofs.row_tuple.put_counted.Goals as goal
 pub returns-clause-puts : goal.returns-clause-puts
 returns-clause-puts c =
     subst (Puts c.args.out.now c.put_values.new.out) (sym (spelled_row c.args.values.now))
-    (puts_both c.args.out.now c.put_int16.new.out c.put_values.new.out _ _ c.put_int16.ensures c.put_values.ensures.puts)
+    (puts_both c.args.out.now c.put_int16.new.out c.put_values.new.out _ _ c.put_int16.ensures
+        c.put_values.ensures.puts)

@@ -5,4 +5,5 @@ use Rattle.pgoutput_msgs.proofs.TellingLemmas.{Keeps}
 use Rattle.pgoutput_msgs.proofs.telling.carried_of.Given as goal
 
 abbrev pub invariant-loop-number : goal.invariant-loop-number
-invariant-loop-number l = Keeps (takes_any (plan_view l.plan) l.subscriber) l.numbers l.carried.items (drop l.number-index l.numbers)
+invariant-loop-number l =
+    Keeps (takes_any (plan_view l.plan) l.subscriber) l.numbers l.carried.items (drop l.number-index l.numbers)

@@ -30,7 +30,8 @@ returns-in-None-clause-said g c =
     let plan : PlanOf = plan_view c.plan-plan.result.now in
     let own : plan ≡ checked.plan = search rules in
     let out : None ≡ out_for plan c.args.subscriber change = search rules in
-    said_of g.S.MessageSink.takes_one c.args.sink.now c.args.sink.now checked.catalog.tables checked.catalog.tables c.args.told.now None (got (setting_in checked) c.args.subscriber change)
+    said_of g.S.MessageSink.takes_one c.args.sink.now c.args.sink.now checked.catalog.tables checked.catalog.tables
+        c.args.told.now None (got (setting_in checked) c.args.subscriber change)
     refl (got_none checked c.args.subscriber change plan own out)
     (nothing_taken g.S.MessageSink.takes_one c.args.sink.now checked.catalog.tables c.args.told.now)
 
@@ -41,4 +42,5 @@ returns-in-None-clause-told g c =
     let plan : PlanOf = plan_view c.plan-plan.result.now in
     let own : plan ≡ checked.plan = search rules in
     let out : None ≡ out_for plan c.args.subscriber change = search rules in
-    nothing_told c.args.told.now ∙ ap (told_by c.args.told.now) (sym (got_none checked c.args.subscriber change plan own out))
+    nothing_told c.args.told.now
+        ∙ ap (told_by c.args.told.now) (sym (got_none checked c.args.subscriber change plan own out))

@@ -5,4 +5,5 @@ use Rattle.pgoutput_msgs.proofs.Counting.{with_front}
 use Rattle.pgoutput_msgs.proofs.truncate.oids.Given as goal
 
 abbrev pub invariant-loop : goal.invariant-loop
-invariant-loop l = with_front l.oids.items (many (number w32) (l.count - l.counter) l.r) ≡ many (number w32) l.count l.fn.r
+invariant-loop l = with_front l.oids.items (many (number w32) (l.count - l.counter) l.r)
+    ≡ many (number w32) l.count l.fn.r

@@ -6,4 +6,5 @@ use Rattle.pgoutput_msgs.proofs.GatheringLemmas.{Gathers}
 use Rattle.pgoutput_msgs.proofs.values.tuple_of.Given as goal
 
 abbrev pub invariant-loop-value : goal.invariant-loop-value
-invariant-loop-value g l = Gathers IsCellText (λ number left. cells_of (map datum_view left)) l.values l.cells.items l.value-index
+invariant-loop-value g l =
+    Gathers IsCellText (λ number left. cells_of (map datum_view left)) l.values l.cells.items l.value-index

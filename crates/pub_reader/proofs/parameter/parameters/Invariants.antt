@@ -1,7 +1,7 @@
 use Rattle.std.proofs.Common.{◌≡◌, ◌<◌}
 use Rattle.sql_reader.specs.declared.item.Item.TheVariants.{Comma}
 use Rattle.sql_reader.specs.Items.{to_read, size}
-use Rattle.sql_reader.specs.Turns.{link, repeat}
+use Rattle.sql_reader.specs.Repetitions.{link, repeat}
 use Rattle.pub_reader.specs.Publishing as spec
 use Rattle.pub_reader.proofs.parameter.parameters.Given as goal
 

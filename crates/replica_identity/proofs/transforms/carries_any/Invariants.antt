@@ -7,4 +7,5 @@ use Rattle.replica_identity.proofs.transforms.carries_any.Given as goal
 -- one of the tables that are left is carried exactly if one of all is
 abbrev pub invariant-loop-table : goal.invariant-loop-table
 invariant-loop-table l =
-    list_any (takes_any (plan_view l.plan) l.subscriber) (drop l.table-index l.tables) ≡ list_any (takes_any (plan_view l.plan) l.subscriber) l.tables
+    list_any (takes_any (plan_view l.plan) l.subscriber) (drop l.table-index l.tables)
+        ≡ list_any (takes_any (plan_view l.plan) l.subscriber) l.tables

@@ -8,8 +8,11 @@ pub loop-writer-preserved : goal.loop-writer-preserved
 loop-writer-preserved g c =
     let taken = g.W.Sink.taken in
     record {
-      flushes = flushes_more (taken c.args.writer.now) (taken c.loop-writer.writer) (taken c.push.new.self) c.args.voice.now c.loop-writer.voice c.passed.new.self c.in_ok-count.count
+      flushes = flushes_more (taken c.args.writer.now) (taken c.loop-writer.writer) (taken c.push.new.self)
+          c.args.voice.now c.loop-writer.voice c.passed.new.self c.in_ok-count.count
           c.loop-writer.invariant.flushes
-          (subst (λ (bytes : List ℕ). Appends (taken c.loop-writer.writer) (taken c.push.new.self) (take c.in_ok-count.count bytes)) c.output-in-loop-writer.ensures c.in_ok-count.ensures.bytes) c.passed.ensures.passes;
+          (subst (λ (bytes : List ℕ). Appends (taken c.loop-writer.writer) (taken c.push.new.self)
+              (take c.in_ok-count.count bytes)) c.output-in-loop-writer.ensures c.in_ok-count.ensures.bytes)
+              c.passed.ensures.passes;
       same = c.in_ok-count.ensures.failed ∙ c.loop-writer.invariant.same;
     }

@@ -10,8 +10,10 @@ returns-in-Some-GoesOn g c =
     let left = g.S.Source.left in
     let next = c.hear_next-next in
     record {
-      hears = on_after g.P.Publishing.checked (left c.args.reader.now) (left c.loop.reader) (left next.new.reader) (g.S.Source.has_failed next.new.reader) (g.S.Source.has_ended next.new.reader)
-          c.args.listener.now c.loop.listener next.new.listener c.loop.invariant next.result next.ensures c.in-Some-GoesOn.field-0-1 c.in-Some-GoesOn.is-1;
+      hears = on_after g.P.Publishing.checked (left c.args.reader.now) (left c.loop.reader) (left next.new.reader)
+          (g.S.Source.has_failed next.new.reader) (g.S.Source.has_ended next.new.reader)
+          c.args.listener.now c.loop.listener next.new.listener c.loop.invariant next.result next.ensures
+              c.in-Some-GoesOn.field-0-1 c.in-Some-GoesOn.is-1;
       started_is = sym c.started.ensures ∙ c.in-Some-GoesOn.is-0;
     }
 
@@ -20,8 +22,10 @@ returns-in-Some-Ends g c =
     let left = g.S.Source.left in
     let next = c.hear_next-next in
     record {
-      hears = last_after g.P.Publishing.checked (left c.args.reader.now) (left c.loop.reader) (left next.new.reader) (g.S.Source.has_failed next.new.reader) (g.S.Source.has_ended next.new.reader)
-          c.args.listener.now c.loop.listener next.new.listener c.loop.invariant next.result next.ensures c.in-Some-Ends.why c.in-Some-Ends.is-1;
+      hears = last_after g.P.Publishing.checked (left c.args.reader.now) (left c.loop.reader) (left next.new.reader)
+          (g.S.Source.has_failed next.new.reader) (g.S.Source.has_ended next.new.reader)
+          c.args.listener.now c.loop.listener next.new.listener c.loop.invariant next.result next.ensures
+              c.in-Some-Ends.why c.in-Some-Ends.is-1;
       started_is = sym c.started.ensures ∙ c.in-Some-Ends.is-0;
     }
 
@@ -30,8 +34,10 @@ returns-in-None-Ends g c =
     let left = g.S.Source.left in
     let next = c.hear_next-next in
     record {
-      hears = last_after g.P.Publishing.checked (left c.args.reader.now) (left c.loop.reader) (left next.new.reader) (g.S.Source.has_failed next.new.reader) (g.S.Source.has_ended next.new.reader)
-          c.args.listener.now c.loop.listener next.new.listener c.loop.invariant next.result next.ensures c.in-None-Ends.why c.in-None-Ends.is-1;
+      hears = last_after g.P.Publishing.checked (left c.args.reader.now) (left c.loop.reader) (left next.new.reader)
+          (g.S.Source.has_failed next.new.reader) (g.S.Source.has_ended next.new.reader)
+          c.args.listener.now c.loop.listener next.new.listener c.loop.invariant next.result next.ensures
+              c.in-None-Ends.why c.in-None-Ends.is-1;
       started_is = sym c.started.ensures ∙ c.in-None-Ends.is-0;
     }
 
@@ -39,5 +45,7 @@ pub loop-preserved : goal.loop-preserved
 loop-preserved g c =
     let left = g.S.Source.left in
     let next = c.hear_next-next in
-    on_after g.P.Publishing.checked (left c.args.reader.now) (left c.loop.reader) (left next.new.reader) (g.S.Source.has_failed next.new.reader) (g.S.Source.has_ended next.new.reader)
-    c.args.listener.now c.loop.listener next.new.listener c.loop.invariant next.result next.ensures c.in-None-GoesOn.field-0-1 c.in-None-GoesOn.is-1
+    on_after g.P.Publishing.checked (left c.args.reader.now) (left c.loop.reader) (left next.new.reader)
+        (g.S.Source.has_failed next.new.reader) (g.S.Source.has_ended next.new.reader)
+    c.args.listener.now c.loop.listener next.new.listener c.loop.invariant next.result next.ensures
+        c.in-None-GoesOn.field-0-1 c.in-None-GoesOn.is-1

@@ -4,4 +4,5 @@ use Rattle.senders_close.specs.Gathering.{IsRising}
 use Rattle.senders_close.proofs.numbering.are_rising.Given as goal
 
 abbrev pub invariant-loop-seat : goal.invariant-loop-seat
-invariant-loop-seat g l = All (IsRising l.high) (take l.seat-index l.seats) × All IsForward (take l.seat-index l.seats) × All AreTimed (take l.seat-index l.seats)
+invariant-loop-seat g l = All (IsRising l.high) (take l.seat-index l.seats)
+    × All IsForward (take l.seat-index l.seats) × All AreTimed (take l.seat-index l.seats)

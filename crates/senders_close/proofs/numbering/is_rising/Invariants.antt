@@ -4,4 +4,5 @@ use Rattle.senders_close.proofs.NumberLemmas.{Leaves}
 use Rattle.senders_close.proofs.numbering.is_rising.Given as goal
 
 abbrev pub invariant-loop-note : goal.invariant-loop-note
-invariant-loop-note l = Leaves (IsRising l.high l.notes) l.high l.last (numbers_of (receipts_in (drop l.note-index l.notes)))
+invariant-loop-note l =
+    Leaves (IsRising l.high l.notes) l.high l.last (numbers_of (receipts_in (drop l.note-index l.notes)))

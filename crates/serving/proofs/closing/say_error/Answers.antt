@@ -13,4 +13,5 @@ returns g c =
     let name = c.in_ok-name.name.now in
     let named : name_of c.args.error ≡ Some name = search rules in
     let is : string_bytes c.in_ok-line.line ≡ codes "close " ++ name = search rules in
-    closes (codes "close " ++ name) Refused old new c.say.result (Differs c.args.error name named) (subst (λ (text : List ℕ). Says text Refused old new c.say.result) is c.say.ensures)
+    closes (codes "close " ++ name) Refused old new c.say.result (Differs c.args.error name named)
+        (subst (λ (text : List ℕ). Says text Refused old new c.say.result) is c.say.ensures)

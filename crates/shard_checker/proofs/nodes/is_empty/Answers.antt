@@ -5,12 +5,14 @@ use Rattle.shard_checker.proofs.nodes.is_empty.Goals as goal
 -- the column may be null
 pub returns-else-is_present : goal.returns-else-is_present
 returns-else-is_present g c =
-    none_where_absent c.args.columns.now c.args.term (path_view c.args.path.now) c.column-column.result c.column-column.ensures c.if-is_present.false c.is_present.ensures
+    none_where_absent c.args.columns.now c.args.term (path_view c.args.path.now) c.column-column.result
+        c.column-column.ensures c.if-is_present.false c.is_present.ensures
 
 -- it would have to be null
 pub returns-then-is_null : goal.returns-then-is_null
 returns-then-is_null g c =
-    empty_where_null c.args.columns.now c.args.term (path_view c.args.path.now) c.column-column.result c.column-column.ensures
+    empty_where_null c.args.columns.now c.args.term (path_view c.args.path.now) c.column-column.result
+        c.column-column.ensures
     c.if-is_present.true c.is_present.ensures c.if-is_null.true c.is_null.ensures
 
 -- values are tried

@@ -13,5 +13,6 @@ returns g c =
     let subject = subject_view c.args.subject.now in
     let walk = c.args.walk.now in
     let sized : length (path_view walk.path.items) ≡ length walk.path.items = length-map walk.path.items _ in
-    sym (null_nowhere subject.atoms c.args.number (atom_view c.args.atom.now) c.requires.ready.prepared.differ c.requires.atom walk.known.befores.items (path_view walk.path.items)
+    sym (null_nowhere subject.atoms c.args.number (atom_view c.args.atom.now) c.requires.ready.prepared.differ
+        c.requires.atom walk.known.befores.items (path_view walk.path.items)
     c.requires.ready.knows.befores (λ place within. c.loop-place.invariant place (omega arith)))

@@ -6,4 +6,6 @@ use Rattle.shard_checker.proofs.numbering.add_terms.Given as goal
 
 -- with those that are left they are what they are with all
 abbrev pub invariant-loop-term : goal.invariant-loop-term
-invariant-loop-term l = fold (with_item same_term) l.terms.items (drop l.term-index l.more) ≡ fold (with_item same_term) l.fn.terms.items l.more
+invariant-loop-term l =
+    fold (with_item same_term) l.terms.items (drop l.term-index l.more)
+    ≡ fold (with_item same_term) l.fn.terms.items l.more

@@ -10,4 +10,5 @@ use Rattle.shard_checker.proofs.numbering.numbered_atoms.Given as goal
 -- with those of the shares that are left they are those of all
 abbrev pub invariant-loop-share : goal.invariant-loop-share
 invariant-loop-share g l =
-    fold (with_item same_atom) (atoms_view l.atoms.items) (flat_map share_atoms (shares_view (drop l.share-index l.shares))) ≡ numbered_atoms (shares_view l.shares)
+    fold (with_item same_atom) (atoms_view l.atoms.items)
+        (flat_map share_atoms (shares_view (drop l.share-index l.shares))) ≡ numbered_atoms (shares_view l.shares)

@@ -9,4 +9,5 @@ use Rattle.shard_checker.proofs.numbering.numbered_terms.Given as goal
 -- with those of the shares that are left they are those of all
 abbrev pub invariant-loop-share : goal.invariant-loop-share
 invariant-loop-share g l =
-    fold (with_item same_term) l.terms.items (flat_map share_terms (shares_view (drop l.share-index l.shares))) ≡ numbered_terms (shares_view l.shares)
+    fold (with_item same_term) l.terms.items (flat_map share_terms (shares_view (drop l.share-index l.shares)))
+        ≡ numbered_terms (shares_view l.shares)

@@ -1,7 +1,7 @@
 use Rattle.std.proofs.Common.{◌≡◌, drop}
 use Rattle.filter_tree.specs.Paths.{path_view}
 use Rattle.shard_checker.specs.Facts.{may_be}
-use Rattle.shard_checker.specs.Trying.{tried_view}
+use Rattle.shard_checker.specs.Candidates.{tried_view}
 use Rattle.shard_checker.proofs.values.all_leave.Given as goal
 
 -- the answer for the entries that are left is that for all

@@ -3,7 +3,7 @@ use Rattle.std.specs.List.{list_any}
 use Rattle.filter_tree.specs.Values.{constant_view}
 use Rattle.filter_tree.specs.declared.filter.Op.TheVariants.{Eq}
 use Rattle.shard_checker.specs.Facts.{compares}
-use Rattle.shard_checker.specs.Trying.{tried_view}
+use Rattle.shard_checker.specs.Candidates.{tried_view}
 use Rattle.shard_checker.proofs.values.is_among.Given as goal
 
 -- the answer for the constants that are left is that for all

@@ -2,7 +2,7 @@ use Rattle.std.proofs.Common.{◌≡◌, drop, map}
 use Rattle.std.specs.List.{list_any}
 use Rattle.filter_tree.specs.Paths.{path_view}
 use Rattle.filter_tree.specs.Values.{constant_view}
-use Rattle.shard_checker.specs.Trying.{gives_number}
+use Rattle.shard_checker.specs.Candidates.{gives_number}
 use Rattle.shard_checker.proofs.values.list_gives_number.Given as goal
 
 -- the answer for the constants that are left is that for all

@@ -5,7 +5,8 @@ use Rattle.shard_checker.proofs.walk.+tree.Given as goal
 
 -- a tree's nodes, where a tree goes before its branches
 abbrev pub decreases-visit_branches : goal.decreases-visit_branches
-decreases-visit_branches g l = 2 * (nodes (tree_view l.if_true.now) + nodes (tree_view l.if_false.now) + nodes (tree_view l.if_null.now)) + 1
+decreases-visit_branches g l =
+    2 * (nodes (tree_view l.if_true.now) + nodes (tree_view l.if_false.now) + nodes (tree_view l.if_null.now)) + 1
 
 abbrev pub decreases-visit_tree : goal.decreases-visit_tree
 decreases-visit_tree g l = 2 * nodes (tree_view l.tree.now)

@@ -4,7 +4,7 @@ use Rattle.split_cert.specs.declared.node.Node.{Node}
 use Rattle.split_cert.specs.declared.node.Node.TheVariants.{Empty}
 use Rattle.shard_checker.specs.Checks.{Finds}
 use Rattle.shard_checker.specs.Refusal.{subject_view}
-use Rattle.shard_checker.specs.Trying.{is_empty}
+use Rattle.shard_checker.specs.Candidates.{is_empty}
 use Rattle.shard_checker.specs.Walking.{node_refusal}
 use Rattle.shard_checker.proofs.walk.check_node.Goals as goal
 
@@ -13,5 +13,7 @@ pub returns-in-Empty-clause-refusal : goal.returns-in-Empty-clause-refusal
 returns-in-Empty-clause-refusal g c =
     let subject = subject_view c.args.subject.now in
     let walk = c.args.walk.now in
-    subst (λ (node : Node). Finds (node_refusal is_empty subject node (path_view walk.path.items) walk.node) c.check_empty.result) (sym c.in-Empty.is)
-    (subst (λ (path : Path). Finds (node_refusal is_empty subject (Empty c.in-Empty.number) path walk.node) c.check_empty.result) (ap path_view c.deref.ensures.value) c.check_empty.ensures)
+    subst (λ (node : Node). Finds (node_refusal is_empty subject node (path_view walk.path.items) walk.node)
+        c.check_empty.result) (sym c.in-Empty.is)
+    (subst (λ (path : Path). Finds (node_refusal is_empty subject (Empty c.in-Empty.number) path walk.node)
+        c.check_empty.result) (ap path_view c.deref.ensures.value) c.check_empty.ensures)

@@ -1,6 +1,6 @@
 use Rattle.std.proofs.Common.{◌≡◌, false, length}
 use Rattle.filter_tree.specs.Paths.{path_view}
-use Rattle.shard_checker.specs.Ready.{Ready}
+use Rattle.shard_checker.specs.WalkInvariants.{WalkAgrees}
 use Rattle.shard_checker.specs.Walking.{onward}
 use Rattle.shard_checker.proofs.walk.leave.Given as goal
 
@@ -8,7 +8,7 @@ use Rattle.shard_checker.proofs.walk.leave.Given as goal
 abbrev pub invariant-loop-number : goal.invariant-loop-number
 invariant-loop-number g l = record {
   onward : onward (path_view l.walk.path.items) ≡ onward (path_view l.fn.walk.path.items);
-  ready : Ready l.subject l.walk;
+  ready : WalkAgrees l.subject l.walk;
   node : l.walk.node ≡ l.fn.walk.node;
   due : l.walk.is_over ≡ false;
 }

@@ -1,5 +1,5 @@
 -- Each step is that of its lemma.
-use Rattle.shard_world.proofs.JoinedEar.{hears_step}
+use Rattle.shard_world.proofs.JoinedPieces.{hears_step}
 use Rattle.shard_world.proofs.JoinedFeeding.{delivers_on}
 use Rattle.shard_world.proofs.JoinedLoss.{loses_on}
 use Rattle.shard_world.proofs.JoinedSteps.{opens, takes, keeps, reports}

@@ -1,4 +1,4 @@
-use Rattle.shard_world.proofs.UpsHeardLemmas.{starts_are_heard, statuses_are_heard}
+use Rattle.shard_world.proofs.SubscriberFrameLemmas.{starts_are_heard, statuses_are_heard}
 use Rattle.shard_world.proofs.laws.subscribers_are_heard.Goals as goal
 
 pub returns-clause-start : goal.returns-clause-start

@@ -1,5 +1,5 @@
 use Rattle.std.proofs.Common.{ap}
-use Rattle.sql_reader.specs.Wrong.{wrong_of}
+use Rattle.sql_reader.specs.ErrorKinds.{wrong_of}
 use Rattle.sql_reader.proofs.column_rule.left_out_clause.Goals as goal
 
 pub returns : goal.returns

@@ -3,7 +3,7 @@ use Rattle.sql_reader.specs.declared.item.Item.TheVariants.{Comma}
 use Rattle.sql_reader.specs.Items.{to_read}
 use Rattle.sql_reader.specs.Columns as spec
 use Rattle.sql_reader.specs.Columns.{parts_view}
-use Rattle.sql_reader.proofs.Turning.{link-ends}
+use Rattle.sql_reader.proofs.RepetitionLemmas.{link-ends}
 use Rattle.sql_reader.proofs.element.read_elements.Goals as goal
 
 -- no comma is left

@@ -4,7 +4,7 @@ use Rattle.sql_reader.specs.declared.item.Item.TheVariants as i
 use Rattle.sql_reader.specs.Items.{to_read, size}
 use Rattle.sql_reader.specs.Expressions as spec
 use Rattle.sql_reader.specs.Operands.{operand_view, part_view}
-use Rattle.sql_reader.specs.Turns.{link, repeat}
+use Rattle.sql_reader.specs.Repetitions.{link, repeat}
 use Rattle.sql_reader.specs.Written.{as_filter}
 use Rattle.sql_reader.proofs.expression.+expression.Given as goal
 
@@ -80,7 +80,9 @@ decreases-in_list l = 32 * l.depth + 1
 abbrev pub invariant-conjunction-loop-left : goal.invariant-conjunction-loop-left
 invariant-conjunction-loop-left l = record {
   so_far : spec.conjunction as_filter l.columns (spec.nested as_filter l.columns l.depth) (to_read l.fn.r)
-      ≡ repeat (link (i.Keyword k.And) (spec.one_more_negation as_filter l.columns (spec.nested as_filter l.columns l.depth))) (part_view l.left) (to_read l.r);
+      ≡ repeat (link (i.Keyword k.And)
+          (spec.one_more_negation as_filter l.columns (spec.nested as_filter l.columns l.depth))) (part_view l.left)
+          (to_read l.r);
   fewer : size (to_read l.r) < size (to_read l.fn.r);
 }
 
@@ -90,7 +92,9 @@ decreases-conjunction-loop-left l = size (to_read l.r)
 abbrev pub invariant-disjunction-loop-left : goal.invariant-disjunction-loop-left
 invariant-disjunction-loop-left l = record {
   so_far : spec.disjunction as_filter l.columns (spec.nested as_filter l.columns l.depth) (to_read l.fn.r)
-      ≡ repeat (link (i.Keyword k.Or) (spec.one_more_conjunction as_filter l.columns (spec.nested as_filter l.columns l.depth))) (part_view l.left) (to_read l.r);
+      ≡ repeat (link (i.Keyword k.Or)
+          (spec.one_more_conjunction as_filter l.columns (spec.nested as_filter l.columns l.depth)))
+          (part_view l.left) (to_read l.r);
   fewer : size (to_read l.r) < size (to_read l.fn.r);
 }
 
@@ -100,7 +104,8 @@ decreases-disjunction-loop-left l = size (to_read l.r)
 abbrev pub invariant-other_entries-loop-others : goal.invariant-other_entries-loop-others
 invariant-other_entries-loop-others l = record {
   so_far : spec.other_entries as_filter l.columns (spec.nested as_filter l.columns l.depth) (to_read l.fn.r)
-      ≡ repeat (link i.Comma (spec.one_entry as_filter l.columns (spec.nested as_filter l.columns l.depth))) (map operand_view l.others.items) (to_read l.r);
+      ≡ repeat (link i.Comma (spec.one_entry as_filter l.columns (spec.nested as_filter l.columns l.depth)))
+          (map operand_view l.others.items) (to_read l.r);
   no_more : size (to_read l.r) ≤ size (to_read l.fn.r);
 }
 

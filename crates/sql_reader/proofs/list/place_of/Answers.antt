@@ -6,9 +6,11 @@ use Rattle.sql_reader.proofs.list.place_of.Goals as goal
 pub returns-in-Less : goal.returns-in-Less
 returns-in-Less c = (
   omega arith,
-  passed_less constant_view c.args.literals.now (constant_view c.args.literal.now) c.loop-index.index c.index-literals-index.result (omega arith) (cc) (sym c.in-Less.ensures) c.loop-index.invariant,
+  passed_less constant_view c.args.literals.now (constant_view c.args.literal.now) c.loop-index.index
+      c.index-literals-index.result (omega arith) (cc) (sym c.in-Less.ensures) c.loop-index.invariant,
 )
 
 pub returns-in-Equal : goal.returns-in-Equal
 returns-in-Equal c =
-    passed_equal constant_view c.args.literals.now (constant_view c.args.literal.now) c.loop-index.index c.index-literals-index.result (omega arith) (cc) (sym c.in-Equal.ensures) c.loop-index.invariant
+    passed_equal constant_view c.args.literals.now (constant_view c.args.literal.now) c.loop-index.index
+        c.index-literals-index.result (omega arith) (cc) (sym c.in-Equal.ensures) c.loop-index.invariant

@@ -13,9 +13,12 @@ returns c =
     let ts = to_read c.args.r.now in
     let meant = name_meant (item_ahead ts) (written_ahead ts) in
     let is_ahead : name_ahead ts ≡ true = sym c.is_name_ahead.ensures.value ∙ c.if-not-is_name_ahead.false in (
-      ap (λ ahead. if ahead then Ok (record { place = place_ahead ts; text = meant }, rest_of ts) else Err (refusal ts)) is_ahead
+      ap (λ ahead. if ahead then
+          Ok (record { place = place_ahead ts; text = meant }, rest_of ts) else Err (refusal ts)) is_ahead
           ∙ ap (λ place. Ok (record { place = place; text = meant }, rest_of ts)) (sym c.place-place.ensures)
-          ∙ ap (λ text. Ok (record { place = c.place-place.result; text = text }, rest_of ts)) (sym c.in_ok-text.ensures)
-          ∙ ap (λ rest. Ok (record { place = c.place-place.result; text = c.in_ok-text.text }, rest)) (sym c.advance.ensures),
+          ∙ ap (λ text. Ok (record { place = c.place-place.result; text = text }, rest_of ts))
+              (sym c.in_ok-text.ensures)
+          ∙ ap (λ rest. Ok (record { place = c.place-place.result; text = c.in_ok-text.text }, rest))
+              (sym c.advance.ensures),
       subst (λ rest. size rest < size ts) (sym c.advance.ensures) (rest_of_name_is_fewer ts is_ahead),
     )

@@ -5,4 +5,6 @@ use Rattle.sql_reader.proofs.Undoubling.{undoubled_from}
 use Rattle.sql_reader.proofs.quoted.undoubled_by_character.Given as goal
 
 abbrev pub invariant-loop-character : goal.invariant-loop-character
-invariant-loop-character l = string_bytes l.text ++ undoubled_from l.quote l.is_quote (chars_rest l.character-iterator) ≡ undoubled l.quote l.written
+invariant-loop-character l =
+    string_bytes l.text ++ undoubled_from l.quote l.is_quote (chars_rest l.character-iterator)
+    ≡ undoubled l.quote l.written

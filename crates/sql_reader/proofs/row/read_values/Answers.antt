@@ -11,7 +11,8 @@ pub returns : goal.returns
 unfolding spec.in_parentheses
 returns c =
     let cells = map datum_view c.in_ok-values.values.items in (
-      ap (λ opened. and_then opened (λ _. spec.values >>= (λ cells. expect Close >> pure cells))) c.in_ok-expect.ensures.takes.0
+      ap (λ opened. and_then opened (λ _. spec.values >>= (λ cells. expect Close >> pure cells)))
+          c.in_ok-expect.ensures.takes.0
           ∙ ap (λ read. and_then read (λ cells. expect Close >> pure cells)) c.in_ok-values.ensures.0
           ∙ ap (λ closed. and_then closed (λ _. pure cells)) c.in_ok-expect-2.ensures.takes.0
           ∙ ap (λ cells. Ok (cells, to_read c.expect-2.new.self)) (sym c.from_values.ensures),

@@ -3,7 +3,7 @@ use Rattle.filter_tree.specs.Values.{datum_view}
 use Rattle.sql_reader.specs.declared.item.Item.TheVariants.{Comma}
 use Rattle.sql_reader.specs.Items.{to_read, size}
 use Rattle.sql_reader.specs.Rows.{values, one_value}
-use Rattle.sql_reader.specs.Turns.{link, repeat}
+use Rattle.sql_reader.specs.Repetitions.{link, repeat}
 use Rattle.sql_reader.proofs.row.values.Given as goal
 
 abbrev pub invariant-loop-row : goal.invariant-loop-row

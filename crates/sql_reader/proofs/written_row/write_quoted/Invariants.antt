@@ -5,4 +5,6 @@ use Rattle.sql_tokens.specs.Doubled.{doubled}
 use Rattle.sql_reader.proofs.written_row.write_quoted.Given as goal
 
 abbrev pub invariant-loop-character : goal.invariant-loop-character
-invariant-loop-character l = string_bytes l.text ++ doubled 39 (chars_rest l.character-iterator) ≡ string_bytes l.initial.text ++ doubled 39 l.inner
+invariant-loop-character l =
+    string_bytes l.text ++ doubled 39 (chars_rest l.character-iterator) ≡ string_bytes l.initial.text
+    ++ doubled 39 l.inner

@@ -9,5 +9,6 @@ use Rattle.sql_reader.proofs.written_row.write_values.Given as goal
 -- what is written, and the values that are left after a comma each, make the text of all
 abbrev pub invariant-loop-value : goal.invariant-loop-value
 invariant-loop-value g l =
-    string_bytes l.text ++ flat_map (λ cell. codes ", " ++ value_text cell) (map datum_view (drop l.value-index l.others))
+    string_bytes l.text ++ flat_map (λ cell. codes ", " ++ value_text cell)
+        (map datum_view (drop l.value-index l.others))
     ≡ string_bytes l.fn.text ++ join_by value_text (codes ", ") (map datum_view l.values)

@@ -1,7 +1,7 @@
 use Rattle.std.proofs.Common.{◌≡◌, ◌+◌, ◌≤◌, true, length}
 use Rattle.sql_tokens.specs.Comments.{longer}
 use Rattle.sql_tokens.specs.Quotes.{inner_len}
-use Rattle.sql_tokens.proofs.QuoteTurns.{inner_from}
+use Rattle.sql_tokens.proofs.QuoteLoops.{inner_from}
 use Rattle.sql_tokens.proofs.quotes.inner_len.Given as goal
 
 abbrev pub invariant-loop-rest : goal.invariant-loop-rest

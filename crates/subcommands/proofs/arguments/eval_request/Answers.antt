@@ -7,7 +7,8 @@ use Rattle.subcommands.proofs.arguments.eval_request.Goals.{then-get_flag, else-
 use Rattle.subcommands.proofs.arguments.eval_request.Goals as goal
 
 pub returns-in_err-table-clause-none : goal.returns-in_err-table-clause-none
-returns-in_err-table-clause-none c = λ none. sym (first_value-rows (found_of c.args.eval.now) (codes "TABLE")) ∙ sym c.get_str.ensures ∙ ap (option_map (λ s. s.now)) c.in_err-table.was
+returns-in_err-table-clause-none c = λ none. sym (first_value-rows (found_of c.args.eval.now) (codes "TABLE"))
+    ∙ sym c.get_str.ensures ∙ ap (option_map (λ s. s.now)) c.in_err-table.was
 
 pub returns-clause-some : goal.returns-clause-some
 returns-clause-some c =
@@ -18,6 +19,10 @@ returns-clause-some c =
     ] in
     record {
       named = sym (first_value-rows found (codes "TABLE")) ∙ sym c.in_ok-table.ensures;
-      with_flag = λ e. wanted_is ∙ ap (λ (flag : Bool). if flag then Insert else Answers) (c.get_flag.ensures.value (one_text-rows found (codes "insert") ∙ e));
-      without_flag = λ e. wanted_is ∙ ap (λ (flag : Bool). if flag then Insert else Answers) (c.get_flag.ensures.other (one_text-rows found (codes "insert") ∙ e));
+      with_flag = λ e. wanted_is
+          ∙ ap (λ (flag : Bool). if flag then Insert else Answers)
+          (c.get_flag.ensures.value (one_text-rows found (codes "insert") ∙ e));
+      without_flag = λ e. wanted_is
+          ∙ ap (λ (flag : Bool). if flag then Insert else Answers)
+          (c.get_flag.ensures.other (one_text-rows found (codes "insert") ∙ e));
     }

@@ -6,4 +6,6 @@ use Rattle.subcommands.proofs.eval.write_rows.Given as goal
 
 abbrev pub invariant-loop-row : goal.invariant-loop-row
 invariant-loop-row g l =
-    IsSoFar l.wanted l.carried.number (map carrier_view l.carried.carriers.now) l.carried.table.now.columns (lines_of l.rows) (lines_left l.row-iterator) l.status (g.W.Write.contents l.initial.writer) (g.W.Write.contents l.writer)
+    IsSoFar l.wanted l.carried.number (map carrier_view l.carried.carriers.now) l.carried.table.now.columns
+        (lines_of l.rows) (lines_left l.row-iterator) l.status (g.W.Write.contents l.initial.writer)
+        (g.W.Write.contents l.writer)

@@ -8,6 +8,7 @@ use Rattle.subcommands.proofs.simulate.write_steps.Given as goal
 abbrev pub invariant-loop-line : goal.invariant-loop-line
 invariant-loop-line g l = record {
   now_is : l.now ≡ length l.yielded;
-  so_far : IsSoFar (checked_view l.fn.checked) l.limit (map line_view l.fn.lines.items) (map line_view (drop (length l.yielded) l.fn.lines.items)) l.now l.world
+  so_far : IsSoFar (checked_view l.fn.checked) l.limit (map line_view l.fn.lines.items)
+      (map line_view (drop (length l.yielded) l.fn.lines.items)) l.now l.world
       (g.W.Write.contents l.initial.writer) (g.W.Write.contents l.writer);
 }

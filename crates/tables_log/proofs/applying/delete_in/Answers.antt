@@ -9,5 +9,6 @@ returns-clause-ok c = record {
   found = c.in_ok-gone.ensures.found;
   puts = c.in_ok-gone.ensures.puts;
   gone_sendable = c.row.ensures.sendable;
-  records = ap (r.Delete c.args.number) (c.in_ok-part.ensures ∙ ap (λ gone. part_in c.args.table.now gone None) c.row.ensures.shows);
+  records = ap (r.Delete c.args.number)
+      (c.in_ok-part.ensures ∙ ap (λ gone. part_in c.args.table.now gone None) c.row.ensures.shows);
 }

@@ -6,4 +6,5 @@ use Rattle.tables_log.proofs.applying.take.Goals as goal
 pub returns-clause-puts : goal.returns-clause-puts
 returns-clause-puts c =
     subst (λ values. PutsRow c.args.rows.now c.put.new.self values None)
-    (c.in_ok-values.ensures ∙ ap (values_in (keys_in (Some c.args.table.now))) c.row.ensures.shows) c.in_ok-put.ensures.puts
+    (c.in_ok-values.ensures ∙ ap (values_in (keys_in (Some c.args.table.now))) c.row.ensures.shows)
+        c.in_ok-put.ensures.puts

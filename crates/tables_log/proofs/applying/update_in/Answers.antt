@@ -9,10 +9,12 @@ pub returns-clause-ok : goal.returns-clause-ok
 returns-clause-ok c = record {
   gone = c.in_ok-gone.gone;
   found = c.in_ok-gone.ensures.found;
-  puts = subst (λ row. ReplacesRow c.args.rows.now c.replace.new.rows (keys_in (Some c.args.table.now)) c.in_ok-gone.gone row) c.in_ok-new.ensures.ok c.in_ok-gone.ensures.puts;
+  puts = subst (λ row. ReplacesRow c.args.rows.now c.replace.new.rows (keys_in (Some c.args.table.now))
+      c.in_ok-gone.gone row) c.in_ok-new.ensures.ok c.in_ok-gone.ensures.puts;
   gone_sendable = c.row.ensures.sendable;
   sendable = c.in_ok-new.ensures.sendable;
   records = ap (λ part. r.Update c.args.number part c.in_ok-copy.copy)
       (c.in_ok-part.ensures ∙ ap (λ gone. part_in c.args.table.now gone (Some c.args.row.now)) c.row.ensures.shows)
-      ∙ ap (r.Update c.args.number (part_in c.args.table.now c.in_ok-gone.gone (Some c.args.row.now))) c.in_ok-copy.ensures;
+      ∙ ap (r.Update c.args.number (part_in c.args.table.now c.in_ok-gone.gone (Some c.args.row.now)))
+          c.in_ok-copy.ensures;
 }

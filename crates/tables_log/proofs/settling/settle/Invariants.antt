@@ -4,4 +4,5 @@ use Rattle.tables_log.proofs.SettleLemmas.{Settling}
 use Rattle.tables_log.proofs.settling.settle.Given as goal
 
 abbrev pub invariant-loop-command : goal.invariant-loop-command
-invariant-loop-command l = Settling l.tables l.initial.tables (are_named (drop l.command-index l.commands)) (are_named l.commands)
+invariant-loop-command l =
+    Settling l.tables l.initial.tables (are_named (drop l.command-index l.commands)) (are_named l.commands)

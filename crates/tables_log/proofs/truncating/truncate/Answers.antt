@@ -5,5 +5,6 @@ use Rattle.tables_log.proofs.truncating.truncate.Goals as goal
 
 pub returns-clause-ok : goal.returns-clause-ok
 returns-clause-ok c =
-    truncate_applies (checked_view c.args.checked.now).catalog (checked_view c.args.checked.now).plan c.args.tables.now c.empty.new.tables c.args.numbers.now c.in_ok-once.once.items
+    truncate_applies (checked_view c.args.checked.now).catalog (checked_view c.args.checked.now).plan
+        c.args.tables.now c.empty.new.tables c.args.numbers.now c.in_ok-once.once.items
     c.requires.narrow (sym c.are_known.ensures ∙ c.if-not-are_known.false) c.in_ok-once.ensures c.empty.ensures.empties

@@ -11,4 +11,6 @@ pub loop-copy-preserved : goal.loop-copy-preserved
 loop-copy-preserved c = goes_on ForgetsCopy _ _ _ _ _ (omega arith) c.forget.ensures c.loop-copy.invariant
 
 pub returns : goal.returns
-returns c = all_done ForgetsCopy (λ old new (does : ForgetsCopy old new). ap (λ (shape : TableShape). shape.relation.oid) does.shape) _ _ _ (omega arith) c.loop-copy.invariant
+returns c = all_done ForgetsCopy
+    (λ old new (does : ForgetsCopy old new). ap (λ (shape : TableShape). shape.relation.oid) does.shape) _ _ _
+    (omega arith) c.loop-copy.invariant

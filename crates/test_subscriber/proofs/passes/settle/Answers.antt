@@ -11,4 +11,6 @@ pub loop-copy-preserved : goal.loop-copy-preserved
 loop-copy-preserved c = goes_on SettlesCopy _ _ _ _ _ (omega arith) c.settle.ensures c.loop-copy.invariant
 
 pub returns : goal.returns
-returns c = all_done SettlesCopy (λ old new (does : SettlesCopy old new). ap (λ (shape : TableShape). shape.relation.oid) does.shape) _ _ _ (omega arith) c.loop-copy.invariant
+returns c = all_done SettlesCopy
+    (λ old new (does : SettlesCopy old new). ap (λ (shape : TableShape). shape.relation.oid) does.shape) _ _ _
+    (omega arith) c.loop-copy.invariant

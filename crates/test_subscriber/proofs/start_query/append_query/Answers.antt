@@ -5,7 +5,8 @@ use Rattle.test_subscriber.proofs.start_query.append_query.Goals as goal
 
 pub returns-clause-ok : goal.returns-clause-ok
 returns-clause-ok c =
-    query_asked c.args.text.now c.args.out.now.items c.put-3.new.out.items (length c.args.text.now + 5) c.if-text-gt-LONGEST.false refl
+    query_asked c.args.text.now c.args.out.now.items c.put-3.new.out.items (length c.args.text.now + 5)
+        c.if-text-gt-LONGEST.false refl
     (c.put-3.ensures.items ∙ ap (λ (bytes : List ℕ). bytes ++ 0 ∷ []) (c.put-2.ensures.items
     ∙ ap (λ (bytes : List ℕ). bytes ++ c.args.text.now) (c.put_int32.ensures.items
     ∙ ap (λ (bytes : List ℕ). bytes ++ to_be_bytes w32 (length c.args.text.now + 5)) (c.put.ensures.items

@@ -9,4 +9,5 @@ use Rattle.test_subscriber.proofs.start_query.names_text.Given as goal
 -- what is written, and the names that are left after a comma each, make the text of all
 abbrev pub invariant-loop-name : goal.invariant-loop-name
 invariant-loop-name l =
-    l.text.items ++ flat_map (λ name. codes "," ++ in_quotes 34 name) (map string_bytes (drop l.name-index l.others)) ≡ names_text (map string_bytes l.names)
+    l.text.items ++ flat_map (λ name. codes "," ++ in_quotes 34 name) (map string_bytes (drop l.name-index l.others))
+        ≡ names_text (map string_bytes l.names)

@@ -3,4 +3,5 @@ use Rattle.std.specs.Io.KnownBytes.{Keeps}
 use Rattle.connection_io.proofs.sink.ToWriteSink.push.Given as goal
 
 abbrev pub invariant-loop : goal.invariant-loop
-invariant-loop g l = Keeps (g.W.Write.contents l.fn.self.writer) (g.W.Write.contents l.self.writer) × (l.self.failed ≡ l.fn.self.failed)
+invariant-loop g l = Keeps (g.W.Write.contents l.fn.self.writer) (g.W.Write.contents l.self.writer)
+    × (l.self.failed ≡ l.fn.self.failed)

@@ -23,14 +23,18 @@ returns-clause-taken c =
     let messages : List Msg = messages_for checked c.args.self.now.slot c.args.self.now.told.items c.args.commit.now in
     let exact : c.in_ok-frames.frames.items ≡ frames_with head messages =
     c.in_ok-frames.ensures.frames
-    ∙ ap (λ (told : List Bool). frames_with head (messages_for checked c.args.self.now.slot told c.args.commit.now)) c.as_mut_slice-told.ensures.value in
+    ∙ ap (λ (told : List Bool). frames_with head (messages_for checked c.args.self.now.slot told c.args.commit.now))
+        c.as_mut_slice-told.ensures.value in
     elim c.if-is_empty.branch [
       | then-is_empty w ↦
           let none : length c.in_ok-frames.frames.items ≡ 0 = first_of (search rules, grind (arith, common_steps)) in
-          w.taken-is ∙ ap Skipped c.number-number.ensures.shows ∙ sym (skipped_if head c.args.commit.now.number messages (ap length (sym exact) ∙ none))
+          w.taken-is ∙ ap Skipped c.number-number.ensures.shows
+              ∙ sym (skipped_if head c.args.commit.now.number messages (ap length (sym exact) ∙ none))
       | else-is_empty w ↦
-          let some : length c.in_ok-frames.frames.items ≡ 0 → ⊥ = first_of (search rules, grind (arith, common_steps)) in
-          w.taken-is ∙ ap Sent c.number-number.ensures.shows ∙ sym (sent_if head c.args.commit.now.number messages (λ none. some (ap length exact ∙ none)))
+          let some : length c.in_ok-frames.frames.items ≡ 0 → ⊥ =
+              first_of (search rules, grind (arith, common_steps)) in
+          w.taken-is ∙ ap Sent c.number-number.ensures.shows
+              ∙ sym (sent_if head c.args.commit.now.number messages (λ none. some (ap length exact ∙ none)))
     ]
 
 pub returns-clause-said : goal.returns-clause-said
@@ -40,7 +44,8 @@ returns-clause-said c =
     let framed : ℕ → List (List ℕ) → List ℕ = λ n messages. flat_map (sent_at (64 * n) c.args.now) messages in
     c.in_ok-append_frames.ensures.ok
     ∙ ap (λ (x : List ℕ). c.args.out.now.items ++ x) (c.in_ok-frames.ensures.frames
-    ∙ ap (λ (told : List Bool). framed c.from-lsn.result (spelled_for checked c.args.self.now.slot told c.args.commit.now)) c.as_mut_slice-told.ensures.value
+    ∙ ap (λ (told : List Bool). framed c.from-lsn.result
+        (spelled_for checked c.args.self.now.slot told c.args.commit.now)) c.as_mut_slice-told.ensures.value
     ∙ ap (λ (n : ℕ). framed n told) (c.from-lsn.ensures ∙ c.number-number.ensures.shows))
 
 -- the messages are those of the definition
@@ -48,6 +53,8 @@ pub returns-clause-read_back : goal.returns-clause-read_back
 returns-clause-read_back c =
     let checked : CheckedOf = checked_view c.args.checked.now in
     let messages : List Bool → List Msg = λ told. messages_for checked c.args.self.now.slot told c.args.commit.now in
-    messages_sent checked c.args.self.now.slot c.args.self.now.told.items c.args.commit.now (messages c.args.self.now.told.items) c.number-number.ensures.sendable
+    messages_sent checked c.args.self.now.slot c.args.self.now.told.items c.args.commit.now
+        (messages c.args.self.now.told.items) c.number-number.ensures.sendable
     (checked_limited c.args.checked.now) refl
-    (subst (λ (told : List Bool). All HasTexts (messages told)) c.as_mut_slice-told.ensures.value c.in_ok-frames.ensures.texts)
+    (subst (λ (told : List Bool). All HasTexts (messages told)) c.as_mut_slice-told.ensures.value
+        c.in_ok-frames.ensures.texts)

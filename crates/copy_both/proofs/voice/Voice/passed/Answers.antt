@@ -5,5 +5,7 @@ use Rattle.copy_both.proofs.voice.Voice.passed.Goals as goal
 -- where fewer bytes are passed than wait, some wait still
 pub returns-then-count-len-clause-room : goal.returns-then-count-len-clause-room
 returns-then-count-len-clause-room c = λ none.
-    let gone : length (drop c.args.count c.args.self.now.out.items) ≡ 0 = ap length (sym c.advance.ensures.items ∙ none) in
-    absurd (omega (arith, gone, length-drop c.args.count c.args.self.now.out.items, c.if-count-len.true, c.len.ensures.value))
+    let gone : length (drop c.args.count c.args.self.now.out.items) ≡ 0 =
+        ap length (sym c.advance.ensures.items ∙ none) in
+    absurd (omega (arith, gone, length-drop c.args.count c.args.self.now.out.items, c.if-count-len.true,
+        c.len.ensures.value))

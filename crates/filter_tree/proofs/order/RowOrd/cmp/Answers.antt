@@ -6,5 +6,6 @@ use Rattle.filter_tree.proofs.order.RowOrd.cmp.Goals as goal
 
 -- the values of the two rows are compared as plain data
 pub returns : goal.returns
-returns g c = c.cmp.ensures ∙ sym (lex_map (λ value. datum_view value) datum_cmp c.values.result.now c.values-2.result.now)
+returns g c = c.cmp.ensures
+    ∙ sym (lex_map (λ value. datum_view value) datum_cmp c.values.result.now c.values-2.result.now)
     ∙ (λ i. row_cmp (c.values.ensures i) (c.values-2.ensures i))

@@ -7,4 +7,5 @@ pub returns : goal.returns
 returns c =
     let self = c.args.self.now in
     c.find.ensures.value
-    ∙ position-by_names c.args.name.now (λ (s : Subscription). s.name) self.subscription_names self.subscriptions.items self.same_subscriptions
+    ∙ position-by_names c.args.name.now (λ (s : Subscription). s.name) self.subscription_names
+        self.subscriptions.items self.same_subscriptions

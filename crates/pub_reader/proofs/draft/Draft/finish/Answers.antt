@@ -23,7 +23,8 @@ invariant_of-result c =
       length-map drafts (resolved_publication c.as_slice.result.now),
       length-map drafts (resolved_publication c.args.self.tables.items),
     ) in
-    let names : map (λ (p : PublicationOf Expr). p.name) (map (resolved_publication c.args.self.tables.items) drafts) ≡ map (λ (p : Publication). p.name) publications =
+    let names : map (λ (p : PublicationOf Expr). p.name) (map (resolved_publication c.args.self.tables.items) drafts)
+        ≡ map (λ (p : Publication). p.name) publications =
     resolved_names c.args.self.tables.items drafts ∙ sym (resolved_names c.as_slice.result.now drafts)
     ∙ sym (ap (map (λ (p : PublicationOf Expr). p.name)) c.in_ok-publications.ensures) ∙ names_viewed publications in
     let entries : map (resolved_publication c.args.self.tables.items) drafts ≡ map publication_view publications =
@@ -36,5 +37,6 @@ invariant_of-result c =
       named_publications = ∣ subst AreOwnNames names c.requires.names.publications ∣₁;
       named_subscriptions = ∣ c.requires.names.subscriptions ∣₁;
       known_entries = ∣ subst (All (CarriesKnown c.args.self.tables.items)) entries c.requires.entries ∣₁;
-      taken_publications = ∣ subst (λ n. All (TakesKnown n) c.args.self.subscriptions.items) count c.requires.names.taken ∣₁;
+      taken_publications = ∣ subst (λ n. All (TakesKnown n) c.args.self.subscriptions.items) count
+          c.requires.names.taken ∣₁;
     }

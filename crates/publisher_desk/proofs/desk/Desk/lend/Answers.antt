@@ -16,6 +16,7 @@ returns-clause-lent g c = record {
   transactions = c.self.invariant.is.transactions;
   stands = c.self.invariant.is.stands;
   slots = c.use_slots.ensures.slots;
-  sent = subst (λ (wishes : List Wish). AreSentUpTo (end_after (length (book_log c.self.inside.book))) wishes) (sym c.as_mut_slice.ensures.value) c.self.invariant.sent;
+  sent = subst (λ (wishes : List Wish). AreSentUpTo (end_after (length (book_log c.self.inside.book))) wishes)
+      (sym c.as_mut_slice.ensures.value) c.self.invariant.sent;
   does = c.use_slots.ensures.did;
 }

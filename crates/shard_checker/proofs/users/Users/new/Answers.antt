@@ -9,7 +9,8 @@ loop-number-preserved c =
     let number = c.loop-number.number in
     let added = c.in_ok-add.ensures in
     record {
-      so_far = users_more number (number + 1) c.args.steps.now c.loop-number.users c.add.new.self (Const false) c.loop-number.invariant.so_far added c.loop-number-test.true refl;
+      so_far = users_more number (number + 1) c.args.steps.now c.loop-number.users c.add.new.self (Const false)
+          c.loop-number.invariant.so_far added c.loop-number-test.true refl;
       for_atoms = added.atoms_sized ∙ c.loop-number.invariant.for_atoms;
       for_steps = added.steps_sized ∙ c.loop-number.invariant.for_steps;
     }
@@ -17,4 +18,5 @@ loop-number-preserved c =
 -- those of all steps are
 pub returns-clause-used : goal.returns-clause-used
 returns-clause-used c =
-    users_all c.loop-number.number c.args.steps.now c.loop-number.users c.loop-number.invariant.so_far c.loop-number-test.false c.loop-number.invariant.for_steps
+    users_all c.loop-number.number c.args.steps.now c.loop-number.users c.loop-number.invariant.so_far
+        c.loop-number-test.false c.loop-number.invariant.for_steps

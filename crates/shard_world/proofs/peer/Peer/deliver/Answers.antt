@@ -12,11 +12,16 @@ use Rattle.shard_world.proofs.peer.Peer.deliver.Goals as goal
 
 pub returns-clause-made : goal.returns-clause-made
 returns-clause-made c checked now book =
-    delivers_piece checked now book c.args.self.now c.in-Some.link c.passed.new.self c.feed.new.self c.args.bytes c.front-piece.result.now c.in-Some.is
+    delivers_piece checked now book c.args.self.now c.in-Some.link c.passed.new.self c.feed.new.self c.args.bytes
+        c.front-piece.result.now c.in-Some.is
     (c.front-piece.ensures ∙ ap (front_of c.args.bytes) c.output.ensures) c.in_ok-feed.ensures.ok c.passed.ensures
 
 pub returns-in_err-feed-clause-stops : goal.returns-in_err-feed-clause-stops
 returns-in_err-feed-clause-stops c =
-    on_err c.from_residual.result ((checked : CheckedOf) (now : ℕ) (book : Book) → Stops checked now (Deliver c.args.bytes) book book c.args.self.now (record { link = Some c.in-Some.link; subscriber = c.feed.new.self }))
-    (λ checked now book. deliver_stops checked now book c.args.self.now c.in-Some.link c.feed.new.self c.args.bytes c.in_err-feed.field-0.0 c.front-piece.result.now c.in-Some.is
+    on_err c.from_residual.result
+        ((checked : CheckedOf) (now : ℕ) (book : Book)
+        → Stops checked now (Deliver c.args.bytes) book book c.args.self.now
+        (record { link = Some c.in-Some.link; subscriber = c.feed.new.self }))
+    (λ checked now book. deliver_stops checked now book c.args.self.now c.in-Some.link c.feed.new.self c.args.bytes
+        c.in_err-feed.field-0.0 c.front-piece.result.now c.in-Some.is
     (c.front-piece.ensures ∙ ap (front_of c.args.bytes) c.output.ensures) c.in_err-feed.ensures.stops)

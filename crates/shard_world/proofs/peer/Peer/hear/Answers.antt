@@ -11,12 +11,19 @@ use Rattle.shard_world.proofs.peer.Peer.hear.Goals as goal
 
 pub returns-clause-made : goal.returns-clause-made
 returns-clause-made c checked =
-    hears_piece checked c.args.now c.args.book.now c.hear.new.book c.args.self.now c.in-Some.link c.hear.new.self c.passed.new.self c.args.bytes c.in_ok-hear.field-0
-    c.front-piece.result.now c.in-Some.is (c.front-piece.ensures ∙ ap (front_of c.args.bytes) c.output.ensures) c.in_ok-hear.ensures.answer c.in_ok-hear.ensures.left
+    hears_piece checked c.args.now c.args.book.now c.hear.new.book c.args.self.now c.in-Some.link c.hear.new.self
+        c.passed.new.self c.args.bytes c.in_ok-hear.field-0
+    c.front-piece.result.now c.in-Some.is (c.front-piece.ensures ∙ ap (front_of c.args.bytes) c.output.ensures)
+        c.in_ok-hear.ensures.answer c.in_ok-hear.ensures.left
     c.in_ok-hear.ensures.says c.passed.ensures
 
 pub returns-in_err-hear-clause-stops : goal.returns-in_err-hear-clause-stops
 returns-in_err-hear-clause-stops c =
-    on_err c.from_residual.result ((checked : CheckedOf) → Stops checked c.args.now (Hear c.args.bytes) c.args.book.now c.hear.new.book c.args.self.now (record { link = Some c.hear.new.self; subscriber = c.args.self.now.subscriber }))
-    (λ checked. hear_stops checked c.args.now c.args.book.now c.hear.new.book c.args.self.now c.in-Some.link c.hear.new.self c.args.bytes c.in_err-hear.field-0.0
-    c.front-piece.result.now c.in-Some.is (c.front-piece.ensures ∙ ap (front_of c.args.bytes) c.output.ensures) c.in_err-hear.ensures.answer c.in_err-hear.ensures.left)
+    on_err c.from_residual.result
+        ((checked : CheckedOf)
+        → Stops checked c.args.now (Hear c.args.bytes) c.args.book.now c.hear.new.book c.args.self.now
+        (record { link = Some c.hear.new.self; subscriber = c.args.self.now.subscriber }))
+    (λ checked. hear_stops checked c.args.now c.args.book.now c.hear.new.book c.args.self.now c.in-Some.link
+        c.hear.new.self c.args.bytes c.in_err-hear.field-0.0
+    c.front-piece.result.now c.in-Some.is (c.front-piece.ensures ∙ ap (front_of c.args.bytes) c.output.ensures)
+        c.in_err-hear.ensures.answer c.in_err-hear.ensures.left)

@@ -4,4 +4,5 @@ use Rattle.shard_world.proofs.peer.Peer.lose.Goals as goal
 
 pub returns-clause-made : goal.returns-clause-made
 returns-clause-made c checked now =
-    drops_lose_so checked now c.args.book.now c.drop_connection.new.book c.args.self.now c.drop_connection.new.self (c.is_none.ensures ∙ ap not c.if-is_none.false) c.drop_connection.ensures
+    drops_lose_so checked now c.args.book.now c.drop_connection.new.book c.args.self.now c.drop_connection.new.self
+        (c.is_none.ensures ∙ ap not c.if-is_none.false) c.drop_connection.ensures

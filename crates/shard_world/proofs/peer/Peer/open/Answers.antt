@@ -11,6 +11,10 @@ use Rattle.shard_world.proofs.peer.Peer.open.Goals as goal
 
 pub returns-in_err-open-clause-stops : goal.returns-in_err-open-clause-stops
 returns-in_err-open-clause-stops c =
-    on_err c.from_residual-in_err-open.result ((now : ℕ) (book : Book) → Stops (checked_view (arc_value c.args.checked.now)) now Open book book c.args.self.now (record { link = c.args.self.now.link; subscriber = c.open.new.self }))
-    (λ now book. open_is_refused (checked_view (arc_value c.args.checked.now)) now book c.args.self.now c.open.new.self (none_is c.args.self.now.link (sym c.is_some.ensures ∙ c.if-is_some.false))
+    on_err c.from_residual-in_err-open.result
+        ((now : ℕ) (book : Book)
+        → Stops (checked_view (arc_value c.args.checked.now)) now Open book book c.args.self.now
+        (record { link = c.args.self.now.link; subscriber = c.open.new.self }))
+    (λ now book. open_is_refused (checked_view (arc_value c.args.checked.now)) now book c.args.self.now
+        c.open.new.self (none_is c.args.self.now.link (sym c.is_some.ensures ∙ c.if-is_some.false))
     c.in_err-open.ensures.lost)

@@ -9,5 +9,6 @@ use Rattle.subcommands.proofs.make.findings.push_owners.Given as goal
 -- what is written, and the names that are left, each after a comma, make the text of all
 abbrev pub invariant-loop-owner : goal.invariant-loop-owner
 invariant-loop-owner l =
-    string_bytes l.line ++ flat_map (λ owner. codes "," ++ subscriber_name l.subscriptions owner) (drop l.owner-index l.others)
+    string_bytes l.line ++ flat_map (λ owner. codes "," ++ subscriber_name l.subscriptions owner)
+        (drop l.owner-index l.others)
     ≡ string_bytes l.fn.line ++ spaced (owners_text l.subscriptions l.owners ∷ [])

@@ -7,5 +7,6 @@ use Rattle.subcommands.proofs.simulate.views.push_tables.Given as goal
 -- what is written, and the lines of the tables that are left
 abbrev pub invariant-loop-number : goal.invariant-loop-number
 invariant-loop-number l =
-    string_bytes l.text ++ text_of (rows_lines l.before l.tables l.number (map (λ rows. rows.items) (drop l.number l.rows)))
+    string_bytes l.text ++ text_of
+        (rows_lines l.before l.tables l.number (map (λ rows. rows.items) (drop l.number l.rows)))
     ≡ string_bytes l.fn.text ++ text_of (rows_lines l.before l.tables 0 (map (λ rows. rows.items) l.rows))

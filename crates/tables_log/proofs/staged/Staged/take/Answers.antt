@@ -15,8 +15,10 @@ returns-in-Some-clause-puts g c =
     let numbers = c.take.new.self in
     let fits : FitsSigned w64 c.in-Some.number = search rules in
     on_ok_weaker c.take.result (λ puts. record {
-      sees = puts_number (shown int_cmp map.numbers.base map.numbers.fresh map.numbers.emptied) (shown int_cmp numbers.base numbers.fresh numbers.emptied)
-          (shown row_cmp map.rows.base map.rows.fresh map.rows.emptied) c.args.key c.in-Some.number None (sym c.only_number.ensures ∙ c.in-Some.is)
+      sees = puts_number (shown int_cmp map.numbers.base map.numbers.fresh map.numbers.emptied)
+          (shown int_cmp numbers.base numbers.fresh numbers.emptied)
+          (shown row_cmp map.rows.base map.rows.fresh map.rows.emptied) c.args.key c.in-Some.number None
+              (sym c.only_number.ensures ∙ c.in-Some.is)
           (simp to_z-of_z at puts);
     }) c.take.ensures.puts
 
@@ -26,6 +28,8 @@ returns-in-None-clause-puts g c =
     let map = c.args.self.now in
     let rows = c.take-in-None.new.self in
     on_ok_weaker c.take-in-None.result (λ puts. record {
-      sees = puts_row (shown int_cmp map.numbers.base map.numbers.fresh map.numbers.emptied) (shown row_cmp map.rows.base map.rows.fresh map.rows.emptied)
-          (shown row_cmp rows.base rows.fresh rows.emptied) c.args.key None (sym c.only_number.ensures ∙ c.in-None.is) puts;
+      sees = puts_row (shown int_cmp map.numbers.base map.numbers.fresh map.numbers.emptied)
+          (shown row_cmp map.rows.base map.rows.fresh map.rows.emptied)
+          (shown row_cmp rows.base rows.fresh rows.emptied) c.args.key None (sym c.only_number.ensures ∙ c.in-None.is)
+              puts;
     }) c.take-in-None.ensures.puts

@@ -4,4 +4,5 @@ use Rattle.tables_log.proofs.PassLemmas.{Going}
 use Rattle.tables_log.proofs.table_rows.TableRows.empty.Given as goal
 
 abbrev pub invariant-loop-map : goal.invariant-loop-map
-invariant-loop-map l = Going l.map-items l.initial.map-items l.map-index (kept_at l.initial.map-items) (λ number value. None)
+invariant-loop-map l =
+    Going l.map-items l.initial.map-items l.map-index (kept_at l.initial.map-items) (λ number value. None)

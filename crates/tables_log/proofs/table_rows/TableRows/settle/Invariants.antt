@@ -3,4 +3,5 @@ use Rattle.tables_log.proofs.PassLemmas.{Going}
 use Rattle.tables_log.proofs.table_rows.TableRows.settle.Given as goal
 
 abbrev pub invariant-loop-map : goal.invariant-loop-map
-invariant-loop-map l = Going l.map-items l.initial.map-items l.map-index (seen_at l.initial.map-items) (seen_at l.initial.map-items)
+invariant-loop-map l =
+    Going l.map-items l.initial.map-items l.map-index (seen_at l.initial.map-items) (seen_at l.initial.map-items)

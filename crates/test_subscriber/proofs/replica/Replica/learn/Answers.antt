@@ -8,13 +8,17 @@ use Rattle.test_subscriber.proofs.replica.Replica.learn.Goals as goal
 
 pub returns-in_default-clause-fault : goal.returns-in_default-clause-fault
 returns-in_default-clause-fault c =
-    unknown_type c.args.self.now.phase c.args.self.now.position c.args.self.now.wants_reply c.args.self.now.copies.items c.args.relation c.requires
+    unknown_type c.args.self.now.phase c.args.self.now.position c.args.self.now.wants_reply
+        c.args.self.now.copies.items c.args.relation c.requires
     (sym c.in_ok-shape.ensures ∙ c.in_default.is)
 
 pub returns-clause-ok : goal.returns-clause-ok
 returns-clause-ok c =
-    subst (λ (xs : List TableCopy). Reaches (machine_with c.args.self.now.phase c.args.self.now.position c.args.self.now.wants_reply xs)
+    subst (λ (xs : List TableCopy). Reaches
+        (machine_with c.args.self.now.phase c.args.self.now.position c.args.self.now.wants_reply xs)
     (hear_relation c.args.relation (machine_view c.args.self.now)))
     (sym c.in_ok-push.ensures.items)
-    (learns c.args.self.now.phase c.args.self.now.position c.args.self.now.wants_reply c.args.self.now.copies.items c.args.relation c.requires
-    c.in-Some.shape c.new.result (sym c.in_ok-shape.ensures ∙ c.in-Some.is) c.new.ensures.shape c.new.ensures.known c.new.ensures.kept c.new.ensures.seen)
+    (learns c.args.self.now.phase c.args.self.now.position c.args.self.now.wants_reply c.args.self.now.copies.items
+        c.args.relation c.requires
+    c.in-Some.shape c.new.result (sym c.in_ok-shape.ensures ∙ c.in-Some.is) c.new.ensures.shape c.new.ensures.known
+        c.new.ensures.kept c.new.ensures.seen)

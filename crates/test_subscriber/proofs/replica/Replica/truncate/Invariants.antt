@@ -7,5 +7,6 @@ use Rattle.test_subscriber.proofs.replica.Replica.truncate.Given as goal
 -- the tables that are left end as all do
 abbrev pub invariant-loop-oid : goal.invariant-loop-oid
 invariant-loop-oid l =
-    SameOutcome (hear_truncate (drop l.oid-index l.oids) (machine_view l.self)) (hear_truncate l.oids (machine_view l.initial.self))
+    SameOutcome (hear_truncate (drop l.oid-index l.oids) (machine_view l.self))
+        (hear_truncate l.oids (machine_view l.initial.self))
     × Stays (machine_view l.initial.self) (machine_view l.self)

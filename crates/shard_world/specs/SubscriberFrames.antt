@@ -1,4 +1,5 @@
--- That the frames that a subscriber sends change what the publisher heard as they do in the world: PostgreSQL 15, 55.4. Streaming Replication Protocol (START_REPLICATION, Standby status update).
+-- That the frames that a subscriber sends change what the publisher heard as they do in the world: PostgreSQL 15,
+-- 55.4. Streaming Replication Protocol (START_REPLICATION, Standby status update).
 use Rattle.std.specs.Prelude.{◌≡◌, ◌<◌, ◌≤◌, ◌^◌, ℕ, max, min, false, List, ◌++◌, All, fold, length, map, replicate, Option, Some, None}
 use Rattle.pub_catalog.specs.declared.catalog.Subscription.{Subscription}
 use Rattle.tables_log.specs.Slots.{end_after, confirmed_at, start_fault}
@@ -12,10 +13,12 @@ abbrev pub start_in : Option (ℕ × ℕ) → Option ℕ
 start_in None = None
 start_in (Some begun) = Some begun.1
 
--- What was heard as a session of the world, where these moves were made before. Each reply that is wanted is a keepalive.
+-- What was heard as a session of the world, where these moves were made before. Each reply that is wanted is a
+-- keepalive.
 abbrev pub session_of : ℕ → ℕ → List Move → HearingOf → Session
 session_of subscriber now moves h =
-    record { confirmed = confirmed_at h.slots subscriber; start = start_in h.started; moves = moves ++ replicate h.heard.replies (Keep now false) }
+    record { confirmed = confirmed_at h.slots subscriber; start = start_in h.started; moves =
+        moves ++ replicate h.heard.replies (Keep now false) }
 
 abbrev pub IsOwn : ℕ → Option (ℕ × ℕ) → Type 0
 IsOwn subscriber None = Unit {0}
@@ -47,15 +50,22 @@ pub record IsBegun (subscriber start : ℕ) (h : HearingOf) : Type 0 where
 
 -- the command that asks for the stream, where there is none yet
 abbrev pub StartsAreHeard : Type 0
-StartsAreHeard = (served : Served) (subscriber position now : ℕ) (subscription : Subscription) (moves : List Move) (h : HearingOf)
-    → CanAsk served.checked.catalog subscriber subscription → position < 2 ^ 64 → start_fault h.slots (end_after served.commits) subscriber position ≡ None
+StartsAreHeard = (served : Served) (subscriber position now : ℕ) (subscription : Subscription) (moves : List Move)
+    (h : HearingOf)
+    → CanAsk served.checked.catalog subscriber subscription → position < 2 ^ 64
+    → start_fault h.slots (end_after served.commits) subscriber position ≡ None
     → IsHearing subscriber h → h.started ≡ None
-    → IsHeard subscriber now moves (frame_heard served h (up_frame served.checked subscriber (Asks position))) (hear_up now (session_of subscriber now moves h) (Asks position))
-    × IsBegun subscriber (max position (confirmed_at h.slots subscriber)) (frame_heard served h (up_frame served.checked subscriber (Asks position)))
+    → IsHeard subscriber now moves (frame_heard served h (up_frame served.checked subscriber (Asks position)))
+        (hear_up now (session_of subscriber now moves h) (Asks position))
+    × IsBegun subscriber (max position (confirmed_at h.slots subscriber))
+        (frame_heard served h (up_frame served.checked subscriber (Asks position)))
 
 -- Statuses, which say no more than what was sent and what the log has. Each that wants a reply has one.
 abbrev pub StatusesAreHeard : Type 0
-StatusesAreHeard = (served : Served) (subscriber start now : ℕ) (moves : List Move) (statuses : List Status) (h : HearingOf)
-    → IsHearing subscriber h → h.started ≡ Some (subscriber, start) → All (IsWithin (min h.sent (end_after served.commits))) statuses
-    → IsHeard subscriber now moves (frames_heard served h (map (up_frame served.checked subscriber) (map Says statuses)))
+StatusesAreHeard = (served : Served) (subscriber start now : ℕ) (moves : List Move) (statuses : List Status)
+    (h : HearingOf)
+    → IsHearing subscriber h → h.started ≡ Some (subscriber, start)
+    → All (IsWithin (min h.sent (end_after served.commits))) statuses
+    → IsHeard subscriber now moves
+        (frames_heard served h (map (up_frame served.checked subscriber) (map Says statuses)))
     (fold (hear_up now) (session_of subscriber now moves h) (map Says statuses))

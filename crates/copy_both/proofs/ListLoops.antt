@@ -27,9 +27,11 @@ none_first p [] far = refl
 none_first p (x ∷ xs) far =
     by_test (p x)
     (λ e. let short : length (x ∷ xs) ≤ 0 = rw e at far in absurd (omega arith))
-    (λ e. let later : length (x ∷ xs) ≤ 1 + position_or_len p xs = rw e at far in rw e (ap (onto_first x) (none_first p xs (omega arith))))
+    (λ e. let later : length (x ∷ xs) ≤ 1 + position_or_len p xs = rw e at far in
+        rw e (ap (onto_first x) (none_first p xs (omega arith))))
 
-position_is : {X : Type 0} (p : X → Bool) (xs : List X) (n : ℕ) → position p xs ≡ Some n → (position_or_len p xs ≡ n) × (n < length xs)
+position_is : {X : Type 0} (p : X → Bool) (xs : List X) (n : ℕ) → position p xs ≡ Some n → (position_or_len p xs ≡ n)
+    × (n < length xs)
 position_is p xs n e =
     by_test (nat_lt (position_or_len p xs) (length xs))
     (λ t. let found : Some (position_or_len p xs) ≡ Some n = rw t at e in
@@ -47,7 +49,8 @@ pub no_comma : (tokens : List Token) → position is_comma tokens ≡ None → s
 no_comma tokens e = none_first is_comma tokens (no_position is_comma tokens e)
 
 pub at_comma : (tokens : List Token) (n : ℕ) → position is_comma tokens ≡ Some n
-    → (n < length tokens) × (slice_split is_comma tokens ≡ take n tokens ∷ slice_split is_comma (drop 1 (drop n tokens)))
+    → (n < length tokens)
+        × (slice_split is_comma tokens ≡ take n tokens ∷ slice_split is_comma (drop 1 (drop n tokens)))
 at_comma tokens n e =
     let (same, less) = position_is is_comma tokens n e in
     let split = slice_split_first is_comma tokens Comma (omega arith) in
@@ -56,14 +59,18 @@ at_comma tokens n e =
 
 -- ---- the loop
 
-later : {X : Type 0} (xs : List X) (x : X) (more : Option (List X)) → after_all xs (option_map (λ ys. x ∷ ys) more) ≡ after_all (xs ++ x ∷ []) more
+later : {X : Type 0} (xs : List X) (x : X) (more : Option (List X))
+    → after_all xs (option_map (λ ys. x ∷ ys) more) ≡ after_all (xs ++ x ∷ []) more
 later xs x None = refl
 later xs x (Some more) = ap Some (sym (append_assoc xs (x ∷ []) more))
 
-pub one_more : {X : Type 0} (rule : List Token → Option X) (xs : List X) (x : X) (all parts : List (List Token)) (part : List Token)
-    → all ≡ part ∷ parts → rule part ≡ Some x → after_all xs (all_of (map rule all)) ≡ after_all (xs ++ x ∷ []) (all_of (map rule parts))
+pub one_more : {X : Type 0} (rule : List Token → Option X) (xs : List X) (x : X) (all parts : List (List Token))
+    (part : List Token)
+    → all ≡ part ∷ parts → rule part ≡ Some x
+    → after_all xs (all_of (map rule all)) ≡ after_all (xs ++ x ∷ []) (all_of (map rule parts))
 one_more rule xs x all parts part e is = rw (e, is) (later xs x (all_of (map rule parts)))
 
-pub no_more : {X : Type 0} (rule : List Token → Option X) (xs : List X) (all parts : List (List Token)) (part : List Token)
+pub no_more : {X : Type 0} (rule : List Token → Option X) (xs : List X) (all parts : List (List Token))
+    (part : List Token)
     → all ≡ part ∷ parts → rule part ≡ None → after_all xs (all_of (map rule all)) ≡ None
 no_more rule xs all parts part e is = rw (e, is) refl

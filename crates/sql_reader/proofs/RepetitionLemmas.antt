@@ -7,7 +7,7 @@ use Rattle.sql_reader.specs.declared.item.Item.{Item}
 use Rattle.sql_reader.specs.declared.error.ReadError.{ReadError}
 use Rattle.sql_reader.specs.Items.{Items, size}
 use Rattle.sql_reader.specs.Reading.{Fault, Outcome, Rule, next_is, rest_of, Tells, told}
-use Rattle.sql_reader.specs.Turns.{Step, after_step, goes, at_most, repeat, link, linked, one_more, each, guarded}
+use Rattle.sql_reader.specs.Repetitions.{Step, after_step, goes, at_most, repeat, link, linked, one_more, each, guarded}
 use Rattle.sql_reader.proofs.Cases.{by_test}
 
 is_less : (m n : ℕ) → nat_lt m n ≡ true → m < n
@@ -16,8 +16,10 @@ is_less m n e = grind (arith, nat_tests)
 tests_less : (m n : ℕ) → m < n → nat_lt m n ≡ true
 tests_less m n h = grind (arith, nat_tests)
 
-turned : {S : Type 0} (n m : ℕ) (step : Step S) (s : S) (ts : Items) → ((x : S × Items) → size x.1 < size ts → at_most n step x.0 x.1 ≡ at_most m step x.0 x.1) →
-    (read : Result (Option (S × Items)) Fault) → after_step read (goes (at_most n step) s ts) ≡ after_step read (goes (at_most m step) s ts)
+turned : {S : Type 0} (n m : ℕ) (step : Step S) (s : S) (ts : Items)
+    → ((x : S × Items) → size x.1 < size ts → at_most n step x.0 x.1 ≡ at_most m step x.0 x.1) →
+    (read : Result (Option (S × Items)) Fault)
+        → after_step read (goes (at_most n step) s ts) ≡ after_step read (goes (at_most m step) s ts)
 turned n m step s ts again (Err f) = refl
 turned n m step s ts again (Ok None) = refl
 turned n m step s ts again (Ok (Some x)) =
@@ -28,22 +30,27 @@ enough_turn : {S : Type 0} (step : Step S) (n m : ℕ) (s : S) (ts : Items) → 
     size ts < suc n → at_most (suc n) step s ts ≡ at_most m step s ts
 unfolding at_most
 enough_turn step n zero s ts k again h = absurd (omega arith)
-enough_turn step n (suc m) s ts k again h = turned n m step s ts (λ x fewer. again m x (omega arith) (omega arith)) (step s ts)
+enough_turn step n (suc m) s ts k again h =
+    turned n m step s ts (λ x fewer. again m x (omega arith) (omega arith)) (step s ts)
 
 -- more turns than tokens change nothing
-enough : {S : Type 0} (step : Step S) (n m : ℕ) (s : S) (ts : Items) → size ts < n → size ts < m → at_most n step s ts ≡ at_most m step s ts
+enough : {S : Type 0} (step : Step S) (n m : ℕ) (s : S) (ts : Items) → size ts < n → size ts < m
+    → at_most n step s ts ≡ at_most m step s ts
 enough step zero m s ts h k = absurd (omega arith)
 enough step (suc n) m s ts h k = enough_turn step n m s ts k (λ j x h2 k2. enough step n j x.0 x.1 h2 k2) h
 
-one_turn : {S : Type 0} (step : Step S) (s : S) (ts : Items) → repeat step s ts ≡ after_step (step s ts) (goes (at_most (size ts) step) s ts)
+one_turn : {S : Type 0} (step : Step S) (s : S) (ts : Items)
+    → repeat step s ts ≡ after_step (step s ts) (goes (at_most (size ts) step) s ts)
 unfolding repeat at_most
 one_turn step s ts = refl
 
 -- one step more
-pub goes_on : {S : Type 0} (step : Step S) (s : S) (ts : Items) (s2 : S) (ts2 : Items) → step s ts ≡ Ok (Some (s2, ts2)) → size ts2 < size ts → repeat step s ts ≡ repeat step s2 ts2
+pub goes_on : {S : Type 0} (step : Step S) (s : S) (ts : Items) (s2 : S) (ts2 : Items)
+    → step s ts ≡ Ok (Some (s2, ts2)) → size ts2 < size ts → repeat step s ts ≡ repeat step s2 ts2
 unfolding repeat
 goes_on {S} step s ts s2 ts2 e fewer =
-    let more : Result (Option (S × Items)) Fault → Outcome S = λ read. after_step read (goes (at_most (size ts) step) s ts) in
+    let more : Result (Option (S × Items)) Fault → Outcome S =
+        λ read. after_step read (goes (at_most (size ts) step) s ts) in
     let less : nat_lt (size ts2) (size ts) ≡ true = tests_less (size ts2) (size ts) fewer in
     let taken : goes (at_most (size ts) step) s ts (Some (s2, ts2)) ≡ at_most (size ts) step s2 ts2 = rw less refl in
     one_turn step s ts ∙ ap more e ∙ taken ∙ enough step (size ts) (suc (size ts2)) s2 ts2 fewer (omega arith)
@@ -51,13 +58,15 @@ goes_on {S} step s ts s2 ts2 e fewer =
 -- no more steps
 pub ends : {S : Type 0} (step : Step S) (s : S) (ts : Items) → step s ts ≡ Ok None → repeat step s ts ≡ Ok (s, ts)
 ends {S} step s ts e =
-    let more : Result (Option (S × Items)) Fault → Outcome S = λ read. after_step read (goes (at_most (size ts) step) s ts) in
+    let more : Result (Option (S × Items)) Fault → Outcome S =
+        λ read. after_step read (goes (at_most (size ts) step) s ts) in
     one_turn step s ts ∙ ap more e
 
 -- a step that fails
 pub fails : {S : Type 0} (step : Step S) (s : S) (ts : Items) (f : Fault) → step s ts ≡ Err f → repeat step s ts ≡ Err f
 fails {S} step s ts f e =
-    let more : Result (Option (S × Items)) Fault → Outcome S = λ read. after_step read (goes (at_most (size ts) step) s ts) in
+    let more : Result (Option (S × Items)) Fault → Outcome S =
+        λ read. after_step read (goes (at_most (size ts) step) s ts) in
     one_turn step s ts ∙ ap more e
 
 -- ---- the same of a loop whose step is a separator and one more
@@ -80,7 +89,8 @@ pub link-look_fails : {S : Type 0} (separator : Item) (read : S → Rule S) (s :
 unfolding link
 link-look_fails {S} separator read s ts e tells = by_fault (told e) tells
   where
-    by_fault : (found : Option Fault) → TellsFault found (next_is separator ts) → TellsFault found (repeat (link separator read) s ts)
+    by_fault : (found : Option Fault) → TellsFault found (next_is separator ts)
+        → TellsFault found (repeat (link separator read) s ts)
     by_fault None h = tt
     by_fault (Some found) h = fails (link separator read) s ts found (ap (linked read s) h)
 
@@ -89,13 +99,15 @@ pub link-part_fails : {S : Type 0} (separator : Item) (read : S → Rule S) (s :
 unfolding link
 link-part_fails {S} separator read s ts e is tells = by_fault (told e) tells
   where
-    by_fault : (found : Option Fault) → TellsFault found (read s (rest_of ts)) → TellsFault found (repeat (link separator read) s ts)
+    by_fault : (found : Option Fault) → TellsFault found (read s (rest_of ts))
+        → TellsFault found (repeat (link separator read) s ts)
     by_fault None h = tt
     by_fault (Some found) h = fails (link separator read) s ts found (ap (linked read s) is ∙ ap one_more h)
 
 -- ---- the same of a loop whose parts show by themselves whether there is one more
 
-pub each-goes_on : {S : Type 0} (more : Items → Result Bool Fault) (read : S → Rule S) (s : S) (ts : Items) (s2 : S) (ts2 : Items) →
+pub each-goes_on : {S : Type 0} (more : Items → Result Bool Fault) (read : S → Rule S) (s : S) (ts : Items) (s2 : S)
+    (ts2 : Items) →
     more ts ≡ Ok true → read s ts ≡ Ok (s2, ts2) → size ts2 < size ts →
     repeat (each more read) s ts ≡ repeat (each more read) s2 ts2
 unfolding each
@@ -108,7 +120,8 @@ pub each-ends : {S : Type 0} (more : Items → Result Bool Fault) (read : S → 
 unfolding each
 each-ends more read s ts is = ends (each more read) s ts (ap (guarded read s ts) is)
 
-pub each-look_fails : {S : Type 0} (more : Items → Result Bool Fault) (read : S → Rule S) (s : S) (ts : Items) (e : ReadError) →
+pub each-look_fails : {S : Type 0} (more : Items → Result Bool Fault) (read : S → Rule S) (s : S) (ts : Items)
+    (e : ReadError) →
     Tells e (more ts) → Tells e (repeat (each more read) s ts)
 unfolding each
 each-look_fails {S} more read s ts e tells = by_fault (told e) tells
@@ -117,7 +130,8 @@ each-look_fails {S} more read s ts e tells = by_fault (told e) tells
     by_fault None h = tt
     by_fault (Some found) h = fails (each more read) s ts found (ap (guarded read s ts) h)
 
-pub each-part_fails : {S : Type 0} (more : Items → Result Bool Fault) (read : S → Rule S) (s : S) (ts : Items) (e : ReadError) →
+pub each-part_fails : {S : Type 0} (more : Items → Result Bool Fault) (read : S → Rule S) (s : S) (ts : Items)
+    (e : ReadError) →
     more ts ≡ Ok true → Tells e (read s ts) → Tells e (repeat (each more read) s ts)
 unfolding each
 each-part_fails {S} more read s ts e is tells = by_fault (told e) tells

@@ -44,6 +44,8 @@ token_later : (tokens : List Token) (token : Token) (more : Option (List Token))
 token_later tokens token None = refl
 token_later tokens token (Some more) = ap Some (sym (append_assoc tokens (token ∷ []) more))
 
-pub one_more : (tokens : List Token) (rest : List ℕ) (token : Token) (n : ℕ) → 0 < n → n ≤ length rest → front rest ≡ Whole token n
+pub one_more : (tokens : List Token) (rest : List ℕ) (token : Token) (n : ℕ) → 0 < n → n ≤ length rest
+    → front rest ≡ Whole token n
     → after_tokens tokens (tokens_from 0 rest) ≡ after_tokens (tokens ++ token ∷ []) (tokens_from 0 (drop n rest))
-one_more tokens rest token n some within e = ap (after_tokens tokens) (at_token rest token n some within e) ∙ token_later tokens token (tokens_from 0 (drop n rest))
+one_more tokens rest token n some within e = ap (after_tokens tokens) (at_token rest token n some within e)
+    ∙ token_later tokens token (tokens_from 0 (drop n rest))

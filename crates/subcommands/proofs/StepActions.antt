@@ -5,12 +5,13 @@ use Rattle.clap.specs.Words.{IsAmong, Text, fault_of}
 use Rattle.clap.specs.declared.error.kind.ErrorKind.{ErrorKind}
 use Rattle.clap.specs.declared.error.kind.ErrorKind.TheVariants as kind
 use Rattle.subcommands.specs.CommandLine.{AsksHelp, IsAsking, IsFaulty, IsHelp, IsHelpKind, IsOfError, IsOfWords, pgshard}
-use Rattle.subcommands.specs.declared.arguments.Asked.{Asked}
-use Rattle.subcommands.specs.declared.arguments.Asked.TheVariants.{Help, Answer}
+use Rattle.subcommands.specs.declared.arguments.Invocation.{Invocation}
+use Rattle.subcommands.specs.declared.arguments.Invocation.TheVariants.{Help, Answer}
 use Rattle.subcommands.specs.declared.failure.Failure.{Failure}
 use Rattle.subcommands.specs.declared.failure.Failure.TheVariants as f
 
-module _ (words : List Text) (found : ErrorKind) (faults : (found ≡ kind.OutOfMemory) ⊎ IsAmong found (fault_of pgshard words)) where
+module _ (words : List Text) (found : ErrorKind)
+    (faults : (found ≡ kind.OutOfMemory) ⊎ IsAmong found (fault_of pgshard words)) where
   asks_help : IsHelpKind found → AsksHelp words
   asks_help help = elim faults [
     | inl memory ↦ elim help [
@@ -23,17 +24,19 @@ module _ (words : List Text) (found : ErrorKind) (faults : (found ≡ kind.OutOf
     ]
   ]
 
-  is_faulty : (found ≡ kind.OutOfMemory → ⊥) → (found ≡ kind.DisplayHelp → ⊥) → (found ≡ kind.DisplayVersion → ⊥) → IsFaulty words
+  is_faulty : (found ≡ kind.OutOfMemory → ⊥) → (found ≡ kind.DisplayHelp → ⊥) → (found ≡ kind.DisplayVersion → ⊥)
+      → IsFaulty words
   is_faulty no_memory no_help no_version = elim faults [
     | inl memory ↦ absurd (no_memory memory)
     | inr among ↦ record { found = found; is = among; no_help = no_help; no_version = no_version }
   ]
 
-  help_asked : (asked : Asked) → IsHelp asked → IsHelpKind found → IsAsking words asked
+  help_asked : (asked : Invocation) → IsHelp asked → IsHelpKind found → IsAsking words asked
   help_asked (Help text) is help = asks_help help
   help_asked (Answer request) is help = absurd is
 
-  pub error_asks : (result : Result Asked Failure) → IfOk result (λ asked. IsHelp asked × IsHelpKind found) → IfOk result (IsAsking words)
+  pub error_asks : (result : Result Invocation Failure) → IfOk result (λ asked. IsHelp asked × IsHelpKind found)
+      → IfOk result (IsAsking words)
   error_asks (Ok asked) is = help_asked asked is.0 is.1
   error_asks (Err failure) is = tt
 
@@ -43,6 +46,7 @@ module _ (words : List Text) (found : ErrorKind) (faults : (found ≡ kind.OutOf
   stopped (f.Input fault) is = absurd is
   stopped f.Output is = absurd is
 
-  pub error_stops : (result : Result Asked Failure) → IfErr result (IsOfError found) → IfErr result (IsOfWords words)
+  pub error_stops : (result : Result Invocation Failure) → IfErr result (IsOfError found)
+      → IfErr result (IsOfWords words)
   error_stops (Ok asked) is = tt
   error_stops (Err failure) is = stopped failure is

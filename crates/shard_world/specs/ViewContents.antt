@@ -27,7 +27,8 @@ abbrev pub FoundIn : Book → ℕ → List (List Datum) → Type 0
 FoundIn book table rows = AreFound (book_rows book table 0) (book_listed book table) rows
 
 abbrev pub FoundBy : Subscriber → ℕ → List (List Datum) → Type 0
-FoundBy subscriber table rows = AreFound ((sub_machine subscriber).rows (oid_of table)) (sub_listed subscriber (oid_of table)) rows
+FoundBy subscriber table rows =
+    AreFound ((sub_machine subscriber).rows (oid_of table)) (sub_listed subscriber (oid_of table)) rows
 
 -- what is seen of the subscriber of this number
 pub record IsSeen (book : Book) (tables number : ℕ) (subscriber : Subscriber) (shown : SubscriberView) : Type 0 where
@@ -38,7 +39,8 @@ pub record IsSeen (book : Book) (tables number : ℕ) (subscriber : Subscriber) 
   pub rows : AllAt (λ table rows. FoundBy subscriber table rows.items) shown.rows.items
 
 abbrev pub SeenAt : Book → ℕ → List PeerOf → ℕ → SubscriberView → Type 0
-SeenAt book tables peers number shown = IfSome (slice_get peers number) (λ peer. IsSeen book tables number peer.subscriber shown)
+SeenAt book tables peers number shown =
+    IfSome (slice_get peers number) (λ peer. IsSeen book tables number peer.subscriber shown)
 
 -- and of all
 pub record AreSeen (book : Book) (tables : ℕ) (peers : List PeerOf) (shown : View) : Type 0 where

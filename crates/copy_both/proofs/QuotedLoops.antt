@@ -29,25 +29,31 @@ nothing_read : (x : Option QuotedText) → after_read [] 0 x ≡ x
 nothing_read None = refl
 nothing_read (Some found) = ap (found_as found.meant) (zero-add found.length)
 
-one_more : (b : ℕ) (read : List ℕ) (n : ℕ) (x : Option QuotedText) → longer 1 b (after_read read n x) ≡ after_read (b ∷ read) (suc n) x
+one_more : (b : ℕ) (read : List ℕ) (n : ℕ) (x : Option QuotedText)
+    → longer 1 b (after_read read n x) ≡ after_read (b ∷ read) (suc n) x
 one_more b read n None = refl
 one_more b read n (Some found) = ap (found_as (b ∷ (read ++ found.meant))) (omega arith)
 
-both_read : (xs ys : List ℕ) (m n : ℕ) (x : Option QuotedText) → after_read xs m (after_read ys n x) ≡ after_read (xs ++ ys) (m + n) x
+both_read : (xs ys : List ℕ) (m n : ℕ) (x : Option QuotedText)
+    → after_read xs m (after_read ys n x) ≡ after_read (xs ++ ys) (m + n) x
 both_read xs ys m n None = refl
-both_read xs ys m n (Some found) = ap (λ meant. found_as meant (m + (n + found.length))) (sym (append_assoc xs ys found.meant)) ∙ ap (found_as (xs ++ ys ++ found.meant)) (omega arith)
+both_read xs ys m n (Some found) =
+    ap (λ meant. found_as meant (m + (n + found.length))) (sym (append_assoc xs ys found.meant))
+    ∙ ap (found_as (xs ++ ys ++ found.meant)) (omega arith)
 
 quote_read : (quote : ℕ) (x : Option QuotedText) → longer 2 quote x ≡ after_read (quote ∷ []) 2 x
 quote_read quote None = refl
 quote_read quote (Some found) = refl
 
-no_quote : (quote b : ℕ) (tail : List ℕ) → b == quote ≡ false → 0 < length tail → quoted quote (b ∷ tail) ≡ longer 1 b (quoted quote tail)
+no_quote : (quote b : ℕ) (tail : List ℕ) → b == quote ≡ false → 0 < length tail
+    → quoted quote (b ∷ tail) ≡ longer 1 b (quoted quote tail)
 unfolding quoted
 no_quote quote b [] e some = absurd (omega arith)
 no_quote quote b (c ∷ tail) e some = rw e refl
 
 -- up to a quote
-to_quote : (quote : ℕ) (part after : List ℕ) → Lacks quote part → quoted quote (part ++ (quote ∷ after)) ≡ after_read part (length part) (quoted quote (quote ∷ after))
+to_quote : (quote : ℕ) (part after : List ℕ) → Lacks quote part
+    → quoted quote (part ++ (quote ∷ after)) ≡ after_read part (length part) (quoted quote (quote ∷ after))
 to_quote quote [] after lacks = sym (nothing_read (quoted quote (quote ∷ after)))
 to_quote quote (b ∷ part) after lacks =
     let some : 0 < length (part ++ (quote ∷ after)) = omega (arith, length-append part (quote ∷ after)) in
@@ -59,14 +65,17 @@ pub no_quote_left : (quote : ℕ) (bytes : List ℕ) → Lacks quote bytes → q
 unfolding quoted
 no_quote_left quote [] lacks = refl
 no_quote_left quote (b ∷ []) lacks = rw (first_lacks quote b [] lacks) refl
-no_quote_left quote (b ∷ c ∷ bytes) lacks = rw (first_lacks quote b (c ∷ bytes) lacks, no_quote_left quote (c ∷ bytes) (later_lacks quote b (c ∷ bytes) lacks)) refl
+no_quote_left quote (b ∷ c ∷ bytes) lacks =
+    rw (first_lacks quote b (c ∷ bytes) lacks,
+    no_quote_left quote (c ∷ bytes) (later_lacks quote b (c ∷ bytes) lacks)) refl
 
 last_quote : (quote : ℕ) (after : List ℕ) → get_or after 0 0 ≢ quote → quoted quote (quote ∷ after) ≡ found_as [] 1
 unfolding quoted
 last_quote quote [] other = rw (same quote) refl
 last_quote quote (c ∷ after) other = let e : c == quote ≡ false = grind (arith, nat_tests) in rw (same quote, e) refl
 
-two_quotes : (quote : ℕ) (after : List ℕ) → 0 < quote → get_or after 0 0 ≡ quote → quoted quote (quote ∷ after) ≡ longer 2 quote (quoted quote (drop 1 after))
+two_quotes : (quote : ℕ) (after : List ℕ) → 0 < quote → get_or after 0 0 ≡ quote
+    → quoted quote (quote ∷ after) ≡ longer 2 quote (quoted quote (drop 1 after))
 unfolding quoted
 two_quotes quote [] some again = absurd (omega arith)
 two_quotes quote (c ∷ after) some again = rw (same quote, again, same quote) refl
@@ -82,11 +91,13 @@ closes quote part after meant n lacks other =
 
 -- a part up to two quotes
 pub goes_on : (quote : ℕ) (part after meant : List ℕ) (n : ℕ) → 0 < quote → Lacks quote part → get_or after 0 0 ≡ quote
-    → after_read meant n (quoted quote (part ++ (quote ∷ after))) ≡ after_read (meant ++ part ++ (quote ∷ [])) (n + length part + 2) (quoted quote (drop 1 after))
+    → after_read meant n (quoted quote (part ++ (quote ∷ after)))
+        ≡ after_read (meant ++ part ++ (quote ∷ [])) (n + length part + 2) (quoted quote (drop 1 after))
 goes_on quote part after meant n some lacks again =
     ap (after_read meant n) (to_quote quote part after lacks)
     ∙ both_read meant part n (length part) (quoted quote (quote ∷ after))
-    ∙ ap (after_read (meant ++ part) (n + length part)) (two_quotes quote after some again ∙ quote_read quote (quoted quote (drop 1 after)))
+    ∙ ap (after_read (meant ++ part) (n + length part))
+        (two_quotes quote after some again ∙ quote_read quote (quoted quote (drop 1 after)))
     ∙ both_read (meant ++ part) (quote ∷ []) (n + length part) 2 (quoted quote (drop 1 after))
 
 -- ---- the loop
@@ -114,15 +125,19 @@ text_closes quote text rest part after meant result so_far fewer e lacks other i
 
 pub text_goes_on : (quote : ℕ) (text rest part after left meant result : List ℕ)
     → after_read meant (length text - length rest) (quoted quote rest) ≡ quoted quote text → length rest ≤ length text
-    → rest ≡ part ++ (quote ∷ after) → Lacks quote part → 0 < quote → get_or after 0 0 ≡ quote → left ≡ drop 1 after → result ≡ meant ++ part ++ (quote ∷ [])
-    → (after_read result (length text - length left) (quoted quote left) ≡ quoted quote text) × (length left ≤ length text)
+    → rest ≡ part ++ (quote ∷ after) → Lacks quote part → 0 < quote → get_or after 0 0 ≡ quote → left ≡ drop 1 after
+    → result ≡ meant ++ part ++ (quote ∷ [])
+    → (after_read result (length text - length left) (quoted quote left) ≡ quoted quote text)
+        × (length left ≤ length text)
 text_goes_on quote text rest part after left meant result so_far fewer e lacks some again left_is is =
     let shorter = (lengths text rest part after quote fewer e).1 in
     let one : length left ≡ length after - 1 = ap length left_is ∙ length-drop 1 after in
     let some_after : 0 < length after = nonempty after quote some again in
-    let n : length text - length rest + length part + 2 ≡ length text - length left = omega (arith, (lengths text rest part after quote fewer e).0) in (
+    let n : length text - length rest + length part + 2 ≡ length text - length left =
+        omega (arith, (lengths text rest part after quote fewer e).0) in (
       ap (λ read. after_read read (length text - length left) (quoted quote left)) is
-          ∙ ap (λ rest. after_read (meant ++ part ++ (quote ∷ [])) (length text - length left) (quoted quote rest)) left_is
+          ∙ ap (λ rest. after_read (meant ++ part ++ (quote ∷ [])) (length text - length left) (quoted quote rest))
+              left_is
           ∙ ap (λ k. after_read (meant ++ part ++ (quote ∷ [])) k (quoted quote (drop 1 after))) (sym n)
           ∙ sym (goes_on quote part after meant (length text - length rest) some lacks again)
           ∙ ap (λ left. after_read meant (length text - length rest) (quoted quote left)) (sym e)

@@ -1,4 +1,7 @@
--- How the code tells whether a value is left to a term, which no public contract speaks of: it tries the least number of the term's range, the numbers that atoms name and those after them, and the texts that atoms name and one that none does. `Emptiness` defines what it tells. Certificates are this project's own, and restate no section of PostgreSQL's documentation.
+-- How the code tells whether a value is left to a term, which no public contract speaks of: it tries the least number
+-- of the term's range, the numbers that atoms name and those after them, and the texts that atoms name and one that
+-- none does. `Emptiness` defines what it tells. Certificates are this project's own, and restate no section of
+-- PostgreSQL's documentation.
 use Rattle.std.specs.Prelude.{ℤ, pos, ◌+ℤ◌, int_le, Bool, true, false, not, ◌&&◌, ◌||◌, List, [], ◌∷◌, if◌then◌else◌, Option, Some, None}
 use Rattle.std.specs.Borrow.{Bor}
 use Rattle.std.specs.List.{list_any}
@@ -32,7 +35,8 @@ tried_view value = option_map (λ literal. constant_view literal.now) value
 
 -- the number is in the range, and left to the term
 abbrev pub serves : Range → Term → Path → ℤ → Bool
-serves range term path number = int_le range.least number && (int_le number range.greatest && may_be term path (Some (Number number)))
+serves range term path number =
+    int_le range.least number && (int_le number range.greatest && may_be term path (Some (Number number)))
 
 -- the constants that an atom names
 abbrev pub constants_of : AtomOf → List Constant
@@ -117,4 +121,5 @@ is_tried kind term path constant = false
 -- no value is left: the column isn't null, and would have to be, or none of the values that are tried is left
 abbrev pub is_empty : List Column → Term → Path → Bool
 is_empty columns term path =
-    is_present columns (column_of term) path && (is_null (column_of term) path || not (has_value (kind_at columns (column_of term)) term path))
+    is_present columns (column_of term) path
+        && (is_null (column_of term) path || not (has_value (kind_at columns (column_of term)) term path))

@@ -1,4 +1,5 @@
--- The commits that were taken up for a connection, and those of the log: PostgreSQL 15, 55.4. Streaming Replication Protocol.
+-- The commits that were taken up for a connection, and those of the log: PostgreSQL 15, 55.4. Streaming Replication
+-- Protocol.
 use Rattle.std.specs.Prelude.{◌≡◌, ℕ, ◌+◌, List, length, map, unwrap_or}
 use Rattle.std.specs.Arc.{arc_value}
 use Rattle.copy_both.specs.Streams.{count_before}

@@ -1,4 +1,5 @@
--- How far the halves of a connection's end are, the one that hears and the one that sends: both equally far ("55.4. Streaming Replication Protocol").
+-- How far the halves of a connection's end are, the one that hears and the one that sends: both equally far ("55.4.
+-- Streaming Replication Protocol").
 use Rattle.std.specs.Prelude.{ℕ, Option, Some, None}
 use Rattle.copy_both.specs.Voices as voices
 use Rattle.copy_both.specs.Voices.{StageOf}

@@ -1,4 +1,5 @@
--- When what is told of the commits of a log has room in its layouts: times have 64 bits, and the catalog is within its limits: PostgreSQL 15, 55.9. Logical Replication Message Formats.
+-- When what is told of the commits of a log has room in its layouts: times have 64 bits, and the catalog is within
+-- its limits: PostgreSQL 15, 55.9. Logical Replication Message Formats.
 use Rattle.std.specs.Prelude.{◌≡◌, ◌<◌, ◌≤◌, ◌^◌, ℕ, Bool, List, All, length, slice_get, Some}
 use Rattle.pub_catalog.specs.CatalogLimits.{IsLimited}
 use Rattle.shard_checker.specs.CheckedView.{CheckedOf, setting_in}
@@ -13,9 +14,10 @@ use Rattle.stream_laws.specs.Following.{log_of, IsSentItem}
 use Rattle.stream_laws.specs.Items.{stream_items}
 
 -- the layouts have room for what is told of each commit
-pub record IsSayable (checked : CheckedOf) (transactions : List Transaction) : Type 0 where
+pub record FitsLayouts (checked : CheckedOf) (transactions : List Transaction) : Type 0 where
   pub few : length transactions ≤ 1000000000
-  pub said : (subscriber : ℕ) (told : List Bool) (place : ℕ) (commit : CommitOf) → slice_get (log_of checked transactions) place ≡ Some commit
+  pub said : (subscriber : ℕ) (told : List Bool) (place : ℕ) (commit : CommitOf)
+      → slice_get (log_of checked transactions) place ≡ Some commit
       → All IsSent (messages_for checked subscriber told commit)
 
 -- its time has 64 bits
@@ -30,13 +32,16 @@ IsClocked (Keep clock want) = clock < 2 ^ 64
 -- ---- the laws
 
 -- So the layouts have room for what is told of each commit of a log of such transactions.
-abbrev pub LogsCanBeSaid : Type 0
-LogsCanBeSaid = (checked : CheckedOf) → Covered (setting_in checked) → IsLimited checked.catalog
-    → (transactions : List Transaction) → AreAccepted (setting_in checked) no_rows transactions → All IsTimedTransaction transactions → length transactions ≤ 1000000000
-    → IsSayable checked transactions
+abbrev pub LogsFitLayouts : Type 0
+LogsFitLayouts = (checked : CheckedOf) → Covered (setting_in checked) → IsLimited checked.catalog
+    → (transactions : List Transaction) → AreAccepted (setting_in checked) no_rows transactions
+    → All IsTimedTransaction transactions → length transactions ≤ 1000000000
+    → FitsLayouts checked transactions
 
--- And they have room for each item of a stream of such a log, whatever its moves, where it starts at a position that the log reaches, and clocks have 64 bits.
+-- And they have room for each item of a stream of such a log, whatever its moves, where it starts at a position that
+-- the log reaches, and clocks have 64 bits.
 abbrev pub StreamsCanBeSent : Type 0
-StreamsCanBeSent = (checked : CheckedOf) (transactions : List Transaction) → AreAccepted (setting_in checked) no_rows transactions → IsSayable checked transactions
+StreamsCanBeSent = (checked : CheckedOf) (transactions : List Transaction)
+    → AreAccepted (setting_in checked) no_rows transactions → FitsLayouts checked transactions
     → (subscriber position : ℕ) (moves : List Move) → count_before position ≤ length transactions → All IsClocked moves
     → All IsSentItem (stream_items checked (log_of checked transactions) subscriber position moves)

@@ -9,25 +9,25 @@ use Rattle.sql_reader.specs.declared.error.Omitted.TheVariants.{Number, StringFo
 use Rattle.sql_reader.specs.declared.error.Limit.{Limit}
 use Rattle.sql_reader.specs.declared.error.Limit.TheVariants.{LiteralBytes}
 
-pub data Wrong : Type 0 where
-  BadToken : Wrong
-  Expected : Wrong
-  NameTooLong : Wrong
-  UnknownName : Wrong
-  NameTwice : Wrong
-  ColumnList : Wrong
-  LeftOut : Omitted → Wrong
-  TypeClash : Wrong
-  NumberTooLarge : Wrong
-  ZeroDivisor : Wrong
-  TooDeep : Wrong
-  TooMany : Limit → Wrong
-  NoKey : Wrong
-  TableTwice : Wrong
-  NullableIndex : Wrong
+pub data ErrorKindOf : Type 0 where
+  BadToken : ErrorKindOf
+  Expected : ErrorKindOf
+  NameTooLong : ErrorKindOf
+  UnknownName : ErrorKindOf
+  NameTwice : ErrorKindOf
+  ColumnList : ErrorKindOf
+  LeftOut : Omitted → ErrorKindOf
+  TypeClash : ErrorKindOf
+  NumberTooLarge : ErrorKindOf
+  ZeroDivisor : ErrorKindOf
+  TooDeep : ErrorKindOf
+  TooMany : Limit → ErrorKindOf
+  NoKey : ErrorKindOf
+  TableTwice : ErrorKindOf
+  NullableIndex : ErrorKindOf
 
 -- what an error says is wrong: want of memory says nothing of the text
-abbrev pub wrong_of : ErrorKind → Option Wrong
+abbrev pub wrong_of : ErrorKind → Option ErrorKindOf
 wrong_of e.BadToken = Some BadToken
 wrong_of (e.Expected what) = Some Expected
 wrong_of e.NameTooLong = Some NameTooLong
@@ -46,7 +46,7 @@ wrong_of e.OutOfMemory = None
 wrong_of e.NullableIndex = Some NullableIndex
 
 -- what is wrong where a token is faulty
-abbrev pub wrong_token : FaultKind → Wrong
+abbrev pub wrong_token : FaultKind → ErrorKindOf
 wrong_token f.BadToken = BadToken
 wrong_token f.NameTooLong = NameTooLong
 wrong_token f.NumberTooLarge = NumberTooLarge

@@ -13,7 +13,8 @@ abbrev pub names_of : List (PublicationOf Expr) → List ℕ → List (List ℕ)
 names_of publications numbers = map (λ number. publication_name (slice_get publications number)) numbers
 
 -- it has no rows, and the names of its subscription
-pub record IsFirstPeer (publications : List (PublicationOf Expr)) (subscription : Subscription) (peer : PeerOf) : Type 0 where
+pub record IsFirstPeer (publications : List (PublicationOf Expr)) (subscription : Subscription) (peer : PeerOf) : Type
+    0 where
   pub none : peer.link ≡ None
   pub machine : Alike (sub_machine peer.subscriber) first_machine
   pub slot : sub_slot peer.subscriber ≡ subscription.name
@@ -22,5 +23,6 @@ pub record IsFirstPeer (publications : List (PublicationOf Expr)) (subscription 
 -- one for each subscription
 abbrev pub AreFirstPeers : List (PublicationOf Expr) → List Subscription → List PeerOf → Type 0
 AreFirstPeers publications [] [] = Unit {0}
-AreFirstPeers publications (subscription ∷ subscriptions) (peer ∷ peers) = IsFirstPeer publications subscription peer × AreFirstPeers publications subscriptions peers
+AreFirstPeers publications (subscription ∷ subscriptions) (peer ∷ peers) = IsFirstPeer publications subscription peer
+    × AreFirstPeers publications subscriptions peers
 AreFirstPeers publications subscriptions peers = ⊥
