@@ -15,15 +15,12 @@ use Rattle.shard_checker.specs.Refusal.{Subject, first_of, first_refusal, refusa
 use Rattle.shard_checker.specs.declared.error.CheckError.{CheckError}
 use Rattle.shard_checker.specs.declared.error.CheckError.TheVariants.{NotOwner, NotEmpty, MayBeNull}
 use Rattle.split_cert.specs.Tree.{Tree, Split, Owner, Empty, NeverNull, nodes}
+use Rattle.shard_checker.proofs.SoundLemmas.{first_none}
 
 if_none : (b : Bool) (x y : Option CheckError) (e f : CheckError) → (x ≡ None → y ≡ None)
     → (if b then x else Some e) ≡ None → (if b then y else Some f) ≡ None
 if_none true x y e f step h = step h
 if_none false x y e f step h = absurd cc
-
-first_none : (one next : Option CheckError) → first_of one next ≡ None → (one ≡ None) × (next ≡ None)
-first_none None next h = (refl, h)
-first_none (Some error) next h = absurd cc
 
 both_none : (one next : Option CheckError) → one ≡ None → next ≡ None → first_of one next ≡ None
 both_none None next e h = h

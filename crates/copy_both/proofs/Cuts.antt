@@ -43,10 +43,6 @@ run_ends text utf8 =
 
 -- ---- each piece
 
-by_test : {P : Type 0} (b : Bool) → (b ≡ true → P) → (b ≡ false → P) → P
-by_test true holds fails = holds refl
-by_test false holds fails = fails refl
-
 chosen : {X : Type 0} (b : Bool) (x y : X) (P : X → Type 0) → (b ≡ true → P x) → (b ≡ false → P y)
     → P (if b then x else y)
 chosen true x y P holds fails = holds refl

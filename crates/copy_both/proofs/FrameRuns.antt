@@ -4,7 +4,6 @@ use Rattle.std.specs.Prelude.{Option, Some, None, Result, Ok, Err, nat_lt, slice
 use Rattle.std.proofs.Math.Nat.{le-max_left}
 use Rattle.std.proofs.lemmas.Bool.{eqb-true, ltb-true}
 use Rattle.shard_checker.specs.CheckedView.{CheckedOf}
-use Rattle.table_changes.proofs.TableLemmas.{by_test}
 use Rattle.tables_log.specs.Slots.{end_after, confirmed_at, start_fault}
 use Rattle.tables_log.specs.declared.error.StartError.{StartError}
 use Rattle.tables_log.specs.declared.slots.Slot.{Slot}
@@ -24,6 +23,7 @@ use Rattle.copy_both.specs.declared.link_fault.LinkFault.TheVariants as fault
 use Rattle.copy_both.specs.declared.sql_state.SqlState.{SqlState}
 use Rattle.copy_both.proofs.HearingLemmas.{over_stays}
 use Rattle.copy_both.proofs.LinkLemmas.{frames_started}
+use Rattle.filter_tree.proofs.Tests.{by_test}
 
 -- ---- over, or not
 

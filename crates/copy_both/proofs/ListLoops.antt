@@ -1,5 +1,5 @@
 -- What is between commas, one part after another.
-use Rattle.std.proofs.Common.{◌≡◌, ℕ, ◌+◌, ◌<◌, ◌≤◌, Bool, true, false, List, [], ◌∷◌, ◌++◌, length, take, drop, Option, Some, None, Bor, refl, sym, ap, ◌∙◌, arith, append_assoc}
+use Rattle.std.proofs.Common.{◌≡◌, ℕ, ◌+◌, ◌<◌, ◌≤◌, Bool, List, [], ◌∷◌, ◌++◌, length, take, drop, Option, Some, None, Bor, refl, sym, ap, ◌∙◌, arith, append_assoc}
 use Rattle.std.specs.Prelude.{map, nat_lt, position}
 use Rattle.std.specs.List.{slice_split, onto_first, position_or_len}
 use Rattle.std.specs.Option.{option_map, option_map_or}
@@ -9,6 +9,7 @@ use Rattle.std.proofs.lemmas.List.Splits.{slice_split_first}
 use Rattle.copy_both.specs.declared.token.Token.{Token}
 use Rattle.copy_both.specs.declared.token.Token.TheVariants.{Comma}
 use Rattle.copy_both.specs.CommandTokens.{is_comma, all_of}
+use Rattle.filter_tree.proofs.Tests.{by_test}
 
 -- the parts of what is left
 abbrev pub parts_left : Option (Bor (List Token)) → List (List Token)
@@ -17,10 +18,6 @@ parts_left rest = option_map_or (λ after. slice_split is_comma after.now) rest 
 -- these come first
 abbrev pub after_all : {X : Type 0} → List X → Option (List X) → Option (List X)
 after_all xs = option_map (λ more. xs ++ more)
-
-by_test : {P : Type 0} (b : Bool) → (b ≡ true → P) → (b ≡ false → P) → P
-by_test true holds fails = holds refl
-by_test false holds fails = fails refl
 
 none_first : {X : Type 0} (p : X → Bool) (xs : List X) → length xs ≤ position_or_len p xs → slice_split p xs ≡ xs ∷ []
 none_first p [] far = refl

@@ -45,7 +45,7 @@ quote_read : (quote : ℕ) (x : Option QuotedText) → longer 2 quote x ≡ afte
 quote_read quote None = refl
 quote_read quote (Some found) = refl
 
-no_quote : (quote b : ℕ) (tail : List ℕ) → b == quote ≡ false → 0 < length tail
+pub no_quote : (quote b : ℕ) (tail : List ℕ) → b == quote ≡ false → 0 < length tail
     → quoted quote (b ∷ tail) ≡ longer 1 b (quoted quote tail)
 unfolding quoted
 no_quote quote b [] e some = absurd (omega arith)

@@ -28,7 +28,7 @@ entry_of setting tables number transaction =
 at_first : (number : ℕ) → number ≡ number + 0
 at_first number = omega arith
 
-at_later : (number place : ℕ) → number + 1 + place ≡ number + suc place
+pub at_later : (number place : ℕ) → number + 1 + place ≡ number + suc place
 at_later number place = omega arith
 
 numbered : (setting : Setting) (tables : Tables) (found : Option Transaction) (one other : ℕ) → one ≡ other

@@ -1,5 +1,5 @@
 -- Each name in a command that was read has at most 63 bytes, and so has the name in each refusal.
-use Rattle.std.proofs.Common.{◌≡◌, ℕ, ◌+◌, ◌≤◌, Bool, true, false, not, ◌||◌, ◌==◌, if◌then◌else◌, List, [], ◌∷◌, ◌++◌, length, take, drop, Option, Some, None, refl, sym, subst, arith, length-append}
+use Rattle.std.proofs.Common.{◌≡◌, ℕ, ◌+◌, ◌≤◌, Bool, true, false, not, ◌||◌, ◌==◌, if◌then◌else◌, List, [], ◌∷◌, ◌++◌, length, take, drop, Option, Some, None, sym, subst, arith, length-append}
 use Rattle.std.specs.Prelude.{map, nat_lt, position, codes}
 use Rattle.std.specs.Char.{is_ascii_digit}
 use Rattle.std.specs.List.{list_all, list_any, slice_split}
@@ -18,14 +18,11 @@ use Rattle.copy_both.specs.OptionValues.{version, without_zeros, is_off, publica
 use Rattle.copy_both.specs.Refusals.{RefusalOf, ExpectedQuery, Unreadable, NoSlot, WrongOption, UnsupportedOption, MissingOption, NoPublication, OtherPublications, Ahead, InUse, CanBeSent}
 use Rattle.copy_both.specs.ShortNames.{IsShort, AreShort, HasShortValue, IsShortOption, AreShortOptions, IsShortCommand}
 use Rattle.copy_both.specs.StartOrder.{OfferOf, or_else, refused, is_wrong, is_named, is_unsupported, has_publications, option_refusal, options_refusal, missing_refusal, names_of, names_in as names_given, unknown_refusal, same_publications, is_taken, slot_refusal}
+use Rattle.filter_tree.proofs.Tests.{by_test}
 
 chosen : {X : Type 0} (b : Bool) (x y : X) (P : X → Type 0) → P x → P y → P (if b then x else y)
 chosen true x y P holds fails = holds
 chosen false x y P holds fails = fails
-
-by_test : {P : Type 0} (b : Bool) → (b ≡ true → P) → (b ≡ false → P) → P
-by_test true holds fails = holds refl
-by_test false holds fails = fails refl
 
 -- it holds of what there is
 abbrev pub Holds : {X : Type 0} → (X → Type 0) → Option X → Type 0

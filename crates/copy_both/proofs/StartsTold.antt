@@ -1,7 +1,6 @@
 -- The start that is told of a piece is that of the stream which it started.
 use Rattle.std.proofs.Common.{◌≡◌, ℕ, ◌==◌, Bool, true, false, if◌then◌else◌, List, [], ◌∷◌, refl, sym, ap, subst, ◌∙◌}
 use Rattle.std.specs.Prelude.{Option, Some, None, Result, Ok, Err, min, nat_lt}
-use Rattle.table_changes.proofs.TableLemmas.{by_test}
 use Rattle.tables_log.specs.Slots.{end_after}
 use Rattle.copy_frames.specs.declared.fault.FrameFault.{FrameFault}
 use Rattle.copy_frames.specs.declared.frame.Frame.{Frame}
@@ -15,6 +14,7 @@ use Rattle.copy_both.specs.declared.link_fault.LinkFault.{LinkFault}
 use Rattle.copy_both.proofs.FrameRuns.{over_by_end}
 use Rattle.copy_both.proofs.HearingLemmas.{over_stays}
 use Rattle.copy_both.proofs.LinkLemmas.{frame_started, frames_started}
+use Rattle.filter_tree.proofs.Tests.{by_test}
 
 -- ---- while a stream runs nothing is told
 

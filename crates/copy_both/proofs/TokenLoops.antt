@@ -9,7 +9,7 @@ use Rattle.copy_both.specs.CommandTokens.{front, tokens_from}
 abbrev pub after_tokens : List Token → Option (List Token) → Option (List Token)
 after_tokens tokens = option_map (λ more. tokens ++ more)
 
-skipped : (n : ℕ) (bytes : List ℕ) → n ≤ length bytes → tokens_from n bytes ≡ tokens_from 0 (drop n bytes)
+pub skipped : (n : ℕ) (bytes : List ℕ) → n ≤ length bytes → tokens_from n bytes ≡ tokens_from 0 (drop n bytes)
 unfolding tokens_from
 skipped zero bytes within = refl
 skipped (suc n) [] within = absurd (omega arith)

@@ -1,12 +1,9 @@
 -- Bytes that are UTF-8, and bytes that are not.
-use Rattle.std.proofs.Common.{◌≡◌, Bool, true, false, List, ℕ, Some, None, IsUtf8, refl}
+use Rattle.std.proofs.Common.{◌≡◌, List, ℕ, Some, None, IsUtf8, refl}
 use Rattle.std.proofs.lemmas.Str.{IsUtf8-from_is_utf8, is_utf8-from_IsUtf8}
 use Rattle.std.specs.Str.{is_utf8}
 use Rattle.copy_both.specs.StartAnswers.{utf8_text}
-
-by_test : {P : Type 0} (b : Bool) → (b ≡ true → P) → (b ≡ false → P) → P
-by_test true holds fails = holds refl
-by_test false holds fails = fails refl
+use Rattle.filter_tree.proofs.Tests.{by_test}
 
 pub is_text : (bytes : List ℕ) → IsUtf8 bytes → utf8_text bytes ≡ Some bytes
 is_text bytes utf8 = rw (is_utf8-from_IsUtf8 bytes utf8) refl

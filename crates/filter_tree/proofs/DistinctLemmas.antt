@@ -14,10 +14,7 @@ use Rattle.filter_tree.specs.Shape.{atom_view, atoms_view}
 use Rattle.filter_tree.specs.declared.filter.Atom.{Atom}
 use Rattle.std.specs.Borrow.{Bor}
 use Rattle.filter_tree.proofs.SameLemmas.{same_atom_is, same_term_of_equal}
-
-by_test : {P : Type 0} (b : Bool) → (b ≡ true → P) → (b ≡ false → P) → P
-by_test true at_true at_false = at_true refl
-by_test false at_true at_false = at_false refl
+use Rattle.filter_tree.proofs.Tests.{by_test, or_true}
 
 any_viewed : {X Y : Type 0} (view : X → Y) (p : Y → Bool) (xs : List X)
     → list_any (λ x. p (view x)) xs ≡ list_any p (map view xs)
@@ -52,10 +49,6 @@ any_of_all : {Y : Type 0} (p : Y → Bool) (same : Y → Y → Bool) (ys more : 
     → list_any p (fold (with_item same) ys more) ≡ true
 any_of_all p same ys [] h = h
 any_of_all p same ys (y ∷ more) h = any_of_all p same (with_item same ys y) more (any_of_more p same ys y h)
-
-or_true : (b : Bool) → (b || true) ≡ true
-or_true true = refl
-or_true false = refl
 
 -- an item that was added is there
 has_added : {Y : Type 0} (same : Y → Y → Bool) (self : (y : Y) → same y y ≡ true) (ys : List Y) (y : Y)

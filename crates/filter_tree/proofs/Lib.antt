@@ -4,4 +4,5 @@ pub mod OnceLemmas
 pub mod OrderLemmas
 pub mod PossibleLemmas
 pub mod SameLemmas
+pub mod Tests
 pub mod ValidLemmas

@@ -1,5 +1,5 @@
 -- Rows that agree on a filter's columns have the same meaning under it.
-use Rattle.std.proofs.Common.{◌≡◌, ℕ, Bool, true, false, List, [], ◌∷◌, ◌++◌, refl, sym, ap, subst}
+use Rattle.std.proofs.Common.{◌≡◌, ℕ, true, List, [], ◌∷◌, ◌++◌, refl, sym, ap, subst}
 use Rattle.std.specs.Prelude.{nat_eq, fold}
 use Rattle.std.specs.List.{list_any}
 use Rattle.std.specs.Cmp.{unsigned_Decides}
@@ -9,10 +9,7 @@ use Rattle.filter_tree.specs.Expr.{AtomOf, term_of, said_of, Expr, Const, Atom, 
 use Rattle.filter_tree.specs.Lists.{with_item, atoms_in, column_of, columns_in, distinct_columns, AgreesOn, IsDeterminedBy}
 use Rattle.filter_tree.specs.declared.filter.Term.{Term}
 use Rattle.filter_tree.specs.declared.filter.Term.TheVariants.{Col, Mod}
-
-by_test : {P : Type 0} (b : Bool) → (b ≡ true → P) → (b ≡ false → P) → P
-by_test true at_true at_false = at_true refl
-by_test false at_true at_false = at_false refl
+use Rattle.filter_tree.proofs.Tests.{by_test}
 
 agrees_append : (one other : List Datum) (columns more : List ℕ) → AgreesOn (columns ++ more) one other
     → AgreesOn columns one other × AgreesOn more one other

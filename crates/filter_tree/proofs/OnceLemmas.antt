@@ -9,10 +9,7 @@ use Rattle.filter_tree.specs.Lists.{with_item, distinct}
 use Rattle.filter_tree.specs.Once.{HasEachOnce, DistinctIsOnce}
 use Rattle.filter_tree.specs.Same.{same_atom, same_term}
 use Rattle.filter_tree.proofs.SameLemmas.{same_atom_is, same_atom_of_equal, same_term_is, same_term_of_equal}
-
-by_test : {P : Type 0} (b : Bool) → (b ≡ true → P) → (b ≡ false → P) → P
-by_test true at_true at_false = at_true refl
-by_test false at_true at_false = at_false refl
+use Rattle.filter_tree.proofs.Tests.{by_test}
 
 -- ---- tests that hold of equal items, and of no others
 

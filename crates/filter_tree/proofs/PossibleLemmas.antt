@@ -14,10 +14,7 @@ use Rattle.filter_tree.specs.declared.mask.Mask.{Mask}
 use Rattle.filter_tree.specs.declared.tri.Tri.{Tri}
 use Rattle.filter_tree.specs.declared.tri.Tri.TheVariants.{True, False, Null}
 use Rattle.filter_tree.proofs.SameLemmas.{same_atom_is}
-
-by_test : {P : Type 0} (b : Bool) → (b ≡ true → P) → (b ≡ false → P) → P
-by_test true at_true at_false = at_true refl
-by_test false at_true at_false = at_false refl
+use Rattle.filter_tree.proofs.Tests.{by_test}
 
 member_where : (test : Tri → Bool) (t : Tri) → member (mask_where test) t ≡ test t
 member_where test True = refl

@@ -1,6 +1,6 @@
 -- A row has no fault exactly if it is valid.
 use Rattle.std.proofs.Common.{◌≡◌, ℕ, zero, suc, ◌+◌, ◌≤◌, ℤ, Bool, true, false, ◌&&◌, List, [], ◌∷◌, length, refl, sym, subst, ◌∙◌, arith}
-use Rattle.std.specs.Prelude.{Option, Some, None, IfSome, if◌then◌else◌, slice_get, Contains, int_le, nat_le, ◌==◌, T}
+use Rattle.std.specs.Prelude.{Option, Some, None, IfSome, if◌then◌else◌, slice_get, Contains, int_le, nat_le, ◌==◌}
 use Rattle.std.specs.List.{list_any}
 use Rattle.std.proofs.lemmas.Map.Views.{list_any-from_Contains, Contains-from_any}
 use Rattle.std.proofs.lemmas.Bool.{eqb-true, leb-true}
@@ -18,19 +18,7 @@ use Rattle.filter_tree.specs.declared.table.ColType.TheVariants.{SmallInt, Integ
 use Rattle.filter_tree.specs.declared.table.Column.{Column}
 use Rattle.filter_tree.specs.declared.validity.RowFault.{RowFault}
 use Rattle.filter_tree.specs.declared.validity.RowFault.TheVariants.{Width, NullInNotNull, WrongType}
-
--- what holds in both cases of a test
-by_test : {P : Type 0} (b : Bool) → (b ≡ true → P) → (b ≡ false → P) → P
-by_test true at_true at_false = at_true refl
-by_test false at_true at_false = at_false refl
-
-both_true : (p q : Bool) → (p && q) ≡ true → (p ≡ true) × (q ≡ true)
-both_true true q h = (refl, h)
-both_true false q h = absurd cc
-
-from_test : (b : Bool) → T b → b ≡ true
-from_test true t = refl
-from_test false t = absurd t
+use Rattle.filter_tree.proofs.Tests.{by_test, both_true, from_test}
 
 -- a test that decides whether there is a fault
 passed : (b : Bool) (fault : RowFault) → (if b then None else Some fault) ≡ None → b ≡ true

@@ -24,6 +24,7 @@ use Rattle.pgoutput_msgs.proofs.SeenMessageLemmas.{one_seen, as_message}
 use Rattle.pgoutput_msgs.specs.Telling.{relation_at, introduced, relation_once, relations_of, told_one, told_all, named_in, message_of, said, told_by, said_each, told_each, begin_of, commit_of, enclosed}
 use Rattle.pgoutput_msgs.specs.Transactions.{tables_of, is_among, first_relation, first_relations, change_told, changes_told, transaction_told, AreNamed, CommitsTellTransactions}
 use Rattle.pgoutput_msgs.specs.declared.message.Msg.{Msg}
+use Rattle.filter_tree.proofs.Tests.{or_true, or_false}
 
 abbrev is_told : List Bool → ℕ → Bool
 is_told told number = slice_index_or told number false
@@ -49,14 +50,6 @@ eq_itself n = search rules
 is_other : (n number : ℕ) → n ≢ number → (b : Bool) → nat_eq n number ≡ b → b ≡ false
 is_other n number differs true e = absurd (differs ((unsigned_Decides n number).0 e))
 is_other n number differs false e = refl
-
-or_false : (b : Bool) → (b || false) ≡ b
-or_false true = refl
-or_false false = refl
-
-or_true : (b : Bool) → (b || true) ≡ true
-or_true true = refl
-or_true false = refl
 
 -- one more number in a list
 among_itself : (number : ℕ) (named : List ℕ) → is_among number (named ++ number ∷ []) ≡ true

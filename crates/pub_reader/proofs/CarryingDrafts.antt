@@ -26,7 +26,7 @@ use Rattle.pub_reader.specs.Subscriptions.{check_new_subscription, subscription_
 use Rattle.pub_reader.specs.TableNames.{table_in_schema, table_named, table_number, new_name}
 use Rattle.pub_reader.specs.Tables.{table_body, create_table}
 use Rattle.pub_catalog.proofs.Positions.{position-map}
-use Rattle.sql_reader.proofs.Cases.{by_test}
+use Rattle.filter_tree.proofs.Tests.{by_test}
 
 -- an outcome, of which the value is the same
 abbrev same : {A : Type 0} → A → A

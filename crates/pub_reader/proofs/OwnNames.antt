@@ -37,8 +37,8 @@ use Rattle.pub_reader.specs.Publications.{check_new_publication, publication_nam
 use Rattle.pub_reader.specs.Publishing.{parameters_clause}
 use Rattle.pub_reader.specs.Schemas.{fresh}
 use Rattle.pub_reader.specs.Subscriptions.{check_new_subscription, subscription_name, once, subscribed, one_publication, publication_list, subscription_tail, subscription_body, create_subscription}
-use Rattle.sql_reader.proofs.Cases.{by_test}
 use Rattle.pub_reader.proofs.Positions.{position-none, list_any-map}
+use Rattle.filter_tree.proofs.Tests.{by_test}
 
 -- what is read is so, whatever is left
 pub first_of : {A : Type 0} (P : A → Type 0) (read : Outcome A) → Leaves (λ a ts. P a) read → Gives P read

@@ -7,7 +7,7 @@ use Rattle.std.specs.Str.{bytes_eq}
 use Rattle.std.proofs.lemmas.Bool.Decides.{nat_tests}
 use Rattle.pub_catalog.proofs.Positions.{position-map}
 use Rattle.pub_reader.specs.Drafts.{with_name}
-use Rattle.sql_reader.proofs.Cases.{by_test}
+use Rattle.filter_tree.proofs.Tests.{by_test}
 
 not_found : {A : Type 0} (p : A → Bool) (xs : List A) → length xs ≤ position_or_len p xs → list_any p xs ≡ false
 not_found p [] past = refl

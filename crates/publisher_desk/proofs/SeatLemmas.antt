@@ -4,13 +4,14 @@ use Rattle.std.specs.Prelude.{Some, ◌==◌, slice_get}
 use Rattle.std.proofs.lemmas.Bool.{ltb-true, ltb-false}
 use Rattle.std.proofs.lemmas.List.Elements.{All-nil, All-push}
 use Rattle.std.proofs.lemmas.Option.{slice_get_within}
-use Rattle.table_changes.proofs.TableLemmas.{by_test, some_is}
+use Rattle.table_changes.proofs.TableLemmas.{some_is}
 use Rattle.tables_log.proofs.PlaceLemmas.{number_is, number_apart, get_front, get_last}
 use Rattle.publisher_desk.specs.Seats.{number_of, receipts, highest, AreTimed, HasLater, HasTime, AreUpTo, IsForward, IsSeat}
 use Rattle.publisher_desk.specs.declared.note.Note.{Note}
 use Rattle.publisher_desk.specs.declared.note.Note.TheVariants.{Committed, Looked}
 use Rattle.publisher_desk.specs.declared.note.Reading.{Reading}
 use Rattle.publisher_desk.specs.Receipts.{ReceiptOf}
+use Rattle.filter_tree.proofs.Tests.{by_test}
 
 -- ---- lists of notes
 

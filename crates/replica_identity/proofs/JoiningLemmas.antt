@@ -13,10 +13,7 @@ use Rattle.pub_catalog.specs.Catalogs.{EntryOf}
 use Rattle.replica_identity.specs.Joining.{joined, joined_at}
 use Rattle.replica_identity.specs.Plans.{filters_for, share_in, shares_from}
 use Rattle.replica_identity.specs.Shares.{ShareOf, Nothing, Everything, Where, any_of, share_by}
-
-by_test : {P : Type 0} (b : Bool) → (b ≡ true → P) → (b ≡ false → P) → P
-by_test true at_true at_false = at_true refl
-by_test false at_true at_false = at_false refl
+use Rattle.filter_tree.proofs.Tests.{by_test}
 
 -- ---- one filter more
 

@@ -1,15 +1,12 @@
 -- Lists of the numbers up to a length.
-use Rattle.std.proofs.Common.{◌≡◌, ℕ, zero, suc, Bool, true, false, ◌||◌, [], ◌∷◌, nat_lt, ◌==◌, refl, ap, sym, ◌∙◌, arith}
+use Rattle.std.proofs.Common.{◌≡◌, ℕ, zero, suc, false, ◌||◌, [], ◌∷◌, nat_lt, ◌==◌, ap, sym, ◌∙◌, arith}
 use Rattle.std.specs.List.{list_any}
 use Rattle.std.specs.Cmp.{unsigned_Decides}
 use Rattle.std.proofs.lemmas.Bool.{eqb-false}
 use Rattle.std.proofs.lemmas.Bool.Decides.{nat_tests}
 use Rattle.std.proofs.lemmas.List.Folds.{list_any-append}
 use Rattle.replica_identity.specs.Identities.{numbers_to}
-
-by_test : {P : Type 0} (b : Bool) → (b ≡ true → P) → (b ≡ false → P) → P
-by_test true at_true at_false = at_true refl
-by_test false at_true at_false = at_false refl
+use Rattle.filter_tree.proofs.Tests.{by_test}
 
 below_next : (column n : ℕ) → nat_lt column (suc n) ≡ (nat_lt column n || (n == column || false))
 below_next column n = by_test (nat_lt column n)

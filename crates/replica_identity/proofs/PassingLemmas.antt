@@ -14,10 +14,7 @@ use Rattle.pub_catalog.specs.declared.catalog.Subscription.{Subscription}
 use Rattle.replica_identity.specs.Passes.{listed_by, lets, entry_carries, carries}
 use Rattle.replica_identity.specs.Plans.{PlanOf, TakesWhatPasses, filters_for, share_in, shares_from, entries_in, entries_at, entries_listed, shares_for, plan_of}
 use Rattle.replica_identity.specs.Shares.{Nothing, any_of, share_by, takes, is_true}
-
-by_test : {P : Type 0} (b : Bool) → (b ≡ true → P) → (b ≡ false → P) → P
-by_test true at_true at_false = at_true refl
-by_test false at_true at_false = at_false refl
+use Rattle.filter_tree.proofs.Tests.{by_test}
 
 or_false : (b : Bool) → b ≡ (b || false)
 or_false true = refl

@@ -12,7 +12,6 @@ use Rattle.table_changes.specs.Records.{record_of}
 use Rattle.table_changes.specs.Setting.{Setting}
 use Rattle.table_changes.specs.Tables.{SameTables, no_rows}
 use Rattle.table_changes.proofs.CommandListLemmas.{are_alike}
-use Rattle.table_changes.proofs.TableLemmas.{by_test}
 use Rattle.tables_log.specs.BookView.{book_limit, book_log, book_rows, book_setting}
 use Rattle.tables_log.specs.Commits.{CommitOf, commit_of}
 use Rattle.tables_log.specs.Committing.{Commits, RefusedBy}
@@ -30,6 +29,7 @@ use Rattle.senders_close.specs.Histories.{transaction_of, transactions_of, IsRig
 use Rattle.senders_close.specs.Replays.{IsAgain, IsNotAgain, IsRefusedNow, IsOtherNow, IsMissingFor, Replays, IsAsLong, IsUnlikeIn}
 use Rattle.senders_close.specs.declared.close_error.CloseError.{CloseError}
 use Rattle.senders_close.specs.declared.close_error.CloseError.TheVariants as f
+use Rattle.filter_tree.proofs.Tests.{by_test}
 
 -- ---- lists
 

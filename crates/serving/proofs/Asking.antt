@@ -1,16 +1,17 @@
 -- What is asked where clap answers with an error, and that what is asked can be done.
-use Rattle.std.proofs.Common.{◌≡◌, ℕ, inl, inr, ◌⊎◌, List, sym, subst, ◌∙◌, arith, codes}
-use Rattle.std.specs.Prelude.{Option, Some, None, Result, Ok, Err, IfOk, IfErr}
+use Rattle.std.proofs.Common.{◌≡◌, ℕ, inl, inr, ◌⊎◌, List, sym, subst, ◌∙◌, codes}
+use Rattle.std.specs.Prelude.{Result, Ok, Err, IfOk, IfErr}
 use Rattle.clap.specs.Words.{IsAmong, Text, fault_of, first_of}
 use Rattle.clap.specs.declared.error.kind.ErrorKind.{ErrorKind}
 use Rattle.clap.specs.declared.error.kind.ErrorKind.TheVariants as kind
 use Rattle.serving.specs.CommandLine.{AsksHelp, IsAsking, IsFaulty, IsHelp, IsOfWords, IsRequest, serving}
-use Rattle.subcommands.specs.CommandLine.{IsHelpKind, IsLimit, IsOfError, IsWithin}
+use Rattle.subcommands.specs.CommandLine.{IsHelpKind, IsOfError, IsWithin}
 use Rattle.serving.specs.declared.arguments.ServeInvocation.{ServeInvocation}
 use Rattle.serving.specs.declared.arguments.ServeInvocation.TheVariants.{Help, Serve}
 use Rattle.serving.specs.declared.arguments.Service.{Service}
 use Rattle.subcommands.specs.declared.failure.Failure.{Failure}
 use Rattle.subcommands.specs.declared.failure.Failure.TheVariants as f
+use Rattle.subcommands.proofs.RequestLemmas.{limit_within}
 
 module _ (words : List Text) (found : ErrorKind)
     (faults : (found ≡ kind.OutOfMemory) ⊎ IsAmong found (fault_of serving words)) where
@@ -52,10 +53,6 @@ module _ (words : List Text) (found : ErrorKind)
       → IfErr result (IsOfWords words)
   error_stops (Ok asked) is = tt
   error_stops (Err failure) is = stopped failure is
-
-limit_within : (word : Option Text) (limit : ℕ) → IsLimit word limit → IsWithin limit
-limit_within None limit is = record { some = omega (arith, is); most = omega (arith, is) }
-limit_within (Some word) limit is = is.within
 
 pub asked_within : (words : List Text) (service : Service) → IsRequest words service → IsWithin service.limit
 asked_within words service asks =

@@ -20,7 +20,7 @@ use Rattle.shard_checker.specs.Candidates.{is_empty}
 use Rattle.shard_checker.specs.declared.error.CheckError.{CheckError}
 use Rattle.shard_checker.specs.declared.error.CheckError.TheVariants.{NotEmpty}
 use Rattle.shard_checker.proofs.EmptyLemmas.{told_by_values}
-use Rattle.shard_checker.proofs.Testing.{by_test}
+use Rattle.filter_tree.proofs.Tests.{by_test}
 
 -- two tests that answer alike
 abbrev Alike : Test → Test → Type 0

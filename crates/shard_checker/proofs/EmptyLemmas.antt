@@ -11,8 +11,9 @@ use Rattle.shard_checker.specs.Emptiness.{IsLeft, HasValue, IsEmptiness, CanBeTo
 use Rattle.shard_checker.specs.Facts.{is_null, is_present}
 use Rattle.shard_checker.specs.Candidates.{has_value, is_empty}
 use Rattle.shard_checker.proofs.ExistingLemmas.{value_exists}
-use Rattle.shard_checker.proofs.Testing.{by_test, both_false, clash}
+use Rattle.shard_checker.proofs.Testing.{both_false, clash}
 use Rattle.shard_checker.proofs.ValueLemmas.{value_found}
+use Rattle.filter_tree.proofs.Tests.{by_test}
 
 not_false : (b : Bool) → not b ≡ false → b ≡ true
 not_false true h = refl

@@ -12,13 +12,13 @@ use Rattle.filter_tree.specs.declared.filter.Op.TheVariants.{Eq}
 use Rattle.filter_tree.specs.declared.filter.Term.{Term}
 use Rattle.filter_tree.specs.declared.table.ColType.{ColType}
 use Rattle.filter_tree.specs.declared.table.ColType.TheVariants.{SmallInt, Integer, BigInt, Boolean, Text}
-use Rattle.filter_tree.proofs.SameLemmas.{both_true}
 use Rattle.shard_checker.specs.Domain.{range_of, IsIn, IsInDomain}
 use Rattle.shard_checker.specs.Facts.{compares, is_about, may_be}
 use Rattle.shard_checker.specs.Candidates.{serves, constants_of, gives_number, names_number, has_named_number, has_number, gives_text, names_text, has_named_text, has_text, has_value}
 use Rattle.shard_checker.specs.declared.domain.Range.{Range}
 use Rattle.shard_checker.proofs.Testing.{two_false, by_either, not_true_false}
 use Rattle.shard_checker.proofs.ValueLemmas.{test_le, has_constant, all_unnamed}
+use Rattle.filter_tree.proofs.Tests.{both_true}
 
 -- a constant of the term's domain that is left by all that was found
 pub record HasConstant (kind : ColType) (term : Term) (path : Path) : Type 0 where

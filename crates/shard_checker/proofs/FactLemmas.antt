@@ -16,10 +16,11 @@ use Rattle.filter_tree.specs.declared.filter.Term.TheVariants.{Col, Mod}
 use Rattle.filter_tree.specs.declared.table.Column.{Column}
 use Rattle.filter_tree.specs.declared.tri.Tri.{Tri}
 use Rattle.filter_tree.specs.declared.tri.Tri.TheVariants.{True, False, Null}
-use Rattle.filter_tree.proofs.SameLemmas.{both_true, same_atom_is, same_term_is}
+use Rattle.filter_tree.proofs.SameLemmas.{same_atom_is, same_term_is}
 use Rattle.shard_checker.specs.Facts.{tells_null, tells_present, says_null, says_present, not_null_in, is_declared, is_null, is_present, has_null, is_always_known, is_never_null, holds_of, is_about, leaves, may_be}
 use Rattle.shard_checker.specs.Rows.{MayHold, IsTyped}
 use Rattle.shard_checker.proofs.Testing.{two_true, by_either, clash, same_number}
+use Rattle.filter_tree.proofs.Tests.{both_true}
 
 -- ---- what an atom says of a value
 

@@ -15,7 +15,7 @@ use Rattle.shard_checker.specs.Steps.{mask_in}
 use Rattle.shard_checker.specs.declared.known.Before.{Before}
 use Rattle.shard_checker.specs.declared.known.Known.{Known}
 use Rattle.shard_checker.proofs.MaskLemmas.{atom_there}
-use Rattle.shard_checker.proofs.Testing.{by_test}
+use Rattle.filter_tree.proofs.Tests.{by_test}
 
 pub none_of : (p q : Bool) → (p || q) ≡ false → (p ≡ false) × (q ≡ false)
 none_of true q h = absurd cc

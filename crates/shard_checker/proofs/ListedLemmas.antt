@@ -15,14 +15,14 @@ use Rattle.filter_tree.specs.declared.table.ColType.{ColType}
 use Rattle.filter_tree.specs.declared.table.ColType.TheVariants.{SmallInt, Integer, BigInt, Boolean, Text}
 use Rattle.filter_tree.specs.declared.tri.Tri.{Tri}
 use Rattle.filter_tree.specs.declared.tri.Tri.TheVariants.{True, False, Null}
-use Rattle.filter_tree.proofs.SameLemmas.{both_true}
 use Rattle.shard_checker.specs.Domain.{range_of, IsIn, IsInDomain}
 use Rattle.shard_checker.specs.Facts.{compares, leaves, may_be}
 use Rattle.shard_checker.specs.Candidates.{serves, list_of, list_or, first_list, is_tried, has_value}
 use Rattle.shard_checker.specs.declared.domain.Range.{Range}
 use Rattle.shard_checker.proofs.ExistingLemmas.{HasConstant, value_exists}
-use Rattle.shard_checker.proofs.Testing.{by_test, by_either, two_true, left_true, right_true}
+use Rattle.shard_checker.proofs.Testing.{by_either, two_true, left_true, right_true}
 use Rattle.shard_checker.proofs.ValueLemmas.{le_test, test_le, value_found}
+use Rattle.filter_tree.proofs.Tests.{by_test, both_true}
 
 equal_is : (one other : Constant) → compare_known Eq one other ≡ true → one ≡ other
 equal_is (Number m) (Number n) h = ap Number ((signed_Decides m n).0 h)

@@ -12,7 +12,8 @@ use Rattle.shard_checker.specs.KnownAtoms.{Differ}
 use Rattle.shard_checker.specs.Numbering.{share_atoms, numbered_atoms}
 use Rattle.shard_checker.specs.Steps.{names_only, all_name_only, filter_of}
 use Rattle.shard_checker.proofs.KnownLemmas.{none_of, other_way}
-use Rattle.shard_checker.proofs.Testing.{by_test, two_true, right_true, left_true}
+use Rattle.shard_checker.proofs.Testing.{two_true, right_true, left_true}
+use Rattle.filter_tree.proofs.Tests.{by_test}
 
 -- ---- no atom is there twice
 

@@ -12,7 +12,8 @@ use Rattle.shard_checker.specs.Facts.{is_this_null, has_null}
 use Rattle.shard_checker.specs.KnownAtoms.{Differ, AreBefore, null_at}
 use Rattle.shard_checker.specs.declared.known.Before.{Before}
 use Rattle.shard_checker.proofs.KnownLemmas.{not_there}
-use Rattle.shard_checker.proofs.Testing.{by_test, same_number, not_true_false, number_itself, right_true, two_false}
+use Rattle.shard_checker.proofs.Testing.{same_number, not_true_false, number_itself, right_true, two_false}
+use Rattle.filter_tree.proofs.Tests.{by_test}
 
 -- atoms at two numbers are the same only at one number
 numbers_tell : (atoms : List AtomOf) (one other : ℕ) (first second : AtomOf) → Differ atoms

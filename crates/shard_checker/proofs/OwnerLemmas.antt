@@ -4,7 +4,8 @@ use Rattle.std.specs.Prelude.{◌==◌}
 use Rattle.filter_tree.specs.Paths.{Path}
 use Rattle.replica_identity.specs.Shares.{ShareOf}
 use Rattle.shard_checker.specs.Owners.{may_take, is_second}
-use Rattle.shard_checker.proofs.Testing.{by_test, clash, same_number}
+use Rattle.shard_checker.proofs.Testing.{clash, same_number}
+use Rattle.filter_tree.proofs.Tests.{by_test}
 
 -- a share that may take a row, and isn't another's, is the owner's
 pub only_owner : (owner number : ℕ) (share : ShareOf) (path : Path) → is_second owner number share path ≡ false

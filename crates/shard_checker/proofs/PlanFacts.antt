@@ -9,11 +9,12 @@ use Rattle.filter_tree.specs.Expr.{Expr, Const, Atom, Not, And, Or, Is}
 use Rattle.filter_tree.specs.Same.{same_atom}
 use Rattle.filter_tree.specs.declared.filter.Test.{Test}
 use Rattle.filter_tree.specs.declared.filter.Test.TheVariants.{True, False, Unknown}
-use Rattle.filter_tree.proofs.SameLemmas.{both_true, same_atom_is, same_atom_of_equal}
+use Rattle.filter_tree.proofs.SameLemmas.{same_atom_is, same_atom_of_equal}
 use Rattle.std.proofs.Math.Logic.{∥∥₁_elim}
 use Rattle.pub_catalog.specs.Catalogs.{CatalogOf}
 use Rattle.replica_identity.specs.Plans.{PlanOf, plan_of}
 use Rattle.replica_identity.specs.Shares.{ShareOf}
+use Rattle.filter_tree.proofs.Tests.{both_true}
 
 abbrev same_test : Test → Test → Bool
 same_test True True = true

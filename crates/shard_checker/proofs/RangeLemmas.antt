@@ -19,7 +19,7 @@ use Rattle.filter_tree.specs.declared.table.ColType.TheVariants.{SmallInt, Integ
 use Rattle.filter_tree.specs.declared.table.Column.{Column}
 use Rattle.shard_checker.specs.Domain.{kind_in, kind_at, greatest_remainder, whole_range, range_within, range_of, IsIn, IsInDomain}
 use Rattle.shard_checker.specs.Rows.{IsOfType, MayHold, IsTyped}
-use Rattle.shard_checker.proofs.Testing.{by_test}
+use Rattle.filter_tree.proofs.Tests.{by_test}
 
 -- ---- remainders
 

@@ -27,8 +27,9 @@ use Rattle.shard_checker.specs.declared.error.CheckError.{CheckError}
 use Rattle.shard_checker.specs.declared.error.CheckError.TheVariants.{PublishMissing, NoIdentity, NotCovered, CertCount, BadIndex, NotEmpty, MayBeNull, NotOwner, SecondOwner, OutOfMemory}
 use Rattle.shard_checker.specs.declared.error.Operation.{Operation}
 use Rattle.shard_checker.specs.declared.error.Operation.TheVariants.{Insert, Update, Delete, Truncate}
-use Rattle.shard_checker.proofs.Testing.{clash, at_zero, zero_more, at_next}
+use Rattle.shard_checker.proofs.Testing.{clash}
 use Rattle.shard_checker.proofs.TruthLemmas.{same_some, failed, certificate_wrong}
+use Rattle.table_changes.proofs.TableLemmas.{at_zero, zero_more, at_next}
 
 -- what one of two refusals leads to
 by_first : {P : Type 0} (one next : Option CheckError) (error : CheckError) → first_of one next ≡ Some error

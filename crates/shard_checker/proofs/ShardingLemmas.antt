@@ -29,7 +29,8 @@ use Rattle.shard_checker.specs.declared.error.CheckError.TheVariants.{NoIdentity
 use Rattle.shard_checker.specs.declared.error.Operation.{Operation}
 use Rattle.shard_checker.specs.declared.error.Operation.TheVariants.{Insert, Update, Delete, Truncate}
 use Rattle.shard_checker.proofs.SoundLemmas.{certificate_sound}
-use Rattle.shard_checker.proofs.Testing.{two_true, same_number, at_zero, zero_more, at_next}
+use Rattle.shard_checker.proofs.Testing.{two_true, same_number}
+use Rattle.table_changes.proofs.TableLemmas.{at_zero, zero_more, at_next}
 
 none_first : (one next : Option CheckError) → first_of one next ≡ None → (one ≡ None) × (next ≡ None)
 none_first None next h = (refl, h)

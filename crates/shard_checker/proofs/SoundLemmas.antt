@@ -14,7 +14,6 @@ use Rattle.filter_tree.specs.declared.table.Table.{Table}
 use Rattle.filter_tree.specs.declared.tri.Tri.{Tri}
 use Rattle.filter_tree.specs.declared.tri.Tri.TheVariants.{True, False, Null}
 use Rattle.filter_tree.proofs.PossibleLemmas.{possible_holds}
-use Rattle.filter_tree.proofs.SameLemmas.{both_true}
 use Rattle.replica_identity.specs.Shares.{ShareOf, Nothing, Everything, Where, takes, is_true}
 use Rattle.split_cert.specs.Tree.{Tree, Split, Owner, Empty, NeverNull, nodes}
 use Rattle.shard_checker.specs.Domain.{kind_at}
@@ -29,7 +28,8 @@ use Rattle.shard_checker.proofs.FactLemmas.{null_is, present_is, never_null_is, 
 use Rattle.shard_checker.proofs.RangeLemmas.{known_in_domain}
 use Rattle.shard_checker.proofs.ValueLemmas.{value_found}
 use Rattle.shard_checker.proofs.OwnerLemmas.{only_owner}
-use Rattle.shard_checker.proofs.Testing.{by_test, by_either, not_true, clash}
+use Rattle.shard_checker.proofs.Testing.{by_either, not_true, clash}
+use Rattle.filter_tree.proofs.Tests.{by_test, both_true}
 
 -- ---- nodes that say that a term is empty
 
@@ -175,7 +175,7 @@ agrees_longer : (row : List Datum) (path : Path) (atom : AtomOf) (value : Tri) �
 agrees_longer row [] atom value agrees is = (is, tt)
 agrees_longer row (entry ∷ path) atom value agrees is = (agrees.0, agrees_longer row path atom value agrees.1 is)
 
-first_none : (one next : Option CheckError) → first_of one next ≡ None → (one ≡ None) × (next ≡ None)
+pub first_none : (one next : Option CheckError) → first_of one next ≡ None → (one ≡ None) × (next ≡ None)
 first_none None next h = (refl, h)
 first_none (Some error) next h = absurd cc
 

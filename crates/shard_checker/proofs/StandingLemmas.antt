@@ -14,7 +14,6 @@ use Rattle.filter_tree.specs.declared.table.Column.{Column}
 use Rattle.filter_tree.specs.declared.table.Table.{Table}
 use Rattle.filter_tree.specs.declared.table.UniqueIndex.{UniqueIndex}
 use Rattle.filter_tree.proofs.ListsLemmas.{determined_by_columns}
-use Rattle.filter_tree.proofs.SameLemmas.{both_true}
 use Rattle.filter_tree.proofs.ValidLemmas.{valid_from_no_fault}
 use Rattle.pub_catalog.specs.Catalogs.{CatalogOf, PublicationOf, EntryOf}
 use Rattle.pub_catalog.specs.IndexIdentities.{takes_no_null, take_no_null, identifies}
@@ -33,11 +32,12 @@ use Rattle.table_changes.specs.Setting.{Nowhere, fits}
 use Rattle.table_changes.specs.Standing.{Covered, Apart, KeepsApart, PassesToOne, DividesRows}
 use Rattle.table_changes.specs.Tables.{Tables, holds, Stands}
 use Rattle.table_changes.proofs.ChangeLemmas.{keeps_keyed, is_new_or_old}
-use Rattle.table_changes.proofs.TableLemmas.{one_row}
+use Rattle.table_changes.proofs.TableLemmas.{one_row, at_zero, zero_more, at_next}
 use Rattle.shard_checker.specs.Rows.{IsTyped}
 use Rattle.shard_checker.specs.Sound.{is_listed, is_taken, RowHasOneOwner, is_covered_by, entry_is_covered, IsSound}
 use Rattle.shard_checker.proofs.RowLemmas.{typed_of_valid}
-use Rattle.shard_checker.proofs.Testing.{by_test, left_true, right_true, by_either, same_number, number_itself, at_zero, zero_more, at_next}
+use Rattle.shard_checker.proofs.Testing.{left_true, right_true, by_either, same_number, number_itself}
+use Rattle.filter_tree.proofs.Tests.{by_test, both_true}
 
 -- whether the list has the number
 abbrev has : List ℕ → ℕ → Bool

@@ -1,12 +1,7 @@
 -- Tests and their answers, and the places of lists.
-use Rattle.std.proofs.Common.{◌≡◌, ℕ, suc, ◌+◌, Bool, true, false, not, ◌&&◌, ◌||◌, refl, arith}
-use Rattle.std.specs.Prelude.{T, ◌==◌}
+use Rattle.std.proofs.Common.{◌≡◌, ℕ, ◌+◌, Bool, true, false, not, ◌&&◌, ◌||◌, refl}
+use Rattle.std.specs.Prelude.{◌==◌}
 use Rattle.std.specs.Cmp.{unsigned_Decides}
-
--- what holds in both cases of a test
-pub by_test : {P : Type 0} (b : Bool) → (b ≡ true → P) → (b ≡ false → P) → P
-by_test true at_true at_false = at_true refl
-by_test false at_true at_false = at_false refl
 
 pub two_true : (p q : Bool) → p ≡ true → q ≡ true → (p && q) ≡ true
 two_true true q h k = k
@@ -44,21 +39,9 @@ pub not_true_false : (b : Bool) → (b ≡ true → ⊥) → b ≡ false
 not_true_false true h = absurd (h refl)
 not_true_false false h = refl
 
-pub from_test : (b : Bool) → T b → b ≡ true
-from_test true t = refl
-from_test false t = absurd t
-
 pub same_number : (m n : ℕ) → (m == n) ≡ true → m ≡ n
 same_number m n h = (unsigned_Decides m n).0 h
 
 pub number_itself : (n : ℕ) → (n == n) ≡ true
 number_itself n = (unsigned_Decides n n).1 refl
 
-pub at_zero : (number : ℕ) → number + 0 ≡ number
-at_zero number = omega arith
-
-pub zero_more : (number : ℕ) → 0 + number ≡ number
-zero_more number = omega arith
-
-pub at_next : (number k : ℕ) → number + suc k ≡ number + 1 + k
-at_next number k = omega arith

@@ -7,7 +7,6 @@ use Rattle.filter_tree.specs.Paths.{Path}
 use Rattle.filter_tree.specs.declared.filter.Term.{Term}
 use Rattle.filter_tree.specs.declared.table.Table.{Table}
 use Rattle.filter_tree.specs.declared.tri.Tri.TheVariants.{True, False, Null}
-use Rattle.filter_tree.proofs.SameLemmas.{both_true}
 use Rattle.replica_identity.specs.Shares.{ShareOf}
 use Rattle.split_cert.specs.Tree.{Tree, Split, Owner, Empty, NeverNull, nodes}
 use Rattle.shard_checker.specs.Facts.{is_never_null}
@@ -19,7 +18,8 @@ use Rattle.shard_checker.specs.declared.error.CheckError.{CheckError}
 use Rattle.shard_checker.specs.declared.error.CheckError.TheVariants.{BadIndex, NotEmpty, MayBeNull, NotOwner, SecondOwner}
 use Rattle.shard_checker.proofs.EmptyLemmas.{not_empty_has}
 use Rattle.shard_checker.proofs.OwnerLemmas.{only_owner}
-use Rattle.shard_checker.proofs.Testing.{by_test, not_true, clash}
+use Rattle.shard_checker.proofs.Testing.{not_true, clash}
+use Rattle.filter_tree.proofs.Tests.{by_test, both_true}
 
 pub same_some : (one other : CheckError) → Some one ≡ Some other → other ≡ one
 same_some one other h = cc

@@ -22,7 +22,8 @@ use Rattle.shard_checker.specs.Domain.{range_of, IsIn, IsInDomain}
 use Rattle.shard_checker.specs.Facts.{compares, holds_of, is_about, leaves, may_be}
 use Rattle.shard_checker.specs.Candidates.{serves, serves_nearby, constants_of, gives_number, names_number, has_number, gives_text, names_text, has_text, has_value}
 use Rattle.shard_checker.specs.declared.domain.Range.{Range}
-use Rattle.shard_checker.proofs.Testing.{by_test, two_true, two_false, both_false, left_true, right_true, clash, not_true_false, from_test}
+use Rattle.shard_checker.proofs.Testing.{two_true, two_false, both_false, left_true, right_true, clash, not_true_false}
+use Rattle.filter_tree.proofs.Tests.{by_test, from_test}
 
 -- ---- two values of which atoms say the same
 

@@ -4,7 +4,6 @@ use Rattle.std.proofs.Common.{◌≡◌, ℕ, ◌+◌, ◌<◌, ◌≤◌, Bool,
 use Rattle.std.specs.Prelude.{Option, Some, None, ◌==◌, nat_le, nat_lt, if◌then◌else◌}
 use Rattle.std.specs.Cmp.{unsigned_Decides}
 use Rattle.std.proofs.lemmas.Bool.{leb-true, leb-false}
-use Rattle.table_changes.proofs.TableLemmas.{by_test}
 use Rattle.shard_checker.specs.CheckedView.{CheckedOf}
 use Rattle.tables_log.specs.Commits.{CommitOf}
 use Rattle.copy_both.specs.Streams.{Place, count_before, end_of}
@@ -18,6 +17,7 @@ use Rattle.shard_world.proofs.CatchingUpLemmas.{hears_start, catches_up}
 use Rattle.shard_world.proofs.WorldPeers.{IsGood}
 use Rattle.shard_world.proofs.WorldSteps.{peer_good}
 use Rattle.shard_world.proofs.WorldLemmas.{all_timed, can_be_said, good_at, published}
+use Rattle.filter_tree.proofs.Tests.{by_test}
 
 -- the command that asks for the stream is still to be heard whole, or the stream has started
 abbrev pub IsAskedAt : CheckedOf → ℕ → ℕ → Option Connection → Type 0

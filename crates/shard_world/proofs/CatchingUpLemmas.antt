@@ -4,7 +4,6 @@ use Rattle.std.specs.Prelude.{Option, Some, None, max, fold, slice_get, if◌the
 use Rattle.std.specs.List.{flat_map}
 use Rattle.std.proofs.lemmas.Bool.{le-leb, lt-leb}
 use Rattle.table_changes.specs.Tables.{no_rows}
-use Rattle.table_changes.proofs.TableLemmas.{by_test}
 use Rattle.shard_checker.specs.CheckedView.{CheckedOf, setting_in}
 use Rattle.tables_log.specs.Commits.{CommitOf}
 use Rattle.tables_log.specs.StandsFor.{AreAccepted}
@@ -22,6 +21,7 @@ use Rattle.stream_laws.proofs.FollowingLemmas.{first_sent}
 use Rattle.shard_world.proofs.WorldItems.{items_append}
 use Rattle.shard_world.proofs.WorldPeers.{IsGood, bytes_of_items, good_follows}
 use Rattle.shard_world.proofs.WorldSteps.{peer_good}
+use Rattle.filter_tree.proofs.Tests.{by_test}
 
 -- ---- the command that starts the stream is heard
 

@@ -6,7 +6,6 @@ use Rattle.std.proofs.lemmas.List.Elements.{All-nil, All-cons, All-head, All-tai
 use Rattle.filter_tree.specs.declared.table.Table.{Table}
 use Rattle.table_changes.specs.Outs.{got}
 use Rattle.table_changes.specs.Records as r
-use Rattle.table_changes.proofs.TableLemmas.{by_test}
 use Rattle.shard_checker.specs.CheckedView.{CheckedOf, setting_in}
 use Rattle.tables_log.specs.Commits.{CommitOf}
 use Rattle.pgoutput_msgs.specs.Telling.{relation_at, introduced, relation_once, relations_of, told_one, told_by, named_in, message_of, said, said_each, begin_of, commit_of, enclosed, messages_for}
@@ -18,6 +17,7 @@ use Rattle.copy_both.specs.Tellings.{telling_of}
 use Rattle.stream_laws.specs.Cutting.{if_whole, whole_in}
 use Rattle.stream_laws.specs.Following.{raised_by_message, raised_by, position_after}
 use Rattle.stream_laws.specs.Items.{Item, Response, Carries, Alive, spelled, head_of, take_items, all_items, stream_items}
+use Rattle.filter_tree.proofs.Tests.{by_test}
 
 -- ---- positions
 

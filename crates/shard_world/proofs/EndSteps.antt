@@ -3,7 +3,6 @@ use Rattle.std.proofs.Common.{◌≡◌, ℕ, zero, suc, ◌<◌, ◌^◌, Bool,
 use Rattle.std.specs.Prelude.{Option, Some, None, All, ◌==◌, nat_lt, if◌then◌else◌}
 use Rattle.std.proofs.lemmas.List.Elements.{All-head, All-tail}
 use Rattle.table_changes.specs.Standing.{Covered, KeepsApart}
-use Rattle.table_changes.proofs.TableLemmas.{by_test}
 use Rattle.shard_checker.specs.CheckedView.{CheckedOf, setting_in}
 use Rattle.tables_log.specs.Commits.{CommitOf}
 use Rattle.copy_both.specs.Streams.{Place}
@@ -17,6 +16,7 @@ use Rattle.shard_world.proofs.WorldItems.{sayable_first}
 use Rattle.shard_world.proofs.WorldLemmas.{IsTimed, leads_grow, IsGoodWorld, published, step_good, first_good}
 use Rattle.shard_world.proofs.WorldPeers.{StartsAt, IsConnectedAt, IsGood}
 use Rattle.shard_world.proofs.WorldSteps.{in_part_good, peer_good}
+use Rattle.filter_tree.proofs.Tests.{by_test}
 
 module _ (source : Source) where
   delivered_end : (position : ℕ) → IsEnd position → (start : Option ℕ) → StartsAt position start → (c : Connection)

@@ -4,7 +4,6 @@ use Rattle.std.specs.Prelude.{Option, Some, None, All, fold, is_some, nat_le, sl
 use Rattle.std.proofs.lemmas.Bool.{le-leb, leb-true, leb-false, le-ltb}
 use Rattle.std.proofs.lemmas.Option.{slice_get_within}
 use Rattle.std.proofs.lemmas.List.Elements.{All-nil, All-cons, All-head, All-tail, All-drop}
-use Rattle.table_changes.proofs.TableLemmas.{by_test}
 use Rattle.shard_checker.specs.CheckedView.{CheckedOf}
 use Rattle.tables_log.specs.Slots.{end_after, confirmed_at, slot_fault, start_fault, change_at, with_stream}
 use Rattle.tables_log.specs.declared.error.StartError.TheVariants.{Ahead}
@@ -22,6 +21,7 @@ use Rattle.shard_world.specs.World.{Up, Asks, Says, Connection, Session, start_o
 use Rattle.shard_world.proofs.CaseLemmas.{case_asks, case_good, opened_small}
 use Rattle.shard_world.proofs.SlotLemmas.{confirmed_is, others_stay, streams_slot}
 use Rattle.shard_world.proofs.SubscriberFrameLemmas.{HasSlotBy, start_step, starts_are_heard, statuses_are_heard, statuses_go}
+use Rattle.filter_tree.proofs.Tests.{by_test}
 
 -- ---- frames
 

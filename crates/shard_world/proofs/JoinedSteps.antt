@@ -7,7 +7,6 @@ use Rattle.std.proofs.lemmas.Grind.{flat_map-append}
 use Rattle.std.proofs.lemmas.List.{append-nil, take-append-le, drop-append-le}
 use Rattle.std.proofs.lemmas.List.Elements.{All-nil, All-cons, All-append}
 use mathlib.Core.List.{map-append}
-use Rattle.table_changes.proofs.TableLemmas.{by_test}
 use Rattle.tables_log.specs.Commits.{CommitOf}
 use Rattle.tables_log.specs.declared.slots.Slot.{Slot}
 use Rattle.pgoutput_msgs.specs.Spelling.{spelling_of}
@@ -44,6 +43,7 @@ use Rattle.shard_world.proofs.CaseLemmas.{case_asks, case_good, case_follows, op
 use Rattle.shard_world.proofs.CatchingUpLemmas.{moved_append}
 use Rattle.stream_laws.proofs.CuttingLemmas.{cut_nothing}
 use Rattle.shard_world.proofs.WorldPeers.{bytes_of_items, grows}
+use Rattle.filter_tree.proofs.Tests.{by_test}
 
 pub ok_of : {A E : Type 0} (one other : A) → ◌≡◌ {A = Result A E} (Ok one) (Ok other) → one ≡ other
 ok_of one other e = cc

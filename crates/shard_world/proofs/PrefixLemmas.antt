@@ -8,9 +8,9 @@ use Rattle.std.proofs.lemmas.Grind.{flat_map-append}
 use Rattle.std.proofs.lemmas.List.{drop_at, take-append-drop}
 use Rattle.copy_frames.specs.Frames.{framed}
 use Rattle.copy_frames.specs.declared.frame.Frame.{Frame}
-use Rattle.table_changes.proofs.TableLemmas.{by_test}
 use Rattle.stream_laws.specs.Cutting.{if_whole, whole_by}
 use Rattle.stream_laws.proofs.CuttingLemmas.{whole_more_by}
+use Rattle.filter_tree.proofs.Tests.{by_test}
 
 abbrev pub bytes_by : {X : Type 0} → (X → Frame) → List X → List ℕ
 bytes_by frame all = flat_map (λ x. framed (frame x)) all

@@ -2,7 +2,6 @@
 use Rattle.std.proofs.Common.{◌≡◌, ℕ, ◌+◌, ◌-◌, ◌≤◌, Bool, true, false, List, [], ◌∷◌, ◌++◌, length, map, refl, sym, ap, subst, arith, eqb-true, le_trans}
 use Rattle.std.specs.Prelude.{Option, Some, None, All, ◌==◌, nat_le, slice_get, if◌then◌else◌}
 use Rattle.std.proofs.lemmas.List.Elements.{All-nil, All-cons, All-head, All-tail}
-use Rattle.table_changes.proofs.TableLemmas.{by_test}
 use Rattle.shard_checker.specs.CheckedView.{CheckedOf}
 use Rattle.tables_log.specs.Commits.{CommitOf}
 use Rattle.pgoutput_msgs.specs.Telling.{messages_for}
@@ -17,6 +16,7 @@ use Rattle.stream_laws.specs.Cutting.{if_whole, whole_in}
 use Rattle.stream_laws.specs.Following.{raised_by_message, raised_by, position_after}
 use Rattle.stream_laws.specs.Items.{Item, Response, Carries, Alive, frame_in, head_of, take_items, all_items, stream_items}
 use Rattle.shard_world.proofs.EndLemmas.{TellsBy, messages_tell}
+use Rattle.filter_tree.proofs.Tests.{by_test}
 
 -- ---- items that tell of no more than a position
 

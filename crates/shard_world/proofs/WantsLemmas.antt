@@ -12,7 +12,6 @@ use Rattle.pgoutput_msgs.specs.declared.error.MsgError.{MsgError}
 use Rattle.pgoutput_msgs.specs.declared.message.Msg.{Msg}
 use Rattle.pgoutput_msgs.specs.declared.message.Msg.TheVariants as m
 use Rattle.pgoutput_msgs.specs.declared.relation.Relation.{Relation}
-use Rattle.table_changes.proofs.TableLemmas.{by_test}
 use Rattle.test_subscriber.specs.Answers.{SameOutcome}
 use Rattle.test_subscriber.specs.Frames.{Heard, heard_then, hear_cut, hear_response, hear_start, hear_stream, hear_content, hear_data, hear_decoded, hear_keepalive, hear_frame_in, hear_frame}
 use Rattle.test_subscriber.specs.Hearing.{Outcome, Change, table_of, change_of, change_in, staged, learn_as, learn_new, hear_commit, hear_in, hear, hear_truncate, hear_empty, empty_rest, emptied}
@@ -26,6 +25,7 @@ use Rattle.test_subscriber.specs.declared.phase.Phase.TheVariants.{Shut, Waiting
 use Rattle.test_subscriber.specs.declared.shape.TableShape.{TableShape}
 use Rattle.test_subscriber.proofs.FrameAlikeLemmas.{frame_alike}
 use Rattle.shard_world.specs.Joined.{AlikeBut}
+use Rattle.filter_tree.proofs.Tests.{by_test}
 
 abbrev pub with_wants : Bool → Machine → Machine
 with_wants wants machine = record machine { wants_reply = wants }

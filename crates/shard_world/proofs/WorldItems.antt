@@ -8,7 +8,6 @@ use Rattle.std.proofs.lemmas.Option.{slice_get_within}
 use Rattle.table_changes.specs.Tables.{Tables, no_rows}
 use Rattle.table_changes.specs.Records.{record_of}
 use Rattle.table_changes.specs.Setting.{Setting}
-use Rattle.table_changes.proofs.TableLemmas.{by_test}
 use Rattle.shard_checker.specs.CheckedView.{CheckedOf, setting_in}
 use Rattle.tables_log.specs.Commits as log
 use Rattle.tables_log.specs.Commits.{CommitOf}
@@ -23,6 +22,7 @@ use Rattle.stream_laws.specs.Following.{raised_by_message, raised_by, position_a
 use Rattle.stream_laws.specs.Items.{Item, Response, Carries, Alive, spelled, take_items, move_items, all_items}
 use Rattle.stream_laws.specs.LayoutRoom.{FitsLayouts}
 use Rattle.shard_world.specs.World.{Source}
+use Rattle.filter_tree.proofs.Tests.{by_test}
 
 -- ---- items that are whole
 

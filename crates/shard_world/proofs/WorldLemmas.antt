@@ -1,22 +1,19 @@
 -- In each world that events lead to each subscriber has its shard, and together they have the tables.
 use Rattle.std.proofs.Common.{◌≡◌, ℕ, ◌<◌, ◌≤◌, ◌^◌, Bool, true, false, ◌&&◌, List, [], ◌∷◌, ◌++◌, length, take, refl, sym, ◌∙◌, ap, subst, arith, append_assoc, length-append}
-use Rattle.std.specs.Prelude.{All, ◌==◌, fold, nat_lt, slice_index_or, if◌then◌else◌, Option, Some, None}
+use Rattle.std.specs.Prelude.{All, ◌==◌, nat_lt, slice_index_or, if◌then◌else◌, Option, Some, None}
 use Rattle.std.specs.Cmp.{unsigned_Decides}
 use Rattle.std.proofs.Common.{inl, inr}
 use Rattle.std.proofs.lemmas.Bool.{ltb-true, ltb-false, and_parts}
 use Rattle.std.proofs.lemmas.List.{append-nil, get_or_past}
 use Rattle.std.proofs.lemmas.List.Elements.{All-nil, All-cons, All-head, All-tail, All-append}
 use Rattle.filter_tree.specs.Datum.{Datum}
-use Rattle.filter_tree.proofs.SameLemmas.{both_true}
 use Rattle.table_changes.specs.Standing.{Covered, KeepsApart}
-use Rattle.table_changes.specs.Tables.{Tables, no_rows, holds}
+use Rattle.table_changes.specs.Tables.{no_rows, holds}
 use Rattle.table_changes.proofs.ChangeLemmas.{begins_well}
-use Rattle.table_changes.proofs.TableLemmas.{by_test}
 use Rattle.replica_identity.specs.Plans.{share_at}
 use Rattle.replica_identity.specs.Shares.{ShareOf, Nothing, takes}
 use Rattle.shard_checker.specs.CheckedView.{CheckedOf, setting_in}
-use Rattle.table_changes.specs.Setting.{Setting}
-use Rattle.tables_log.specs.StandsFor.{Transaction, left_by, after, IsAccepted, AreAccepted}
+use Rattle.tables_log.specs.StandsFor.{Transaction, after, AreAccepted}
 use Rattle.stream_laws.specs.ShardRows.{in_shard}
 use Rattle.stream_laws.specs.Following.{IsPublished}
 use Rattle.shard_world.specs.World.{Connection, Peer, World, Event, Commit, On, Answer, first_world, with_peer, with_transaction, StepsOn, Steps, Leads, source_in, step_in, broken_in}
@@ -30,14 +27,8 @@ use Rattle.shard_world.proofs.WorldHearing.{longer_good}
 use Rattle.shard_world.proofs.WorldItems.{sayable_first}
 use Rattle.shard_world.proofs.WorldPeers.{IsConnectedAt, IsGood, good_follows}
 use Rattle.shard_world.proofs.WorldSteps.{peer_good, broken_good}
-
-accepted_more : (setting : Setting) (tables : Tables) (transactions : List Transaction) (transaction : Transaction)
-    → AreAccepted setting tables transactions
-    → IsAccepted setting (fold (left_by setting) tables transactions) transaction
-    → AreAccepted setting tables (transactions ++ transaction ∷ [])
-accepted_more setting tables [] transaction accepted one = (one, tt)
-accepted_more setting tables (first ∷ transactions) transaction accepted one =
-    (accepted.0, accepted_more setting (left_by setting tables first) transactions transaction accepted.1 one)
+use Rattle.tables_log.proofs.StandLemmas.{accepted_more}
+use Rattle.filter_tree.proofs.Tests.{by_test, both_true}
 
 -- its time has 64 bits
 abbrev pub IsTimed : ℕ × Event → Type 0

@@ -8,7 +8,6 @@ use Rattle.table_changes.specs.Commands.{Command, first_fault}
 use Rattle.table_changes.specs.CommandLists.{AreAlike}
 use Rattle.table_changes.specs.Tables.{SameTables}
 use Rattle.table_changes.proofs.CommandListLemmas.{are_alike}
-use Rattle.table_changes.proofs.TableLemmas.{by_test}
 use Rattle.tables_log.specs.BookView.{book_log, book_rows, book_setting, book_slots}
 use Rattle.tables_log.specs.Committing as c
 use Rattle.tables_log.specs.Committing.{HasRoomFor, IsKept, RefusedBy}
@@ -30,6 +29,7 @@ use Rattle.shard_world.proofs.WorldCallLemmas.{leads_one_more, is_elsewhere, is_
 use Rattle.shard_world.proofs.WorldLemmas.{all_timed, can_be_said, good_at}
 use Rattle.shard_world.proofs.WorldPeers.{IsGood}
 use Rattle.shard_world.proofs.WorldItems.{with_more}
+use Rattle.filter_tree.proofs.Tests.{by_test}
 
 -- ---- subscribers
 

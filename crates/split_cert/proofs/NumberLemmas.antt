@@ -9,10 +9,7 @@ use Rattle.std.proofs.lemmas.List.{drop_more, drop_all}
 use Rattle.std.proofs.lemmas.Slice.Eq.{bytes_eq-Decides}
 use Rattle.std.proofs.lemmas.Str.Parse.{IsNumeralModel, numerals_by_fold}
 use Rattle.split_cert.specs.Numbers.{number_from, number_of}
-
-pub by_test : {P : Type 0} (b : Bool) → (b ≡ true → P) → (b ≡ false → P) → P
-by_test true holds fails = holds refl
-by_test false holds fails = fails refl
+use Rattle.filter_tree.proofs.Tests.{by_test}
 
 same_tests : (a b : Bool) → (a ≡ true → b ≡ true) → (b ≡ true → a ≡ true) → a ≡ b
 same_tests true b f g = sym (f refl)

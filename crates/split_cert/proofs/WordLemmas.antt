@@ -15,7 +15,8 @@ use Rattle.split_cert.specs.declared.head.Kind.{Kind}
 use Rattle.split_cert.specs.declared.head.Kind.TheVariants.{Split, Owner, Empty, NeverNull}
 use Rattle.split_cert.specs.Numbers.{number_from, number_of}
 use Rattle.split_cert.specs.Reading.{Here, Outcome, Rule, and_then, is_of_word, word_len, past, word, space_first, space, meant, letter_of, kind_of_letter, kind_of, letter, number}
-use Rattle.split_cert.proofs.NumberLemmas.{by_test, own}
+use Rattle.split_cert.proofs.NumberLemmas.{own}
+use Rattle.filter_tree.proofs.Tests.{by_test}
 
 abbrev pub at : ℕ → ℕ → List ℕ → Here
 at place nodes rest = record { place = place; nodes = nodes; rest = rest }

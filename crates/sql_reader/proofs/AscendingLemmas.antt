@@ -12,7 +12,7 @@ use Rattle.filter_tree.specs.Order.{row_cmp}
 use Rattle.filter_tree.specs.Same.{same_constant}
 use Rattle.filter_tree.proofs.OrderLemmas.{datum_total, row_tie}
 use Rattle.sql_reader.specs.Ascending.{constant_cmp, placed, ascending, ListsAscend}
-use Rattle.sql_reader.proofs.Cases.{or_false}
+use Rattle.filter_tree.proofs.Tests.{or_false}
 
 -- ---- the order
 

@@ -11,7 +11,7 @@ use Rattle.sql_reader.specs.Items.{Items, size}
 use Rattle.sql_reader.specs.Operands.{Forms}
 use Rattle.sql_reader.specs.Reading.{Fault, Outcome, Rule, and_then, next_is, rest_of}
 use Rattle.sql_reader.specs.Repetitions.{Step, after_step, goes, at_most, repeat, link, linked, one_more, each, guarded}
-use Rattle.sql_reader.proofs.Cases.{by_test}
+use Rattle.filter_tree.proofs.Tests.{by_test}
 
 -- an outcome with its value carried over
 abbrev pub mapped : {S T : Type 0} → (S → T) → Outcome S → Outcome T

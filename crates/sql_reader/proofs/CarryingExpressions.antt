@@ -21,8 +21,8 @@ use Rattle.sql_reader.specs.Operands.{Forms, OperandOf, PartOf, verdict_map, wan
 use Rattle.sql_reader.specs.Reading.{Rule, Verdict, and_then, with_rest, is_ahead, item_ahead, place_ahead, next_is, expect, rest_of}
 use Rattle.sql_reader.specs.Repetitions.{link}
 use Rattle.sql_reader.proofs.Carrying.{mapped, Carries, then-same, then-carried, repeat-carried, link-carried}
-use Rattle.sql_reader.proofs.Cases.{by_test}
 use Rattle.sql_reader.proofs.CarryingParts.{operand_map, part_map, check-carried, simple-carried, dividend-same, remainder-carried, wanted-carried, negated-carried, joined-carried, compared_part-carried, tested_part-carried, among_part-carried, between_part-carried, distinct_part-carried}
+use Rattle.filter_tree.proofs.Tests.{by_test}
 
 module _ {S T : Type 0} (from : Forms S) (to : Forms T) (h : S → T) (carries : Carries from to h)
     (columns : List Column) where

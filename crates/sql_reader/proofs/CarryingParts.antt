@@ -28,7 +28,7 @@ use Rattle.sql_reader.specs.Numbers.{placed_number}
 use Rattle.sql_reader.specs.Operands.{Forms, OperandOf, OfTerm, OfLiteral, OfFormula, PartOf, part, verdict_map, verdict_then, truth, true_or_clash, wanted, negated, joined, dividend, divided, remainder, fits, fitting, compared, compared_part, asking, answered, negated_if, tested as tested_part}
 use Rattle.sql_reader.specs.Reading.{Verdict, with_rest, item_ahead, rest_of}
 use Rattle.sql_reader.proofs.Carrying.{mapped, Carries, then-same}
-use Rattle.sql_reader.proofs.Cases.{by_test}
+use Rattle.filter_tree.proofs.Tests.{by_test}
 
 abbrev pub operand_map : {S T : Type 0} → (S → T) → OperandOf S → OperandOf T
 operand_map h (OfTerm term kind) = OfTerm term kind

@@ -9,7 +9,7 @@ use Rattle.filter_tree.specs.Same.{same_atom}
 use Rattle.sql_reader.specs.Counting.{atoms_backwards, gathered}
 use Rattle.sql_reader.specs.Limits.{nodes, distinct_count}
 use Rattle.sql_reader.proofs.OrderLemmas.{all_backwards_alike}
-use Rattle.sql_reader.proofs.Cases.{by_test}
+use Rattle.filter_tree.proofs.Tests.{by_test}
 
 with_item_grows : (held : List AtomOf) (c : AtomOf) → length held ≤ length (with_item same_atom held c)
 with_item_grows held c = by_test (list_any (same_atom c) held)

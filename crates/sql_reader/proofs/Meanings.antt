@@ -20,8 +20,8 @@ use Rattle.filter_tree.specs.Expr.{term_value, remainder_of, is_missing, meaning
 use Rattle.sql_reader.specs.Ascending.{ascending}
 use Rattle.sql_reader.specs.Written.{Written, Told, Column, Compared, ComparedFrom, Among, Between, Distinct, IsNull, Is, Negated, And, Or, compare_values, among_values, between_values, distinct_values, truth_value, turned, as_written, as_filter, filter_of, written_meaning}
 use Rattle.sql_reader.proofs.AscendingLemmas.{any_ascending}
-use Rattle.sql_reader.proofs.Cases.{or_false}
 use Rattle.sql_reader.proofs.Carrying.{Carries}
+use Rattle.filter_tree.proofs.Tests.{or_false}
 
 pub filters_carry : Carries as_written as_filter filter_of
 filters_carry = record {

@@ -8,7 +8,7 @@ use Rattle.filter_tree.specs.Lists.{with_item, atoms_in}
 use Rattle.filter_tree.specs.Same.{same_atom}
 use Rattle.filter_tree.proofs.SameLemmas.{same_atom_is, same_atom_of_equal}
 use Rattle.sql_reader.specs.Counting.{atoms_backwards}
-use Rattle.sql_reader.proofs.Cases.{by_test, or_false, or_true}
+use Rattle.filter_tree.proofs.Tests.{by_test, or_true, or_false}
 
 abbrev added : List AtomOf → AtomOf → List AtomOf
 added held x = with_item same_atom held x

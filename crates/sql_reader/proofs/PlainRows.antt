@@ -20,10 +20,10 @@ use Rattle.sql_tokens.specs.Front.{front}
 use Rattle.sql_tokens.specs.Lexed.{at}
 use Rattle.sql_tokens.specs.Numbers as n
 use Rattle.sql_tokens.specs.Numbers.{number_from, number_of}
-use Rattle.sql_tokens.specs.Operators.{signs_len, operator}
+use Rattle.sql_tokens.specs.Operators.{operator}
 use Rattle.sql_tokens.proofs.Fronts.{front-digit}
 use Rattle.sql_tokens.proofs.Lexing.{at-token}
-use Rattle.sql_tokens.proofs.SpelledTokens.{EndsValue, lexeme, space_passes}
+use Rattle.sql_tokens.proofs.SpelledTokens.{EndsValue, lexeme, space_passes, minus_len}
 use Rattle.sql_reader.specs.declared.item.Item.TheVariants as i
 use Rattle.sql_reader.specs.declared.plain_row.Digits.{Digits}
 use Rattle.sql_reader.specs.declared.plain_row.PlacedValue.{PlacedValue}
@@ -36,10 +36,7 @@ use Rattle.sql_reader.specs.Rows.{number_value, value, one_value, values, row_of
 use Rattle.sql_reader.specs.Repetitions.{link, repeat}
 use Rattle.sql_reader.proofs.SpelledRows.{ahead, closing, comma_ahead, null_again, true_again, false_again, string_again, one_more, comma_next, close_next, between_parentheses}
 use Rattle.sql_reader.proofs.RepetitionLemmas.{link-goes_on, link-ends}
-
-by_test : {P : Type 0} (b : Bool) → (b ≡ true → P) → (b ≡ false → P) → P
-by_test true holds fails = holds refl
-by_test false holds fails = fails refl
+use Rattle.filter_tree.proofs.Tests.{by_test}
 
 pub ends_is : (byte : ℕ) → is_end byte ≡ true → EndsValue byte
 ends_is byte e = by_test (byte == 44) (λ comma. inl (eqb-true byte 44 comma))
@@ -98,19 +95,6 @@ number_is_plain text place digits number e are within ends = record {
 }
 
 -- ---- numbers with a minus
-
-digit_no_sign : (digit : ℕ) (rest : List ℕ) → is_ascii_digit digit ≡ true → signs_len (digit ∷ rest) ≡ 0
-unfolding signs_len
-digit_no_sign digit rest e = grind (arith, nat_tests)
-
-one_sign : (rest : List ℕ) → get_or rest 0 0 == 45 ≡ false → signs_len (45 ∷ rest) ≡ 1 + signs_len rest
-unfolding signs_len
-one_sign rest e = rw e refl
-
-minus_len : (digit : ℕ) (rest : List ℕ) → is_ascii_digit digit ≡ true → signs_len (45 ∷ digit ∷ rest) ≡ 1
-minus_len digit rest e =
-    let no_comment : digit == 45 ≡ false = grind (arith, nat_tests) in
-    omega (arith, one_sign (digit ∷ rest) no_comment, digit_no_sign digit rest e)
 
 -- what begins with a minus before a digit begins as `-0` does
 minus_front : (bytes : List ℕ) → is_ascii_digit (slice_index bytes 0) ≡ true → front (45 ∷ bytes) ≡ front (45 ∷ 48 ∷ [])

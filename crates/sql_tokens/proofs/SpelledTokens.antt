@@ -69,7 +69,7 @@ false_front : (next : ℕ) (rest : List ℕ) → EndsValue next → front (codes
 unfolding front word
 false_front next rest ends = elim ends [ inl e ↦ rw e refl | inr e ↦ rw e refl ]
 
-open_front : (rest : List ℕ) → front (40 ∷ rest) ≡ Whole Open 1
+pub open_front : (rest : List ℕ) → front (40 ∷ rest) ≡ Whole Open 1
 unfolding front
 open_front rest = refl
 
@@ -77,7 +77,7 @@ close_front : (rest : List ℕ) → front (41 ∷ rest) ≡ Whole Close 1
 unfolding front
 close_front rest = refl
 
-comma_front : (rest : List ℕ) → front (44 ∷ rest) ≡ Whole Comma 1
+pub comma_front : (rest : List ℕ) → front (44 ∷ rest) ≡ Whole Comma 1
 unfolding front
 comma_front rest = refl
 
@@ -126,15 +126,15 @@ number_front n next rest small ends =
     digits_front (decimal n) (next ∷ rest) (decimal_nonempty n (omega arith)) digital
     ∙ digits_number (decimal n) n next rest digital (digits_value-decimal own n (omega arith)) small ends
 
-digit_no_sign : (digit : ℕ) (rest : List ℕ) → is_ascii_digit digit ≡ true → signs_len (digit ∷ rest) ≡ 0
+pub digit_no_sign : (digit : ℕ) (rest : List ℕ) → is_ascii_digit digit ≡ true → signs_len (digit ∷ rest) ≡ 0
 unfolding signs_len
 digit_no_sign digit rest e = grind (arith, nat_tests)
 
-one_sign : (rest : List ℕ) → get_or rest 0 0 == 45 ≡ false → signs_len (45 ∷ rest) ≡ 1 + signs_len rest
+pub one_sign : (rest : List ℕ) → get_or rest 0 0 == 45 ≡ false → signs_len (45 ∷ rest) ≡ 1 + signs_len rest
 unfolding signs_len
 one_sign rest e = rw e refl
 
-minus_len : (digit : ℕ) (rest : List ℕ) → is_ascii_digit digit ≡ true → signs_len (45 ∷ digit ∷ rest) ≡ 1
+pub minus_len : (digit : ℕ) (rest : List ℕ) → is_ascii_digit digit ≡ true → signs_len (45 ∷ digit ∷ rest) ≡ 1
 minus_len digit rest e =
     let no_comment : digit == 45 ≡ false = grind (arith, nat_tests) in
     omega (arith, one_sign (digit ∷ rest) no_comment, digit_no_sign digit rest e)

@@ -18,7 +18,6 @@ use Rattle.table_changes.specs.Seen.{passing, seen_rows}
 use Rattle.table_changes.specs.Setting.{Recorded, Columns, Whole, Nowhere, fits}
 use Rattle.table_changes.specs.Standing.{Covered}
 use Rattle.table_changes.specs.Tables.{Tables}
-use Rattle.table_changes.proofs.TableLemmas.{by_test}
 use Rattle.replica_identity.specs.Parts.{part_in}
 use Rattle.replica_identity.specs.Setting.{blanked_in}
 use Rattle.replica_identity.proofs.PartLemmas.{records_parts}
@@ -45,6 +44,7 @@ use Rattle.stream_laws.proofs.KeyLemmas.{row_of, key_at_table, tells_identity}
 use Rattle.stream_laws.proofs.RelationSteps.{shape_for, told_same}
 use Rattle.stream_laws.proofs.Safety.{Safe, safe_heard, safe_both}
 use Rattle.stream_laws.proofs.SwapLemmas.{Found, put, IsDone, passing_some}
+use Rattle.filter_tree.proofs.Tests.{by_test}
 
 -- ---- a change of a table that was told
 

@@ -1,5 +1,5 @@
 -- The pieces of a command that asks for a stream, each read as it was written.
-use Rattle.std.proofs.Common.{◌≡◌, ◌≢◌, ℕ, zero, suc, ◌+◌, ◌-◌, ◌*◌, ◌/◌, ◌%◌, ◌^◌, ◌<◌, ◌≤◌, true, false, ◌==◌, List, [], ◌∷◌, ◌++◌, length, get_or, drop, Option, Some, refl, sym, ap, ◌∙◌, arith, append_assoc, length-append, eqb-true}
+use Rattle.std.proofs.Common.{◌≡◌, ◌≢◌, ℕ, zero, suc, ◌+◌, ◌-◌, ◌*◌, ◌/◌, ◌%◌, ◌^◌, ◌<◌, ◌≤◌, true, false, ◌==◌, List, [], ◌∷◌, ◌++◌, length, get_or, Option, Some, refl, sym, ap, ◌∙◌, arith, append_assoc, length-append, eqb-true}
 use Rattle.std.specs.Prelude.{nat_lt}
 use Rattle.std.specs.Char.{is_ascii_hexdigit, digit_value}
 use Rattle.std.specs.Fmt.{digits, digits_onto, digit_glyph}
@@ -16,16 +16,12 @@ use Rattle.copy_both.specs.declared.token.Token.{Token}
 use Rattle.copy_both.specs.declared.token.Token.TheVariants.{QuotedName, Value, Position}
 use Rattle.copy_both.specs.declared.token.Piece.TheVariants.{Whole}
 use Rattle.copy_both.specs.CommandTokens.{longer, quoted, hexadecimal, is_word_byte, run, front, tokens_from}
-use Rattle.table_changes.proofs.TableLemmas.{by_test}
 use Rattle.test_subscriber.specs.StartQuery.{lsn_text}
+use Rattle.copy_both.proofs.QuotedLoops.{no_quote}
+use Rattle.copy_both.proofs.TokenLoops.{skipped}
+use Rattle.filter_tree.proofs.Tests.{by_test}
 
 -- ---- from a piece to a token
-
-skipped : (n : ℕ) (bytes : List ℕ) → n ≤ length bytes → tokens_from n bytes ≡ tokens_from 0 (drop n bytes)
-unfolding tokens_from
-skipped zero bytes within = refl
-skipped (suc n) [] within = absurd (omega arith)
-skipped (suc n) (b ∷ bytes) within = skipped n bytes (omega arith)
 
 -- a token is read, and then what follows it
 pub token_here : (token : Token) (text rest : List ℕ) (tokens : List Token) → 0 < length text
@@ -47,12 +43,6 @@ space_passes rest tokens more = more
 
 abbrev found_as : List ℕ → ℕ → Option QuotedText
 found_as meant n = Some (record { meant = meant; length = n })
-
-no_quote : (quote b : ℕ) (tail : List ℕ) → b == quote ≡ false → 0 < length tail
-    → quoted quote (b ∷ tail) ≡ longer 1 b (quoted quote tail)
-unfolding quoted
-no_quote quote b [] e some = absurd (omega arith)
-no_quote quote b (c ∷ tail) e some = rw e refl
 
 last_quote : (quote : ℕ) (after : List ℕ) → get_or after 0 0 ≢ quote → quoted quote (quote ∷ after) ≡ found_as [] 1
 unfolding quoted

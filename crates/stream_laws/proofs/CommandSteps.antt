@@ -11,24 +11,20 @@ use Rattle.filter_tree.specs.Same.{same_row}
 use Rattle.filter_tree.specs.declared.validity.RowFault.{RowFault}
 use Rattle.filter_tree.proofs.SameLemmas.{same_row_of_equal}
 use Rattle.table_changes.specs.Changes.{is_this, is_named}
-use Rattle.table_changes.specs.Commands.{Insert, Update, Delete, Truncate, CommandFault, NoTable, NoSuchRow, DuplicateKey, unless, unless_unfit, named, fault_of, applied}
+use Rattle.table_changes.specs.Commands.{Insert, Update, Delete, Truncate, CommandFault, NoTable, NoSuchRow, DuplicateKey, unless_unfit, named, fault_of, applied}
 use Rattle.table_changes.specs.Keys.{key_at, HasPrimaryKeys}
 use Rattle.table_changes.specs.Seen.{passing}
 use Rattle.table_changes.specs.Setting.{Setting, fits}
 use Rattle.table_changes.specs.Standing.{Apart, AllFit, Covered}
 use Rattle.table_changes.specs.Tables.{Tables, is_row, found_at, take_out, without, is_free, holds, Stands}
-use Rattle.table_changes.proofs.ChangeLemmas.{rows_stand}
-use Rattle.table_changes.proofs.TableLemmas.{by_test, free_place, held, holds_without, or_false, and_true, and_false, row_found, some_is}
+use Rattle.table_changes.proofs.ChangeLemmas.{rows_stand, no_unless}
+use Rattle.table_changes.proofs.TableLemmas.{free_place, held, holds_without, and_true, row_found, some_is}
 use Rattle.stream_laws.specs.ShardRows.{FindsRows, in_shard, FindsShard}
 use Rattle.stream_laws.proofs.SwapLemmas.{Found, Swaps, swapped, IsDone, follows_swap, finds_same, is_it}
 use Rattle.std.proofs.lemmas.Bool.{or_left, eq-eqb, eqb-true}
+use Rattle.filter_tree.proofs.Tests.{by_test, or_false, and_false}
 
 -- ---- what it takes to be accepted
-
-no_unless : (b : Bool) (fault : CommandFault) (next : Option CommandFault) → unless b fault next ≡ None → (b ≡ true)
-    × (next ≡ None)
-no_unless true fault next h = (refl, h)
-no_unless false fault next h = absurd cc
 
 no_unfit : (fault : Option RowFault) (next : Option CommandFault) → unless_unfit fault next ≡ None → next ≡ None
 no_unfit None next h = h

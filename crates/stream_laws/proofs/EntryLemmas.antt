@@ -12,6 +12,7 @@ use Rattle.tables_log.specs.Commits.{CommitOf, commit_of}
 use Rattle.tables_log.specs.StandsFor.{Transaction, left_by, IsAccepted, AreAccepted, entries_from}
 use Rattle.stream_laws.proofs.CommandSteps.{IsRight}
 use Rattle.std.proofs.lemmas.Option.{same_Some}
+use Rattle.copy_both.proofs.SeenStreamLemmas.{at_later}
 
 -- the transaction of an entry, which comes after so many others
 pub record IsEntry (setting : Setting) (tables : Tables) (number : ℕ) (transactions : List Transaction) (place : ℕ)
@@ -24,9 +25,6 @@ pub record IsEntry (setting : Setting) (tables : Tables) (number : ℕ) (transac
   pub accepted : IsAccepted setting (fold (left_by setting) tables (take place transactions)) transaction
   pub left : fold (left_by setting) tables (take (suc place) transactions)
       ≡ left_by setting (fold (left_by setting) tables (take place transactions)) transaction
-
-at_later : (number place : ℕ) → number + 1 + place ≡ number + suc place
-at_later number place = omega arith
 
 pub past_end : {X : Type 0} (xs : List X) (place : ℕ) → slice_get xs place ≡ None → length xs ≤ place
 past_end [] place e = omega arith

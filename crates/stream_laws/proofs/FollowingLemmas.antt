@@ -7,7 +7,6 @@ use Rattle.std.proofs.lemmas.Bool.{ltb-true, ltb-false}
 use Rattle.std.proofs.lemmas.List.{get_or-replicate, get_or_past, length-replicate}
 use Rattle.std.proofs.lemmas.List.Elements.{All-head, All-tail}
 use Rattle.filter_tree.specs.Datum.{Datum}
-use Rattle.table_changes.proofs.TableLemmas.{by_test}
 use Rattle.shard_checker.specs.CheckedView.{CheckedOf}
 use Rattle.tables_log.specs.Commits.{CommitOf}
 use Rattle.tables_log.specs.StandsFor.{Transaction}
@@ -32,6 +31,7 @@ use Rattle.stream_laws.specs.Following.{raised_by_message, raised_by, position_a
 use Rattle.stream_laws.specs.Items.{Item, Response, Carries, Alive, frame_in, head_of, take_items, all_items, stream_items}
 use Rattle.stream_laws.proofs.Safety.{Safe, safe_on, on_ok, ok_as}
 use Rattle.stream_laws.proofs.StreamSteps.{Between, between_follows, commit_safe, keepalive_between}
+use Rattle.filter_tree.proofs.Tests.{by_test}
 
 -- ---- the frame of an item
 

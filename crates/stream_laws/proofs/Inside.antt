@@ -7,7 +7,6 @@ use Rattle.std.proofs.lemmas.List.{length-set}
 use Rattle.std.proofs.lemmas.List.Elements.{All-head, All-tail}
 use Rattle.filter_tree.specs.declared.table.Table.{Table}
 use Rattle.table_changes.specs.Tables.{Tables}
-use Rattle.table_changes.proofs.TableLemmas.{by_test}
 use Rattle.shard_checker.specs.CheckedView.{CheckedOf, setting_in}
 use Rattle.tables_log.specs.StandsFor.{Transaction, after}
 use Rattle.pgoutput_msgs.specs.Telling.{oid_of, relation_of, relation_at, introduced, relation_once, relations_of, told_one, told_all}
@@ -24,6 +23,7 @@ use Rattle.stream_laws.proofs.Safety.{Safe, safe_heard, safe_both}
 use Rattle.stream_laws.proofs.SwapLemmas.{Found}
 use Rattle.std.proofs.lemmas.Bool.{eqb-true}
 use Rattle.stream_laws.proofs.EntryLemmas.{past_end}
+use Rattle.filter_tree.proofs.Tests.{by_test}
 
 -- the number of a table that was told stays told
 pub record Inside (checked : CheckedOf) (subscriber begin : ℕ) (outer : Machine) (told : List Bool) (tables : Tables)

@@ -9,12 +9,11 @@ use Rattle.filter_tree.specs.Datum.{Datum, Missing, value_at}
 use Rattle.filter_tree.specs.Valid.{IsValid}
 use Rattle.filter_tree.specs.declared.table.Column.{Column}
 use Rattle.filter_tree.specs.declared.table.Table.{Table}
-use Rattle.filter_tree.proofs.SameLemmas.{both_true}
 use Rattle.filter_tree.proofs.ValidLemmas.{valid_from_no_fault}
 use Rattle.table_changes.specs.Columns.{values_at}
 use Rattle.table_changes.specs.Setting.{Recorded, Columns, Whole, Nowhere, fits}
 use Rattle.table_changes.specs.Standing.{Covered}
-use Rattle.table_changes.proofs.TableLemmas.{by_test}
+use Rattle.table_changes.proofs.TableLemmas.{at_next}
 use Rattle.replica_identity.specs.Identities.{identity_columns, is_covered}
 use Rattle.replica_identity.specs.Setting.{recorded_as, fault_in, identity_by, identity_in, blanked_by, blanked_in}
 use Rattle.replica_identity.proofs.SettingLemmas.{columns_identify}
@@ -24,6 +23,7 @@ use Rattle.test_subscriber.specs.Shapes.{if_flagged, flagged_from}
 use Rattle.stream_laws.specs.Following.{flagged_in, own_key}
 use Rattle.stream_laws.proofs.CommandSteps.{TellsIdentity}
 use Rattle.stream_laws.proofs.EntryLemmas.{past_end}
+use Rattle.filter_tree.proofs.Tests.{by_test, both_true}
 
 -- ---- values in columns, one by one
 
@@ -82,9 +82,6 @@ flagged_both : (flag : Bool) (number : ℕ) (others : List ℕ) (one other : Lis
 flagged_both true number others one other h k =
     both_same (value_at one number) (value_at other number) (values_at others one) (values_at others other) (h refl) k
 flagged_both false number others one other h k = k
-
-at_next : (number k : ℕ) → number + suc k ≡ number + 1 + k
-at_next number k = omega arith
 
 each_flagged : (table : Table) (number : ℕ) (columns : List Column) (one other : List Datum)
     → values_at (flagged_from number (columns_from table number columns)) one

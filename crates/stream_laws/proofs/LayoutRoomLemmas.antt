@@ -1,14 +1,13 @@
 -- The layouts have room for what is told of the commits of a log.
 use Rattle.std.proofs.Common.{◌≡◌, ℕ, zero, suc, ◌+◌, ◌<◌, ◌≤◌, ◌^◌, Bool, true, false, ◌||◌, List, [], ◌∷◌, ◌++◌, length, map, take, refl, sym, ◌∙◌, ap, subst, arith}
 use Rattle.std.specs.Prelude.{Option, Some, None, All, nat_eq, filter, fold, IfSome, option_map, slice_get, slice_index_or, if◌then◌else◌}
-use Rattle.std.specs.Cmp.{nat_eq_equiv, unsigned_Decides}
-use Rattle.std.specs.List.{list_any, IsDistinct}
+use Rattle.std.specs.Cmp.{unsigned_Decides}
+use Rattle.std.specs.List.{list_any}
 use Rattle.std.proofs.lemmas.List.Elements.{All-nil, All-cons, All-head, All-tail, All-append}
-use Rattle.std.proofs.lemmas.Map.Keys.{IsDistinct-push}
 use Rattle.std.proofs.lemmas.Map.Steps.{length-le_from_distinct_below}
 use Rattle.std.proofs.lemmas.Option.{slice_get_within, get_or_from_slice_get}
 use Rattle.filter_tree.specs.Datum.{Datum}
-use Rattle.filter_tree.specs.Lists.{with_item, distinct}
+use Rattle.filter_tree.specs.Lists.{distinct}
 use Rattle.filter_tree.specs.declared.table.Column.{Column}
 use Rattle.filter_tree.specs.declared.table.Table.{Table}
 use Rattle.filter_tree.proofs.ValidLemmas.{no_fault_from_valid}
@@ -22,7 +21,7 @@ use Rattle.table_changes.specs.Setting.{Setting, fits}
 use Rattle.table_changes.specs.Standing.{Covered, AllFit}
 use Rattle.table_changes.specs.Tables.{Tables, no_rows, holds, Stands}
 use Rattle.table_changes.proofs.ChangeLemmas.{keeps_keyed, stay_fit, not_numbered, update_finds, delete_finds, begins_well}
-use Rattle.table_changes.proofs.TableLemmas.{by_test, some_is}
+use Rattle.table_changes.proofs.TableLemmas.{some_is}
 use Rattle.replica_identity.proofs.PartLemmas.{records_parts}
 use Rattle.replica_identity.proofs.SettingLemmas.{has_primary_keys}
 use Rattle.shard_checker.specs.CheckedView.{CheckedOf, setting_in}
@@ -47,25 +46,10 @@ use Rattle.stream_laws.proofs.EntryLemmas.{entry_at}
 use Rattle.stream_laws.proofs.KeyLemmas.{row_of}
 use Rattle.stream_laws.proofs.SwapLemmas.{passing_some}
 use Rattle.stream_laws.proofs.TextLemmas.{IsTextPart, IsTextRow, fits_text, part_text, row_text}
+use Rattle.tables_log.proofs.TruncateLemmas.{distinct_fold, none_distinct}
+use Rattle.filter_tree.proofs.Tests.{by_test}
 
 -- ---- numbers, each once
-
-distinct_with : (has : Bool) (item : ℕ) (numbers : List ℕ) → list_any (nat_eq item) numbers ≡ has
-    → IsDistinct nat_eq numbers
-    → IsDistinct nat_eq (if has then numbers else numbers ++ item ∷ [])
-distinct_with true item numbers is h = h
-distinct_with false item numbers is h = IsDistinct-push nat_eq_equiv numbers item h is
-
-distinct_fold : (numbers more : List ℕ) → IsDistinct nat_eq numbers
-    → IsDistinct nat_eq (fold (with_item nat_eq) numbers more)
-distinct_fold numbers [] h = h
-distinct_fold numbers (item ∷ more) h =
-    distinct_fold (with_item nat_eq numbers item) more
-        (distinct_with (list_any (nat_eq item) numbers) item numbers refl h)
-
-none_distinct : IsDistinct nat_eq []
-unfolding IsDistinct
-none_distinct = tt
 
 below_of_any : (most : ℕ) (numbers : List ℕ) → All (λ number. number < most) numbers → (number : ℕ)
     → list_any (nat_eq number) numbers ≡ true → number < most

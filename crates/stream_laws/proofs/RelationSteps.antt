@@ -12,7 +12,6 @@ use Rattle.filter_tree.specs.declared.table.ColType.{ColType}
 use Rattle.filter_tree.specs.declared.table.ColType.TheVariants.{SmallInt, Integer, BigInt, Boolean, Text}
 use Rattle.filter_tree.specs.declared.table.Column.{Column}
 use Rattle.filter_tree.specs.declared.table.Table.{Table}
-use Rattle.table_changes.proofs.TableLemmas.{by_test}
 use Rattle.shard_checker.specs.CheckedView.{CheckedOf}
 use Rattle.pgoutput_msgs.specs.ReadBack as back
 use Rattle.pgoutput_msgs.specs.Telling.{oid_of, type_oid_of, columns_from, relation_of, told_one}
@@ -28,6 +27,7 @@ use Rattle.test_subscriber.specs.declared.shape.TableShape.{TableShape}
 use Rattle.stream_laws.specs.Following.{KeepsRelations}
 use Rattle.std.proofs.lemmas.Bool.{and_from, eq-eqb}
 use Rattle.std.proofs.lemmas.Option.{same_Some}
+use Rattle.filter_tree.proofs.Tests.{by_test}
 
 -- ---- a Relation is the same as itself
 

@@ -15,13 +15,13 @@ use Rattle.copy_both.specs.CommandText.{command_of}
 use Rattle.copy_both.specs.Hearing.{Served, Begins, offer_in, unless_fault, begin_by, begin_of}
 use Rattle.copy_both.specs.StartAnswers.{Stream, asked_in, asked_by, asked_at, unless_refused, asked_of}
 use Rattle.copy_both.specs.StartOrder.{is_called, unknown_refusal, same_publications, slot_name, slot_refusal, publications_of}
-use Rattle.table_changes.proofs.TableLemmas.{by_test}
 use Rattle.test_subscriber.specs.StartQuery.{start_text}
 use Rattle.stream_laws.specs.Asking.{IsShortName, CanAsk, start_command, StartsAreAnswered}
 use Rattle.stream_laws.specs.Ups.{publication_name, publications_taken, subscription_name}
 use Rattle.stream_laws.proofs.CommandReading.{commands_are_read}
 use Rattle.stream_laws.proofs.StartTexts.{start_is_text, query_text}
 use Rattle.std.proofs.lemmas.Bool.{eq-eqb}
+use Rattle.filter_tree.proofs.Tests.{by_test}
 
 or_true : (b : Bool) → b || true ≡ true
 or_true true = refl

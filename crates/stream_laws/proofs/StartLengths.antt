@@ -12,13 +12,13 @@ use Rattle.pub_catalog.specs.CatalogNames.{IsNamedCatalog}
 use Rattle.pub_catalog.specs.Catalogs.{CatalogOf}
 use Rattle.pub_catalog.specs.declared.catalog.Subscription.{Subscription}
 use Rattle.sql_tokens.specs.Doubled.{doubled, in_quotes}
-use Rattle.table_changes.proofs.TableLemmas.{by_test}
 use Rattle.test_subscriber.specs.StartQuery.{lsn_text, names_text, start_text}
 use Rattle.stream_laws.specs.Asking.{CanAsk, IsAsking, SubscribersCanAsk}
 use Rattle.stream_laws.specs.Ups.{publication_name, start_of}
 use Rattle.stream_laws.proofs.CommandPieces.{digits_short}
 use Rattle.stream_laws.proofs.NamedLemmas.{can_ask, few_taken, its_taken}
 use Rattle.stream_laws.proofs.StartAnswered.{names_are_plain}
+use Rattle.filter_tree.proofs.Tests.{by_test}
 
 -- ---- between quotes
 

@@ -14,9 +14,9 @@ use Rattle.pub_catalog.specs.CatalogLimits.{IsPlainName}
 use Rattle.sql_tokens.specs.Doubled.{doubled, in_quotes}
 use Rattle.copy_both.proofs.Utf8Texts.{is_text}
 use Rattle.copy_both.specs.StartAnswers.{text_in}
-use Rattle.table_changes.proofs.TableLemmas.{by_test}
 use Rattle.test_subscriber.specs.StartQuery.{lsn_text, names_text, start_text}
 use Rattle.stream_laws.proofs.CommandPieces.{hex_digits}
+use Rattle.filter_tree.proofs.Tests.{by_test}
 
 abbrev is_clean : List ℕ → Bool
 is_clean text = list_all (λ b. not (b == 0)) text

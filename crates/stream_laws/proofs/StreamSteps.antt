@@ -7,7 +7,6 @@ use Rattle.filter_tree.specs.Datum.{Datum}
 use Rattle.table_changes.specs.Records.{record_of}
 use Rattle.table_changes.specs.Tables.{Tables, no_rows}
 use Rattle.table_changes.proofs.ChangeLemmas.{begins_well}
-use Rattle.table_changes.proofs.TableLemmas.{by_test}
 use Rattle.shard_checker.specs.CheckedView.{CheckedOf, setting_in}
 use Rattle.tables_log.specs.Commits as log
 use Rattle.tables_log.specs.Commits.{CommitOf}
@@ -28,6 +27,7 @@ use Rattle.stream_laws.proofs.EntryLemmas.{entry_at, right_at}
 use Rattle.stream_laws.proofs.Inside.{Inside, inside_follows}
 use Rattle.stream_laws.proofs.RelationSteps.{Knows}
 use Rattle.stream_laws.proofs.Safety.{Safe, safe_heard, safe_both}
+use Rattle.filter_tree.proofs.Tests.{by_test}
 
 -- Between transactions: what it shows is its shard after the commits that its position counts, and, since it sees
 -- nothing of those between, after all that the connection is done with.

@@ -3,12 +3,13 @@ use Rattle.std.proofs.Common.{◌≡◌, Bool, true, false, not, ◌&&◌, ◌||
 use Rattle.std.specs.Prelude.{Option, Some, None, if◌then◌else◌}
 use Rattle.filter_tree.specs.Datum.{Datum}
 use Rattle.filter_tree.specs.Same.{same_row}
-use Rattle.filter_tree.proofs.SameLemmas.{both_true, equal_from_same_row, same_row_of_equal}
+use Rattle.filter_tree.proofs.SameLemmas.{equal_from_same_row, same_row_of_equal}
 use Rattle.table_changes.specs.Seen.{passing}
 use Rattle.table_changes.specs.Tables.{is_row}
-use Rattle.table_changes.proofs.TableLemmas.{by_test, or_false, and_true, some_is, row_found}
+use Rattle.table_changes.proofs.TableLemmas.{and_true, some_is, row_found}
 use Rattle.stream_laws.specs.ShardRows.{FindsRows}
 use Rattle.std.proofs.lemmas.Bool.{and_parts, or_left, or_right, not-true}
+use Rattle.filter_tree.proofs.Tests.{and_not, by_test, or_false, both_true}
 
 -- the rows that are found by a key
 abbrev pub Found : Type 0
@@ -64,10 +65,6 @@ finds_put key_of found rows new finds free = record {
       ap (λ o. is_row o row) (put_beside found (key_of new) (Some new) (key_of row) beside) ∙ finds.each row
       ∙ ap (λ b. b || rows row) (sym (keys_differ key_of new row beside)));
 }
-
-and_not : (b : Bool) → (b && not b) ≡ false
-and_not true = refl
-and_not false = refl
 
 pub found_there : (key_of : List Datum → List Datum) (found : Found) (rows : List Datum → Bool) (row : List Datum)
     → FindsRows key_of found rows → rows row ≡ true

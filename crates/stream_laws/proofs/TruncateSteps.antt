@@ -10,7 +10,6 @@ use Rattle.filter_tree.specs.declared.table.Table.{Table}
 use Rattle.table_changes.specs.Outs.{as_recorded}
 use Rattle.table_changes.specs.Seen.{seen_tables}
 use Rattle.table_changes.specs.Tables.{Tables}
-use Rattle.table_changes.proofs.TableLemmas.{by_test}
 use Rattle.shard_checker.specs.CheckedView.{CheckedOf, setting_in}
 use Rattle.tables_log.specs.StandsFor.{Transaction}
 use Rattle.pgoutput_msgs.specs.Telling.{oid_of, relations_of, told_all, said, told_by}
@@ -25,6 +24,7 @@ use Rattle.stream_laws.proofs.CommandSteps.{cleared, finds_alike}
 use Rattle.stream_laws.proofs.Inside.{Inside, AllTold, all_are_told, good, relations_safe}
 use Rattle.stream_laws.proofs.RelationSteps.{shape_for}
 use Rattle.stream_laws.proofs.Safety.{Safe, safe_heard, safe_both}
+use Rattle.filter_tree.proofs.Tests.{by_test}
 
 pub record IsThere (tables : List Table) (number : ℕ) : Type 0 where
   pub table : Table

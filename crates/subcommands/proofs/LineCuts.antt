@@ -4,6 +4,7 @@ use Rattle.std.proofs.lemmas.List.{take-append-drop}
 use Rattle.std.specs.Option.{option_map}
 use Rattle.std.specs.List.{list_any, position_or_len}
 use Rattle.subcommands.specs.Parts.{is_newline, first_line, after_line, onto_line, lines_of, Cut, onto_part, is_separator, cut_from, cut_of}
+use Rattle.filter_tree.proofs.Tests.{by_test}
 
 -- ---- the first newline
 
@@ -128,10 +129,6 @@ later_after_line text [] some other now = absurd (omega arith)
 later_after_line text (byte ∷ rest) some other now = later_next text byte rest other now
 
 -- ---- texts without the byte of a separator
-
-by_test : {P : Type 0} (b : Bool) → (b ≡ true → P) → (b ≡ false → P) → P
-by_test true holds fails = holds refl
-by_test false holds fails = fails refl
 
 no_separator : (byte : ℕ) (text : List ℕ) → byte == 37 ≡ false → is_separator (first_line (byte ∷ text)) ≡ false
 no_separator byte text other =

@@ -6,7 +6,7 @@ use Rattle.subcommands.specs.CommandLine.{CanDo, IsLimit, IsRequest, IsWithin}
 use Rattle.subcommands.specs.declared.arguments.Request.{Request}
 use Rattle.subcommands.specs.declared.arguments.Request.TheVariants.{Eval, Check, Make, Simulate}
 
-limit_within : (word : Option Text) (limit : ℕ) → IsLimit word limit → IsWithin limit
+pub limit_within : (word : Option Text) (limit : ℕ) → IsLimit word limit → IsWithin limit
 limit_within None limit is = record { some = omega (arith, is); most = omega (arith, is) }
 limit_within (Some word) limit is = is.within
 

@@ -6,16 +6,17 @@ use Rattle.std.specs.Cmp.{unsigned_Decides}
 use Rattle.filter_tree.specs.Datum.{Datum}
 use Rattle.filter_tree.specs.Same.{same_row}
 use Rattle.filter_tree.specs.declared.validity.RowFault.{RowFault}
-use Rattle.filter_tree.proofs.SameLemmas.{both_true, equal_from_same_row}
+use Rattle.filter_tree.proofs.SameLemmas.{equal_from_same_row}
 use Rattle.table_changes.specs.Changes.{is_this, is_named, stands_after, BeginsWell}
 use Rattle.table_changes.specs.Commands.{Command, Insert, Update, Delete, Truncate, CommandFault, NoTable, NoSuchRow, DuplicateKey, unless, unless_unfit, named, fault_of, applied, all_applied, numbered, first_fault}
 use Rattle.table_changes.specs.Setting.{Setting, fits}
 use Rattle.table_changes.specs.Keys.{HasPrimaryKeys}
 use Rattle.table_changes.specs.Standing.{Apart, AllFit, KeepsApart}
 use Rattle.table_changes.specs.Tables.{Tables, is_row, no_rows, without, is_free, holds, Stands}
-use Rattle.table_changes.proofs.TableLemmas.{put_keeps, take_keeps, emptied_keeps, holds_with, holds_without, holds_emptied, held, and_true, and_false}
+use Rattle.table_changes.proofs.TableLemmas.{put_keeps, take_keeps, emptied_keeps, holds_with, holds_without, holds_emptied, held, and_true}
+use Rattle.filter_tree.proofs.Tests.{both_true, and_false}
 
-no_unless : (b : Bool) (fault : CommandFault) (next : Option CommandFault) → unless b fault next ≡ None → (b ≡ true)
+pub no_unless : (b : Bool) (fault : CommandFault) (next : Option CommandFault) → unless b fault next ≡ None → (b ≡ true)
     × (next ≡ None)
 no_unless true fault next h = (refl, h)
 no_unless false fault next h = absurd cc

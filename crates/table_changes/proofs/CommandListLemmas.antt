@@ -178,7 +178,7 @@ are_alike setting one other same = record {
 next_number : (number count : ℕ) → number + 1 + count ≡ number + suc count
 next_number number count = omega arith
 
-no_more : (number : ℕ) → number ≡ number + 0
+pub no_more : (number : ℕ) → number ≡ number + 0
 no_more number = omega arith
 
 none_before : (number : ℕ) (fault : Option CommandFault) (next : Option (ℕ × CommandFault))

@@ -17,7 +17,7 @@ use Rattle.table_changes.specs.Setting.{Setting, Recorded, Columns, Whole, Nowhe
 use Rattle.table_changes.specs.Standing.{Covered}
 use Rattle.table_changes.specs.Tables.{Tables}
 use Rattle.table_changes.proofs.ChangeLemmas.{update_finds, delete_finds, not_numbered}
-use Rattle.table_changes.proofs.TableLemmas.{by_test}
+use Rattle.filter_tree.proofs.Tests.{by_test}
 
 -- ---- a row that comes
 

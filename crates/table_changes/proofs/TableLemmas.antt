@@ -5,30 +5,15 @@ use Rattle.std.specs.List.{list_any}
 use Rattle.std.specs.Cmp.{unsigned_Decides}
 use Rattle.filter_tree.specs.Datum.{Datum}
 use Rattle.filter_tree.specs.Same.{same_row}
-use Rattle.filter_tree.proofs.SameLemmas.{both_true, equal_from_same_row, same_row_of_equal}
+use Rattle.filter_tree.proofs.SameLemmas.{equal_from_same_row, same_row_of_equal}
 use Rattle.table_changes.specs.Changes.{is_this, StayWhereTheyBelong}
 use Rattle.table_changes.specs.Keys.{UniqueKey, Keys, value_in, key_at, HasPrimaryKeys}
 use Rattle.table_changes.specs.Tables.{Tables, is_row, is_own, put, put_in, take_out, emptied, found_at, is_free_from, is_free, holds, Stands}
-
-pub by_test : {P : Type 0} (b : Bool) → (b ≡ true → P) → (b ≡ false → P) → P
-by_test true at_true at_false = at_true refl
-by_test false at_true at_false = at_false refl
-
-pub or_false : (b : Bool) → (b || false) ≡ b
-or_false true = refl
-or_false false = refl
+use Rattle.filter_tree.proofs.Tests.{by_test, or_false, and_not, and_false, both_true}
 
 pub and_true : (b : Bool) → (b && true) ≡ b
 and_true true = refl
 and_true false = refl
-
-pub and_false : (b : Bool) → (b && false) ≡ false
-and_false true = refl
-and_false false = refl
-
-and_not : (b : Bool) → (b && not b) ≡ false
-and_not true = refl
-and_not false = refl
 
 same_table : (table : ℕ) → (table == table) ≡ true
 same_table table = (unsigned_Decides table table).1 refl
@@ -88,13 +73,13 @@ put_elsewhere keys tables table row found other number value h = rw h refl
 
 -- ---- places that are free
 
-at_zero : (number : ℕ) → number + 0 ≡ number
+pub at_zero : (number : ℕ) → number + 0 ≡ number
 at_zero number = omega arith
 
-zero_more : (number : ℕ) → 0 + number ≡ number
+pub zero_more : (number : ℕ) → 0 + number ≡ number
 zero_more number = omega arith
 
-at_next : (number k : ℕ) → number + suc k ≡ number + 1 + k
+pub at_next : (number k : ℕ) → number + suc k ≡ number + 1 + k
 at_next number k = omega arith
 
 nothing_at : (place : List Datum → Option (List Datum)) (found : Option (List Datum)) (value : List Datum)

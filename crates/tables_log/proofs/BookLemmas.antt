@@ -14,7 +14,7 @@ use Rattle.table_changes.specs.Setting.{Setting}
 use Rattle.table_changes.specs.Tables.{SameTables, no_rows}
 use Rattle.table_changes.specs.declared.command.Command as m
 use Rattle.table_changes.proofs.CommandListLemmas.{are_alike}
-use Rattle.table_changes.proofs.TableLemmas.{by_test, some_is}
+use Rattle.table_changes.proofs.TableLemmas.{some_is}
 use Rattle.tables_log.specs.Applying.{IsNarrow, widths_of}
 use Rattle.tables_log.specs.ApplyingAll.{RefusesCount, StopsAt, StagesCommit, CommitsTables}
 use Rattle.tables_log.specs.BookView.{book_setting, book_limit, book_rows, book_log}
@@ -32,6 +32,7 @@ use Rattle.tables_log.specs.declared.table_rows.TableRows.{TableRows}
 use Rattle.tables_log.proofs.ListLemmas.{map_more}
 use Rattle.tables_log.proofs.PlaceLemmas.{number_is, number_apart, within, get_front, get_last}
 use Rattle.tables_log.proofs.SettleLemmas.{settled_others}
+use Rattle.filter_tree.proofs.Tests.{by_test}
 
 -- ---- tables without rows
 

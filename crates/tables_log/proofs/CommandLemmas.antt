@@ -20,7 +20,7 @@ use Rattle.table_changes.specs.Commands.{Insert, Update, Delete, CommandFault, N
 use Rattle.table_changes.specs.Records as r
 use Rattle.table_changes.specs.Tables.{Tables, SameTables, put, put_in, take_out, without, is_free_from, is_free}
 use Rattle.table_changes.proofs.CommandListLemmas.{free_from_alike}
-use Rattle.table_changes.proofs.TableLemmas.{by_test, some_is}
+use Rattle.table_changes.proofs.TableLemmas.{some_is}
 use Rattle.tables_log.specs.Applying.{without_at, unless_taken, delete_fault, replace_fault, ReplacesRow, InsertsRow, DeletesRow, UpdatesRow, widths_of, HasMaps, Applies}
 use Rattle.tables_log.specs.Places.{Places, put_at, seen_at, seen_in, widths, values_in, PutsRow, KeepsRows, KeepsTables}
 use Rattle.tables_log.specs.Faults.{Finds}
@@ -29,6 +29,7 @@ use Rattle.tables_log.specs.declared.error.Refused.{Refused}
 use Rattle.tables_log.specs.declared.table_rows.TableRows.{TableRows}
 use Rattle.tables_log.proofs.PlaceLemmas.{within, put_is, put_others, seen_before, sees_tables, keeps_tables}
 use Rattle.tables_log.proofs.SendableLemmas.{part_sendable}
+use Rattle.filter_tree.proofs.Tests.{by_test}
 
 -- ---- which tables are there
 

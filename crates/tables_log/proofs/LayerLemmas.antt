@@ -8,8 +8,8 @@ use Rattle.std.specs.Ordering.{eq_by_cmp, is_eq}
 use Rattle.std.specs.declared.cmp.Ordering.{Ordering}
 use Rattle.std.specs.declared.cmp.Ordering.TheVariants.{Equal}
 use Rattle.std.proofs.lemmas.Cmp.{eq_by_cmp_equiv}
-use Rattle.table_changes.proofs.TableLemmas.{by_test}
 use Rattle.tables_log.specs.Layers.{flat, over, below, has_place, is_made, was_in, rewound, kept_under, HasRoom}
+use Rattle.filter_tree.proofs.Tests.{by_test}
 
 -- ---- by cases
 

@@ -23,7 +23,6 @@ use Rattle.filter_tree.specs.Order.{row_cmp}
 use Rattle.filter_tree.specs.Same.{same_row}
 use Rattle.filter_tree.proofs.OrderLemmas.{row_total, row_tie, ties_same_rows}
 use Rattle.filter_tree.proofs.SameLemmas.{equal_from_same_row, same_row_of_equal}
-use Rattle.table_changes.proofs.TableLemmas.{by_test}
 use Rattle.tables_log.specs.Layers.{flat, filled, over, is_made, was_in, rewound, kept_under, kept_places, HasRoom}
 use Rattle.tables_log.specs.Listing.{there, ListsFound, AreRowsOf}
 use Rattle.tables_log.specs.NumberKeys.{number_in, number_key, by_number, HasNoNumber}
@@ -33,6 +32,7 @@ use Rattle.tables_log.proofs.LayerLemmas.{if_same, over_none, tests_same}
 use Rattle.tables_log.proofs.NumberLemmas.{key_of_number, numbers_tie, not_true, number_apart, found_number, found_row, not_number}
 use Rattle.tables_log.specs.declared.staged.Staged.{Staged}
 use Rattle.tables_log.specs.declared.table_rows.TableRows.{TableRows}
+use Rattle.filter_tree.proofs.Tests.{by_test}
 
 -- ---- in the entries of a map
 

@@ -5,13 +5,13 @@ use Rattle.std.proofs.lemmas.Bool.{ltb-true, ltb-false}
 use Rattle.std.proofs.lemmas.Option.{slice_get_past}
 use Rattle.std.proofs.lemmas.List.{length-set}
 use Rattle.filter_tree.specs.Datum.{Datum}
-use Rattle.table_changes.proofs.TableLemmas.{by_test}
 use Rattle.table_changes.specs.Tables.{Tables}
 use Rattle.tables_log.specs.Places.{Places, shown, kept_at, seen_at, maps_of, kept_in, seen_in, widths, SettlesRows, DiscardsRows, DiscardsTables}
 use Rattle.tables_log.specs.Staging.{kept, seen, Settles}
 use Rattle.tables_log.specs.declared.staged.Staged.{Staged}
 use Rattle.tables_log.specs.declared.table_rows.TableRows.{TableRows}
 use Rattle.tables_log.proofs.PlaceLemmas.{number_is, number_apart, within, get_set_here, get_set_beside, map_set}
+use Rattle.filter_tree.proofs.Tests.{by_test}
 
 -- ---- for any items, of which `show` says what they show
 

@@ -10,12 +10,13 @@ use Rattle.filter_tree.specs.Datum.{Datum}
 use Rattle.filter_tree.specs.Same.{same_row}
 use Rattle.table_changes.specs.Keys.{UniqueKey, Keys, value_in, key_at}
 use Rattle.table_changes.specs.Tables.{Tables, SameTables, is_row, put, found_at, is_free_from}
-use Rattle.table_changes.proofs.TableLemmas.{by_test, some_is}
+use Rattle.table_changes.proofs.TableLemmas.{some_is}
 use Rattle.tables_log.specs.Layers.{flat}
 use Rattle.tables_log.specs.Places.{Places, shown, kept_at, seen_at, maps_of, kept_in, seen_in, widths, value_of, put_at, are_free, values_in, KeepsRows, PutsOne, PutsRow, KeepsTables}
 use Rattle.tables_log.specs.Staging.{kept, seen, Keeps, Puts}
 use Rattle.tables_log.specs.declared.staged.Staged.{Staged}
 use Rattle.tables_log.specs.declared.table_rows.TableRows.{TableRows}
+use Rattle.filter_tree.proofs.Tests.{by_test}
 
 -- ---- numbers and lists
 
@@ -61,7 +62,7 @@ pub get_past : {X : Type 0} (xs : List X) → slice_get xs (length xs) ≡ None
 get_past [] = refl
 get_past (y ∷ ys) = get_past ys
 
-take_front : {X : Type 0} (xs rest : List X) → take (length xs) (xs ++ rest) ≡ xs
+pub take_front : {X : Type 0} (xs rest : List X) → take (length xs) (xs ++ rest) ≡ xs
 take_front [] rest = refl
 take_front (x ∷ xs) rest = ap (λ more. x ∷ more) (take_front xs rest)
 

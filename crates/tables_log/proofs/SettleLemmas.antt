@@ -9,12 +9,12 @@ use Rattle.table_changes.specs.Setting.{Setting}
 use Rattle.table_changes.specs.Tables.{Tables, SameTables, without}
 use Rattle.table_changes.specs.declared.command.Command.{Command}
 use Rattle.table_changes.specs.declared.command.Command.TheVariants.{Insert, Update, Delete, Truncate}
-use Rattle.table_changes.proofs.TableLemmas.{by_test}
 use Rattle.tables_log.specs.Places.{kept_at, seen_at, maps_of, kept_in, seen_in, widths, KeepsTables, SettlesRows, SettlesTables, DiscardsTables}
 use Rattle.tables_log.specs.Settling.{is_in, names, are_named, IsSettled, IsSettledBut, SettlesOne, SettlesNamed}
 use Rattle.tables_log.specs.declared.table_rows.TableRows.{TableRows}
 use Rattle.tables_log.proofs.ListLemmas.{drop_past}
 use Rattle.tables_log.proofs.PlaceLemmas.{number_is, number_apart, within, get_set_here, get_set_beside, map_set, put_others}
+use Rattle.filter_tree.proofs.Tests.{by_test}
 
 -- ---- one table
 

@@ -11,7 +11,7 @@ use Rattle.table_changes.specs.Setting.{Setting}
 use Rattle.table_changes.specs.Standing.{Apart, AllFit, KeepsApart}
 use Rattle.table_changes.specs.Tables.{Tables, SameTables, no_rows, Stands}
 use Rattle.table_changes.proofs.ChangeLemmas.{stay_keyed, stay_fit, stay_apart, begins_well}
-use Rattle.table_changes.proofs.CommandListLemmas.{are_alike}
+use Rattle.table_changes.proofs.CommandListLemmas.{are_alike, no_more}
 use Rattle.tables_log.specs.BookView.{book_checked, book_setting, book_rows, book_listed, book_log}
 use Rattle.tables_log.specs.Commits.{commit_of}
 use Rattle.tables_log.specs.StandsFor.{Transaction, left_by, after, IsAccepted, AreAccepted, entries_from, StandsFor, NewStands, CommitsAddOne, SlotsKeepIt, EachIsLogged, BooksAreRight, ListedAreRows}
@@ -30,7 +30,7 @@ after_more setting tables [] transaction = refl
 after_more setting tables (first ∷ transactions) transaction =
     after_more setting (left_by setting tables first) transactions transaction
 
-accepted_more : (setting : Setting) (tables : Tables) (transactions : List Transaction) (transaction : Transaction)
+pub accepted_more : (setting : Setting) (tables : Tables) (transactions : List Transaction) (transaction : Transaction)
     → AreAccepted setting tables transactions
     → IsAccepted setting (fold (left_by setting) tables transactions) transaction
     → AreAccepted setting tables (transactions ++ transaction ∷ [])
@@ -40,9 +40,6 @@ accepted_more setting tables (first ∷ transactions) transaction accepted one =
 
 number_more : (number count : ℕ) → number + 1 + count ≡ number + suc count
 number_more number count = omega arith
-
-no_more : (number : ℕ) → number ≡ number + 0
-no_more number = omega arith
 
 entries_more : (setting : Setting) (tables : Tables) (number : ℕ) (transactions : List Transaction)
     (transaction : Transaction)

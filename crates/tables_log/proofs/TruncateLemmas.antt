@@ -19,13 +19,13 @@ use Rattle.table_changes.specs.Commands.{Truncate, NoTable, unless, all_known}
 use Rattle.table_changes.specs.Records as r
 use Rattle.table_changes.specs.Setting.{Setting}
 use Rattle.table_changes.specs.Tables.{Tables, SameTables, emptied}
-use Rattle.table_changes.proofs.TableLemmas.{by_test, or_false}
 use Rattle.tables_log.specs.Applying.{IsNarrow, Applies}
 use Rattle.tables_log.specs.Places.{maps_of, seen_at, seen_in, EmptiesRows, EmptiesTable, KeepsTables}
 use Rattle.tables_log.specs.Sendable.{IsTableNumber}
 use Rattle.tables_log.specs.declared.table_rows.TableRows.{TableRows}
 use Rattle.tables_log.proofs.ListLemmas.{keeps_both}
 use Rattle.tables_log.proofs.PlaceLemmas.{number_is, number_itself, sees_tables}
+use Rattle.filter_tree.proofs.Tests.{by_test, or_false}
 
 -- ---- numbers, each once
 
@@ -73,20 +73,20 @@ any_of_fold number numbers (item ∷ more) h = by_test (list_any (nat_eq number)
     (or_left (list_any (nat_eq number) numbers || nat_eq number item) (list_any (nat_eq number) more)
         (any_with_if (list_any (nat_eq item) numbers) number item numbers first)))
 
-distinct_with : (has : Bool) (item : ℕ) (numbers : List ℕ) → list_any (nat_eq item) numbers ≡ has
+pub distinct_with : (has : Bool) (item : ℕ) (numbers : List ℕ) → list_any (nat_eq item) numbers ≡ has
     → IsDistinct nat_eq numbers
     → IsDistinct nat_eq (if has then numbers else numbers ++ item ∷ [])
 distinct_with true item numbers is h = h
 distinct_with false item numbers is h = IsDistinct-push nat_eq_equiv numbers item h is
 
-distinct_fold : (numbers more : List ℕ) → IsDistinct nat_eq numbers
+pub distinct_fold : (numbers more : List ℕ) → IsDistinct nat_eq numbers
     → IsDistinct nat_eq (fold (with_item nat_eq) numbers more)
 distinct_fold numbers [] h = h
 distinct_fold numbers (item ∷ more) h =
     distinct_fold (with_item nat_eq numbers item) more
         (distinct_with (list_any (nat_eq item) numbers) item numbers refl h)
 
-none_distinct : IsDistinct nat_eq []
+pub none_distinct : IsDistinct nat_eq []
 unfolding IsDistinct
 none_distinct = tt
 

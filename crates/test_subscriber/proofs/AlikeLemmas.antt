@@ -3,13 +3,13 @@ use Rattle.std.proofs.Common.{◌≡◌, ℕ, ◌+◌, ◌<◌, ◌≤◌, List,
 use Rattle.std.specs.Prelude.{Option, Some, None, Ok, Err, ◌==◌, if◌then◌else◌}
 use Rattle.std.proofs.Math.ListN.{drop_of_length-le}
 use Rattle.filter_tree.specs.Memory.{TellsFault}
-use Rattle.table_changes.proofs.TableLemmas.{by_test}
 use Rattle.test_subscriber.specs.Answers.{Reaches, SameOutcome}
 use Rattle.test_subscriber.specs.Copies.{told, RefusedBy}
 use Rattle.test_subscriber.specs.Hearing.{Outcome, table_of, change_of, emptied, hear_empty, empty_rest, hear_truncate}
 use Rattle.test_subscriber.specs.Machine.{Machine, Alike}
 use Rattle.test_subscriber.specs.declared.fault.SubFault.{SubFault}
 use Rattle.test_subscriber.specs.declared.shape.TableShape.{TableShape}
+use Rattle.filter_tree.proofs.Tests.{by_test}
 
 pub alike_itself : (machine : Machine) → Alike machine machine
 alike_itself machine = record {

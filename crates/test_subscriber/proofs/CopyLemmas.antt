@@ -8,20 +8,15 @@ use Rattle.std.proofs.lemmas.Bool.{ltb-true, ltb-false}
 use Rattle.std.proofs.lemmas.List.Folds.{find_at, find-set, find_past, find-append}
 use Rattle.std.proofs.lemmas.Option.{slice_get_past}
 use Rattle.std.proofs.lemmas.List.{length-set}
-use Rattle.table_changes.proofs.TableLemmas.{by_test}
 use Rattle.test_subscriber.specs.Copies.{OfEach}
 use Rattle.test_subscriber.specs.Views.{has_oid, copy_of, place_of, known_in, IsKnownAt}
 use Rattle.test_subscriber.specs.declared.table_copy.TableCopy.{TableCopy}
+use Rattle.tables_log.proofs.PlaceLemmas.{number_is, number_itself}
+use Rattle.filter_tree.proofs.Tests.{by_test}
 
 or_none : {X : Type 0} (found : Option X) → option_or found None ≡ found
 or_none None = refl
 or_none (Some x) = refl
-
-pub number_is : (one other : ℕ) → (one == other) ≡ true → one ≡ other
-number_is one other h = (unsigned_Decides one other).0 h
-
-number_itself : (number : ℕ) → (number == number) ≡ true
-number_itself number = (unsigned_Decides number number).1 refl
 
 -- ---- where it is
 

@@ -13,7 +13,6 @@ use Rattle.pgoutput_msgs.specs.declared.error.MsgError.{MsgError}
 use Rattle.pgoutput_msgs.specs.declared.message.Msg.{Msg}
 use Rattle.pgoutput_msgs.specs.declared.message.Msg.TheVariants as m
 use Rattle.pgoutput_msgs.specs.declared.relation.Relation.{Relation}
-use Rattle.table_changes.proofs.TableLemmas.{by_test}
 use Rattle.test_subscriber.specs.Answers.{SameOutcome}
 use Rattle.test_subscriber.specs.Copies.{told}
 use Rattle.test_subscriber.specs.Feeding.{limit, hear_while, next_heard, hear_frames, StaysOf, StopsAmong, StopsFor}
@@ -32,6 +31,7 @@ use Rattle.test_subscriber.specs.declared.shape.TableShape.{TableShape}
 use Rattle.test_subscriber.specs.declared.subscriber.Subscriber.{Subscriber}
 use Rattle.test_subscriber.proofs.AlikeLemmas.{alike_both}
 use Rattle.test_subscriber.proofs.FrameAlikeLemmas.{frame_alike}
+use Rattle.filter_tree.proofs.Tests.{by_test}
 
 -- ---- what is heard of them
 

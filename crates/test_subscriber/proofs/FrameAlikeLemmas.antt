@@ -9,13 +9,13 @@ use Rattle.copy_frames.specs.declared.xlog_data.XLogData.{XLogData}
 use Rattle.pgoutput_msgs.specs.Reading.{decoded}
 use Rattle.pgoutput_msgs.specs.declared.error.MsgError.{MsgError}
 use Rattle.pgoutput_msgs.specs.declared.message.Msg.{Msg}
-use Rattle.table_changes.proofs.TableLemmas.{by_test}
 use Rattle.test_subscriber.specs.Answers.{SameOutcome}
 use Rattle.test_subscriber.specs.Frames.{hear_response, hear_start, hear_stream, hear_content, hear_data, hear_decoded, hear_keepalive, hear_frame_in, hear_frame, raised}
 use Rattle.test_subscriber.specs.Machine.{Machine, Alike}
 use Rattle.test_subscriber.specs.declared.phase.Phase.{Phase}
 use Rattle.test_subscriber.specs.declared.phase.Phase.TheVariants.{Shut, Waiting, Idle, Busy}
 use Rattle.test_subscriber.proofs.HearAlikeLemmas.{hear_alike}
+use Rattle.filter_tree.proofs.Tests.{by_test}
 
 response_alike : (body : List ℕ) (one other : Machine) → Alike one other
     → SameOutcome (hear_response body one) (hear_response body other)

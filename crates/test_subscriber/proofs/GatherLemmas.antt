@@ -1,5 +1,5 @@
 -- Loops that gather what a list gives item by item, until one gives nothing.
-use Rattle.std.proofs.Common.{◌≡◌, ◌≢◌, ℕ, ◌+◌, ◌<◌, ◌≤◌, Bool, true, false, ◌&&◌, List, [], ◌∷◌, ◌++◌, length, refl, sym, ◌∙◌, ap, arith, append_assoc, append-nil, drop, get_or, suc, add-one, drop-cons}
+use Rattle.std.proofs.Common.{◌≡◌, ◌≢◌, ℕ, ◌+◌, ◌<◌, ◌≤◌, false, ◌&&◌, List, [], ◌∷◌, ◌++◌, length, refl, sym, ◌∙◌, ap, arith, append_assoc, append-nil, drop, get_or, suc, add-one, drop-cons}
 use Rattle.std.proofs.Math.ListN.{drop_of_length-le}
 use Rattle.std.specs.Prelude.{Option, Some, None}
 use Rattle.filter_tree.specs.Datum.{Datum}
@@ -9,6 +9,7 @@ use Rattle.pgoutput_msgs.specs.declared.tuple.Cell.{Cell}
 use Rattle.pgoutput_msgs.specs.ValueText.{row_in, row_with, datum_in}
 use Rattle.test_subscriber.specs.SameRelation.{same_column, same_columns}
 use Rattle.test_subscriber.specs.Shapes.{with_kind}
+use Rattle.filter_tree.proofs.Tests.{and_false}
 
 -- what was gathered, and then the rest
 abbrev pub after : {A : Type 0} → List A → Option (List A) → Option (List A)
@@ -94,10 +95,6 @@ other_width (kind ∷ kinds) (cell ∷ cells) h =
     ap (row_with (datum_in kind cell)) (other_width kinds cells (λ same. h (omega arith))) ∙ no_row (datum_in kind cell)
 
 -- ---- columns
-
-and_false : (b : Bool) → (b && false) ≡ false
-and_false true = refl
-and_false false = refl
 
 pub other_count : (one other : List RelationColumn) → length one ≢ length other → same_columns one other ≡ false
 other_count [] [] h = absurd (h refl)

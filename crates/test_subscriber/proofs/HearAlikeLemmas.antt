@@ -7,7 +7,6 @@ use Rattle.pgoutput_msgs.specs.declared.message.Msg.{Msg}
 use Rattle.pgoutput_msgs.specs.declared.message.Msg.TheVariants as m
 use Rattle.pgoutput_msgs.specs.declared.relation.Relation.{Relation}
 use Rattle.pgoutput_msgs.specs.declared.tuple.OldTuple.{OldTuple}
-use Rattle.table_changes.proofs.TableLemmas.{by_test}
 use Rattle.table_changes.specs.Columns.{values_at}
 use Rattle.test_subscriber.specs.Answers.{SameOutcome}
 use Rattle.test_subscriber.specs.Hearing.{Change, table_of, change_of, change_in, staged, learn_as, learn_new, hear_relation, hear_commit, hear_idle, hear_busy, hear_in, hear}
@@ -20,6 +19,7 @@ use Rattle.test_subscriber.specs.declared.phase.Phase.{Phase}
 use Rattle.test_subscriber.specs.declared.phase.Phase.TheVariants.{Shut, Waiting, Idle, Busy}
 use Rattle.test_subscriber.specs.declared.shape.TableShape.{TableShape}
 use Rattle.test_subscriber.proofs.AlikeLemmas.{same_table, truncate_alike}
+use Rattle.filter_tree.proofs.Tests.{by_test}
 
 -- ---- rows that are found alike
 

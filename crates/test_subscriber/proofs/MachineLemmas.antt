@@ -2,7 +2,6 @@
 use Rattle.std.proofs.Common.{◌≡◌, ℕ, Bool, true, false, List, get_or, refl, sym, ◌∙◌, ap, subst}
 use Rattle.std.specs.Prelude.{Option, Some, None, Result, Ok, Err, ◌==◌, slice_set}
 use Rattle.filter_tree.specs.Memory.{TellsFault}
-use Rattle.table_changes.proofs.TableLemmas.{by_test}
 use Rattle.tables_log.specs.Staging.{seen}
 use Rattle.test_subscriber.specs.Answers.{Reaches, Stays}
 use Rattle.test_subscriber.specs.Copies.{told, RefusedBy, Leaves, StaysCopy}
@@ -14,7 +13,9 @@ use Rattle.test_subscriber.specs.declared.fault.SubFault.TheVariants.{NoRelation
 use Rattle.test_subscriber.specs.declared.phase.Phase.{Phase}
 use Rattle.test_subscriber.specs.declared.shape.TableShape.{TableShape}
 use Rattle.test_subscriber.specs.declared.table_copy.TableCopy.{TableCopy}
-use Rattle.test_subscriber.proofs.CopyLemmas.{IsFirst, first_has, first_there, found_at, written, number_is}
+use Rattle.test_subscriber.proofs.CopyLemmas.{IsFirst, first_has, first_there, found_at, written}
+use Rattle.filter_tree.proofs.Tests.{by_test}
+use Rattle.tables_log.proofs.PlaceLemmas.{number_is}
 
 -- ---- one copy changes
 

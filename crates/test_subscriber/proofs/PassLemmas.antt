@@ -9,6 +9,7 @@ use Rattle.test_subscriber.specs.Views.{copy_of, shape_in, known_in, kept_in, se
 use Rattle.test_subscriber.specs.declared.phase.Phase.{Phase}
 use Rattle.test_subscriber.specs.declared.phase.Phase.TheVariants.{Shut, Idle}
 use Rattle.test_subscriber.specs.declared.table_copy.TableCopy.{TableCopy}
+use Rattle.tables_log.proofs.PlaceLemmas.{take_front}
 
 -- ---- what is staged is kept
 
@@ -93,10 +94,6 @@ forgotten phase at wants olds news does = record {
 }
 
 -- ---- all items of a list are written
-
-take_front : {X : Type 0} (xs rest : List X) → take (length xs) (xs ++ rest) ≡ xs
-take_front [] rest = refl
-take_front (x ∷ xs) rest = ap (λ more. x ∷ more) (take_front xs rest)
 
 pub written_over : {X : Type 0} (count : ℕ) (xs items : List X) → length xs ≡ count
     → take count (xs ++ drop (length xs) items) ≡ xs

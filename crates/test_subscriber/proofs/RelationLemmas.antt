@@ -5,7 +5,7 @@ use Rattle.std.specs.Option.{option_map}
 use Rattle.filter_tree.specs.Datum.{Datum}
 use Rattle.filter_tree.specs.declared.table.ColType.{ColType}
 use Rattle.pgoutput_msgs.specs.declared.relation.Relation.{Relation}
-use Rattle.table_changes.proofs.TableLemmas.{by_test, some_is}
+use Rattle.table_changes.proofs.TableLemmas.{some_is}
 use Rattle.tables_log.specs.Staging.{kept, seen}
 use Rattle.test_subscriber.specs.Answers.{Reaches}
 use Rattle.test_subscriber.specs.Hearing.{learn_as, learn_new, learned, recognized, hear_relation}
@@ -17,7 +17,9 @@ use Rattle.test_subscriber.specs.declared.fault.SubFault.TheVariants.{OutOfPlace
 use Rattle.test_subscriber.specs.declared.phase.Phase.{Phase}
 use Rattle.test_subscriber.specs.declared.shape.TableShape.{TableShape}
 use Rattle.test_subscriber.specs.declared.table_copy.TableCopy.{TableCopy}
-use Rattle.test_subscriber.proofs.CopyLemmas.{IsFirst, first_has, first_there, found_at, found_nowhere, written, added, number_is, place_within}
+use Rattle.test_subscriber.proofs.CopyLemmas.{IsFirst, first_has, first_there, found_at, found_nowhere, written, added, place_within}
+use Rattle.filter_tree.proofs.Tests.{by_test}
+use Rattle.tables_log.proofs.PlaceLemmas.{number_is}
 
 -- ---- a Relation that is kept
 
