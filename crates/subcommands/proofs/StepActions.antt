@@ -7,8 +7,8 @@ use Rattle.clap.specs.declared.error.kind.ErrorKind.TheVariants as kind
 use Rattle.subcommands.specs.CommandLine.{AsksHelp, IsAsking, IsFaulty, IsHelp, IsHelpKind, IsOfError, IsOfWords, pgshard}
 use Rattle.subcommands.specs.declared.arguments.Invocation.{Invocation}
 use Rattle.subcommands.specs.declared.arguments.Invocation.TheVariants.{Help, Answer}
-use Rattle.subcommands.specs.declared.failure.Failure.{Failure}
-use Rattle.subcommands.specs.declared.failure.Failure.TheVariants as f
+use Rattle.program_parts.specs.declared.failure.Failure.{Failure}
+use Rattle.program_parts.specs.declared.failure.Failure.TheVariants as f
 
 module _ (words : List Text) (found : ErrorKind)
     (faults : (found ≡ kind.OutOfMemory) ⊎ IsAmong found (fault_of pgshard words)) where

@@ -1,8 +1,8 @@
 -- What a step of a script asks of the world of a publisher and its subscribers: an event, where a commit is made at
 -- the step's own clock; a pump of a subscriber; or a view. The steps are this project's own.
 use Rattle.std.specs.Prelude.{ℕ}
-use Rattle.pub_reader.specs.Steps.{StepOf}
-use Rattle.pub_reader.specs.Steps as s
+use Rattle.pub_statements.specs.Steps.{StepOf}
+use Rattle.pub_statements.specs.Steps as s
 use Rattle.shard_world.specs.World as w
 use Rattle.shard_world.specs.declared.event.PeerEvent.TheVariants as p
 use Rattle.shard_world.specs.World.{event_view}

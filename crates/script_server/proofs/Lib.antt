@@ -1,0 +1,4 @@
+pub mod Asking
+pub mod Crossing
+pub mod Serving
+pub mod Telling
