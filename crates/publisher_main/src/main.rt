@@ -6,14 +6,14 @@
 mod tests;
 
 ghost use Rattle.std.specs.Prelude.{◌≡◌, ◌⊎◌, IfErr};
-ghost use Rattle.subcommands.specs.Failures.{status_of_failure};
-ghost use Rattle.subcommands.specs.declared.failure.Status.TheVariants.{CommandLine, OutOfMemory};
+ghost use Rattle.program_parts.specs.Failures.{status_of_failure};
+ghost use Rattle.program_parts.specs.declared.failure.Status.TheVariants.{CommandLine, OutOfMemory};
 
+use program_parts::{Failure, Input, report};
 use serving::run_serving;
 use std::io::{BufWriter, ErrorKind, Write};
 use std::process::ExitCode;
 use std::{env, io};
-use subcommands::{Failure, Input, report};
 
 /// The words of the command line, the program's name first.
 ///

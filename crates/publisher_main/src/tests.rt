@@ -4,9 +4,10 @@
 mod command_lines;
 mod streams;
 
+use program_parts::Input;
 use std::alloc::{AllocError, Global};
 use std::io::Read;
-use subcommands::{Input, run};
+use subcommands::run;
 
 /// A catalog that cuts a table in two.
 pub const BASE: &str = "CREATE TABLE t (id integer, region text, PRIMARY KEY (id));

@@ -5,6 +5,7 @@ use crate::checks::{holds, same};
 use crate::clients::follow_to;
 use crate::sharding::{HALVES, HALVES_SPLIT};
 use crate::work::{Hold, Work, regional_row};
+use program_parts::Input;
 use serving::run_serving;
 use std::alloc::{AllocError, Global};
 use std::io;
@@ -15,7 +16,6 @@ use std::sync::Wait;
 use std::test::Fail;
 use std::thread::{Threads, join};
 use std::time::Clock;
-use subcommands::Input;
 
 /// Two commits, each with a row of one of the subscribers.
 const SCRIPT: &str = "COMMIT INSERT t (7, 'eu'); COMMIT INSERT t (150, 'us');";

@@ -4,25 +4,25 @@ use Rattle.std.specs.Prelude.{IfErr, IfOk, IsErrAnd, OnOk, Result, Ok, Err}
 use Rattle.std.specs.Io.KnownBytes.{Appends, Keeps}
 use denote.Enum.Declared.{tag_of}
 use Rattle.std.proofs.KnownBytes.{Appends-kept, Appends-trans}
-use Rattle.subcommands.proofs.Exits.{number_is}
-use Rattle.subcommands.proofs.Writing.{first_after, first_kept, first_of_longer, first_whole, text_of-more, unwritten}
-use Rattle.subcommands.specs.Failures.{failure_lines}
-use Rattle.subcommands.specs.Outcomes.{IsReport}
-use Rattle.subcommands.specs.Requests.{IsOfReading}
-use Rattle.subcommands.specs.Output.{StopsText, WritesFirst, ended, text_of}
-use Rattle.subcommands.specs.contracts.failure.Status.{the_type}
-use Rattle.subcommands.specs.declared.failure.Failure.{Failure}
-use Rattle.subcommands.specs.declared.failure.Failure.TheVariants as f
-use Rattle.subcommands.specs.declared.failure.InputFault.{InputFault}
-use Rattle.subcommands.specs.declared.failure.InputFault.TheVariants as i
-use Rattle.subcommands.specs.declared.failure.Status.{Status}
-use Rattle.subcommands.specs.declared.failure.Status.TheVariants.{Done, Refused, CommandLine, Input, Output, OutOfMemory}
-use Rattle.serving.specs.CommandLine.{AsksHelp, IsOfWords, IsRequest}
+use Rattle.program_parts.proofs.Reports.{number_is}
+use Rattle.program_parts.proofs.Writing.{first_after, first_kept, first_of_longer, first_whole, text_of-more, unwritten}
+use Rattle.program_parts.specs.Failures.{failure_lines}
+use Rattle.program_parts.specs.Reporting.{IsReport}
+use Rattle.program_parts.specs.Inputs.{IsOfReading}
+use Rattle.program_parts.specs.Output.{StopsText, WritesFirst, ended, text_of}
+use Rattle.program_parts.specs.contracts.failure.Status.{the_type}
+use Rattle.program_parts.specs.declared.failure.Failure.{Failure}
+use Rattle.program_parts.specs.declared.failure.Failure.TheVariants as f
+use Rattle.program_parts.specs.declared.failure.InputFault.{InputFault}
+use Rattle.program_parts.specs.declared.failure.InputFault.TheVariants as i
+use Rattle.program_parts.specs.declared.failure.Status.{Status}
+use Rattle.program_parts.specs.declared.failure.Status.TheVariants.{Done, Refused, CommandLine, Input, Output, OutOfMemory}
+use Rattle.script_server.specs.CommandLine.{AsksHelp, IsOfWords, IsRequest}
 use Rattle.serving.specs.Outcomes.{IsOutput, Answered, Shown, Misworded, Rejected, CutShort, WritesOutput, WritesFirstOutput, IsOutcome, IsRun, WritesCutShort, IsEnding}
 use Rattle.serving.specs.Requests.{IsAsked, IsReason, ServesReader}
-use Rattle.serving.specs.Serving.{EndsService, IsFault, IsServing}
-use Rattle.serving.specs.Telling.{IsBegun}
-use Rattle.serving.specs.declared.arguments.Service.{Service}
+use Rattle.script_server.specs.Serving.{EndsService, IsFault, IsServing}
+use Rattle.script_server.specs.Telling.{IsBegun}
+use Rattle.script_server.specs.declared.arguments.Service.{Service}
 
 abbrev memory_line : List ℕ
 memory_line = codes "out of memory"

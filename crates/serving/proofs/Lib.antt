@@ -1,5 +1,1 @@
-pub mod Asking
-pub mod Crossing
 pub mod Exits
-pub mod Serving
-pub mod Telling

@@ -2,14 +2,14 @@
 -- for its input, or where it stops the first bytes of one.
 use Rattle.std.specs.Prelude.{◌≡◌, ℕ, ◌⊎◌, List, [], ◌∷◌, ◌++◌, Option, Result, Ok, Err, codes}
 use Rattle.std.specs.Io.KnownBytes.{Appends}
-use Rattle.subcommands.specs.Failures.{fault_line, number_of}
-use Rattle.subcommands.specs.Output.{WritesFirst, text_of}
-use Rattle.subcommands.specs.declared.failure.Failure.{Failure}
-use Rattle.subcommands.specs.declared.failure.Failure.TheVariants as f
-use Rattle.subcommands.specs.declared.failure.InputFault.{InputFault}
-use Rattle.subcommands.specs.declared.failure.Status.{Status}
-use Rattle.subcommands.specs.declared.failure.Status.TheVariants.{Done, Refused, CommandLine, Input, Output, OutOfMemory}
-use Rattle.serving.specs.CommandLine.{AsksHelp, IsMisworded}
+use Rattle.program_parts.specs.Failures.{fault_line, number_of}
+use Rattle.program_parts.specs.Output.{WritesFirst, text_of}
+use Rattle.program_parts.specs.declared.failure.Failure.{Failure}
+use Rattle.program_parts.specs.declared.failure.Failure.TheVariants as f
+use Rattle.program_parts.specs.declared.failure.InputFault.{InputFault}
+use Rattle.program_parts.specs.declared.failure.Status.{Status}
+use Rattle.program_parts.specs.declared.failure.Status.TheVariants.{Done, Refused, CommandLine, Input, Output, OutOfMemory}
+use Rattle.script_server.specs.CommandLine.{AsksHelp, IsMisworded}
 use Rattle.serving.specs.Requests.{AnswersWords, BeginsWords, IsReason}
 
 module _ (words : List (List ℕ)) (known : Option (List ℕ)) where

@@ -1,14 +1,14 @@
 -- What the words of a command line of `serve` ask of the input, and which lines answer it.
 use Rattle.std.specs.Prelude.{◌≡◌, ◌⊎◌, ℕ, List, Option, IsErrAnd, Result}
-use Rattle.subcommands.specs.Requests.{IsInput, IsOfReading}
-use Rattle.subcommands.specs.declared.failure.Failure.{Failure}
-use Rattle.subcommands.specs.declared.failure.InputFault.{InputFault}
-use Rattle.subcommands.specs.declared.failure.InputFault.TheVariants as i
-use Rattle.subcommands.specs.declared.failure.Status.{Status}
-use Rattle.serving.specs.CommandLine.{IsRequest}
-use Rattle.serving.specs.Serving.{EndsService, IsFault, IsServing}
-use Rattle.serving.specs.Telling.{IsBegun}
-use Rattle.serving.specs.declared.arguments.Service.{Service}
+use Rattle.program_parts.specs.Inputs.{IsInput, IsOfReading}
+use Rattle.program_parts.specs.declared.failure.Failure.{Failure}
+use Rattle.program_parts.specs.declared.failure.InputFault.{InputFault}
+use Rattle.program_parts.specs.declared.failure.InputFault.TheVariants as i
+use Rattle.program_parts.specs.declared.failure.Status.{Status}
+use Rattle.script_server.specs.CommandLine.{IsRequest}
+use Rattle.script_server.specs.Serving.{EndsService, IsFault, IsServing}
+use Rattle.script_server.specs.Telling.{IsBegun}
+use Rattle.script_server.specs.declared.arguments.Service.{Service}
 
 -- what is asked, and of which input
 pub record IsAsked (words : List (List ℕ)) (known : Option (List ℕ)) (service : Service) (input : List ℕ) : Type 0 where

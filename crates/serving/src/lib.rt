@@ -1,15 +1,6 @@
-//! The subcommand `serve` of `pgshard`, and with it the whole program: it serves the subscribers of a sharding over
-//! sockets, while a session commits the transactions of a script.
+//! The whole program `pgshard`, over any reader and writer: the subcommand `serve`, and the others by `subcommands`.
 #![tactic(auto)]
 
-mod arguments;
-mod closing;
-mod commits;
-mod connections;
-mod listening;
 mod program;
-mod running;
-mod script;
-mod serve;
 
 pub use program::run_serving;

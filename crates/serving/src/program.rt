@@ -5,22 +5,22 @@ ghost use Rattle.std.specs.Io.KnownBytes.{Appends};
 ghost use Rattle.std.specs.String.{string_bytes};
 ghost use Rattle.subcommands.specs.CommandLine.{IsWithin};
 ghost use Rattle.subcommands.specs.Outcomes as subcommands_outcomes;
-ghost use Rattle.subcommands.specs.Output.{StopsText, ended};
-ghost use Rattle.subcommands.specs.Requests.{reader_of};
-ghost use Rattle.subcommands.specs.declared.failure.Status.TheVariants.{Done};
+ghost use Rattle.program_parts.specs.Output.{StopsText, ended};
+ghost use Rattle.program_parts.specs.Inputs.{reader_of};
+ghost use Rattle.program_parts.specs.declared.failure.Status.TheVariants.{Done};
 ghost use Rattle.serving.specs.Outcomes.{IsEnding, IsOutcome, IsRun};
 ghost use Rattle.serving.specs.Requests.{ServesReader};
 ghost use Rattle.serving.specs.Words.{names_serve};
 
-use crate::arguments::{ServeInvocation, Service, parse};
-use crate::serve::serve_input;
+use program_parts::{Failure, Input, Status, read_input, report, write_line};
+use script_server::{ServeInvocation, Service, parse, serve_input};
 use std::convert::AsStr;
 use std::io::{Read, Write};
 use std::net::{Net, TcpListener, TcpStream};
 use std::sync::Wait;
 use std::thread::Threads;
 use std::time::Clock;
-use subcommands::{Failure, Input, Status, read_input, report, run, write_line};
+use subcommands::run;
 
 /// Whether the first word after the program's name is `serve`.
 fn is_serve<S: AsStr>(words: &[S]) -> bool
@@ -65,7 +65,7 @@ fn serve_reader<
 }
 
 /// Does what the words ask.
-#[tactic(auto, using(crate::proofs::Asking::asked_within))]
+#[tactic(auto, using(script_server::proofs::Asking::asked_within))]
 fn answer_words<
     'a,
     S: AsStr,

@@ -1,7 +1,6 @@
 mod commits;
 mod entries;
 mod many;
-mod random;
 mod slots;
 
 use crate::sharding::accepted;

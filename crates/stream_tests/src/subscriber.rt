@@ -1,7 +1,6 @@
 //! A subscriber whose bytes come in pieces.
 
 mod faults;
-mod following;
 
 use crate::checks::{holds, same};
 use copy_frames::FrameFault;

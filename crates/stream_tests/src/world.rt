@@ -1,7 +1,5 @@
 //! The world of a publisher and its subscribers.
 
-mod largest;
-
 use crate::checks::same;
 use crate::sharding::accepted;
 use crate::voice::{CATALOG, SPLIT};
@@ -12,6 +10,9 @@ use std::alloc::{AllocError, Global};
 use std::process::Abort;
 use std::test::Fail;
 use table_changes::Command;
+
+/// A clock that has bits past the first 32, and the last one.
+const LATE: u64 = 0x8000_0100_0000_0000;
 
 /// Where the first commit ends.
 const END: u64 = 128;
@@ -54,7 +55,10 @@ fn inserts(alloc: Global, texts: &[&str]) -> Result<Event, Fail> {
         let row = read_row(alloc, text)?;
         commands.push(Command::Insert { table: 0, row })?;
     }
-    Ok(Event::Commit { commands, time: 1 })
+    Ok(Event::Commit {
+        commands,
+        time: LATE,
+    })
 }
 
 /// Something happens on a subscriber's connection.
@@ -114,8 +118,8 @@ fn rows_come_to_their_subscribers(rt: HostRuntime) -> Result<(), Fail> {
     let half = step(&mut world, 5, on(0, PeerEvent::Hear { bytes: 40 }));
     same(&rt, half, Answer::Heard(40));
     same(&rt, pump(&mut world, 6, 0), Answer::At(END));
-    same(&rt, pump(&mut world, 7, 1), Answer::At(END));
-    same(&rt, pump(&mut world, 8, 2), Answer::NoSubscriber);
+    same(&rt, pump(&mut world, LATE, 1), Answer::At(END));
+    same(&rt, pump(&mut world, LATE, 2), Answer::NoSubscriber);
     same(&rt, world.view()?, divided(alloc)?);
     Ok(())
 }

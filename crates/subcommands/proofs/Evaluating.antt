@@ -5,15 +5,15 @@ use Rattle.pub_catalog.specs.CatalogView.{catalog_view}
 use Rattle.pub_reader.specs.Statements.{catalog_by}
 use Rattle.sql_reader.specs.Written.{as_filter}
 use Rattle.pub_catalog.specs.declared.catalog.Catalog.{Catalog}
-use Rattle.subcommands.proofs.Writing.{ends_as}
+use Rattle.program_parts.proofs.Writing.{ends_as}
 use Rattle.subcommands.specs.Eval.Carriers.{CarrierOf, carriers_of}
 use Rattle.subcommands.specs.Eval.Evaluation.{AreFirstLines, AreSomeLines, IsBegunEvaluation, IsEvaluation, IsFault, WritesRows}
 use Rattle.subcommands.specs.Eval.Tables.{table_of}
-use Rattle.subcommands.specs.Output.{Ends}
-use Rattle.subcommands.specs.Parts.{Cut, two_parts, lines_of}
+use Rattle.program_parts.specs.Output.{Ends}
+use Rattle.program_parts.specs.Parts.{Cut, two_parts, lines_of}
 use Rattle.subcommands.specs.declared.arguments.RowOutput.{RowOutput}
-use Rattle.subcommands.specs.declared.failure.Failure.{Failure}
-use Rattle.subcommands.specs.declared.failure.Status.{Status}
+use Rattle.program_parts.specs.declared.failure.Failure.{Failure}
+use Rattle.program_parts.specs.declared.failure.Status.{Status}
 
 -- the rows were written, or writing stopped
 pub evaluated : (wanted : RowOutput) (input word : List ℕ) (old new : Option (List ℕ)) (cut : Cut) (catalog : Catalog)

@@ -4,54 +4,25 @@ use Rattle.std.specs.Prelude.{IsErrAnd, Result, Ok, Err}
 use Rattle.std.specs.Io.KnownBytes.{Appends, Keeps}
 use denote.Enum.Declared.{tag_of}
 use Rattle.std.proofs.KnownBytes.{Appends-kept, Appends-trans}
-use Rattle.subcommands.proofs.Writing.{first_after, first_kept, first_of_longer, first_whole, text_of-more, unwritten}
+use Rattle.program_parts.proofs.Writing.{first_after, first_kept, first_of_longer, first_whole, text_of-more, unwritten}
 use Rattle.subcommands.specs.CommandLine.{AsksHelp}
-use Rattle.subcommands.specs.Failures.{failure_lines, number_of, status_of_failure}
-use Rattle.subcommands.specs.Outcomes.{IsOutput, Answered, Shown, Misworded, Rejected, CutShort, WritesOutput, WritesFirstOutput, IsOutcome, IsRun, WritesCutShort, IsEnding, IsReport, IsWritten}
-use Rattle.subcommands.specs.Output.{StopsText, WritesFirst, ended, text_of}
+use Rattle.program_parts.specs.Failures.{failure_lines}
+use Rattle.program_parts.proofs.Reports.{number_is}
+use Rattle.program_parts.specs.Reporting.{IsReport}
+use Rattle.subcommands.specs.Outcomes.{IsOutput, Answered, Shown, Misworded, Rejected, CutShort, WritesOutput, WritesFirstOutput, IsOutcome, IsRun, WritesCutShort, IsEnding}
+use Rattle.program_parts.specs.Output.{StopsText, WritesFirst, ended, text_of}
 use Rattle.subcommands.specs.Requests.{IsAsked, IsAnswer, IsBegun, IsFault, EndsRequest, IsReason}
-use Rattle.subcommands.specs.contracts.failure.Status.{the_type}
+use Rattle.program_parts.specs.contracts.failure.Status.{the_type}
 use Rattle.subcommands.specs.declared.arguments.Request.{Request}
-use Rattle.subcommands.specs.declared.failure.Failure.{Failure}
-use Rattle.subcommands.specs.declared.failure.Failure.TheVariants as f
-use Rattle.subcommands.specs.declared.failure.InputFault.{InputFault}
-use Rattle.subcommands.specs.declared.failure.InputFault.TheVariants as i
-use Rattle.subcommands.specs.declared.failure.Status.{Status}
-use Rattle.subcommands.specs.declared.failure.Status.TheVariants.{Done, Refused, CommandLine, Input, Output, OutOfMemory}
-
-pub number_is : (status : Status) → tag_of the_type status ≡ number_of status
-number_is Done = refl
-number_is Refused = refl
-number_is CommandLine = refl
-number_is Input = refl
-number_is Output = refl
-number_is OutOfMemory = refl
+use Rattle.program_parts.specs.declared.failure.Failure.{Failure}
+use Rattle.program_parts.specs.declared.failure.Failure.TheVariants as f
+use Rattle.program_parts.specs.declared.failure.InputFault.{InputFault}
+use Rattle.program_parts.specs.declared.failure.InputFault.TheVariants as i
+use Rattle.program_parts.specs.declared.failure.Status.{Status}
+use Rattle.program_parts.specs.declared.failure.Status.TheVariants.{Done, Refused, CommandLine, Input, Output, OutOfMemory}
 
 abbrev memory_line : List ℕ
 memory_line = codes "out of memory"
-
--- ---- reports
-
-report_of : (failure : Failure) (status : Status) (old new : Option (List ℕ)) → (failure ≡ f.Output → ⊥)
-    → IsWritten (text_of (failure_lines failure)) (status_of_failure failure) old new status
-    → IsReport failure old new status
-report_of (f.CommandLine why) status old new other writes = inl writes
-report_of (f.Input fault) status old new other writes = inl writes
-report_of f.OutOfMemory status old new other writes = writes
-report_of f.Output status old new other writes = absurd (other refl)
-
--- a failure that is not the writer's
-pub report_is : (failure : Failure) (text : List ℕ) (told status : Status) (old new : Option (List ℕ))
-    → (failure ≡ f.Output → ⊥) → text ≡ text_of (failure_lines failure) → told ≡ status_of_failure failure
-    → IsWritten text told old new status → IsReport failure old new status
-report_is failure text told status old new other is same writes =
-    report_of failure status old new other
-    (subst (λ (t : Status). IsWritten (text_of (failure_lines failure)) t old new status) same
-        (subst (λ (t : List ℕ). IsWritten t told old new status) is writes))
-
--- the writer failed before
-pub is_silent : (failure : Failure) (old : Option (List ℕ)) → failure ≡ f.Output → IsReport failure old old Output
-is_silent failure old h = subst (λ (failure : Failure). IsReport failure old old Output) (sym h) (refl, refl)
 
 module _ (words : List (List ℕ)) (known : Option (List ℕ)) where
   -- ---- what was asked is answered, or not

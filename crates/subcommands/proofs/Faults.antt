@@ -1,11 +1,11 @@
 -- Memory runs out before the first line of an answer.
 use Rattle.std.proofs.Common.{◌≡◌, ℕ, inl, List, [], Option, refl}
 use Rattle.std.specs.Prelude.{Err}
-use Rattle.subcommands.proofs.Writing.{unwritten}
+use Rattle.program_parts.proofs.Writing.{unwritten}
 use Rattle.subcommands.specs.Requests.{EndsRequest, IsBegun}
 use Rattle.subcommands.specs.declared.arguments.Request.{Request}
 use Rattle.subcommands.specs.declared.arguments.Request.TheVariants.{Eval, Check, Make, Simulate}
-use Rattle.subcommands.specs.declared.failure.Failure.TheVariants as f
+use Rattle.program_parts.specs.declared.failure.Failure.TheVariants as f
 
 none_begun : (request : Request) (input : List ℕ) → IsBegun request input []
 none_begun (Eval table wanted) input = inl refl

@@ -4,9 +4,9 @@ use Rattle.std.specs.Io.KnownBytes.{Appends}
 use Rattle.std.specs.Prelude.{Err, IsErrAnd, Ok, Result, None}
 use Rattle.pub_reader.specs.Statements.{catalog_by}
 use Rattle.sql_reader.specs.Written.{as_filter}
-use Rattle.subcommands.proofs.Writing.{ends_as}
+use Rattle.program_parts.proofs.Writing.{ends_as}
 use Rattle.subcommands.specs.Make.Making.{IsBegunMaking, IsFault, IsMaking, finding_view, IsTrueOf, is_certificate, line_for, status_for, AreLines, NoTable, OneMore, AreFirstLines, AreSomeLines, WritesTable, StopsTable, WritesTables}
-use Rattle.subcommands.specs.Parts.{cut_of}
+use Rattle.program_parts.specs.Parts.{cut_of}
 use Rattle.subcommands.specs.Requests.{EndsRequest}
 use Rattle.subcommands.specs.declared.arguments.Request.TheVariants.{Make}
 use Rattle.cert_maker.specs.Answers.{IfCert, IfCounter, IsAccepted, IsCounter}
@@ -17,11 +17,11 @@ use Rattle.pub_catalog.specs.Catalogs.{CatalogOf}
 use Rattle.replica_identity.specs.Plans.{PlanOf, plan_of}
 use Rattle.split_cert.specs.Where.{tree_view}
 use Rattle.std.proofs.KnownBytes.{Appends-nil, Appends-trans}
-use Rattle.subcommands.proofs.Writing.{first_after, text_of-more}
-use Rattle.subcommands.specs.Output.{StopsText, WritesFirst, ended, text_of}
-use Rattle.subcommands.specs.declared.failure.Failure.{Failure}
-use Rattle.subcommands.specs.declared.failure.Failure.TheVariants as f
-use Rattle.subcommands.specs.declared.failure.Status.{Status}
+use Rattle.program_parts.proofs.Writing.{first_after, text_of-more}
+use Rattle.program_parts.specs.Output.{StopsText, WritesFirst, ended, text_of}
+use Rattle.program_parts.specs.declared.failure.Failure.{Failure}
+use Rattle.program_parts.specs.declared.failure.Failure.TheVariants as f
+use Rattle.program_parts.specs.declared.failure.Status.{Status}
 
 -- ---- one table
 

@@ -1,12 +1,10 @@
-pub mod StepActions
 pub mod BadLines
 pub mod Digits
 pub mod Evaluating
 pub mod Exits
 pub mod Faults
 pub mod FindingLines
-pub mod Limits
-pub mod LineCuts
+pub mod Invocations
 pub mod RequestLemmas
 pub mod RowLines
 pub mod Saying
@@ -15,4 +13,3 @@ pub mod ScriptLines
 pub mod Simulating
 pub mod StepLines
 pub mod Verdicts
-pub mod Writing

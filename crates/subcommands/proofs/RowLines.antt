@@ -6,16 +6,16 @@ use Rattle.std.proofs.lemmas.List.Folds.{list_all-append}
 use Rattle.std.specs.Io.KnownBytes.{Appends}
 use Rattle.filter_tree.specs.declared.table.Column.{Column}
 use Rattle.std.proofs.KnownBytes.{Appends-nil, Appends-trans}
-use Rattle.subcommands.proofs.Writing.{first_after, text_of-more}
+use Rattle.program_parts.proofs.Writing.{first_after, text_of-more}
 use Rattle.subcommands.specs.Eval.BadRows.{is_answered}
 use Rattle.subcommands.specs.Eval.Carriers.{CarrierOf}
 use Rattle.subcommands.specs.Eval.Evaluation.{status_of, IsLine, NoRow, OneMore, AreFirstLines, AreSomeLines, WritesRows}
-use Rattle.subcommands.specs.Output.{StopsText, WritesFirst, ended, text_of}
+use Rattle.program_parts.specs.Output.{StopsText, WritesFirst, ended, text_of}
 use Rattle.subcommands.specs.declared.arguments.RowOutput.{RowOutput}
-use Rattle.subcommands.specs.declared.failure.Failure.{Failure}
-use Rattle.subcommands.specs.declared.failure.Failure.TheVariants as f
-use Rattle.subcommands.specs.declared.failure.Status.{Status}
-use Rattle.subcommands.specs.declared.failure.Status.TheVariants.{Done, Refused}
+use Rattle.program_parts.specs.declared.failure.Failure.{Failure}
+use Rattle.program_parts.specs.declared.failure.Failure.TheVariants as f
+use Rattle.program_parts.specs.declared.failure.Status.{Status}
+use Rattle.program_parts.specs.declared.failure.Status.TheVariants.{Done, Refused}
 
 -- one more row, which has an answer or none
 one_more : (all here : Bool)

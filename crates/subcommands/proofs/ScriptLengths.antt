@@ -13,10 +13,10 @@ use Rattle.sql_reader.specs.ErrorKinds as w
 use Rattle.sql_reader.proofs.Keeping.{Gives, then-gives, any-gives, repeat-gives, each-gives}
 use Rattle.sql_reader.proofs.Widths.{below}
 use Rattle.pub_reader.specs.declared.script.Line.{Line}
-use Rattle.pub_reader.specs.declared.step_word.StepWord.{StepWord}
+use Rattle.pub_statements.specs.declared.step_word.StepWord.{StepWord}
 use Rattle.pub_reader.specs.Scripts.{LineOf, next_line, one_line, lines, script_by}
 use Rattle.pub_reader.specs.ScriptView.{line_view}
-use Rattle.pub_reader.specs.Steps.{counted, counted_word, step_ahead, step_body}
+use Rattle.pub_statements.specs.Steps.{counted, counted_word, step_ahead, step_body}
 
 counted_by : (count : ℕ) (word : StepWord) (ts : Items) (full : Bool) → nat_le 100000 count ≡ full
     → Gives (λ (u : StepWord). count < 100000) ((if full then refuse_as (w.TooMany Steps) else advance >> pure word) ts)

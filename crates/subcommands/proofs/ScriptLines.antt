@@ -12,14 +12,14 @@ use Rattle.shard_checker.specs.CheckedView.{CheckedOf}
 use Rattle.shard_world.specs.World as w
 use Rattle.shard_world.specs.WorldCalls.{IsWorld, world_checked}
 use Rattle.shard_world.specs.declared.world.World.{World}
-use Rattle.subcommands.proofs.Writing.{first_after, unwritten}
-use Rattle.subcommands.specs.Output.{StopsText, WritesFirst, ended, text_of}
+use Rattle.program_parts.proofs.Writing.{first_after, unwritten}
+use Rattle.program_parts.specs.Output.{StopsText, WritesFirst, ended, text_of}
 use Rattle.subcommands.specs.Simulate.Steps.{IsStep, AreSteps, NoStep, OneMore, AreSomeSteps}
 use Rattle.subcommands.specs.Simulate.WorldSteps.{AreAllLines, AreBegunLines, MakesInto, MakesOn, WritesSteps}
-use Rattle.subcommands.specs.declared.failure.Failure.{Failure}
-use Rattle.subcommands.specs.declared.failure.Failure.TheVariants as f
-use Rattle.subcommands.specs.declared.failure.Status.{Status}
-use Rattle.subcommands.specs.declared.failure.Status.TheVariants.{Done}
+use Rattle.program_parts.specs.declared.failure.Failure.{Failure}
+use Rattle.program_parts.specs.declared.failure.Failure.TheVariants as f
+use Rattle.program_parts.specs.declared.failure.Status.{Status}
+use Rattle.program_parts.specs.declared.failure.Status.TheVariants.{Done}
 
 -- the first of the lines that are left
 pub left_next : (items : List Line) (count : ℕ) (line : Line) → count < length items → line ≡ get_or items count line

@@ -14,22 +14,22 @@ use Rattle.shard_checker.specs.declared.error.CheckError.{CheckError}
 use Rattle.sql_reader.specs.Written.{as_filter}
 use Rattle.subcommands.proofs.Faults.{out_of_memory}
 use Rattle.subcommands.proofs.Verdicts.{line_ends}
-use Rattle.subcommands.proofs.Writing.{ends_as}
-use Rattle.subcommands.specs.Check.Certificates.{IsOfLines}
-use Rattle.subcommands.specs.Check.Checking.{IsFirstRefusal, checked_by}
-use Rattle.subcommands.specs.Check.Refusals.{refused_line}
-use Rattle.subcommands.specs.Output.{StopsText, ended}
-use Rattle.subcommands.specs.Parts.{CutTwice, lines_of, three_parts}
+use Rattle.program_parts.proofs.Writing.{ends_as}
+use Rattle.program_parts.specs.Certificates.{IsOfLines}
+use Rattle.program_parts.specs.Verdicts.{IsFirstRefusal, checked_by}
+use Rattle.program_parts.specs.Refusals.{refused_line}
+use Rattle.program_parts.specs.Output.{StopsText, ended}
+use Rattle.program_parts.specs.Parts.{CutTwice, lines_of, three_parts}
 use Rattle.subcommands.specs.Requests.{EndsRequest}
 use Rattle.subcommands.specs.Simulate.Simulation.{AreMade, IsBegunSimulation, IsFault, IsOfScript, IsSimulation}
 use Rattle.subcommands.specs.Simulate.Steps.{AreFirstSteps}
 use Rattle.subcommands.specs.Simulate.WorldSteps.{AreAllLines, AreBegunLines, WritesSteps}
 use Rattle.subcommands.specs.declared.arguments.Request.TheVariants.{Simulate}
-use Rattle.subcommands.specs.declared.failure.Failure.{Failure}
-use Rattle.subcommands.specs.declared.failure.Failure.TheVariants as f
-use Rattle.subcommands.specs.declared.failure.InputFault.TheVariants as i
-use Rattle.subcommands.specs.declared.failure.Status.{Status}
-use Rattle.subcommands.specs.declared.failure.Status.TheVariants.{Done, Refused}
+use Rattle.program_parts.specs.declared.failure.Failure.{Failure}
+use Rattle.program_parts.specs.declared.failure.Failure.TheVariants as f
+use Rattle.program_parts.specs.declared.failure.InputFault.TheVariants as i
+use Rattle.program_parts.specs.declared.failure.Status.{Status}
+use Rattle.program_parts.specs.declared.failure.Status.TheVariants.{Done, Refused}
 
 module _ (limit : ℕ) (input : List ℕ) (cut : CutTwice) (catalog : CatalogOf Expr)
     (parts : three_parts input ≡ Some cut) (reads : catalog_by as_filter cut.first ≡ Ok catalog) where

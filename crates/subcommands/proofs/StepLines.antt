@@ -2,7 +2,7 @@
 use Rattle.std.proofs.Common.{◌≡◌, ℕ, ◌+◌, ◌<◌, inl, inr, List, [], ◌∷◌, ◌++◌, length, map, refl, sym, ap, subst, ◌∙◌, append-nil}
 use Rattle.filter_tree.specs.Expr.{Expr}
 use Rattle.pub_catalog.specs.Catalogs.{CatalogOf}
-use Rattle.pub_reader.specs.Steps.{StepOf}
+use Rattle.pub_statements.specs.Steps.{StepOf}
 use Rattle.shard_checker.specs.CheckedView.{CheckedOf}
 use Rattle.shard_world.specs.Pumping.{on_clock, pump_events, IsEndOfLog, IsPosition, PumpsAll, PumpsOn, PumpsSome, WantsMemory, Pumped, Ended}
 use Rattle.shard_world.specs.ViewMeaning.{ShowsWorld}
@@ -12,10 +12,10 @@ use Rattle.shard_world.specs.declared.answer.Answer.{Answer}
 use Rattle.shard_world.specs.declared.answer.Answer.TheVariants.{At}
 use Rattle.shard_world.specs.declared.view.View.{View}
 use Rattle.shard_world.specs.declared.world.World.{World}
-use Rattle.subcommands.specs.Output.{text_of}
+use Rattle.program_parts.specs.Output.{text_of}
 use Rattle.subcommands.specs.Simulate.Answers.{answer_line}
-use Rattle.subcommands.specs.Simulate.Asking as a
-use Rattle.subcommands.specs.Simulate.Asking.{StepActionOf, action_of}
+use Rattle.subcommands.specs.Simulate.StepActions as a
+use Rattle.subcommands.specs.Simulate.StepActions.{StepActionOf, action_of}
 use Rattle.subcommands.specs.Simulate.Steps.{IsDone}
 use Rattle.subcommands.specs.Simulate.Views.{view_lines}
 use Rattle.subcommands.specs.Simulate.WorldSteps.{MakesOn}

@@ -12,18 +12,18 @@ use Rattle.shard_checker.specs.Texts.{text_fault, trees_in}
 use Rattle.shard_checker.specs.declared.error.CheckError.{CheckError}
 use Rattle.sql_reader.specs.Written.{as_filter}
 use Rattle.subcommands.proofs.Faults.{out_of_memory}
-use Rattle.subcommands.proofs.Writing.{text_of-one}
-use Rattle.subcommands.specs.Check.Checking.{IsFirstRefusal}
-use Rattle.subcommands.specs.Check.Refusals.{refused_line}
-use Rattle.subcommands.specs.Output.{StopsText, WritesFirst, ended}
-use Rattle.subcommands.specs.Parts.{Cut, lines_of, two_parts}
+use Rattle.program_parts.proofs.Writing.{text_of-one}
+use Rattle.program_parts.specs.Verdicts.{IsFirstRefusal}
+use Rattle.program_parts.specs.Refusals.{refused_line}
+use Rattle.program_parts.specs.Output.{StopsText, WritesFirst, ended}
+use Rattle.program_parts.specs.Parts.{Cut, lines_of, two_parts}
 use Rattle.subcommands.specs.Requests.{EndsRequest, IsAnswer}
 use Rattle.subcommands.specs.declared.arguments.Request.{Request}
 use Rattle.subcommands.specs.declared.arguments.Request.TheVariants.{Check}
-use Rattle.subcommands.specs.declared.failure.Failure.{Failure}
-use Rattle.subcommands.specs.declared.failure.Failure.TheVariants as f
-use Rattle.subcommands.specs.declared.failure.Status.{Status}
-use Rattle.subcommands.specs.declared.failure.Status.TheVariants.{Done, Refused}
+use Rattle.program_parts.specs.declared.failure.Failure.{Failure}
+use Rattle.program_parts.specs.declared.failure.Failure.TheVariants as f
+use Rattle.program_parts.specs.declared.failure.Status.{Status}
+use Rattle.program_parts.specs.declared.failure.Status.TheVariants.{Done, Refused}
 
 -- the one line of an answer is written, or its writing stops
 pub line_ends : (request : Request) (input line : List ℕ) (status : Status) (old new : Option (List ℕ))

@@ -4,7 +4,7 @@ use Rattle.pub_reader.specs.Statements.{catalog_by}
 use Rattle.sql_reader.specs.Reading.{Tells, told}
 use Rattle.sql_reader.specs.Written.{as_filter}
 use Rattle.sql_reader.specs.declared.error.ReadError.{ReadError}
-use Rattle.subcommands.specs.Parts.{Cut, two_parts}
+use Rattle.program_parts.specs.Parts.{Cut, two_parts}
 
 -- the input has two parts, and the first is no catalog, for the fault that the error tells
 pub record IsBadCatalog (input : List ℕ) (error : ReadError) : Type 0 where

@@ -1,3 +1,1 @@
-pub mod Certificates
 pub mod Checking
-pub mod Refusals

@@ -14,8 +14,8 @@ use Rattle.subcommands.specs.declared.arguments.RowOutput.{RowOutput}
 use Rattle.subcommands.specs.declared.arguments.RowOutput.TheVariants.{Answers, Insert}
 use Rattle.subcommands.specs.declared.arguments.Request.{Request}
 use Rattle.subcommands.specs.declared.arguments.Request.TheVariants.{Eval, Check, Make, Simulate}
-use Rattle.subcommands.specs.declared.failure.Failure.{Failure}
-use Rattle.subcommands.specs.declared.failure.Failure.TheVariants as f
+use Rattle.program_parts.specs.declared.failure.Failure.{Failure}
+use Rattle.program_parts.specs.declared.failure.Failure.TheVariants as f
 
 -- ---- the command line, as clap is told of it
 

@@ -2,11 +2,7 @@ pub mod BadCatalogs
 pub mod Check
 pub mod CommandLine
 pub mod Eval
-pub mod Failures
 pub mod Make
-pub mod Names
 pub mod Outcomes
-pub mod Output
-pub mod Parts
 pub mod Requests
 pub mod Simulate

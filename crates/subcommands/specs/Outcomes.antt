@@ -3,14 +3,14 @@
 use Rattle.std.specs.Prelude.{◌≡◌, ℕ, ◌⊎◌, List, [], ◌∷◌, ◌++◌, Option, Result, Ok, Err, codes}
 use Rattle.std.specs.Io.KnownBytes.{Appends}
 use Rattle.subcommands.specs.CommandLine.{AsksHelp, IsMisworded}
-use Rattle.subcommands.specs.Failures.{failure_lines, fault_line, number_of, status_of_failure}
-use Rattle.subcommands.specs.Output.{WritesFirst, text_of}
+use Rattle.program_parts.specs.Failures.{fault_line, number_of}
+use Rattle.program_parts.specs.Output.{WritesFirst, text_of}
 use Rattle.subcommands.specs.Requests.{AnswersWords, BeginsWords, IsReason}
-use Rattle.subcommands.specs.declared.failure.Failure.{Failure}
-use Rattle.subcommands.specs.declared.failure.Failure.TheVariants as f
-use Rattle.subcommands.specs.declared.failure.InputFault.{InputFault}
-use Rattle.subcommands.specs.declared.failure.Status.{Status}
-use Rattle.subcommands.specs.declared.failure.Status.TheVariants.{Done, Refused, CommandLine, Input, Output, OutOfMemory}
+use Rattle.program_parts.specs.declared.failure.Failure.{Failure}
+use Rattle.program_parts.specs.declared.failure.Failure.TheVariants as f
+use Rattle.program_parts.specs.declared.failure.InputFault.{InputFault}
+use Rattle.program_parts.specs.declared.failure.Status.{Status}
+use Rattle.program_parts.specs.declared.failure.Status.TheVariants.{Done, Refused, CommandLine, Input, Output, OutOfMemory}
 
 module _ (words : List (List ℕ)) (known : Option (List ℕ)) where
   -- an answer that is cut short: no line of it, or its first lines
@@ -72,19 +72,3 @@ module _ (words : List (List ℕ)) (known : Option (List ℕ)) where
   IsEnding old new (Err (f.Input fault)) = IsReason words known fault × (new ≡ old)
   IsEnding old new (Err f.Output) = WritesFirstOutput old new
   IsEnding old new (Err f.OutOfMemory) = WritesCutShort old new
-
--- a text is written, and the status is this; or the first bytes of it are, where the writer fails
-abbrev pub IsWritten : List ℕ → Status → Option (List ℕ) → Option (List ℕ) → Status → Type 0
-IsWritten text told old new status =
-    ((status ≡ told) × Appends old new text) ⊎ ((status ≡ Output) × WritesFirst text old new)
-
-abbrev pub Reports : Failure → Option (List ℕ) → Option (List ℕ) → Status → Type 0
-Reports failure old new status = IsWritten (text_of (failure_lines failure)) (status_of_failure failure) old new status
-
--- A failure is reported, or want of memory in its place. Where the writer failed before, nothing more is written.
-abbrev pub IsReport : Failure → Option (List ℕ) → Option (List ℕ) → Status → Type 0
-IsReport (f.CommandLine why) old new status =
-    Reports (f.CommandLine why) old new status ⊎ Reports f.OutOfMemory old new status
-IsReport (f.Input fault) old new status = Reports (f.Input fault) old new status ⊎ Reports f.OutOfMemory old new status
-IsReport f.OutOfMemory old new status = Reports f.OutOfMemory old new status
-IsReport f.Output old new status = (status ≡ Output) × (new ≡ old)

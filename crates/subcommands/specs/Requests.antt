@@ -1,19 +1,19 @@
 -- What the words of a command line ask of the input, and which lines answer it.
-use Rattle.std.specs.Prelude.{◌≡◌, ℕ, ◌⊎◌, List, [], Option, IfSome, Result}
+use Rattle.std.specs.Prelude.{◌≡◌, ℕ, ◌⊎◌, List, [], Option, Result}
 use Rattle.subcommands.specs.Check.Checking as checking
 use Rattle.subcommands.specs.CommandLine.{IsRequest}
 use Rattle.subcommands.specs.Eval.Evaluation as evaluation
 use Rattle.subcommands.specs.Make.Making as making
-use Rattle.subcommands.specs.Output.{Ends}
+use Rattle.program_parts.specs.Inputs.{IsInput}
+use Rattle.program_parts.specs.Output.{Ends}
 use Rattle.subcommands.specs.Simulate.Simulation as simulation
 use Rattle.subcommands.specs.declared.arguments.Request.{Request}
 use Rattle.subcommands.specs.declared.arguments.Request.TheVariants.{Eval, Check, Make, Simulate}
-use Rattle.subcommands.specs.declared.failure.Failure.{Failure}
-use Rattle.subcommands.specs.declared.failure.Failure.TheVariants as f
-use Rattle.subcommands.specs.declared.failure.InputFault.{InputFault}
-use Rattle.subcommands.specs.declared.failure.InputFault.TheVariants as i
-use Rattle.subcommands.specs.declared.failure.Status.{Status}
-use Rattle.subcommands.specs.declared.input.Input.{Input}
+use Rattle.program_parts.specs.declared.failure.Failure.{Failure}
+use Rattle.program_parts.specs.declared.failure.Failure.TheVariants as f
+use Rattle.program_parts.specs.declared.failure.InputFault.{InputFault}
+use Rattle.program_parts.specs.declared.failure.InputFault.TheVariants as i
+use Rattle.program_parts.specs.declared.failure.Status.{Status}
 
 -- ---- of a request and its input
 
@@ -47,10 +47,6 @@ EndsRequest request input old new result =
     Ends (IsAnswer request input) (IsBegun request input) (IsFault request input) old new result
 
 -- ---- of the words and what the reader gives
-
--- the input, where the reader's bytes are known
-abbrev pub IsInput : Option (List ℕ) → List ℕ → Type 0
-IsInput known input = IfSome known (λ bytes. input ≡ bytes)
 
 -- what is asked, and of which input
 pub record IsAsked (words : List (List ℕ)) (known : Option (List ℕ)) (request : Request) (input : List ℕ) : Type 0 where
@@ -87,17 +83,3 @@ IsReason words known (i.Catalog error) = HasFault words known (i.Catalog error)
 IsReason words known (i.Table name) = HasFault words known (i.Table name)
 IsReason words known (i.Certificate line error) = HasFault words known (i.Certificate line error)
 IsReason words known (i.Script error) = HasFault words known (i.Script error)
-
--- why reading the input may stop: the reader failed, it gave too much or no UTF-8, or memory ran out
-abbrev pub IsOfReading : Failure → Type 0
-IsOfReading (f.Input i.Unread) = Unit {0}
-IsOfReading f.OutOfMemory = Unit {0}
-IsOfReading _ = ⊥
-
--- ---- the reader of an input, and how many reads of it are left
-
-abbrev pub reader_of : {R : Type 0} → Input R → R
-reader_of input = input.reader
-
-abbrev pub reads_of : {R : Type 0} → Input R → ℕ
-reads_of input = input.reads_left

@@ -1,5 +1,5 @@
 pub mod Answers
-pub mod Asking
+pub mod StepActions
 pub mod Simulation
 pub mod Steps
 pub mod Views

@@ -7,9 +7,9 @@ ghost use Rattle.subcommands.specs.CommandLine.{eval, pgshard, simulate, HasLimi
 ghost use Rattle.subcommands.specs.CommandLine.{IsHelpKind, IsOfError, IsOfWords, IsSimulate, IsTaken, SpellsLimit};
 ghost use Rattle.subcommands.specs.declared.arguments.Request.{Request as RequestType};
 
-use crate::failure::Failure;
 use clap::error::ErrorKind;
 use clap::{Arg, ArgAction, ArgMatches, Command};
+use program_parts::Failure;
 use std::alloc::{AllocError, Global};
 use std::convert::AsStr;
 

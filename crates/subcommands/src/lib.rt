@@ -5,22 +5,10 @@
 mod arguments;
 mod check;
 mod eval;
-mod failure;
-mod input;
 mod make;
-mod names;
-mod output;
-mod parts;
 mod program;
-mod reading;
 mod simulate;
 
 pub use arguments::{LIMIT, read_limit};
-pub use check::{lines_of, verdict_of, write_refused};
-pub use failure::{Failure, InputFault, Status};
-pub use input::Input;
-pub use output::write_line;
-pub use parts::three_parts;
-pub use program::{report, run};
-pub use reading::read_input;
+pub use program::run;
 pub use simulate::read_steps;

@@ -9,12 +9,10 @@ ghost use Rattle.replica_identity.specs.Plans.{plan_of, plan_view};
 
 pub mod findings;
 
-use crate::failure::{Failure, InputFault, Status};
 use crate::make::findings::finding_line;
-use crate::output::write_line;
-use crate::parts::cut;
 use bumpalo::Bump;
 use cert_maker::{Made, make};
+use program_parts::{Failure, InputFault, Status, cut, write_line};
 use pub_catalog::Catalog;
 use pub_reader::read_catalog;
 use replica_identity::{Plan, plan};

@@ -1,23 +1,18 @@
 //! The program, over any reader and writer.
 
-ghost use Rattle.std.specs.Prelude.{◌≡◌, IfOk, map};
-ghost use Rattle.std.specs.String.{string_bytes};
+ghost use Rattle.std.specs.Prelude.{map};
+ghost use Rattle.program_parts.specs.Inputs.{reader_of};
 ghost use Rattle.subcommands.specs.CommandLine.{CanDo};
-ghost use Rattle.subcommands.specs.Failures.{failure_lines};
-ghost use Rattle.subcommands.specs.Requests.{reader_of, EndsRequest};
-ghost use Rattle.subcommands.specs.Outcomes.{IsEnding, IsOutcome, IsReport, IsRun, IsWritten};
-ghost use Rattle.subcommands.specs.Output.{text_of};
+ghost use Rattle.subcommands.specs.Outcomes.{IsEnding, IsOutcome, IsRun};
+ghost use Rattle.subcommands.specs.Requests.{EndsRequest};
 
 use crate::arguments::{Invocation, Request, parse};
 use crate::check::check_input;
 use crate::eval::evaluate;
-use crate::failure::{Failure, Status};
-use crate::input::Input;
 use crate::make::make_input;
-use crate::output::{write_line, write_text};
-use crate::reading::read_input;
 use crate::simulate::simulate;
-use std::alloc::{AllocError, Global};
+use program_parts::{Failure, Input, Status, read_input, report, write_line};
+use std::alloc::Global;
 use std::convert::AsStr;
 use std::io::{Read, Write};
 
@@ -58,44 +53,6 @@ fn answer_words<'a, S: AsStr, R: Read + Drop, W: Write>(
             let input = read_input(alloc, input)?;
             answer(alloc, request, input.as_str(), writer)
         }
-    }
-}
-
-/// The lines of a failure; none where the writer failed.
-fn failure_text(alloc: Global, failure: &Failure<'_>) -> Result<String, AllocError>
-    ensures { IfOk result (λ text. string_bytes text ≡ text_of (failure_lines failure.now)) }
-{
-    let mut text = String::new(alloc);
-    match failure {
-        Failure::CommandLine(why) => write!(text, "command line\n{why}\n")?,
-        Failure::Input(fault) => write!(text, "{fault}\n")?,
-        Failure::Output => {}
-        Failure::OutOfMemory => text.push_str("out of memory\n")?,
-    }
-    Ok(text)
-}
-
-/// Writes a text, and tells this status, or that the writer failed.
-fn write_report<W: Write>(text: &str, status: Status, writer: &mut W) -> Status
-    ensures { IsWritten text.now status (W.contents writer.old) (W.contents writer.new) result }
-{
-    match write_text(text, writer) {
-        Ok(()) => status,
-        Err(_) => Status::Output,
-    }
-}
-
-/// Writes the lines of a failure, and tells the status of the program. Where the writer failed, nothing more is
-/// written. Where memory runs out for the lines, that is reported.
-pub fn report<W: Write>(alloc: Global, failure: Failure<'_>, writer: &mut W) -> Status
-    ensures { IsReport failure.entry (W.contents writer.old) (W.contents writer.new) result }
-{
-    if let Failure::Output = failure {
-        return Status::Output;
-    }
-    match failure_text(alloc, &failure) {
-        Ok(text) => write_report(text.as_str(), failure.status(), writer),
-        Err(_) => write_report("out of memory\n", Status::OutOfMemory, writer),
     }
 }
 

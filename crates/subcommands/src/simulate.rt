@@ -4,12 +4,13 @@ ghost use Rattle.std.specs.Prelude.{◌≡◌, ◌≤◌, IfErr, IfOk, Ok, lengt
 ghost use Rattle.std.specs.String.{string_bytes};
 ghost use Rattle.pub_catalog.specs.CatalogView.{catalog_view};
 ghost use Rattle.pub_reader.specs.Scripts.{script_by};
-ghost use Rattle.pub_reader.specs.ScriptView.{line_view, step_view};
+ghost use Rattle.pub_reader.specs.ScriptView.{line_view};
+ghost use Rattle.pub_statements.specs.StepView.{step_view};
 ghost use Rattle.shard_checker.specs.CheckedView.{checked_view};
 ghost use Rattle.shard_world.specs.WorldCalls.{world_checked};
 ghost use Rattle.subcommands.specs.CommandLine.{IsWithin};
 ghost use Rattle.subcommands.specs.Requests.{EndsRequest};
-ghost use Rattle.subcommands.specs.Simulate.Asking.{action_of, action_view};
+ghost use Rattle.subcommands.specs.Simulate.StepActions.{action_of, action_view};
 ghost use Rattle.subcommands.specs.Simulate.Simulation.{IsOfScript};
 ghost use Rattle.subcommands.specs.Simulate.WorldSteps.{MakesOn, WritesSteps};
 ghost use Rattle.subcommands.specs.declared.arguments.Request.TheVariants.{Simulate};
@@ -17,12 +18,11 @@ ghost use Rattle.subcommands.specs.declared.arguments.Request.TheVariants.{Simul
 pub mod answers;
 pub mod views;
 
-use crate::check::{lines_of, verdict_of, write_refused};
-use crate::failure::{Failure, InputFault, Status};
-use crate::output::write_text;
-use crate::parts::three_parts;
 use crate::simulate::answers::answer_text;
 use crate::simulate::views::view_text;
+use program_parts::{
+    Failure, InputFault, Status, lines_of, three_parts, verdict_of, write_refused, write_text,
+};
 use pub_catalog::Catalog;
 use pub_reader::{ErrorKind, Line, Step, read_catalog, read_script};
 use shard_checker::Checked;

@@ -1,10 +1,11 @@
 //! Readers that fail or never end, and writers that fail.
 
 use crate::tests::{BASE, output_of};
+use program_parts::{Failure, Input, Status, report};
 use std::io;
 use std::io::{ErrorKind, Read, Write};
 use std::test::Fail;
-use subcommands::{Failure, Input, Status, report, run};
+use subcommands::run;
 
 /// A reader that gives a text a byte at a time, and after so many reads of a byte fails in this way, so many times.
 #[derive(Drop)]

@@ -1,11 +1,11 @@
-use super::{BY_HALVES, certificate};
+use super::certificate;
 use crate::calls::catalog_of;
 use crate::checks::{holds, same};
 use crate::takers::{both_take, takes_one_alone};
 use filter_tree::{Row, Value};
 use pub_catalog::Catalog;
 use replica_identity::{Share, plan};
-use shard_checker::{CheckError, Checked, Operation, check, shares_in};
+use shard_checker::{CheckError, Checked, check, shares_in};
 use split_cert::Cert;
 use std::alloc::{AllocError, Global};
 use std::process::Abort;
@@ -14,34 +14,22 @@ use std::test::Fail;
 /// The operations that a publication has where nothing is said of them.
 pub const ALL: &str = "insert, update, delete, truncate";
 
-/// The rows below 100.
-pub const LOW: &str = "id < 100";
+/// A certificate for `id < 100` and `id >= 100`.
+const BY_HALVES: &str = "s 0 s 1 e 0 o 0 n 1 s 1 o 1 e 0 n 1 n 0";
 
-/// `t` with an index of each column and with this replica identity, and three publications of it: `pa` with these
-/// operations and this filter, `pb` for `id >= 100`, and `pc`. Two subscribers take the first and the second, and
-/// nobody the third.
-pub fn catalog(
-    alloc: Global,
-    identity: &str,
-    publishes: &str,
-    filter: &str,
-) -> Result<Catalog, Fail> {
+/// `t` with this replica identity, and three publications of it: `pa` for `id < 100`, `pb` for `id >= 100`, and `pc`.
+/// Two subscribers take the first and the second, and nobody the third.
+fn halves(alloc: Global, identity: &str) -> Result<Catalog, Fail> {
     let script = format!(in alloc;
         "CREATE TABLE t (id integer, region text, PRIMARY KEY (id));
-CREATE UNIQUE INDEX i ON t (id);CREATE UNIQUE INDEX j ON t (region);
 ALTER TABLE t REPLICA IDENTITY {identity};
-CREATE PUBLICATION pa FOR TABLE t WHERE ({filter}) WITH (publish = '{publishes}');
+CREATE PUBLICATION pa FOR TABLE t WHERE (id < 100) WITH (publish = '{ALL}');
 CREATE PUBLICATION pb FOR TABLE t WHERE (id >= 100);
 CREATE PUBLICATION pc FOR TABLE t WHERE (region = 'us') WITH (publish = '');
 CREATE SUBSCRIPTION s0 CONNECTION '' PUBLICATION pa;
 CREATE SUBSCRIPTION s1 CONNECTION '' PUBLICATION pb;"
     )?;
     catalog_of(alloc, &script)
-}
-
-/// A catalog whose two subscribers take the halves of `t`, which has this replica identity.
-pub fn halves(alloc: Global, identity: &str) -> Result<Catalog, Fail> {
-    catalog(alloc, identity, ALL, LOW)
 }
 
 /// The certificates that these texts spell.
@@ -118,71 +106,4 @@ fn expect_accepted(rt: &impl Abort, alloc: Global, identity: &str) -> Result<(),
 fn a_sound_sharding_is_accepted(rt: HostRuntime) -> Result<(), Fail> {
     expect_accepted(&rt, rt.alloc(), "DEFAULT")?;
     expect_accepted(&rt, rt.alloc(), "FULL")
-}
-
-/// Why `t` with this replica identity is refused, where subscriber 0 takes the rows of `region = 'eu'` by a publication
-/// that publishes these operations, and there is no certificate.
-fn refusal_by_region(
-    alloc: Global,
-    identity: &str,
-    publishes: &str,
-) -> Result<Option<CheckError>, Fail> {
-    let catalog = catalog(alloc, identity, publishes, "region = 'eu'")?;
-    Ok(refusal(alloc, catalog, &[])?)
-}
-
-#[test]
-fn publications_that_are_taken_publish_changes(rt: HostRuntime) -> Result<(), Fail> {
-    let cases = [
-        ("", Operation::Insert),
-        ("insert", Operation::Update),
-        ("insert, update", Operation::Delete),
-        ("insert, update, delete", Operation::Truncate),
-    ];
-    for (publishes, operation) in cases {
-        let found = refusal_by_region(rt.alloc(), "NOTHING", publishes)?;
-        let wanted = CheckError::PublishMissing {
-            publication: 0,
-            operation,
-        };
-        same(&rt, found, Some(wanted));
-    }
-    Ok(())
-}
-
-#[test]
-fn filters_name_identity_columns(rt: HostRuntime) -> Result<(), Fail> {
-    let not_covered = CheckError::NotCovered {
-        publication: 0,
-        table: 0,
-        column: 1,
-    };
-    let cases = [
-        ("NOTHING", CheckError::NoIdentity { table: 0 }),
-        ("DEFAULT", not_covered),
-        ("USING INDEX i", not_covered),
-        ("FULL", CheckError::CertCount),
-    ];
-    for (identity, wanted) in cases {
-        let found = refusal_by_region(rt.alloc(), identity, ALL)?;
-        same(&rt, found, Some(wanted));
-    }
-    Ok(())
-}
-
-#[test]
-fn certificates_are_counted_and_checked(rt: HostRuntime) -> Result<(), Fail> {
-    let alloc = rt.alloc();
-    let cases: [(&[&str], CheckError); 4] = [
-        (&[], CheckError::CertCount),
-        (&["o 0"], CheckError::NotOwner { table: 0, node: 0 }),
-        (&["o 2"], CheckError::BadIndex { table: 0, node: 0 }),
-        (&[BY_HALVES, BY_HALVES], CheckError::CertCount),
-    ];
-    for (spellings, wanted) in cases {
-        let certs = certificates(alloc, spellings)?;
-        let found = refusal(alloc, halves(alloc, "FULL")?, &certs)?;
-        same(&rt, found, Some(wanted));
-    }
-    Ok(())
 }

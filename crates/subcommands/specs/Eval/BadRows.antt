@@ -8,7 +8,7 @@ use Rattle.sql_reader.specs.KindNames.{kind_name}
 use Rattle.sql_reader.specs.Reading.{Fault, IsFault, Tells, told}
 use Rattle.sql_reader.specs.Rows.{row_of}
 use Rattle.sql_reader.specs.declared.error.ReadError.{ReadError}
-use Rattle.subcommands.specs.Names.{fault_words, counted}
+use Rattle.program_parts.specs.Names.{fault_words, counted}
 use Rattle.subcommands.specs.declared.eval.bad_row.BadRow.{BadRow}
 use Rattle.subcommands.specs.declared.eval.bad_row.BadRow.TheVariants.{Unreadable, Invalid}
 

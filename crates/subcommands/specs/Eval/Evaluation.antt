@@ -19,16 +19,16 @@ use Rattle.subcommands.specs.Eval.BadRows.{IsUnreadable, bad_line, is_answered}
 use Rattle.subcommands.specs.Eval.Carriers.{CarrierOf, carriers_of}
 use Rattle.subcommands.specs.declared.eval.bad_row.BadRow.TheVariants.{Invalid}
 use Rattle.subcommands.specs.Eval.Inserts.{insert_line}
-use Rattle.subcommands.specs.Parts.{Cut, two_parts, lines_of}
+use Rattle.program_parts.specs.Parts.{Cut, two_parts, lines_of}
 use Rattle.subcommands.specs.Eval.Tables.{table_of}
 use Rattle.subcommands.specs.declared.arguments.RowOutput.{RowOutput}
 use Rattle.subcommands.specs.declared.arguments.RowOutput.TheVariants as q
-use Rattle.subcommands.specs.Output.{Writes}
-use Rattle.subcommands.specs.declared.failure.Failure.{Failure}
-use Rattle.subcommands.specs.declared.failure.InputFault.{InputFault}
-use Rattle.subcommands.specs.declared.failure.InputFault.TheVariants as i
-use Rattle.subcommands.specs.declared.failure.Status.{Status}
-use Rattle.subcommands.specs.declared.failure.Status.TheVariants.{Done, Refused}
+use Rattle.program_parts.specs.Output.{Writes}
+use Rattle.program_parts.specs.declared.failure.Failure.{Failure}
+use Rattle.program_parts.specs.declared.failure.InputFault.{InputFault}
+use Rattle.program_parts.specs.declared.failure.InputFault.TheVariants as i
+use Rattle.program_parts.specs.declared.failure.Status.{Status}
+use Rattle.program_parts.specs.declared.failure.Status.TheVariants.{Done, Refused}
 
 -- all rows have an answer, or some have none
 abbrev pub status_of : List Column → List (List ℕ) → Status

@@ -6,8 +6,8 @@ use Rattle.subcommands.specs.Eval.Carriers.{CarrierOf, carrier_view}
 use Rattle.subcommands.specs.Eval.Evaluation.{IsLine, WritesRows, told}
 use Rattle.subcommands.specs.declared.arguments.RowOutput.{RowOutput}
 use Rattle.subcommands.specs.declared.eval.tables.CatalogTable.{CatalogTable}
-use Rattle.subcommands.specs.declared.failure.Failure.{Failure}
-use Rattle.subcommands.specs.declared.failure.Status.{Status}
+use Rattle.program_parts.specs.declared.failure.Failure.{Failure}
+use Rattle.program_parts.specs.declared.failure.Status.{Status}
 
 abbrev pub carriers_in : CatalogTable → List CarrierOf
 carriers_in carried = map carrier_view carried.carriers.now

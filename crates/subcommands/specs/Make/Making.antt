@@ -15,14 +15,14 @@ use Rattle.split_cert.specs.Tree.{Tree}
 use Rattle.sql_reader.specs.Reading.{Tells, told}
 use Rattle.sql_reader.specs.Written.{as_filter}
 use Rattle.sql_reader.specs.WrittenRows.{row_text}
-use Rattle.subcommands.specs.Parts.{cut_of}
-use Rattle.subcommands.specs.Names.{spaced, subscriber_name, table_name}
-use Rattle.subcommands.specs.Output.{StopsText, Writes, ended}
-use Rattle.subcommands.specs.declared.failure.Failure.{Failure}
-use Rattle.subcommands.specs.declared.failure.InputFault.{InputFault}
-use Rattle.subcommands.specs.declared.failure.InputFault.TheVariants as i
-use Rattle.subcommands.specs.declared.failure.Status.{Status}
-use Rattle.subcommands.specs.declared.failure.Status.TheVariants.{Done, Refused}
+use Rattle.program_parts.specs.Parts.{cut_of}
+use Rattle.program_parts.specs.Names.{spaced, subscriber_name, table_name}
+use Rattle.program_parts.specs.Output.{StopsText, Writes, ended}
+use Rattle.program_parts.specs.declared.failure.Failure.{Failure}
+use Rattle.program_parts.specs.declared.failure.InputFault.{InputFault}
+use Rattle.program_parts.specs.declared.failure.InputFault.TheVariants as i
+use Rattle.program_parts.specs.declared.failure.Status.{Status}
+use Rattle.program_parts.specs.declared.failure.Status.TheVariants.{Done, Refused}
 use Rattle.cert_maker.specs.declared.made.Made.{Made}
 use Rattle.cert_maker.specs.declared.made.Made.TheVariants as m
 use Rattle.split_cert.specs.Where.{tree_view}

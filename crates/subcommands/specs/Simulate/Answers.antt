@@ -8,7 +8,7 @@ use Rattle.tables_log.specs.declared.error.CommandFault.{CommandFault}
 use Rattle.tables_log.specs.declared.error.CommandFault.TheVariants as c
 use Rattle.tables_log.specs.declared.error.CommitError.{CommitError}
 use Rattle.tables_log.specs.declared.error.CommitError.TheVariants as e
-use Rattle.subcommands.specs.Names.{counted, fault_words}
+use Rattle.program_parts.specs.Names.{counted, fault_words}
 
 -- two numbers in hexadecimal digits, in upper case: the high 32 bits and the low ones
 abbrev pub position_text : ℕ → List ℕ

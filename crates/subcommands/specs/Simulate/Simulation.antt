@@ -14,15 +14,15 @@ use Rattle.shard_checker.specs.Texts.{text_fault, trees_in}
 use Rattle.shard_checker.specs.declared.text_error.TextError.TheVariants.{Text}
 use Rattle.split_cert.specs.Tree.{Tree}
 use Rattle.split_cert.specs.declared.error.CertError.{CertError}
-use Rattle.subcommands.specs.Check.Checking.{IsFirstRefusal, IsRefused, checked_by}
-use Rattle.subcommands.specs.Parts.{CutTwice, three_parts, lines_of}
+use Rattle.program_parts.specs.Verdicts.{IsFirstRefusal, IsRefused, checked_by}
+use Rattle.program_parts.specs.Parts.{CutTwice, three_parts, lines_of}
 use Rattle.subcommands.specs.Simulate.Steps.{AreFirstSteps}
-use Rattle.subcommands.specs.declared.failure.Failure.{Failure}
-use Rattle.subcommands.specs.declared.failure.Failure.TheVariants as f
-use Rattle.subcommands.specs.declared.failure.InputFault.{InputFault}
-use Rattle.subcommands.specs.declared.failure.InputFault.TheVariants as i
-use Rattle.subcommands.specs.declared.failure.Status.{Status}
-use Rattle.subcommands.specs.declared.failure.Status.TheVariants.{Done, Refused}
+use Rattle.program_parts.specs.declared.failure.Failure.{Failure}
+use Rattle.program_parts.specs.declared.failure.Failure.TheVariants as f
+use Rattle.program_parts.specs.declared.failure.InputFault.{InputFault}
+use Rattle.program_parts.specs.declared.failure.InputFault.TheVariants as i
+use Rattle.program_parts.specs.declared.failure.Status.{Status}
+use Rattle.program_parts.specs.declared.failure.Status.TheVariants.{Done, Refused}
 
 -- ---- what is answered
 

@@ -2,7 +2,7 @@
 -- clock of a step, in microseconds since 2000-01-01, is its number from 1. The steps are this project's own.
 use Rattle.std.specs.Prelude.{◌≡◌, ◌<◌, ℕ, ◌+◌, ◌⊎◌, List, [], ◌∷◌, ◌++◌, All, length, map, Some}
 use Rattle.pub_reader.specs.Scripts.{LineOf}
-use Rattle.pub_reader.specs.Steps.{StepOf}
+use Rattle.pub_statements.specs.Steps.{StepOf}
 use Rattle.shard_checker.specs.CheckedView.{CheckedOf}
 use Rattle.copy_both.specs.Streams.{end_of}
 use Rattle.shard_world.specs.Pumping.{EndsWalk, GoesOn, on_clock, pump_events}
@@ -14,8 +14,8 @@ use Rattle.shard_world.specs.declared.answer.Answer.TheVariants.{At, OutOfMemory
 use Rattle.shard_world.specs.declared.event.PeerEvent.{PeerEvent}
 use Rattle.shard_world.specs.declared.view.View.{View}
 use Rattle.subcommands.specs.Simulate.Answers.{answer_line}
-use Rattle.subcommands.specs.Simulate.Asking.{StepActionOf, action_of}
-use Rattle.subcommands.specs.Simulate.Asking as a
+use Rattle.subcommands.specs.Simulate.StepActions.{StepActionOf, action_of}
+use Rattle.subcommands.specs.Simulate.StepActions as a
 use Rattle.subcommands.specs.Simulate.Views.{view_lines}
 
 module _ (checked : CheckedOf) (most : ℕ) where

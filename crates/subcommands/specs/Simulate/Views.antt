@@ -10,7 +10,7 @@ use Rattle.shard_world.specs.ViewMeaning.{shown_rows}
 use Rattle.shard_world.specs.declared.view.SubscriberView.{SubscriberView}
 use Rattle.shard_world.specs.declared.view.View.{View}
 use Rattle.sql_reader.specs.WrittenRows.{row_text}
-use Rattle.subcommands.specs.Names.{subscriber_name, table_name, counted}
+use Rattle.program_parts.specs.Names.{subscriber_name, table_name, counted}
 use Rattle.subcommands.specs.Simulate.Answers.{position_text}
 
 -- ---- rows

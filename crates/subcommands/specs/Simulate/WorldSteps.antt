@@ -1,16 +1,16 @@
 -- What a step of a script does to the program's own world, and what a script writes.
 use Rattle.std.specs.Prelude.{◌≡◌, ℕ, ◌+◌, ◌⊎◌, List, [], ◌++◌, Option, Result}
 use Rattle.pub_reader.specs.Scripts.{LineOf}
-use Rattle.pub_reader.specs.Steps.{StepOf}
+use Rattle.pub_statements.specs.Steps.{StepOf}
 use Rattle.shard_checker.specs.CheckedView.{CheckedOf}
 use Rattle.shard_world.specs.World as w
 use Rattle.shard_world.specs.WorldCalls.{IsWorld, world_checked}
 use Rattle.shard_world.specs.declared.world.World.{World}
-use Rattle.subcommands.specs.Output.{Writes, text_of}
+use Rattle.program_parts.specs.Output.{Writes, text_of}
 use Rattle.subcommands.specs.Simulate.Steps.{AreFirstSteps, AreSomeSteps, IsStep}
-use Rattle.subcommands.specs.declared.failure.Failure.{Failure}
-use Rattle.subcommands.specs.declared.failure.Status.{Status}
-use Rattle.subcommands.specs.declared.failure.Status.TheVariants.{Done}
+use Rattle.program_parts.specs.declared.failure.Failure.{Failure}
+use Rattle.program_parts.specs.declared.failure.Status.{Status}
+use Rattle.program_parts.specs.declared.failure.Status.TheVariants.{Done}
 
 -- ---- one step
 

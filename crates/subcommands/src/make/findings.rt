@@ -5,11 +5,11 @@ ghost use Rattle.std.specs.String.{string_bytes};
 ghost use Rattle.pub_catalog.specs.CatalogView.{catalog_view};
 ghost use Rattle.subcommands.specs.Make.Making.{finding_view};
 ghost use Rattle.subcommands.specs.Make.Making as spec;
-ghost use Rattle.subcommands.specs.Names.{spaced, table_name};
+ghost use Rattle.program_parts.specs.Names.{spaced, table_name};
 
-use crate::names::{push_table, push_word, subscriber_name};
 use cert_maker::Made;
 use filter_tree::Row;
+use program_parts::{push_table, push_word, subscriber_name};
 use pub_catalog::{Catalog, Subscription};
 use split_cert::write;
 use sql_reader::write_row;

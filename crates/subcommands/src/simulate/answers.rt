@@ -2,8 +2,8 @@
 
 ghost use Rattle.std.specs.Prelude.{◌≡◌, ◌++◌, IfOk, OnOk, ◌∷◌, []};
 ghost use Rattle.std.specs.String.{string_bytes};
-ghost use Rattle.subcommands.specs.Names.{fault_words};
-ghost use Rattle.subcommands.specs.Output.{text_of};
+ghost use Rattle.program_parts.specs.Names.{fault_words};
+ghost use Rattle.program_parts.specs.Output.{text_of};
 ghost use Rattle.subcommands.specs.Simulate.Answers as spec;
 
 use filter_tree::RowFault;

@@ -3,12 +3,12 @@
 ghost use Rattle.std.specs.Prelude.{◌≡◌, ◌++◌, IfOk, OnOk, map};
 ghost use Rattle.std.specs.String.{string_bytes};
 ghost use Rattle.pub_catalog.specs.CatalogView.{catalog_view};
-ghost use Rattle.subcommands.specs.Output.{ended, text_of};
+ghost use Rattle.program_parts.specs.Output.{ended, text_of};
 ghost use Rattle.subcommands.specs.Simulate.Views as spec;
 
-use crate::names::{push_table_name, subscriber_name};
 use crate::simulate::answers::push_position;
 use filter_tree::{Row, Table};
+use program_parts::{push_table_name, subscriber_name};
 use pub_catalog::Catalog;
 use shard_world::{SubscriberView, View};
 use sql_reader::write_row;

@@ -1,6 +1,6 @@
 use Rattle.std.proofs.Common.{map}
 use Rattle.std.specs.String.{string_bytes}
-use Rattle.subcommands.specs.Requests.{reader_of}
+use Rattle.program_parts.specs.Inputs.{reader_of}
 use Rattle.serving.proofs.Exits.{help_ends, reader_ends}
 use Rattle.serving.proofs.program.answer_words.Goals as goal
 

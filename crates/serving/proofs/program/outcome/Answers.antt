@@ -1,5 +1,5 @@
 use Rattle.std.proofs.Common.{map}
-use Rattle.subcommands.specs.Requests.{reader_of}
+use Rattle.program_parts.specs.Inputs.{reader_of}
 use Rattle.serving.proofs.Exits.{reported}
 use Rattle.serving.proofs.program.outcome.Goals as goal
 

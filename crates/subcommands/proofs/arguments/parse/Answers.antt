@@ -2,7 +2,7 @@ use Rattle.std.proofs.Common.{◌≡◌, [], ap, inr, map, rules, subst}
 use Rattle.clap.specs.Words.{App, HasKind, fault_of, is_simple_and_free, kind_of, subcommand_of}
 use Rattle.subcommands.specs.CommandLine.{IsTaken, pgshard}
 use Rattle.subcommands.specs.declared.arguments.Request.{Request}
-use Rattle.subcommands.proofs.StepActions.{error_asks, error_stops}
+use Rattle.subcommands.proofs.Invocations.{error_asks, error_stops}
 use Rattle.subcommands.proofs.arguments.parse.Goals as goal
 
 pub returns-in-Err-clause-asked : goal.returns-in-Err-clause-asked

@@ -7,10 +7,10 @@ use Rattle.replica_identity.specs.Plans.{plan_of}
 use Rattle.shard_checker.specs.CatalogTruth.{ShardingIsWrong}
 use Rattle.shard_checker.specs.Texts.{text_fault, texts_view, trees_in}
 use Rattle.subcommands.proofs.Verdicts.{accepted, refused}
-use Rattle.subcommands.specs.Check.Checking.{IsFirstRefusal}
-use Rattle.subcommands.specs.Check.Refusals.{refused_line}
-use Rattle.subcommands.specs.Output.{StopsText, ended}
-use Rattle.subcommands.specs.Parts.{Cut, lines_of, two_parts}
+use Rattle.program_parts.specs.Verdicts.{IsFirstRefusal}
+use Rattle.program_parts.specs.Refusals.{refused_line}
+use Rattle.program_parts.specs.Output.{StopsText, ended}
+use Rattle.program_parts.specs.Parts.{Cut, lines_of, two_parts}
 use Rattle.subcommands.proofs.check.check_input.Goals as goal
 
 pub returns-in-Ok : goal.returns-in-Ok

@@ -5,7 +5,7 @@ use Rattle.pub_reader.specs.Statements.{catalog_by}
 use Rattle.sql_reader.specs.Written.{as_filter}
 use Rattle.subcommands.specs.Eval.Carriers.{carrier_view, carriers_of}
 use Rattle.subcommands.specs.Eval.Tables.{table_of}
-use Rattle.subcommands.specs.Parts.{Cut, two_parts}
+use Rattle.program_parts.specs.Parts.{Cut, two_parts}
 use Rattle.subcommands.proofs.Evaluating.{evaluated}
 use Rattle.subcommands.proofs.eval.evaluate.Goals as goal
 

@@ -2,8 +2,8 @@ use Rattle.std.proofs.Common.{◌≡◌, if◌then◌else◌, ap, map, ◌∙◌
 use Rattle.std.specs.String.{string_bytes}
 use Rattle.subcommands.proofs.RowLines.{so_far_at_start, so_far_next, memory_returned, stop_returned, all_written}
 use Rattle.subcommands.specs.Eval.Carriers.{carrier_view}
-use Rattle.subcommands.specs.Parts.{lines_left, lines_of}
-use Rattle.subcommands.specs.declared.failure.Status.TheVariants.{Refused}
+use Rattle.program_parts.specs.Parts.{lines_left, lines_of}
+use Rattle.program_parts.specs.declared.failure.Status.TheVariants.{Refused}
 use Rattle.subcommands.proofs.eval.write_rows.Goals.{then-not-branch, else-not-branch}
 use Rattle.subcommands.proofs.eval.write_rows.Goals as goal
 

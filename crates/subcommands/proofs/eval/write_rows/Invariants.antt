@@ -1,7 +1,7 @@
 use Rattle.std.proofs.Common.{map}
 use Rattle.subcommands.proofs.RowLines.{IsSoFar}
 use Rattle.subcommands.specs.Eval.Carriers.{carrier_view}
-use Rattle.subcommands.specs.Parts.{lines_left, lines_of}
+use Rattle.program_parts.specs.Parts.{lines_left, lines_of}
 use Rattle.subcommands.proofs.eval.write_rows.Given as goal
 
 abbrev pub invariant-loop-row : goal.invariant-loop-row

@@ -1,7 +1,7 @@
 use Rattle.std.proofs.Common.{map}
 use Rattle.std.specs.String.{string_bytes}
 use Rattle.subcommands.proofs.Exits.{answered, help_returned, help_written}
-use Rattle.subcommands.specs.Requests.{reader_of}
+use Rattle.program_parts.specs.Inputs.{reader_of}
 use Rattle.subcommands.proofs.program.answer_words.Goals as goal
 
 pub returns-in_err-write_line-in-Help : goal.returns-in_err-write_line-in-Help

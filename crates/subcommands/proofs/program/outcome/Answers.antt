@@ -1,6 +1,6 @@
 use Rattle.std.proofs.Common.{map}
 use Rattle.subcommands.proofs.Exits.{reported}
-use Rattle.subcommands.specs.Requests.{reader_of}
+use Rattle.program_parts.specs.Inputs.{reader_of}
 use Rattle.subcommands.proofs.program.outcome.Goals as goal
 
 pub returns-in-Err : goal.returns-in-Err

@@ -9,10 +9,10 @@ use Rattle.shard_checker.specs.CatalogTruth.{ShardingIsWrong}
 use Rattle.shard_checker.specs.CheckedView.{CheckedOf}
 use Rattle.shard_checker.specs.Texts.{text_fault, texts_view, trees_in}
 use Rattle.subcommands.proofs.Simulating.{sharding_refused, steps_made}
-use Rattle.subcommands.specs.Check.Checking.{IsFirstRefusal}
-use Rattle.subcommands.specs.Check.Refusals.{refused_line}
-use Rattle.subcommands.specs.Output.{StopsText, ended}
-use Rattle.subcommands.specs.Parts.{CutTwice, lines_of, three_parts}
+use Rattle.program_parts.specs.Verdicts.{IsFirstRefusal}
+use Rattle.program_parts.specs.Refusals.{refused_line}
+use Rattle.program_parts.specs.Output.{StopsText, ended}
+use Rattle.program_parts.specs.Parts.{CutTwice, lines_of, three_parts}
 use Rattle.subcommands.specs.Simulate.WorldSteps.{WritesSteps}
 use Rattle.subcommands.proofs.simulate.simulate.Goals as goal
 

@@ -1,7 +1,7 @@
 use Rattle.std.specs.String.{string_bytes}
 use Rattle.std.proofs.lemmas.Result.{IfOk-weaker}
 use Rattle.pub_catalog.specs.CatalogView.{catalog_view}
-use Rattle.pub_reader.specs.ScriptView.{step_view}
+use Rattle.pub_statements.specs.StepView.{step_view}
 use Rattle.shard_world.specs.World.{event_view}
 use Rattle.subcommands.proofs.StepLines.{event_made, pump_made, view_made}
 use Rattle.subcommands.proofs.simulate.step_text.Goals as goal

@@ -3,7 +3,7 @@ use Rattle.std.specs.Prelude.{codes}
 use Rattle.std.specs.List.{flat_map}
 use Rattle.std.specs.String.{string_bytes}
 use Rattle.subcommands.specs.Make.Making.{owners_text}
-use Rattle.subcommands.specs.Names.{spaced, subscriber_name}
+use Rattle.program_parts.specs.Names.{spaced, subscriber_name}
 use Rattle.subcommands.proofs.make.findings.push_owners.Given as goal
 
 -- what is written, and the names that are left, each after a comma, make the text of all

@@ -1,7 +1,7 @@
 use Rattle.std.proofs.Common.{◌≡◌, ◌++◌, drop}
 use Rattle.std.specs.String.{string_bytes}
 use Rattle.pub_catalog.specs.CatalogView.{catalog_view}
-use Rattle.subcommands.specs.Output.{text_of}
+use Rattle.program_parts.specs.Output.{text_of}
 use Rattle.subcommands.specs.Simulate.Views.{subscribers_lines}
 use Rattle.subcommands.proofs.simulate.views.push_subscribers.Given as goal
 

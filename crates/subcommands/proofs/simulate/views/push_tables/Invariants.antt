@@ -1,6 +1,6 @@
 use Rattle.std.proofs.Common.{◌≡◌, ◌++◌, drop, map}
 use Rattle.std.specs.String.{string_bytes}
-use Rattle.subcommands.specs.Output.{text_of}
+use Rattle.program_parts.specs.Output.{text_of}
 use Rattle.subcommands.specs.Simulate.Views.{rows_lines}
 use Rattle.subcommands.proofs.simulate.views.push_tables.Given as goal
 

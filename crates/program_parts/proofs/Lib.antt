@@ -1,0 +1,4 @@
+pub mod Limits
+pub mod LineCuts
+pub mod Reports
+pub mod Writing

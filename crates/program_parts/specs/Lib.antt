@@ -1,0 +1,9 @@
+pub mod Certificates
+pub mod Failures
+pub mod Inputs
+pub mod Names
+pub mod Output
+pub mod Parts
+pub mod Refusals
+pub mod Reporting
+pub mod Verdicts

@@ -1,0 +1,4 @@
+pub mod Crossing
+pub mod Invocations
+pub mod Serving
+pub mod Telling

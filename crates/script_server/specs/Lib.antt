@@ -1,0 +1,4 @@
+pub mod CommandLine
+pub mod Scripts
+pub mod Serving
+pub mod Telling

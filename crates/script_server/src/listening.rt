@@ -1,0 +1,37 @@
+//! The socket on which connections are waited for.
+
+ghost use Rattle.std.specs.Prelude.{IfErr, OnOk};
+ghost use Rattle.std.specs.Io.KnownBytes.{Appends};
+ghost use Rattle.program_parts.specs.Output.{StopsText, ended};
+ghost use Rattle.script_server.specs.Telling.{listening_line};
+
+use program_parts::{Failure, write_line};
+use std::alloc::Global;
+use std::io::Write;
+use std::net::{Ipv4Addr, Net, TcpListener, TcpStream};
+
+/// Listens on this port of the loopback interface, and says so in a line.
+///
+/// # Errors
+///
+/// `Output` where the port can't be had, or the line can't be written.
+pub fn listen<'a, W: Write, R: Net<Listener = TcpListener, Stream = TcpStream>>(
+    rt: &R,
+    alloc: Global,
+    port: u16,
+    writer: &mut W,
+) -> Result<TcpListener, Failure<'a>>
+    ensures told { OnOk result (Appends (W.contents writer.old) (W.contents writer.new) (ended (listening_line port))) }
+    ensures stopped { IfErr result (StopsText (ended (listening_line port)) (W.contents writer.old)
+        (W.contents writer.new)) }
+{
+    let Ok(listener) = TcpListener::bind(rt, (Ipv4Addr::LOCALHOST, port)) else {
+        return Err(Failure::Output);
+    };
+    let mut line = format!(in alloc; "listening {port}")?;
+    write_line(&mut line, writer)?;
+    match writer.flush() {
+        Ok(()) => Ok(listener),
+        Err(_) => Err(Failure::Output),
+    }
+}

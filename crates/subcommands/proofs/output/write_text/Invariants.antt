@@ -1,5 +1,0 @@
-use Rattle.subcommands.proofs.Writing.{IsToGo}
-use Rattle.subcommands.proofs.output.write_text.Given as goal
-
-abbrev pub invariant-loop : goal.invariant-loop
-invariant-loop g l = IsToGo l.text l.rest (g.W.Write.contents l.initial.writer) (g.W.Write.contents l.writer)
