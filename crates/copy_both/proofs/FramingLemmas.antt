@@ -2,9 +2,8 @@
 use Rattle.std.proofs.Common.{◌≡◌, ℕ, ◌+◌, ◌<◌, ◌≤◌, Option, Some, None, List, [], ◌∷◌, ◌++◌, length, length-append, take, drop, refl, sym, ap, ◌∙◌, append_assoc, append-nil, arith}
 use Rattle.std.specs.Prelude.{All, map}
 use Rattle.std.specs.Int.{to_be_bytes, w32}
-use Rattle.std.specs.List.{flat_map}
-use Rattle.std.proofs.lemmas.List.{map-append, take_at, take_all, drop_at, drop_all}
-use Rattle.std.proofs.lemmas.List.Concat.{flat_map-append, flat_map-cons}
+use Rattle.std.proofs.lemmas.List.{take_at, take_all, drop_at, drop_all}
+use Rattle.std.proofs.lemmas.List.Concat.{flat_map-cons}
 use Rattle.std.proofs.lemmas.List.Elements.{All-nil, All-cons}
 use Rattle.copy_frames.specs.Contents.{int64, xlog_data_body}
 use Rattle.copy_frames.specs.declared.xlog_data.XLogData.{XLogData}
@@ -22,7 +21,8 @@ use Rattle.tables_log.specs.Commits.{CommitOf}
 use borrow.Rule.Slice.PartMut.{put_mid}
 use Rattle.copy_both.specs.Voices.{taken_of}
 use Rattle.copy_both.specs.declared.taken.Taken.TheVariants.{Skipped, Sent}
-use Rattle.copy_both.specs.Framing.{with_head, frames_with, opening, AddsFrame}
+use Rattle.copy_both.specs.Framing.{frames_with, opening, AddsFrame}
+use Rattle.copy_both.specs.Streams.{Carries, spelled}
 use Rattle.copy_both.specs.declared.frames.Frames.{Frames}
 
 -- ---- one frame
@@ -116,8 +116,8 @@ pub added_in_room : (old roomy new : Frames) (message : Msg) → roomy.head ≡ 
     → roomy.bytes.items ≡ old.bytes.items → AddsFrame roomy new message → AddsFrame old new message
 added_in_room old roomy new message head bytes adds = record {
   head = adds.head ∙ head;
-  appended = adds.appended ∙ ap (λ (front : List ℕ). front ++ with_head roomy.head (spelling_of message)) bytes
-      ∙ ap (λ (head : XLogData). old.bytes.items ++ with_head head (spelling_of message)) head;
+  appended = adds.appended ∙ ap (λ (front : List ℕ). front ++ spelled (Carries roomy.head message)) bytes
+      ∙ ap (λ (head : XLogData). old.bytes.items ++ spelled (Carries head message)) head;
   texts = adds.texts;
 }
 
@@ -142,14 +142,8 @@ gone_short table (Some part) number old = (plain_delete table part number old).s
 -- ---- frames one after another
 
 frames_cons : (head : XLogData) (message : Msg) (messages : List Msg)
-    → frames_with head (message ∷ messages) ≡ with_head head (spelling_of message) ++ frames_with head messages
-frames_cons head message messages = flat_map-cons (with_head head) (spelling_of message) (map spelling_of messages)
-
-frames_both : (head : XLogData) (first second : List Msg)
-    → frames_with head (first ++ second) ≡ frames_with head first ++ frames_with head second
-frames_both head first second =
-    ap (flat_map (with_head head)) (map-append spelling_of first second)
-        ∙ flat_map-append (with_head head) (map spelling_of first) (map spelling_of second)
+    → frames_with head (message ∷ messages) ≡ spelled (Carries head message) ++ frames_with head messages
+frames_cons head message messages = flat_map-cons spelled (Carries head message) (map (Carries head) messages)
 
 pub record AddsFrames (old new : Frames) (messages : List Msg) : Type 0 where
   pub head : new.head ≡ old.head
@@ -170,9 +164,9 @@ all_framed old new (message ∷ messages) took =
     record {
       head = others.head ∙ one.head;
       appended = others.appended ∙ ap (λ (x : List ℕ). x ++ frames_with next.head messages) one.appended
-          ∙ append_assoc old.bytes.items (with_head old.head (spelling_of message)) (frames_with next.head messages)
+          ∙ append_assoc old.bytes.items (spelled (Carries old.head message)) (frames_with next.head messages)
           ∙ ap (λ (head : XLogData). old.bytes.items
-              ++ (with_head old.head (spelling_of message) ++ frames_with head messages)) one.head
+              ++ (spelled (Carries old.head message) ++ frames_with head messages)) one.head
           ∙ ap (λ (x : List ℕ). old.bytes.items ++ x) (sym (frames_cons old.head message messages));
       texts = All-cons HasTexts message messages one.texts others.texts;
     }
@@ -182,7 +176,7 @@ pub some_bytes : (head : XLogData) (message : Msg) (messages : List Msg)
     → 0 < length (frames_with head (message ∷ messages))
 some_bytes head message messages =
     omega (arith, ap length (frames_cons head message messages),
-        length-append (with_head head (spelling_of message)) (frames_with head messages))
+        length-append (spelled (Carries head message)) (frames_with head messages))
 
 -- ---- the frames of a commit
 
@@ -213,11 +207,11 @@ commit_framed commit new begin told ended (message ∷ messages) one took more l
 -- ---- what becomes of a commit
 
 pub skipped_if : (head : XLogData) (number : ℕ) (messages : List Msg) → length (frames_with head messages) ≡ 0
-    → taken_of number (map spelling_of messages) ≡ Skipped number
+    → taken_of number messages ≡ Skipped number
 skipped_if head number [] none = refl
 skipped_if head number (message ∷ messages) none = absurd (omega (arith, none, some_bytes head message messages))
 
 pub sent_if : (head : XLogData) (number : ℕ) (messages : List Msg) → (length (frames_with head messages) ≡ 0 → ⊥)
-    → taken_of number (map spelling_of messages) ≡ Sent number
+    → taken_of number messages ≡ Sent number
 sent_if head number [] some = absurd (some refl)
 sent_if head number (message ∷ messages) some = refl

@@ -1,7 +1,7 @@
 -- What a link says is its stream.
 use Rattle.std.proofs.Common.{◌≡◌, ℕ, zero, suc, false, List, [], ◌∷◌, ◌++◌, take, drop, replicate, refl, sym, ap, subst, ◌∙◌, append_assoc}
 use Rattle.std.specs.Prelude.{slice_get, Option, Some, None}
-use Rattle.std.specs.List.{concat}
+use Rattle.std.specs.List.{concat, flat_map}
 use Rattle.std.proofs.lemmas.List.{append-nil, take-append-drop}
 use Rattle.std.proofs.lemmas.List.Folds.{concat-append}
 use Rattle.shard_checker.specs.CheckedView.{CheckedOf}
@@ -11,7 +11,7 @@ use Rattle.copy_both.specs.Hearing.{HeardOf, HearingOf}
 use Rattle.copy_both.specs.LinkLaws.{Run, stream_of, with_moves, IsStreaming, replied, started_at, first_run, Goes, Goes_on, Starts, took, LinkHears, LinkEnds, LinkBreaks, LinkStops, LinkTakes, LinkKeeps, LinkPassesOn, LinkRestPassesOn, LinkFrontPassesOn, LogGrows}
 use Rattle.copy_both.specs.Links.{link_checked, link_stage, link_output, frames_by, stage_by, frames_said, closing, ended_stage, next_bytes, next_stage, stage_said}
 use Rattle.copy_both.specs.StreamLaws.{Start, Speaks, first_place}
-use Rattle.copy_both.specs.Streams.{Telling, Place, Move, Take, Keep, keep_bytes, taken_bytes, taken_place, move_bytes, moved}
+use Rattle.copy_both.specs.Streams.{spelled, Telling, Place, Move, Take, Keep, keep_bytes, take_items, taken_place, move_items, moved}
 use Rattle.copy_both.specs.Tellings.{telling_of}
 use Rattle.copy_both.specs.Voices as voices
 use Rattle.copy_both.specs.Voices.{StageOf, kept_bytes}
@@ -181,7 +181,7 @@ takes_by : (found : Option CommitOf) (run : Run) (output : List ℕ) (place : Pl
     → slice_get run.log place.done ≡ found
     → Speaks (telling_of run.checked) run.log run.start run.moves run.passed output place
     → Speaks (telling_of run.checked) run.log run.start (run.moves ++ took found clock) run.passed
-    (output ++ taken_bytes (telling_of run.checked) place found clock)
+    (output ++ flat_map spelled (take_items (telling_of run.checked) place found clock))
         (taken_place (telling_of run.checked) place found)
 takes_by None run output place clock is speaks =
     subst (λ (m : List Move). Speaks (telling_of run.checked) run.log run.start m run.passed (output ++ []) place)
@@ -194,10 +194,11 @@ takes_by (Some commit) run output place clock is speaks =
 pub takes_on : LinkTakes
 takes_on old new run place clock streams says =
     let telling : Telling CommitOf = telling_of run.checked in
-    let output_is : link_output new ≡ link_output old ++ move_bytes telling run.log place (Take clock) =
+    let output_is : link_output new
+        ≡ link_output old ++ flat_map spelled (move_items telling run.log place (Take clock)) =
     says.voice.output
     ∙ ap (λ (s : StageOf). link_output old ++ next_bytes (link_checked old) s run.log clock) streams.stage_is
-    ∙ ap (λ (k : CheckedOf). link_output old ++ move_bytes (telling_of k) run.log place (Take clock))
+    ∙ ap (λ (k : CheckedOf). link_output old ++ flat_map spelled (move_items (telling_of k) run.log place (Take clock)))
         streams.checked_is in
     record {
       checked_is = says.voice.checked ∙ streams.checked_is;

@@ -9,14 +9,11 @@ use Rattle.table_changes.specs.Tables.{Tables, no_rows}
 use Rattle.shard_checker.specs.CheckedView.{CheckedOf, setting_in}
 use Rattle.tables_log.specs.Commits.{CommitOf, commit_of}
 use Rattle.tables_log.specs.StandsFor.{Transaction, left_by, after, IsAccepted, AreAccepted, entries_from}
-use Rattle.pgoutput_msgs.specs.Spelling.{spelling_of}
 use Rattle.pgoutput_msgs.specs.Telling.{told_after}
 use Rattle.pgoutput_msgs.specs.Transactions.{AreNamed, TellsTransaction}
-use Rattle.pgoutput_msgs.specs.declared.message.Msg.{Msg}
 use Rattle.pgoutput_msgs.proofs.TransactionLemmas.{commits_tell_transactions}
-use Rattle.copy_frames.specs.Contents.{copy_both_response}
 use Rattle.copy_both.specs.SeenStreams.{Reached, reached_at, seen_next, next_told, reached_next, move_told, moves_told, StreamsTellTransactions}
-use Rattle.copy_both.specs.Streams.{Place, Move, Take, Keep, lsn_of, sent_at, taken_bytes, taken_place, all_bytes}
+use Rattle.copy_both.specs.Streams.{Item, Response, Carries, spelled, Place, Move, Take, Keep, head_of, take_items, taken_place, all_items}
 use Rattle.copy_both.specs.Tellings.{telling_of}
 
 -- ---- entries of a log
@@ -103,15 +100,14 @@ module _ (checked : CheckedOf) (covered : Covered (setting_in checked)) (transac
   told_next told at None = told
   told_next told at (Some transaction) = told_after checked subscriber told (entry at.done transaction)
 
-  bytes_next : (at : Reached) (told : List Bool) (found : Option Transaction) (clock : ℕ)
+  items_next : (at : Reached) (told : List Bool) (found : Option Transaction) (clock : ℕ)
       → AreNamed checked.catalog.tables told at.named → slice_get transactions at.done ≡ found
-      → taken_bytes (telling_of checked) (place_by at told) (option_map (entry at.done) found) clock
+      → take_items (telling_of checked) (place_by at told) (option_map (entry at.done) found) clock
           ≡ next_told checked transactions subscriber at found clock
   unfolding entry_of
-  bytes_next at told None clock named there = refl
-  bytes_next at told (Some transaction) clock named there =
-      ap (λ (messages : List Msg). flat_map (sent_at (lsn_of (at.done + 1)) clock) (map spelling_of messages))
-          (tells at told transaction named there).messages
+  items_next at told None clock named there = refl
+  items_next at told (Some transaction) clock named there =
+      ap (map (Carries (head_of (at.done + 1) clock))) (tells at told transaction named there).messages
 
   place_next : (at : Reached) (told : List Bool) (found : Option Transaction)
       → taken_place (telling_of checked) (place_by at told) (option_map (entry at.done) found)
@@ -129,25 +125,25 @@ module _ (checked : CheckedOf) (covered : Covered (setting_in checked)) (transac
   named_next at told (Some transaction) named there = (tells at told transaction named there).named_after
 
   moves_as : (at : Reached) (told : List Bool) → AreNamed checked.catalog.tables told at.named → (moves : List Move)
-      → all_bytes (telling_of checked) log (place_by at told) moves
+      → all_items (telling_of checked) log (place_by at told) moves
           ≡ moves_told checked transactions subscriber at moves
   moves_as at told named [] = refl
   moves_as at told named (Take clock ∷ moves) =
       let found = slice_get transactions at.done in
       let next = reached_next checked transactions subscriber at found in
-      ap (λ (one : Option CommitOf). taken_bytes (telling_of checked) (place_by at told) one clock
-          ++ all_bytes (telling_of checked) log (taken_place (telling_of checked) (place_by at told) one) moves)
+      ap (λ (one : Option CommitOf). take_items (telling_of checked) (place_by at told) one clock
+          ++ all_items (telling_of checked) log (taken_place (telling_of checked) (place_by at told) one) moves)
       (entry_after at.done)
-      ∙ ap (λ (place : Place). taken_bytes (telling_of checked) (place_by at told) (option_map (entry at.done) found)
-          clock ++ all_bytes (telling_of checked) log place moves)
+      ∙ ap (λ (place : Place). take_items (telling_of checked) (place_by at told) (option_map (entry at.done) found)
+          clock ++ all_items (telling_of checked) log place moves)
       (place_next at told found)
-      ∙ ap (λ (bytes : List ℕ). bytes
-          ++ all_bytes (telling_of checked) log (place_by next (told_next told at found)) moves)
-          (bytes_next at told found clock named refl)
-      ∙ ap (λ (bytes : List ℕ). next_told checked transactions subscriber at found clock ++ bytes)
+      ∙ ap (λ (items : List Item). items
+          ++ all_items (telling_of checked) log (place_by next (told_next told at found)) moves)
+          (items_next at told found clock named refl)
+      ∙ ap (λ (items : List Item). next_told checked transactions subscriber at found clock ++ items)
           (moves_as next (told_next told at found) (named_next at told found named refl) moves)
   moves_as at told named (Keep clock want ∷ moves) =
-      ap (λ (bytes : List ℕ). move_told checked transactions subscriber at (Keep clock want) ++ bytes)
+      ap (λ (items : List Item). move_told checked transactions subscriber at (Keep clock want) ++ items)
           (moves_as at told named moves)
 
 -- ---- the law
@@ -159,6 +155,6 @@ length-replicate (suc count) = ap suc (length-replicate count)
 pub streams_tell_transactions : StreamsTellTransactions
 streams_tell_transactions checked covered transactions accepted subscriber position moves =
     let tables = length checked.catalog.tables in
-    ap (λ (bytes : List ℕ). copy_both_response ++ bytes)
+    ap (λ (items : List Item). flat_map spelled (Response ∷ items))
     (moves_as checked covered transactions accepted subscriber (reached_at position) (replicate tables false)
     (record { long = length-replicate tables; each = λ number within. none_named tables number }) moves)

@@ -1,16 +1,17 @@
 -- What a link is, the publisher's end of a connection, and what its calls answer, say and leave: each is the halves'
 -- calls, and what is heard is answered at once ("55.4. Streaming Replication Protocol").
 use Rattle.std.specs.Prelude.{◌≡◌, ℕ, ◌==◌, if◌then◌else◌, unwrap_or, false, List, [], ◌∷◌, ◌++◌, replicate, slice_get, Option, Some, None, IsSome, Result, Ok, Err}
-use Rattle.std.specs.List.{concat}
+use Rattle.std.specs.List.{concat, flat_map}
 use Rattle.shard_checker.specs.CheckedView.{CheckedOf}
 use Rattle.tables_log.specs.Commits.{CommitOf}
 use Rattle.tables_log.specs.declared.book.Book.{Book}
+use Rattle.pgoutput_msgs.specs.Telling.{messages_for}
 use Rattle.copy_frames.specs.Contents.{copy_both_response}
 use Rattle.copy_both.specs.Ears.{ear_checked, ear_phase, ear_started, ear_held, ear_refusal, ear_heard, IsSameEar, EarCloses, Loses}
 use Rattle.copy_both.specs.Hearing.{HeardOf, HearingOf}
 use Rattle.copy_both.specs.Streams as streams
-use Rattle.copy_both.specs.Streams.{Take, move_bytes, moved}
-use Rattle.copy_both.specs.Tellings.{spelled_for, telling_of}
+use Rattle.copy_both.specs.Streams.{Take, spelled, move_items, moved}
+use Rattle.copy_both.specs.Tellings.{telling_of}
 use Rattle.copy_both.specs.Voices as voices
 use Rattle.copy_both.specs.Voices.{StageOf, AreReadBack, Says, Closes, Passes, voice_checked, voice_stage, voice_output, voice_room, first_stage, taken_of, kept_bytes, done_bytes, sent_of}
 use Rattle.copy_both.specs.declared.ear.Ear.{Ear}
@@ -155,7 +156,7 @@ link_heard link book piece = ear_heard (link_ear link) book piece (link_sent lin
 abbrev pub found_answer : CheckedOf → streams.Place → Option CommitOf → Result Taken LinkFault
 found_answer checked place None = Ok taken.Idle
 found_answer checked place (Some commit) =
-    Ok (taken_of commit.number (spelled_for checked place.slot place.told commit))
+    Ok (taken_of commit.number (messages_for checked place.slot place.told commit))
 
 abbrev pub next_answer : CheckedOf → StageOf → List CommitOf → Result Taken LinkFault
 next_answer checked voices.NotStarted log = Ok taken.NotStarted
@@ -170,7 +171,8 @@ HasNext voices.Closed log = ⊥
 
 abbrev pub next_bytes : CheckedOf → StageOf → List CommitOf → ℕ → List ℕ
 next_bytes checked voices.NotStarted log clock = []
-next_bytes checked (voices.Started place) log clock = move_bytes (telling_of checked) log place (Take clock)
+next_bytes checked (voices.Started place) log clock =
+    flat_map spelled (move_items (telling_of checked) log place (Take clock))
 next_bytes checked voices.Closed log clock = []
 
 abbrev pub next_stage : CheckedOf → StageOf → List CommitOf → ℕ → StageOf

@@ -10,10 +10,8 @@ use Rattle.table_changes.specs.Standing.{Covered}
 use Rattle.table_changes.specs.Tables.{no_rows}
 use Rattle.shard_checker.specs.CheckedView.{CheckedOf, setting_in}
 use Rattle.tables_log.specs.StandsFor.{Transaction, after, AreAccepted, entries_from}
-use Rattle.pgoutput_msgs.specs.Spelling.{spelling_of}
 use Rattle.pgoutput_msgs.specs.Transactions.{tables_of, transaction_told}
-use Rattle.copy_frames.specs.Contents.{copy_both_response, copy_data, keepalive_body}
-use Rattle.copy_both.specs.Streams.{Move, Take, Keep, lsn_of, end_of, count_before, sent_at, stream}
+use Rattle.copy_both.specs.Streams.{Item, Response, Carries, Alive, spelled, Move, Take, Keep, end_of, count_before, head_of, stream}
 use Rattle.copy_both.specs.Tellings.{telling_of}
 
 -- where a connection is: how many transactions are done, which tables its changes named, and the sent position
@@ -34,12 +32,12 @@ seen_next checked transactions subscriber done transaction =
 -- ---- moves
 
 -- the next transaction is taken, where there is one
-abbrev pub next_told : CheckedOf → List Transaction → ℕ → Reached → Option Transaction → ℕ → List ℕ
+abbrev pub next_told : CheckedOf → List Transaction → ℕ → Reached → Option Transaction → ℕ → List Item
 next_told checked transactions subscriber at None clock = []
 next_told checked transactions subscriber at (Some transaction) clock =
-    flat_map (sent_at (lsn_of (at.done + 1)) clock)
-    (map spelling_of (transaction_told checked at.named (at.done + 1) transaction.time
-        (seen_next checked transactions subscriber at.done transaction)))
+    map (Carries (head_of (at.done + 1) clock))
+        (transaction_told checked at.named (at.done + 1) transaction.time
+        (seen_next checked transactions subscriber at.done transaction))
 
 abbrev pub reached_next : CheckedOf → List Transaction → ℕ → Reached → Option Transaction → Reached
 reached_next checked transactions subscriber at None = at
@@ -50,18 +48,18 @@ reached_next checked transactions subscriber at (Some transaction) = record {
 }
 
 -- a keepalive carries the sent position
-abbrev pub move_told : CheckedOf → List Transaction → ℕ → Reached → Move → List ℕ
+abbrev pub move_told : CheckedOf → List Transaction → ℕ → Reached → Move → List Item
 move_told checked transactions subscriber at (Take clock) =
     next_told checked transactions subscriber at (slice_get transactions at.done) clock
 move_told checked transactions subscriber at (Keep clock want) =
-    copy_data (keepalive_body (record { position = at.sent; clock = clock; wants_reply = want }))
+    Alive (record { position = at.sent; clock = clock; wants_reply = want }) ∷ []
 
 abbrev pub reached_by : CheckedOf → List Transaction → ℕ → Reached → Move → Reached
 reached_by checked transactions subscriber at (Take clock) =
     reached_next checked transactions subscriber at (slice_get transactions at.done)
 reached_by checked transactions subscriber at (Keep clock want) = at
 
-abbrev pub moves_told : CheckedOf → List Transaction → ℕ → Reached → List Move → List ℕ
+abbrev pub moves_told : CheckedOf → List Transaction → ℕ → Reached → List Move → List Item
 moves_told checked transactions subscriber at [] = []
 moves_told checked transactions subscriber at (move ∷ moves) =
     move_told checked transactions subscriber at move
@@ -70,7 +68,7 @@ moves_told checked transactions subscriber at (move ∷ moves) =
 -- the bytes of a connection of the subscriber of this number that starts at this position and makes these moves
 abbrev pub stream_told : CheckedOf → List Transaction → ℕ → ℕ → List Move → List ℕ
 stream_told checked transactions subscriber position moves =
-    copy_both_response ++ moves_told checked transactions subscriber (reached_at position) moves
+    flat_map spelled (Response ∷ moves_told checked transactions subscriber (reached_at position) moves)
 
 -- ---- the law
 

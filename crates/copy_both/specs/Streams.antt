@@ -1,15 +1,36 @@
 -- What a connection sends: CopyBothResponse, and then what is taken of the log, commit by commit, and keepalives
 -- ("55.4. Streaming Replication Protocol", "55.5. Logical Streaming Replication Protocol"). Positions in the log are
 -- this project's own.
-use Rattle.std.specs.Prelude.{ℕ, ◌+◌, ◌-◌, ◌*◌, ◌/◌, ◌==◌, if◌then◌else◌, Bool, false, List, [], ◌∷◌, ◌++◌, replicate, slice_get, Option, Some, None}
+use Rattle.std.specs.Prelude.{ℕ, ◌+◌, ◌-◌, ◌*◌, ◌/◌, ◌==◌, if◌then◌else◌, Bool, false, List, [], ◌∷◌, ◌++◌, map, replicate, slice_get, Option, Some, None}
 use Rattle.std.specs.List.{flat_map}
-use Rattle.copy_frames.specs.Contents.{copy_both_response, copy_data, xlog_data_body, keepalive_body}
+use Rattle.copy_frames.specs.Contents.{xlog_data_body, keepalive_body}
+use Rattle.copy_frames.specs.Frames.{framed}
+use Rattle.copy_frames.specs.declared.frame.Frame.{Frame}
+use Rattle.copy_frames.specs.declared.keepalive.Keepalive.{Keepalive}
+use Rattle.copy_frames.specs.declared.xlog_data.XLogData.{XLogData}
+use Rattle.pgoutput_msgs.specs.Spelling.{spelling_of}
+use Rattle.pgoutput_msgs.specs.declared.message.Msg.{Msg}
+
+-- what is sent at once, in a frame
+pub data Item : Type 0 where
+  Response : Item
+  Carries : XLogData → Msg → Item
+  Alive : Keepalive → Item
+
+-- its frame: a CopyBothResponse of text without columns, or a CopyData
+abbrev pub frame_in : Item → Frame
+frame_in Response = record { kind = 87; body = 0 ∷ 0 ∷ 0 ∷ [] }
+frame_in (Carries head message) = record { kind = 100; body = xlog_data_body head (spelling_of message) }
+frame_in (Alive keepalive) = record { kind = 100; body = keepalive_body keepalive }
+
+abbrev pub spelled : Item → List ℕ
+spelled item = framed (frame_in item)
 
 -- what a subscriber is told of commits: the number of a commit, from 1; the messages of it for the subscriber of a
--- slot, spelled, where these tables were told of; and which tables were told of after it
+-- slot, where these tables were told of; and which tables were told of after it
 pub record Telling (C : Type 0) : Type 0 where
   pub number : C → ℕ
-  pub messages : ℕ → List Bool → C → List (List ℕ)
+  pub messages : ℕ → List Bool → C → List Msg
   pub told_after : ℕ → List Bool → C → List Bool
 
 -- where a connection is: its slot, how many commits of the log are done, which tables it told of, and the sent position
@@ -39,13 +60,18 @@ place_at slot tables position =
 
 -- ---- a commit is taken
 
--- both places in an XLogData are the commit's
-abbrev pub sent_at : ℕ → ℕ → List ℕ → List ℕ
-sent_at lsn clock message = copy_data (xlog_data_body (record { start = lsn; end = lsn; clock = clock }) message)
+-- what comes before each message of the commit of this number
+abbrev pub head_of : ℕ → ℕ → XLogData
+head_of number clock = record { start = lsn_of number; end = lsn_of number; clock = clock }
+
+-- where the log ends, nothing is taken
+abbrev pub take_items : {C : Type 0} → Telling C → Place → Option C → ℕ → List Item
+take_items telling place None clock = []
+take_items telling place (Some commit) clock =
+    map (Carries (head_of (telling.number commit) clock)) (telling.messages place.slot place.told commit)
 
 abbrev pub take_bytes : {C : Type 0} → Telling C → Place → C → ℕ → List ℕ
-take_bytes telling place commit clock =
-    flat_map (sent_at (lsn_of (telling.number commit)) clock) (telling.messages place.slot place.told commit)
+take_bytes telling place commit clock = flat_map spelled (take_items telling place (Some commit) clock)
 
 abbrev pub place_after : {C : Type 0} → Telling C → Place → C → Place
 place_after telling place commit =
@@ -54,9 +80,11 @@ place_after telling place commit =
 
 -- ---- a keepalive carries the sent position
 
+abbrev pub keep_item : Place → ℕ → Bool → Item
+keep_item place clock want = Alive (record { position = place.sent; clock = clock; wants_reply = want })
+
 abbrev pub keep_bytes : Place → ℕ → Bool → List ℕ
-keep_bytes place clock want =
-    copy_data (keepalive_body (record { position = place.sent; clock = clock; wants_reply = want }))
+keep_bytes place clock want = spelled (keep_item place clock want)
 
 -- ---- moves
 
@@ -65,33 +93,31 @@ pub data Move : Type 0 where
   Take : ℕ → Move
   Keep : ℕ → Bool → Move
 
--- where the log ends, nothing is taken
-abbrev pub taken_bytes : {C : Type 0} → Telling C → Place → Option C → ℕ → List ℕ
-taken_bytes telling place None clock = []
-taken_bytes telling place (Some commit) clock = take_bytes telling place commit clock
-
 abbrev pub taken_place : {C : Type 0} → Telling C → Place → Option C → Place
 taken_place telling place None = place
 taken_place telling place (Some commit) = place_after telling place commit
 
-abbrev pub move_bytes : {C : Type 0} → Telling C → List C → Place → Move → List ℕ
-move_bytes telling log place (Take clock) = taken_bytes telling place (slice_get log place.done) clock
-move_bytes telling log place (Keep clock want) = keep_bytes place clock want
+abbrev pub move_items : {C : Type 0} → Telling C → List C → Place → Move → List Item
+move_items telling log place (Take clock) = take_items telling place (slice_get log place.done) clock
+move_items telling log place (Keep clock want) = keep_item place clock want ∷ []
 
 abbrev pub moved : {C : Type 0} → Telling C → List C → Place → Move → Place
 moved telling log place (Take clock) = taken_place telling place (slice_get log place.done)
 moved telling log place (Keep clock want) = place
 
-abbrev pub all_bytes : {C : Type 0} → Telling C → List C → Place → List Move → List ℕ
-all_bytes telling log place [] = []
-all_bytes telling log place (move ∷ moves) =
-    move_bytes telling log place move ++ all_bytes telling log (moved telling log place move) moves
+abbrev pub all_items : {C : Type 0} → Telling C → List C → Place → List Move → List Item
+all_items telling log place [] = []
+all_items telling log place (move ∷ moves) =
+    move_items telling log place move ++ all_items telling log (moved telling log place move) moves
 
 abbrev pub all_moved : {C : Type 0} → Telling C → List C → Place → List Move → Place
 all_moved telling log place [] = place
 all_moved telling log place (move ∷ moves) = all_moved telling log (moved telling log place move) moves
 
--- the bytes of a connection that starts at this position and makes these moves
+-- what a connection sends that starts at this position and makes these moves, and its bytes
+abbrev pub stream_items : {C : Type 0} → Telling C → List C → ℕ → ℕ → ℕ → List Move → List Item
+stream_items telling log slot tables position moves =
+    Response ∷ all_items telling log (place_at slot tables position) moves
+
 abbrev pub stream : {C : Type 0} → Telling C → List C → ℕ → ℕ → ℕ → List Move → List ℕ
-stream telling log slot tables position moves =
-    copy_both_response ++ all_bytes telling log (place_at slot tables position) moves
+stream telling log slot tables position moves = flat_map spelled (stream_items telling log slot tables position moves)

@@ -6,10 +6,11 @@ use Rattle.shard_checker.specs.CheckedView.{CheckedOf, checked_view}
 use Rattle.tables_log.specs.Commits.{CommitOf}
 use Rattle.pgoutput_msgs.specs.Sent.{IsSent}
 use Rattle.pgoutput_msgs.specs.Telling.{messages_for}
+use Rattle.pgoutput_msgs.specs.declared.message.Msg.{Msg}
 use Rattle.copy_frames.specs.Contents.{copy_done}
 use Rattle.copy_both.specs.Streams as streams
 use Rattle.copy_both.specs.Streams.{place_at, place_after, take_bytes, keep_bytes}
-use Rattle.copy_both.specs.Tellings.{spelled_for, telling_of}
+use Rattle.copy_both.specs.Tellings.{telling_of}
 use Rattle.copy_both.specs.declared.link_fault.LinkFault.{LinkFault}
 use Rattle.copy_both.specs.declared.link_fault.LinkFault.TheVariants as fault
 use Rattle.copy_both.specs.declared.place.Place.{Place}
@@ -92,14 +93,14 @@ first_stage checked slot position = Started (place_at slot (length checked.catal
 -- ---- a commit is taken up, or nothing is said
 
 -- a commit without a message for the subscriber is skipped
-abbrev pub taken_of : ℕ → List (List ℕ) → Taken
+abbrev pub taken_of : ℕ → List Msg → Taken
 taken_of number [] = taken.Skipped number
 taken_of number (first ∷ others) = taken.Sent number
 
 abbrev pub entry_answer : CheckedOf → StageOf → CommitOf → Result Taken LinkFault
 entry_answer checked NotStarted commit = Ok taken.NotStarted
 entry_answer checked (Started place) commit =
-    Ok (taken_of commit.number (spelled_for checked place.slot place.told commit))
+    Ok (taken_of commit.number (messages_for checked place.slot place.told commit))
 entry_answer checked Closed commit = Err fault.Closed
 
 abbrev pub entry_bytes : CheckedOf → StageOf → CommitOf → ℕ → List ℕ

@@ -24,8 +24,9 @@ pub(crate) struct Place {
 impl Place {
     ghost use Rattle.std.specs.Prelude.{◌≡◌, ◌+◌, ◌++◌, IfOk, OnOk, OnErr};
     ghost use Rattle.shard_checker.specs.CheckedView.{checked_view};
+    ghost use Rattle.pgoutput_msgs.specs.Telling.{messages_for};
     ghost use Rattle.copy_both.specs.Streams.{place_at, place_after, take_bytes};
-    ghost use Rattle.copy_both.specs.Tellings.{spelled_for, telling_of};
+    ghost use Rattle.copy_both.specs.Tellings.{telling_of};
     ghost use Rattle.copy_both.specs.Voices.{AreReadBack, place_view, taken_of};
 
     /// Where a connection is that starts at the position, before the Relation of any of so many tables was sent.
@@ -58,7 +59,7 @@ impl Place {
     ) -> Result<Taken, AllocError>
         requires { commit.now.number ≡ self.old.done + 1 }
         ensures taken { IfOk result (λ taken. taken ≡ taken_of commit.now.number
-            (spelled_for (checked_view checked.now) self.old.slot self.old.told.items commit.now)) }
+            (messages_for (checked_view checked.now) self.old.slot self.old.told.items commit.now)) }
         ensures place { OnOk result (place_view self.new
             ≡ place_after (telling_of (checked_view checked.now)) (place_view self.old) commit.now) }
         ensures said { OnOk result (out.new.items ≡ out.old.items

@@ -31,8 +31,8 @@ use Rattle.senders_close.specs.Gathering.{all_receipts, receipts_in}
 use Rattle.senders_close.specs.Histories.{transaction_of, transactions_of}
 use Rattle.senders_close.specs.TakenCommits.{IsTaken}
 use Rattle.stream_laws.specs.Cutting.{whole_in}
-use Rattle.stream_laws.specs.Following.{Follows, IsPublished, IsSentItem, log_of}
-use Rattle.stream_laws.specs.FollowingBytes.{AreFirst, StopsFollowing, items_from, position_in}
+use Rattle.stream_laws.specs.Following.{Follows, IsPublished, IsSentItem, items_from, log_of}
+use Rattle.stream_laws.specs.FollowingBytes.{AreFirst, StopsFollowing, position_in}
 use Rattle.stream_laws.specs.LayoutRoom.{IsClocked, IsTimedTransaction}
 use Rattle.stream_laws.proofs.FollowingBytesLemmas.{fed_follow, stopped_follow}
 use Rattle.stream_laws.proofs.LayoutRoomLemmas.{logs_fit_layouts}

@@ -19,9 +19,9 @@ use Rattle.served_connections.specs.declared.end.End.TheVariants.{Finished}
 use Rattle.served_connections.specs.declared.served.Served.{Served}
 use Rattle.publisher_desk.specs.declared.note.Note.{Note}
 use Rattle.senders_close.specs.Closing.{IsClosed}
-use Rattle.stream_laws.specs.Following.{Follows}
+use Rattle.stream_laws.specs.Following.{Follows, items_from}
 use Rattle.stream_laws.specs.Cutting.{whole_in}
-use Rattle.stream_laws.specs.FollowingBytes.{AreFirst, StopsFollowing, SubFollows, items_from, position_in}
+use Rattle.stream_laws.specs.FollowingBytes.{AreFirst, StopsFollowing, SubFollows, position_in}
 use Rattle.stream_laws.specs.LayoutRoom.{IsClocked, IsTimedTransaction}
 use Rattle.test_subscriber.specs.Copies.{told}
 use Rattle.test_subscriber.specs.Subscribers.{FeedStops, Feeds, Opens, sub_machine}

@@ -8,18 +8,17 @@ use Rattle.shard_checker.specs.CheckedView.{CheckedOf, setting_in}
 use Rattle.tables_log.specs.Commits.{CommitOf}
 use Rattle.tables_log.specs.StandsFor.{AreAccepted}
 use Rattle.copy_both.specs.Streams as s
-use Rattle.copy_both.specs.Streams.{Place, Move, count_before, place_at, moved, taken_place, all_moved}
+use Rattle.copy_both.specs.Streams.{Item, Response, spelled, Place, Move, count_before, place_at, keep_item, moved, taken_place, all_moved}
 use Rattle.copy_both.specs.Tellings.{telling_of}
+use Rattle.copy_both.proofs.StreamLemmas.{moved_append, items_append}
 use Rattle.shard_world.specs.CatchingUp.{next_peer, sent_by, sent_to, take_many, delivered_all, caught_up}
 use Rattle.stream_laws.specs.Cutting.{if_whole, whole_in}
 use Rattle.stream_laws.specs.Following.{raised_by, position_after, IsPublished}
-use Rattle.stream_laws.specs.Items.{Item, Response, Alive, spelled, stream_items}
 use Rattle.stream_laws.specs.LayoutRoom.{FitsLayouts}
 use Rattle.shard_world.specs.World.{Up, Asks, Says, Connection, Peer, PeerEvent, Hear, Take, Keep, Deliver, Session, down_items, down_bytes, position_now, spelled_up, whole_up, ups_of, start_at, hear_up, newly, heard_of, hears, delivers, as_many, place_of, takes, take_step, keep_step, moves_on, open_step, peer_step, Source, up_bytes, down_of, log_in, asking_length}
 use Rattle.stream_laws.proofs.EntryLemmas.{entry_at, entries_length, past_end}
 use Rattle.stream_laws.proofs.FollowingLemmas.{first_sent}
-use Rattle.shard_world.proofs.WorldItems.{items_append}
-use Rattle.shard_world.proofs.WorldPeers.{IsGood, bytes_of_items, good_follows}
+use Rattle.shard_world.proofs.WorldPeers.{IsGood, good_follows}
 use Rattle.shard_world.proofs.WorldSteps.{peer_good}
 use Rattle.filter_tree.proofs.Tests.{by_test}
 
@@ -88,13 +87,6 @@ hears_start source now peer c more still whole = by_start c.start refl
         (record { confirmed = peer.confirmed; start = c.start; moves = c.moves })))
 
 -- ---- commits are taken up
-
-pub moved_append : (checked : CheckedOf) (log : List CommitOf) (place : Place) (moves : List Move) (move : Move)
-    → all_moved (telling_of checked) log place (moves ++ move ∷ [])
-        ≡ moved (telling_of checked) log (all_moved (telling_of checked) log place moves) move
-moved_append checked log place [] move = refl
-moved_append checked log place (first ∷ moves) move =
-    moved_append checked log (moved (telling_of checked) log place first) moves move
 
 -- how many commits are counted by what was sent
 module _ (source : Source) (accepted : AreAccepted (setting_in source.checked) no_rows source.transactions) where
@@ -243,7 +235,7 @@ module _ (source : Source) (published : IsPublished source.checked source.transa
                 let further : (place_of source start (h.running.c.moves ++ s.Take now ∷ [])).done
                     ≡ (place_of source start h.running.c.moves).done + 1 =
                 ap (λ (at : Place). at.done)
-                    (moved_append source.checked (log_in source)
+                    (moved_append (telling_of source.checked) (log_in source)
                     (place_at source.number (length source.checked.catalog.tables) start) h.running.c.moves
                     (s.Take now)
                 ∙ ap (taken_place (telling_of source.checked) (place_of source start h.running.c.moves)) e) in
@@ -285,43 +277,27 @@ module _ (source : Source) (published : IsPublished source.checked source.transa
       (length (down_bytes source c.start (c.moves ++ s.Keep now false ∷ []))) delivered)
       (down_items source c.start (c.moves ++ s.Keep now false ∷ []))))
   reaches_end start position c start_is left delivered within =
-      subst CountsAll (sym (ap (position_after position) (all_whole ∙ items_are)
-      ∙ after_one position (stream_items source.checked (log_in source) source.number start c.moves)
-      (Alive (record { position = (place_of source start c.moves).sent; clock = now; wants_reply = false }))))
-      (record {
-        all = at_least (position_after position
-            (stream_items source.checked (log_in source) source.number start c.moves));
-        some = at_some (position_after position
-            (stream_items source.checked (log_in source) source.number start c.moves));
-      })
+      let before : List Item = down_items source (Some start) c.moves in
+      subst CountsAll (sym (ap (position_after position)
+          (whole (down_items source c.start (c.moves ++ s.Keep now false ∷ [])) delivered within ∙ items_are)
+      ∙ after_one position before (keep_item (place_of source start c.moves) now false)))
+      (record { all = at_least (position_after position before); some = at_some (position_after position before) })
     where
       items_are : down_items source c.start (c.moves ++ s.Keep now false ∷ [])
-          ≡ stream_items source.checked (log_in source) source.number start c.moves
-          ++ Alive (record { position = (place_of source start c.moves).sent; clock = now; wants_reply = false }) ∷ []
+          ≡ down_items source (Some start) c.moves ++ keep_item (place_of source start c.moves) now false ∷ []
       items_are = ap (λ from. down_items source from (c.moves ++ s.Keep now false ∷ [])) start_is
           ∙ ap (λ items. Response ∷ items)
-              (items_append source.checked (log_in source)
+              (items_append (telling_of source.checked) (log_in source)
               (place_at source.number (length source.checked.catalog.tables) start) c.moves (s.Keep now false))
 
-      whole : (items : List Item) (count done : ℕ) → count ≡ length (flat_map spelled items) → done ≤ count
-          → whole_in (done + as_many count count done) items ≡ items
-      whole items count done e h =
-          subst (λ n. whole_in n items ≡ items) (sym (all_of count done h ∙ e)) (whole_all items)
+      whole : (items : List Item) (done : ℕ) → done ≤ length (flat_map spelled items)
+          → whole_in (done + as_many (length (flat_map spelled items)) (length (flat_map spelled items)) done) items
+              ≡ items
+      whole items done h = subst (λ n. whole_in n items ≡ items)
+          (sym (all_of (length (flat_map spelled items)) done h)) (whole_all items)
         where
           all_of : (count done : ℕ) → done ≤ count → done + as_many count count done ≡ count
           all_of count done h = omega (arith, h)
-
-      bytes_are : length (down_bytes source c.start (c.moves ++ s.Keep now false ∷ []))
-          ≡ length (flat_map spelled (down_items source c.start (c.moves ++ s.Keep now false ∷ [])))
-      bytes_are = ap length (bytes_of_items source c.start (c.moves ++ s.Keep now false ∷ []))
-
-      all_whole : whole_in (delivered + as_many (length (down_bytes source c.start (c.moves ++ s.Keep now false ∷ [])))
-          (length (down_bytes source c.start (c.moves ++ s.Keep now false ∷ []))) delivered)
-          (down_items source c.start (c.moves ++ s.Keep now false ∷ []))
-          ≡ down_items source c.start (c.moves ++ s.Keep now false ∷ [])
-      all_whole = whole (down_items source c.start (c.moves ++ s.Keep now false ∷ []))
-          (length (down_bytes source c.start (c.moves ++ s.Keep now false ∷ []))) delivered bytes_are
-          (subst (λ n. delivered ≤ n) (sym bytes_are) within)
 
       counts : count_before (place_of source start c.moves).sent ≡ (place_of source start c.moves).done
       counts = place_counts source published.accepted start c.moves

@@ -12,11 +12,10 @@ use Rattle.pgoutput_msgs.specs.Telling.{relation_at, introduced, relation_once, 
 use Rattle.pgoutput_msgs.specs.declared.message.Msg.{Msg}
 use Rattle.pgoutput_msgs.specs.declared.message.Msg.TheVariants as m
 use Rattle.copy_both.specs.Streams as s
-use Rattle.copy_both.specs.Streams.{Place, Move, count_before, end_of, place_at, place_after, taken_place}
+use Rattle.copy_both.specs.Streams.{Item, Response, Carries, Alive, spelled, Place, Move, count_before, end_of, place_at, place_after, taken_place, head_of, take_items, keep_item, all_items, stream_items}
 use Rattle.copy_both.specs.Tellings.{telling_of}
 use Rattle.stream_laws.specs.Cutting.{if_whole, whole_in}
 use Rattle.stream_laws.specs.Following.{raised_by_message, raised_by, position_after}
-use Rattle.stream_laws.specs.Items.{Item, Response, Carries, Alive, spelled, head_of, take_items, all_items, stream_items}
 use Rattle.filter_tree.proofs.Tests.{by_test}
 
 -- ---- positions
@@ -164,24 +163,24 @@ carried_end number clock (message ∷ messages) rest all later =
 
 module _ (checked : CheckedOf) (log : List CommitOf) where
   take_end : (moves : List Move) (place : Place) (clock : ℕ) (found : Option CommitOf) → IsEnd place.sent
-      → ((at : Place) → IsEnd at.sent → All ItemTellsEnd (all_items checked log at moves))
-      → All ItemTellsEnd (take_items checked place found clock
-          ++ all_items checked log (taken_place (telling_of checked) place found) moves)
+      → ((at : Place) → IsEnd at.sent → All ItemTellsEnd (all_items (telling_of checked) log at moves))
+      → All ItemTellsEnd (take_items (telling_of checked) place found clock
+          ++ all_items (telling_of checked) log (taken_place (telling_of checked) place found) moves)
   take_end moves place clock None sent later = later place sent
   take_end moves place clock (Some commit) sent later =
       carried_end commit.number clock (messages_for checked place.slot place.told commit)
-          (all_items checked log (place_after (telling_of checked) place commit) moves)
+          (all_items (telling_of checked) log (place_after (telling_of checked) place commit) moves)
       (messages_tell IsEnd checked place.slot place.told commit (end_is commit.number))
       (later (place_after (telling_of checked) place commit) (end_is commit.number))
 
   moves_end : (moves : List Move) (place : Place) → IsEnd place.sent
-      → All ItemTellsEnd (all_items checked log place moves)
+      → All ItemTellsEnd (all_items (telling_of checked) log place moves)
   moves_end [] place sent = All-nil ItemTellsEnd
   moves_end (s.Take clock ∷ moves) place sent =
       take_end moves place clock (slice_get log place.done) sent (λ at tells. moves_end moves at tells)
   moves_end (s.Keep clock want ∷ moves) place sent =
-      All-cons ItemTellsEnd (Alive (record { position = place.sent; clock = clock; wants_reply = want }))
-          (all_items checked log place moves) sent (moves_end moves place sent)
+      All-cons ItemTellsEnd (keep_item place clock want) (all_items (telling_of checked) log place moves) sent
+          (moves_end moves place sent)
 
 first_end : (position : ℕ) → IsEnd position → IsEnd (if position == 0 then 64 else position)
 first_end position h = by_test (position == 0)
@@ -191,11 +190,11 @@ first_end position h = by_test (position == 0)
 -- the position after the items of a stream that are whole in some bytes
 pub stream_end : (checked : CheckedOf) (log : List CommitOf) (subscriber start : ℕ) (moves : List Move)
     (count position : ℕ) → IsEnd start → IsEnd position
-    → IsEnd (position_after position (whole_in count (stream_items checked log subscriber start moves)))
+    → IsEnd (position_after position (whole_in count
+        (stream_items (telling_of checked) log subscriber (length checked.catalog.tables) start moves)))
 stream_end checked log subscriber start moves count position begins h =
-    items_end position (whole_in count (stream_items checked log subscriber start moves))
-    (whole_end count (stream_items checked log subscriber start moves)
-    (All-cons ItemTellsEnd Response
-        (all_items checked log (place_at subscriber (length checked.catalog.tables) start) moves) tt
-    (moves_end checked log moves (place_at subscriber (length checked.catalog.tables) start)
-        (first_end start begins)))) h
+    let place : Place = place_at subscriber (length checked.catalog.tables) start in
+    let items : List Item = all_items (telling_of checked) log place moves in
+    items_end position (whole_in count (Response ∷ items))
+    (whole_end count (Response ∷ items)
+    (All-cons ItemTellsEnd Response items tt (moves_end checked log moves place (first_end start begins)))) h

@@ -7,7 +7,7 @@ use Rattle.copy_frames.specs.Frames.{Cut, cut, fault_of, rest_of}
 use Rattle.copy_frames.proofs.PieceLemmas.{rest_with_more}
 use Rattle.copy_both.specs.LinkLaws.{IsStreaming}
 use Rattle.copy_both.specs.Links.{LinkPasses, link_output}
-use Rattle.copy_both.specs.Streams.{Move}
+use Rattle.copy_both.specs.Streams.{frame_in, Move}
 use Rattle.copy_both.specs.declared.link.Link.{Link}
 use Rattle.copy_both.proofs.LinkStreams.{passes_on}
 use Rattle.test_subscriber.specs.Feeding.{limit}
@@ -17,7 +17,6 @@ use Rattle.test_subscriber.specs.Subscribers.{sub_held, sub_machine, fed_cut, fe
 use Rattle.test_subscriber.specs.declared.subscriber.Subscriber.{Subscriber}
 use Rattle.test_subscriber.proofs.FeedingLemmas.{while_open, hears_open, hears_no_fault, hears_more}
 use Rattle.shard_world.specs.Connections.{DeliversStep, front_of}
-use Rattle.stream_laws.specs.Items.{frame_in}
 use Rattle.shard_world.specs.Joined.{AlikeBut, Speaks, run_of}
 use Rattle.shard_world.specs.PeerSteps.{Case, IsCase, peer_of, source_of}
 use Rattle.shard_world.specs.World as w
@@ -28,7 +27,7 @@ use Rattle.stream_laws.proofs.CuttingLemmas.{IsPiece, pieces_are_cut}
 use Rattle.stream_laws.proofs.FollowingBytesLemmas.{item_frames}
 use Rattle.shard_world.proofs.JoinedSteps.{steps_to, still_named}
 use Rattle.shard_world.proofs.WantsLemmas.{HeardBut, cut_but}
-use Rattle.shard_world.proofs.WorldPeers.{IsConnected, IsConnectedAt, bytes_of_items, down_sent, delivered_followed}
+use Rattle.shard_world.proofs.WorldPeers.{IsConnected, IsConnectedAt, down_sent, delivered_followed}
 
 -- ---- what waits at the publisher's end
 
@@ -70,9 +69,7 @@ module _ (case : Case) (is : IsCase case) (c : Connection) (some : (peer_of case
       let c_is = connected case is c some in
       (delivered_followed (source_of case) (case_published case is) (case_sayable case is) (peer_of case).position
           (peer_of case).machine (case_good case is).follows c.start c_is.is.started
-      c.moves c_is.is.clocked delivered
-          (subst (λ bytes. delivered ≤ length bytes) (bytes_of_items (source_of case) c.start c.moves)
-          within)).no_fault
+      c.moves c_is.is.clocked delivered within).no_fault
 
   pub down_piece : (more : ℕ) → c.delivered + more ≤ length downs
       → IsPiece frame_in limit (down_items (source_of case) c.start c.moves) downs c.delivered more
@@ -82,7 +79,7 @@ module _ (case : Case) (is : IsCase case) (c : Connection) (some : (peer_of case
       (item_frames (down_items (source_of case) c.start c.moves)
       (down_sent (source_of case) (case_published case is) (case_sayable case is) (peer_of case).position
           (peer_of case).machine (case_good case is).follows c.start c_is.is.started c.moves c_is.is.clocked))
-      (bytes_of_items (source_of case) c.start c.moves) within
+      refl within
 
   -- what a subscriber makes of a piece that comes after what was delivered
   pub record Makes (more : ℕ) (subscriber : Subscriber) (heard : Heard) : Type 0 where

@@ -9,7 +9,6 @@ use Rattle.std.proofs.lemmas.List.Elements.{All-nil, All-cons, All-append}
 use mathlib.Core.List.{map-append}
 use Rattle.tables_log.specs.Commits.{CommitOf}
 use Rattle.tables_log.specs.declared.slots.Slot.{Slot}
-use Rattle.pgoutput_msgs.specs.Spelling.{spelling_of}
 use Rattle.pgoutput_msgs.specs.Telling.{messages_for}
 use Rattle.pgoutput_msgs.specs.declared.message.Msg.{Msg}
 use Rattle.copy_frames.specs.Frames.{cut, rest_of}
@@ -19,8 +18,8 @@ use Rattle.copy_both.specs.LinkLaws as links
 use Rattle.copy_both.specs.LinkLaws.{IsStreaming, with_moves}
 use Rattle.copy_both.specs.Links.{LinkSays, link_checked, link_ear, link_output, link_stage, found_answer, next_answer, next_bytes, next_stage}
 use Rattle.copy_both.specs.Streams as s
-use Rattle.copy_both.specs.Streams.{Move, place_at, moved, taken_place}
-use Rattle.copy_both.specs.Tellings.{spelled_for, telling_of}
+use Rattle.copy_both.specs.Streams.{spelled, Move, place_at, moved, taken_place}
+use Rattle.copy_both.specs.Tellings.{telling_of}
 use Rattle.copy_both.specs.Voices.{keep_answer, kept_bytes, taken_of}
 use Rattle.copy_both.specs.declared.link.Link.{Link}
 use Rattle.copy_both.specs.declared.taken.Taken.{Taken}
@@ -34,15 +33,14 @@ use Rattle.test_subscriber.specs.Subscribers.{sub_machine, sub_output, sub_publi
 use Rattle.test_subscriber.specs.declared.fault.SubFault.{SubFault}
 use Rattle.test_subscriber.specs.declared.subscriber.Subscriber.{Subscriber}
 use Rattle.shard_world.specs.Connections.{OpensStep, TakesStep, KeepsStep, ReportsStep, answer_of, kept_or_not}
-use Rattle.stream_laws.specs.Items.{spelled}
 use Rattle.shard_world.specs.Joined.{PeerOf, AlikeBut, StaysAlike, IsNamed, IsSilent, IsOneStatus, Hears, IsLinked, IsAt, PeerIs, Speaks, run_of}
 use Rattle.shard_world.specs.PeerSteps.{Case, IsCase, peer_of, StepsTo, source_of}
 use Rattle.shard_world.specs.World as w
 use Rattle.shard_world.specs.World.{Answer, Opened, Reported, Connection, PeerEvent, start_of, spelled_up, with_connection, moves_on, place_of, position_now, down_items, down_bytes, took, keep_step, take_step, peer_step, up_bytes, down_of, log_in}
 use Rattle.shard_world.proofs.CaseLemmas.{case_asks, case_good, case_follows, opened_small, Open, is_shut, is_open}
-use Rattle.shard_world.proofs.CatchingUpLemmas.{moved_append}
+use Rattle.copy_both.proofs.StreamLemmas.{moved_append}
 use Rattle.stream_laws.proofs.CuttingLemmas.{cut_nothing}
-use Rattle.shard_world.proofs.WorldPeers.{bytes_of_items, grows}
+use Rattle.shard_world.proofs.WorldPeers.{grows}
 use Rattle.filter_tree.proofs.Tests.{by_test}
 
 pub ok_of : {A E : Type 0} (one other : A) → ◌≡◌ {A = Result A E} (Ok one) (Ok other) → one ≡ other
@@ -213,9 +211,8 @@ stream_grows case start moves move =
     let grown = grows (source_of case) start moves move in
     record {
       more = flat_map spelled grown.more;
-      is = bytes_of_items (source_of case) start (moves ++ move ∷ []) ∙ ap (flat_map spelled) grown.is
-          ∙ flat_map-append spelled (down_items (source_of case) start moves) grown.more
-          ∙ ap (λ bytes. bytes ++ flat_map spelled grown.more) (sym (bytes_of_items (source_of case) start moves));
+      is = ap (flat_map spelled) grown.is
+          ∙ flat_map-append spelled (down_items (source_of case) start moves) grown.more;
     }
 
 pub same_ear : (case : Case) (c : Connection) (old new : Link) → Hears (source_of case) old (peer_of case) c
@@ -365,7 +362,7 @@ keeps_by case slots old link new c want (Some start) named some at linked says s
     (moved_peer case slots old link new c (s.Keep case.now want) start named at linked says.ear
         (says.voice.checked ∙ linked.checked_is)
     (subst (IsStreaming new _)
-        (sym (moved_append case.checked (log_in (source_of case))
+        (sym (moved_append (telling_of case.checked) (log_in (source_of case))
         (place_at case.number (length case.checked.catalog.tables) start) c.moves (s.Keep case.now want)))
     (keeps_on link new (run_of (source_of case) start c.moves c.delivered) (place_of (source_of case) start c.moves)
         case.now want streams.streams says))))
@@ -378,7 +375,7 @@ keeps case slots old link new want stands some says said answer =
 -- ---- commits
 
 took_is : (number : ℕ) (messages : List Msg)
-    → answer_of (taken_of number (map spelling_of messages)) ≡ took number messages
+    → answer_of (taken_of number messages) ≡ took number messages
 took_is number [] = refl
 took_is number (message ∷ messages) = refl
 
@@ -419,7 +416,7 @@ takes_by case slots old link new c start named some at linked says found answer 
     answered None e = ap answer_of (ok_of found taken.Idle e)
     answered (Some commit) e =
         let place = place_of (source_of case) start c.moves in
-        ap answer_of (ok_of found (taken_of commit.number (spelled_for case.checked place.slot place.told commit)) e)
+        ap answer_of (ok_of found (taken_of commit.number (messages_for case.checked place.slot place.told commit)) e)
         ∙ took_is commit.number (messages_for case.checked place.slot place.told commit)
 
     left : (its : Option CommitOf)
@@ -447,7 +444,7 @@ takes_by case slots old link new c start named some at linked says found answer 
         moved_peer case slots old link new c (s.Take case.now) start named at linked says.ear
             (says.voice.checked ∙ linked.checked_is)
         (subst (IsStreaming new _)
-            (sym (moved_append case.checked (log_in (source_of case))
+            (sym (moved_append (telling_of case.checked) (log_in (source_of case))
             (place_at case.number (length case.checked.catalog.tables) start) c.moves (s.Take case.now)))
         (subst (λ found. IsStreaming new
             (with_moves (run_of (source_of case) start c.moves c.delivered) (links.took found case.now))

@@ -10,7 +10,7 @@ use Rattle.copy_both.specs.Ears.{answer_in}
 use Rattle.copy_both.specs.Hearing.{answer_of, heard_told}
 use Rattle.copy_both.specs.Links.{found_answer, link_heard, link_stage, next_answer}
 use Rattle.copy_both.specs.Streams.{Place}
-use Rattle.copy_both.specs.Tellings.{spelled_for}
+use Rattle.pgoutput_msgs.specs.Telling.{messages_for}
 use Rattle.copy_both.specs.Voices.{keep_answer, taken_of, told_fault}
 use Rattle.copy_both.specs.declared.link.Link.{Link}
 use Rattle.copy_both.specs.declared.link_fault.LinkFault.{LinkFault}
@@ -63,7 +63,7 @@ takes_are_answered case is slots old link stands some =
         → IsAnswered (found_answer case.checked place its)
     found place None e = record { value = taken.Idle; is = refl }
     found place (Some commit) e =
-        record { value = taken_of commit.number (spelled_for case.checked place.slot place.told commit); is = refl }
+        record { value = taken_of commit.number (messages_for case.checked place.slot place.told commit); is = refl }
 
     by_start : (c : Connection) (start : Option ℕ) → Speaks (source_of case) link c.moves c.delivered start
         → IsAnswered (next_answer case.checked (link_stage link) (log_in (source_of case)))

@@ -5,6 +5,7 @@ use Rattle.std.proofs.lemmas.List.{take_at}
 use Rattle.tables_log.specs.declared.slots.Slot.{Slot}
 use Rattle.copy_frames.specs.Frames.{Cut, Rest, cut, after_frames}
 use Rattle.copy_frames.specs.declared.frame.Frame.{Frame}
+use Rattle.copy_both.specs.Streams.{Item, frame_in}
 use Rattle.copy_both.specs.Links.{link_output}
 use Rattle.copy_both.specs.declared.link.Link.{Link}
 use Rattle.test_subscriber.specs.Copies.{told}
@@ -17,7 +18,6 @@ use Rattle.test_subscriber.specs.declared.fault.SubFault.{SubFault}
 use Rattle.test_subscriber.specs.declared.subscriber.Subscriber.{Subscriber}
 use Rattle.test_subscriber.proofs.FeedingLemmas.{hears_open}
 use Rattle.shard_world.specs.Connections.{front_of}
-use Rattle.stream_laws.specs.Items.{Item, frame_in}
 use Rattle.shard_world.specs.Joined.{IsLinked, PeerOf}
 use Rattle.shard_world.specs.PeerSteps.{Case, Halts, HasStreamBy, IsCase, IsHalf, StandsIn, peer_of, source_of}
 use Rattle.shard_world.specs.Refusals.{DeliverHalts, DeliversAreAnswered}

@@ -9,12 +9,11 @@ use Rattle.pgoutput_msgs.specs.declared.message.Msg.{Msg}
 use Rattle.pgoutput_msgs.specs.declared.message.Msg.TheVariants as m
 use Rattle.copy_both.specs.Streams as s
 use Rattle.copy_both.specs.StreamLaws.{AllThere}
-use Rattle.copy_both.specs.Streams.{Place, Move, count_before, end_of, place_at, place_after, taken_place, moved, all_moved}
+use Rattle.copy_both.specs.Streams.{Item, Response, Carries, Alive, frame_in, Place, Move, count_before, end_of, place_at, place_after, taken_place, moved, all_moved, head_of, take_items, keep_item, all_items, stream_items}
 use Rattle.copy_both.specs.Tellings.{telling_of}
 use Rattle.copy_frames.specs.Frames.{framed}
 use Rattle.stream_laws.specs.Cutting.{if_whole, whole_in}
 use Rattle.stream_laws.specs.Following.{raised_by_message, raised_by, position_after}
-use Rattle.stream_laws.specs.Items.{Item, Response, Carries, Alive, frame_in, head_of, take_items, all_items, stream_items}
 use Rattle.shard_world.proofs.EndLemmas.{TellsBy, messages_tell}
 use Rattle.filter_tree.proofs.Tests.{by_test}
 
@@ -105,19 +104,20 @@ module _ (checked : CheckedOf) (log : List CommitOf)
 
   take_within : (most : ℕ) (moves : List Move) (place : Place) (clock : ℕ) (found : Option CommitOf)
       → (taken_place (telling_of checked) place found).sent ≤ most
-      → All (IsWithinItem most) (all_items checked log (taken_place (telling_of checked) place found) moves)
       → All (IsWithinItem most)
-          (take_items checked place found clock
-          ++ all_items checked log (taken_place (telling_of checked) place found) moves)
+          (all_items (telling_of checked) log (taken_place (telling_of checked) place found) moves)
+      → All (IsWithinItem most)
+          (take_items (telling_of checked) place found clock
+          ++ all_items (telling_of checked) log (taken_place (telling_of checked) place found) moves)
   take_within most moves place clock None low later = later
   take_within most moves place clock (Some commit) low later =
       carried_within most commit.number clock (messages_for checked place.slot place.told commit)
-          (all_items checked log (place_after (telling_of checked) place commit) moves)
+          (all_items (telling_of checked) log (place_after (telling_of checked) place commit) moves)
       (messages_tell (λ end. end ≤ most) checked place.slot place.told commit low) later
 
   moves_within : (most : ℕ) (moves : List Move) (place : Place) → IsSentPlace place
       → (all_moved (telling_of checked) log place moves).sent ≤ most
-      → All (IsWithinItem most) (all_items checked log place moves)
+      → All (IsWithinItem most) (all_items (telling_of checked) log place moves)
   moves_within most [] place sent low = All-nil (IsWithinItem most)
   moves_within most (s.Take clock ∷ moves) place sent low =
       let here = next_place place (s.Take clock) sent in
@@ -126,8 +126,8 @@ module _ (checked : CheckedOf) (log : List CommitOf)
           (moves_within most moves (moved (telling_of checked) log place (s.Take clock)) here.sent low)
   moves_within most (s.Keep clock want ∷ moves) place sent low =
       let later = all_sent moves place sent in
-      All-cons (IsWithinItem most) (Alive (record { position = place.sent; clock = clock; wants_reply = want }))
-          (all_items checked log place moves) (omega (arith, later.more, low))
+      All-cons (IsWithinItem most) (keep_item place clock want) (all_items (telling_of checked) log place moves)
+          (omega (arith, later.more, low))
       (moves_within most moves place sent low)
 
 first_sent_place : (number tables position : ℕ) → IsSentPlace (place_at number tables position)
@@ -147,16 +147,18 @@ first_reached position = by_test (position == 0)
 pub reached_is_sent : (checked : CheckedOf) (log : List CommitOf)
     → ((place : ℕ) (commit : CommitOf) → slice_get log place ≡ Some commit → commit.number ≡ 1 + place)
     → (subscriber position : ℕ) (moves : List Move) (count : ℕ)
-    → position_after position (whole_in count (stream_items checked log subscriber position moves)) ≤
+    → position_after position (whole_in count
+        (stream_items (telling_of checked) log subscriber (length checked.catalog.tables) position moves)) ≤
         (all_moved (telling_of checked) log (place_at subscriber (length checked.catalog.tables) position) moves).sent
 reached_is_sent checked log numbered subscriber position moves count =
     let place = place_at subscriber (length checked.catalog.tables) position in
+    let items : List Item = all_items (telling_of checked) log place moves in
     let first = first_sent_place subscriber (length checked.catalog.tables) position in
     let last = all_sent checked log numbered moves place first in
     let most = (all_moved (telling_of checked) log place moves).sent in
-    items_within most position (whole_in count (stream_items checked log subscriber position moves))
-    (whole_within (IsWithinItem most) count (stream_items checked log subscriber position moves)
-    (All-cons (IsWithinItem most) Response (all_items checked log place moves) tt
+    items_within most position (whole_in count (Response ∷ items))
+    (whole_within (IsWithinItem most) count (Response ∷ items)
+    (All-cons (IsWithinItem most) Response items tt
         (moves_within checked log numbered most moves place first (omega arith))))
     (omega (arith, first_reached position, last.more))
 

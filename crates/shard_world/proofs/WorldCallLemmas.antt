@@ -8,10 +8,11 @@ use Rattle.tables_log.specs.StandsFor.{Transaction}
 use Rattle.tables_log.specs.declared.slots.Slot.{Slot}
 use Rattle.copy_both.specs.LinkLaws.{Run, IsStreaming}
 use Rattle.copy_both.specs.StreamLaws.{AllThere}
-use Rattle.copy_both.specs.Streams.{Place, Move, all_moved, moved, place_at}
+use Rattle.copy_both.specs.Streams.{spelled, Place, Move, all_moved, place_at}
 use Rattle.copy_both.specs.Tellings.{telling_of}
 use Rattle.copy_both.specs.declared.link.Link.{Link}
 use Rattle.copy_both.proofs.LinkStreams.{log_grows}
+use Rattle.copy_both.proofs.StreamLemmas.{all_moved_longer}
 use Rattle.copy_frames.specs.Frames.{cut, rest_of}
 use Rattle.test_subscriber.specs.Feeding.{limit}
 use Rattle.test_subscriber.specs.Frames.{hear_cut}
@@ -20,12 +21,11 @@ use Rattle.test_subscriber.specs.Subscribers.{sub_machine}
 use Rattle.test_subscriber.specs.declared.subscriber.Subscriber.{Subscriber}
 use Rattle.stream_laws.specs.Following.{log_of}
 use Rattle.shard_world.specs.Joined.{PeerOf, PeerIs, IsAt, IsLinked, AlikeBut, Speaks, run_of}
-use Rattle.stream_laws.specs.Items.{spelled}
 use Rattle.shard_world.specs.World as w
 use Rattle.shard_world.specs.World.{Connection, Event, Answer, Steps, Leads, down_bytes, place_of, Source, log_in}
 use Rattle.shard_world.proofs.WorldHearing.{down_longer}
-use Rattle.shard_world.proofs.WorldItems.{log_goes_on, moved_longer, with_more}
-use Rattle.shard_world.proofs.WorldPeers.{StartsAt, IsConnected, IsConnectedAt, IsGood, bytes_of_items}
+use Rattle.shard_world.proofs.WorldItems.{log_goes_on, with_more}
+use Rattle.shard_world.proofs.WorldPeers.{StartsAt, IsConnected, IsConnectedAt, IsGood}
 
 -- ---- one event more
 
@@ -66,14 +66,6 @@ module _ (source : Source) (before after : List Slot)
 
 -- ---- the log grows
 
-all_moved_longer : (checked : CheckedOf) (log more : List CommitOf) (place : Place) (moves : List Move)
-    → AllThere (telling_of checked) log place moves
-    → all_moved (telling_of checked) (log ++ more) place moves ≡ all_moved (telling_of checked) log place moves
-all_moved_longer checked log more place [] there = refl
-all_moved_longer checked log more place (move ∷ moves) there =
-    ap (λ at. all_moved (telling_of checked) (log ++ more) at moves) (moved_longer checked log more place move there.0)
-    ∙ all_moved_longer checked log more (moved (telling_of checked) log place move) moves there.1
-
 module _ (source : Source) (more : List Transaction) (position : ℕ) where
   abbrev IsThereAt : List Move → Type 0
   IsThereAt moves = AllThere (telling_of source.checked) (log_in source)
@@ -81,10 +73,7 @@ module _ (source : Source) (more : List Transaction) (position : ℕ) where
 
   bytes_longer : (start : Option ℕ) → StartsAt position start → (moves : List Move) → IsThereAt moves
       → down_bytes (with_more source more) start moves ≡ down_bytes source start moves
-  bytes_longer start at moves there =
-      bytes_of_items (with_more source more) start moves
-      ∙ ap (flat_map spelled) (down_longer source more position start at moves there)
-      ∙ sym (bytes_of_items source start moves)
+  bytes_longer start at moves there = ap (flat_map spelled) (down_longer source more position start at moves there)
 
   place_longer : (start : ℕ) → start ≡ position → (moves : List Move) → IsThereAt moves
       → place_of (with_more source more) start moves ≡ place_of source start moves
@@ -92,7 +81,7 @@ module _ (source : Source) (more : List Transaction) (position : ℕ) where
       let on = log_goes_on source.checked source.transactions more in
       ap (λ log. all_moved (telling_of source.checked) log
           (place_at source.number (length source.checked.catalog.tables) start) moves) on.is
-      ∙ all_moved_longer source.checked (log_in source) on.others
+      ∙ all_moved_longer (telling_of source.checked) (log_in source) on.others
           (place_at source.number (length source.checked.catalog.tables) start) moves
       (subst (λ p. AllThere (telling_of source.checked) (log_in source)
           (place_at source.number (length source.checked.catalog.tables) p) moves) (sym at) there)

@@ -1,22 +1,21 @@
 -- The publisher hears what a subscriber sends, and the log grows.
-use Rattle.std.proofs.Common.{◌≡◌, ℕ, ◌+◌, ◌-◌, ◌<◌, ◌≤◌, ◌^◌, Bool, true, false, List, [], ◌∷◌, ◌++◌, length, map, refl, sym, ◌∙◌, ap, subst, arith, length-append}
+use Rattle.std.proofs.Common.{◌≡◌, ℕ, ◌+◌, ◌-◌, ◌<◌, ◌≤◌, ◌^◌, Bool, true, false, List, [], ◌∷◌, ◌++◌, length, map, refl, sym, ◌∙◌, ap, subst, arith}
 use Rattle.std.specs.Prelude.{Option, Some, None, All, max, nat_le, fold}
 use Rattle.std.specs.List.{flat_map}
 use Rattle.std.proofs.lemmas.List.{append-nil}
 use Rattle.std.proofs.lemmas.List.Elements.{All-nil, All-cons, All-head, All-tail, All-drop, All-map}
 use Rattle.shard_checker.specs.CheckedView.{CheckedOf}
-use Rattle.tables_log.specs.Commits.{CommitOf}
 use Rattle.tables_log.specs.StandsFor.{Transaction}
-use Rattle.copy_both.specs.StreamLaws.{IsThere, AllThere}
-use Rattle.copy_both.specs.Streams.{Place, Move, Take, Keep, place_at, moved}
+use Rattle.copy_both.specs.StreamLaws.{AllThere}
+use Rattle.copy_both.specs.Streams.{Response, spelled, Move, Keep, place_at, all_items}
 use Rattle.copy_both.specs.Tellings.{telling_of}
+use Rattle.copy_both.proofs.StreamLemmas.{items_longer, all_there_longer}
 use Rattle.copy_frames.specs.declared.status.Status.{Status}
 use Rattle.stream_laws.specs.Cutting.{if_whole, whole_in}
 use Rattle.stream_laws.specs.Following.{position_after}
-use Rattle.stream_laws.specs.Items.{Response, spelled, all_items}
 use Rattle.shard_world.specs.World.{Up, Asks, Says, Connection, Peer, Session, down_items, position_in, position_now, spelled_up, whole_up, ups_of, start_at, replied, hear_up, newly, heard_of, hears, Source, log_in}
 use Rattle.stream_laws.proofs.FollowingBytesLemmas.{follows_longer}
-use Rattle.shard_world.proofs.WorldItems.{none_in_nothing, moved_longer, items_longer, log_goes_on, with_more}
+use Rattle.shard_world.proofs.WorldItems.{none_in_nothing, log_goes_on, with_more}
 use Rattle.shard_world.proofs.WorldPeers.{StartsAt, IsReported, IsConnected, IsConnectedAt, IsGood, moves_connected}
 
 -- ---- what the subscriber sends
@@ -168,22 +167,6 @@ hears_stay source now timed peer c more good =
 
 -- ---- the log grows
 
-one_there : (log more : List CommitOf) (place : Place) (move : Move) → IsThere log place move
-    → IsThere (log ++ more) place move
-one_there log more place (Take clock) there = omega (arith, there, length-append log more)
-one_there log more place (Keep clock want) there = tt
-
-there_longer : (checked : CheckedOf) (log more : List CommitOf) (place : Place) (moves : List Move)
-    → AllThere (telling_of checked) log place moves
-    → AllThere (telling_of checked) (log ++ more) place moves
-there_longer checked log more place [] there = tt
-there_longer checked log more place (move ∷ moves) there = (
-  one_there log more place move there.0,
-  subst (λ at. AllThere (telling_of checked) (log ++ more) at moves)
-      (sym (moved_longer checked log more place move there.0))
-      (there_longer checked log more (moved (telling_of checked) log place move) moves there.1),
-)
-
 pub down_longer : (source : Source) (more : List Transaction) (position : ℕ) (start : Option ℕ)
     → StartsAt position start → (moves : List Move)
     → AllThere (telling_of source.checked) (log_in source)
@@ -194,10 +177,10 @@ down_longer source more position (Some start) at moves there =
     let on = log_goes_on source.checked source.transactions more in
     let there_at = subst (λ p. AllThere (telling_of source.checked) (log_in source)
         (place_at source.number (length source.checked.catalog.tables) p) moves) (sym at) there in
-    ap (λ log. Response ∷ all_items source.checked log
+    ap (λ log. Response ∷ all_items (telling_of source.checked) log
         (place_at source.number (length source.checked.catalog.tables) start) moves) on.is
     ∙ ap (λ items. Response ∷ items)
-        (items_longer source.checked (log_in source) on.others
+        (items_longer (telling_of source.checked) (log_in source) on.others
         (place_at source.number (length source.checked.catalog.tables) start) moves there_at)
 
 longer_connected : (source : Source) (more : List Transaction) (position confirmed reached : ℕ) (c : Connection)
@@ -209,7 +192,7 @@ longer_connected source more position confirmed reached c connected =
       started = connected.started;
       there = subst (λ log. AllThere (telling_of source.checked) log
           (place_at source.number (length source.checked.catalog.tables) position) c.moves) (sym on.is)
-          (there_longer source.checked (log_in source) on.others
+          (all_there_longer (telling_of source.checked) (log_in source) on.others
               (place_at source.number (length source.checked.catalog.tables) position) c.moves connected.there);
       clocked = connected.clocked;
       delivered = subst (λ items. c.delivered ≤ length (flat_map spelled items)) (sym same) connected.delivered;

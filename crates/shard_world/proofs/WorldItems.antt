@@ -1,9 +1,8 @@
--- Streams grow, and so do their items that are whole, and the position that they tell.
-use Rattle.std.proofs.Common.{◌≡◌, ℕ, zero, suc, ◌+◌, ◌-◌, ◌<◌, ◌≤◌, List, [], ◌∷◌, ◌++◌, length, refl, sym, ◌∙◌, ap, subst, arith, append_assoc, length-append, add-zero}
+-- Which items are whole as bytes come and streams grow, and the position that they tell.
+use Rattle.std.proofs.Common.{◌≡◌, ℕ, suc, ◌+◌, ◌-◌, ◌≤◌, List, [], ◌∷◌, ◌++◌, length, refl, sym, ◌∙◌, ap, subst, arith, length-append, add-zero}
 use Rattle.std.specs.Prelude.{fold, nat_le, slice_get}
 use Rattle.std.specs.List.{flat_map}
 use Rattle.std.proofs.lemmas.Bool.{leb-true, leb-false}
-use Rattle.std.proofs.lemmas.List.{append-nil}
 use Rattle.std.proofs.lemmas.Option.{slice_get_within}
 use Rattle.table_changes.specs.Tables.{Tables, no_rows}
 use Rattle.table_changes.specs.Records.{record_of}
@@ -14,12 +13,10 @@ use Rattle.tables_log.specs.Commits.{CommitOf}
 use Rattle.tables_log.specs.StandsFor.{Transaction, left_by, entries_from}
 use Rattle.pgoutput_msgs.specs.declared.message.Msg.{Msg}
 use Rattle.pgoutput_msgs.specs.declared.message.Msg.TheVariants as m
-use Rattle.copy_both.specs.StreamLaws.{IsThere, AllThere}
-use Rattle.copy_both.specs.Streams.{Place, Move, Take, Keep, taken_place, moved, all_moved}
-use Rattle.copy_both.specs.Tellings.{telling_of}
+use Rattle.copy_both.specs.Streams.{Item, Response, Carries, Alive, spelled}
+use Rattle.copy_both.proofs.StreamLemmas.{got_longer}
 use Rattle.stream_laws.specs.Cutting.{if_whole, whole_in}
 use Rattle.stream_laws.specs.Following.{raised_by_message, raised_by, position_after, log_of}
-use Rattle.stream_laws.specs.Items.{Item, Response, Carries, Alive, spelled, take_items, move_items, all_items}
 use Rattle.stream_laws.specs.LayoutRoom.{FitsLayouts}
 use Rattle.shard_world.specs.World.{Source}
 use Rattle.filter_tree.proofs.Tests.{by_test}
@@ -93,54 +90,10 @@ more_raise position count more (item ∷ items) h = by_test (nat_le (length (spe
         position_after position (whole_in more (item ∷ items))) (sym over)
     (items_raise position (whole_in more (item ∷ items))))
 
--- ---- one move more
-
-pub items_append : (checked : CheckedOf) (log : List CommitOf) (place : Place) (moves : List Move) (move : Move)
-    → all_items checked log place (moves ++ move ∷ []) ≡ all_items checked log place moves
-        ++ move_items checked log (all_moved (telling_of checked) log place moves) move
-items_append checked log place [] move = append-nil (move_items checked log place move)
-items_append checked log place (first ∷ moves) move =
-    ap (λ later. move_items checked log place first ++ later)
-        (items_append checked log (moved (telling_of checked) log place first) moves move)
-    ∙ sym (append_assoc (move_items checked log place first)
-        (all_items checked log (moved (telling_of checked) log place first) moves)
-    (move_items checked log (all_moved (telling_of checked) log (moved (telling_of checked) log place first) moves)
-        move))
-
 -- ---- a longer log
 
 abbrev pub with_more : Source → List Transaction → Source
 with_more source more = record source { transactions = source.transactions ++ more }
-
-got_longer : {C : Type 0} (log more : List C) (n : ℕ) → n < length log → slice_get (log ++ more) n ≡ slice_get log n
-got_longer [] more n less = absurd (omega (arith, less))
-got_longer (first ∷ log) more zero less = refl
-got_longer (first ∷ log) more (suc n) less = got_longer log more n (omega (arith, less))
-
-move_longer : (checked : CheckedOf) (log more : List CommitOf) (place : Place) (move : Move) → IsThere log place move
-    → move_items checked (log ++ more) place move ≡ move_items checked log place move
-move_longer checked log more place (Take clock) there =
-    ap (λ found. take_items checked place found clock) (got_longer log more place.done there)
-move_longer checked log more place (Keep clock want) there = refl
-
-pub moved_longer : (checked : CheckedOf) (log more : List CommitOf) (place : Place) (move : Move)
-    → IsThere log place move
-    → moved (telling_of checked) (log ++ more) place move ≡ moved (telling_of checked) log place move
-moved_longer checked log more place (Take clock) there =
-    ap (taken_place (telling_of checked) place) (got_longer log more place.done there)
-moved_longer checked log more place (Keep clock want) there = refl
-
-pub items_longer : (checked : CheckedOf) (log more : List CommitOf) (place : Place) (moves : List Move)
-    → AllThere (telling_of checked) log place moves
-    → all_items checked (log ++ more) place moves ≡ all_items checked log place moves
-items_longer checked log more place [] there = refl
-items_longer checked log more place (move ∷ moves) there =
-    ap (λ at. move_items checked (log ++ more) place move ++ all_items checked (log ++ more) at moves)
-        (moved_longer checked log more place move there.0)
-    ∙ ap (λ items. items ++ all_items checked (log ++ more) (moved (telling_of checked) log place move) moves)
-        (move_longer checked log more place move there.0)
-    ∙ ap (λ later. move_items checked log place move ++ later)
-        (items_longer checked log more (moved (telling_of checked) log place move) moves there.1)
 
 entries_append : (setting : Setting) (tables : Tables) (number : ℕ) (transactions more : List Transaction)
     → entries_from setting tables number (transactions ++ more)

@@ -3,12 +3,12 @@ use Rattle.std.proofs.Common.{◌≡◌, ℕ, ◌+◌, ◌≤◌, List, [], ◌�
 use Rattle.std.specs.Prelude.{Option, Some, None, All}
 use Rattle.std.specs.List.{flat_map}
 use Rattle.std.proofs.lemmas.List.{length-take-le, take-append-drop}
+use Rattle.std.proofs.lemmas.List.Concat.{flat_map-append}
 use Rattle.std.proofs.lemmas.List.Elements.{All-nil, All-cons, All-head, All-tail, All-append}
-use Rattle.shard_checker.specs.CheckedView.{CheckedOf}
-use Rattle.tables_log.specs.Commits.{CommitOf}
 use Rattle.copy_both.specs.StreamLaws.{IsThere, AllThere}
-use Rattle.copy_both.specs.Streams.{Place, Move, place_at, moved, all_moved}
+use Rattle.copy_both.specs.Streams.{Item, Response, spelled, Move, place_at, all_moved, move_items}
 use Rattle.copy_both.specs.Tellings.{telling_of}
+use Rattle.copy_both.proofs.StreamLemmas.{items_append, there_append}
 use Rattle.copy_frames.specs.Frames.{cut}
 use Rattle.copy_frames.specs.declared.status.Status.{Status}
 use Rattle.test_subscriber.specs.Feeding.{limit}
@@ -17,14 +17,12 @@ use Rattle.test_subscriber.specs.Machine.{Machine, lost, opened}
 use Rattle.stream_laws.specs.Cutting.{whole_in}
 use Rattle.stream_laws.specs.Following.{position_after, Follows, IsPublished, IsSentItem}
 use Rattle.stream_laws.specs.FollowingBytes.{IsFollowed}
-use Rattle.stream_laws.specs.Items.{Item, Response, spelled, move_items}
 use Rattle.stream_laws.specs.LayoutRoom.{FitsLayouts}
 use Rattle.shard_world.specs.World.{Connection, Peer, down_items, down_bytes, position_in, machine_in, position_now, machine_now, loses, Source, log_in}
 pub use Rattle.shard_world.specs.WorldLaws.{StartsAt}
 use Rattle.stream_laws.proofs.CuttingLemmas.{cut_nothing}
 use Rattle.stream_laws.proofs.FollowingBytesLemmas.{follows_alike, opened_followed}
-use Rattle.stream_laws.proofs.ItemLemmas.{streams_are_items}
-use Rattle.shard_world.proofs.WorldItems.{whole_more, more_raise, items_append}
+use Rattle.shard_world.proofs.WorldItems.{whole_more, more_raise}
 use Rattle.stream_laws.specs.LayoutRoom.{IsClocked}
 use Rattle.stream_laws.proofs.SentItems.{stream_sent}
 
@@ -61,14 +59,6 @@ pub record IsGood (source : Source) (peer : Peer) : Type 0 where
 
 abbrev IsFollowedIn : Source → ℕ → Heard → Type 0
 IsFollowedIn source position heard = IsFollowed source.checked source.transactions source.number position heard
-
-pub bytes_of_items : (source : Source) (start : Option ℕ) (moves : List Move)
-    → down_bytes source start moves ≡ flat_map spelled (down_items source start moves)
-bytes_of_items source None moves = refl
-bytes_of_items source (Some start) moves = streams_are_items source.checked (log_in source) source.number start moves
-
-no_bytes : List ℕ
-no_bytes = []
 
 module _ (source : Source) (published : IsPublished source.checked source.transactions)
     (sayable : FitsLayouts source.checked source.transactions) where
@@ -118,7 +108,7 @@ module _ (source : Source) (published : IsPublished source.checked source.transa
 
       long : length (take delivered (down_bytes source (Some position) moves)) ≡ delivered
       long = length-take-le delivered (down_bytes source (Some position) moves)
-          (subst (λ bytes. delivered ≤ length bytes) (sym (bytes_of_items source (Some position) moves)) moved_within)
+          moved_within
 
       by_length : (count : ℕ) → count ≡ delivered
           → IsFollowedIn source (position_after position (whole_in count (down_items source (Some position) moves)))
@@ -159,20 +149,9 @@ module _ (source : Source) (published : IsPublished source.checked source.transa
 
 -- ---- one move more
 
-there_append : (checked : CheckedOf) (log : List CommitOf) (place : Place) (moves : List Move) (move : Move)
-    → AllThere (telling_of checked) log place moves
-    → IsThere log (all_moved (telling_of checked) log place moves) move
-    → AllThere (telling_of checked) log place (moves ++ move ∷ [])
-there_append checked log place [] move there here = (here, tt)
-there_append checked log place (first ∷ moves) move there here =
-    (there.0, there_append checked log (moved (telling_of checked) log place first) moves move there.1 here)
-
 spelled_longer : (xs ys : List Item) → length (flat_map spelled xs) ≤ length (flat_map spelled (xs ++ ys))
-spelled_longer [] ys = omega arith
-spelled_longer (x ∷ xs) ys =
-    let later = spelled_longer xs ys in
-    omega (arith, later, length-append (spelled x) (flat_map spelled xs),
-        length-append (spelled x) (flat_map spelled (xs ++ ys)))
+spelled_longer xs ys =
+    omega (arith, ap length (flat_map-append spelled xs ys), length-append (flat_map spelled xs) (flat_map spelled ys))
 
 pub record Grows (source : Source) (start : Option ℕ) (moves : List Move) (move : Move) : Type 0 where
   pub more : List Item
@@ -181,11 +160,11 @@ pub record Grows (source : Source) (start : Option ℕ) (moves : List Move) (mov
 pub grows : (source : Source) (start : Option ℕ) (moves : List Move) (move : Move) → Grows source start moves move
 grows source None moves move = record { more = []; is = refl }
 grows source (Some start) moves move = record {
-  more = move_items source.checked (log_in source)
+  more = move_items (telling_of source.checked) (log_in source)
       (all_moved (telling_of source.checked) (log_in source)
       (place_at source.number (length source.checked.catalog.tables) start) moves) move;
   is = ap (λ items. Response ∷ items)
-      (items_append source.checked (log_in source)
+      (items_append (telling_of source.checked) (log_in source)
       (place_at source.number (length source.checked.catalog.tables) start) moves move);
 }
 
@@ -200,7 +179,7 @@ module _ (source : Source) (position confirmed reached : ℕ) where
       let grown = grows source c.start c.moves move in
       record {
         started = connected.started;
-        there = there_append source.checked (log_in source)
+        there = there_append (telling_of source.checked) (log_in source)
             (place_at source.number (length source.checked.catalog.tables) position) c.moves move connected.there
             here;
         clocked = All-append IsClocked c.moves (move ∷ []) connected.clocked

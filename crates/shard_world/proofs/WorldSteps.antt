@@ -1,7 +1,6 @@
 -- Each step of the world keeps what is so of it, and so each subscriber has its shard.
 use Rattle.std.proofs.Common.{◌≡◌, ℕ, ◌+◌, ◌<◌, ◌≤◌, ◌^◌, Bool, length, refl, sym, ◌∙◌, ap, subst, arith}
 use Rattle.std.specs.Prelude.{Option, Some, None, min, slice_get}
-use Rattle.std.specs.List.{flat_map}
 use Rattle.std.proofs.lemmas.List.Elements.{All-nil}
 use Rattle.std.proofs.lemmas.Option.{slice_get_within}
 use Rattle.tables_log.specs.Commits.{CommitOf}
@@ -9,13 +8,12 @@ use Rattle.copy_both.specs.StreamLaws.{IsThere}
 use Rattle.copy_both.specs.Streams as s
 use Rattle.copy_both.specs.Streams.{Place, Move}
 use Rattle.stream_laws.specs.Following.{IsPublished}
-use Rattle.stream_laws.specs.Items.{spelled}
-use Rattle.shard_world.specs.World.{Connection, Peer, PeerEvent, Open, Hear, Take, Keep, Deliver, Report, Lose, down_items, down_bytes, ups_of, spelled_up, as_many, hears, delivers, moves_on, place_of, take_step, keep_step, open_step, shut_step, peer_step, broken, Source, up_bytes, down_of, in_part, log_in}
+use Rattle.shard_world.specs.World.{Connection, Peer, PeerEvent, Open, Hear, Take, Keep, Deliver, Report, Lose, down_bytes, ups_of, spelled_up, as_many, hears, delivers, moves_on, place_of, take_step, keep_step, open_step, shut_step, peer_step, broken, Source, up_bytes, down_of, in_part, log_in}
 use Rattle.shard_world.specs.World as w
 use Rattle.stream_laws.specs.LayoutRoom.{FitsLayouts}
 use Rattle.shard_world.proofs.WorldHearing.{hears_good}
 use Rattle.stream_laws.specs.LayoutRoom.{IsClocked}
-use Rattle.shard_world.proofs.WorldPeers.{StartsAt, IsReported, IsConnectedAt, IsGood, bytes_of_items, loses_good, moves_connected, delivers_connected, reports_connected}
+use Rattle.shard_world.proofs.WorldPeers.{StartsAt, IsReported, IsConnectedAt, IsGood, loses_good, moves_connected, delivers_connected, reports_connected}
 
 -- ---- a step on a connection
 
@@ -37,11 +35,7 @@ module _ (source : Source) (published : IsPublished source.checked source.transa
     connected = delivers_connected source peer.position peer.confirmed good.connected.0 c
         (as_many asked (length (down_of source c)) c.delivered)
         good.connected.1
-        (subst (λ bytes. c.delivered + as_many asked (length bytes) c.delivered ≤ length
-            (flat_map spelled (down_items source c.start c.moves)))
-        (sym (bytes_of_items source c.start c.moves))
-        (stays_within asked (length (flat_map spelled (down_items source c.start c.moves))) c.delivered
-            good.connected.1.delivered));
+        (stays_within asked (length (down_of source c)) c.delivered good.connected.1.delivered);
   }
 
   moves_good : (peer : Peer) (c : Connection) (move : Move) → IsGood source (record peer { connection = Some c })

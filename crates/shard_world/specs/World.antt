@@ -4,7 +4,7 @@
 use Rattle.std.specs.Prelude.{◌≡◌, ◌<◌, ◌⊎◌, ℕ, ◌+◌, ◌-◌, ◌==◌, max, min, nat_lt, Bool, true, false, if◌then◌else◌, List, [], ◌∷◌, ◌++◌, drop, fold, length, map, slice_get, take, Option, Some, None}
 use Rattle.std.specs.List.{flat_map}
 use Rattle.copy_both.specs.Streams as s
-use Rattle.copy_both.specs.Streams.{Place, Move, place_at, all_moved, stream}
+use Rattle.copy_both.specs.Streams.{Item, spelled, Place, Move, place_at, all_moved}
 use Rattle.copy_both.specs.Tellings.{telling_of}
 use Rattle.copy_frames.specs.Frames.{cut}
 use Rattle.copy_frames.specs.declared.status.Status.{Status}
@@ -23,9 +23,7 @@ use Rattle.test_subscriber.specs.Frames.{hear_cut}
 use Rattle.test_subscriber.specs.Machine.{Machine, lost, opened}
 use Rattle.test_subscriber.specs.Subscribers.{first_machine, status_at}
 use Rattle.stream_laws.specs.Cutting.{whole_in}
-use Rattle.stream_laws.specs.Following.{log_of, position_after}
-use Rattle.stream_laws.specs.FollowingBytes.{items_from}
-use Rattle.stream_laws.specs.Items.{Item}
+use Rattle.stream_laws.specs.Following.{log_of, items_from, position_after}
 pub use Rattle.stream_laws.specs.Ups.{Up, Asks, Says, subscription_name, publications_taken, publication_name, start_of, up_frame, spelled_up, whole_up}
 pub use Rattle.shard_world.specs.declared.answer.Answer.{Answer}
 pub use Rattle.shard_world.specs.declared.answer.Answer.TheVariants.{Committed, Refused, NoSubscriber, NotOpen, AlreadyOpen, Opened, Heard, NotStarted, Idle, Skipped, Sent, Kept, Delivered, Reported, Lost, At, OutOfMemory}
@@ -85,10 +83,7 @@ down_items source None moves = []
 down_items source (Some start) moves = items_from source.checked source.transactions source.number start moves
 
 abbrev pub down_bytes : Source → Option ℕ → List Move → List ℕ
-down_bytes source None moves = []
-down_bytes source (Some start) moves =
-    stream (telling_of source.checked) (log_in source) source.number (length source.checked.catalog.tables) start
-    moves
+down_bytes source start moves = flat_map spelled (down_items source start moves)
 
 abbrev pub position_in : Source → Peer → Option Connection → ℕ
 position_in source peer None = peer.position

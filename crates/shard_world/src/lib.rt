@@ -18,8 +18,8 @@ pub use laws::{
     subscribers_are_heard, subscribers_catch_up, subscribers_divide_the_tables,
 };
 pub use stream_laws::{
-    commands_are_read, fed_subscribers_follow, logs_fit_layouts, starts_are_answered,
-    streams_are_items, subscribers_follow_streams,
+    commands_are_read, fed_subscribers_follow, first_parts_are_cut, logs_fit_layouts,
+    starts_are_answered, subscribers_follow_streams,
 };
 pub use view::{SubscriberView, View};
 pub use world::World;

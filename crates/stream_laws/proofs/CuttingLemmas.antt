@@ -15,7 +15,7 @@ use Rattle.copy_frames.specs.declared.front.Front.TheVariants.{Part}
 use Rattle.copy_frames.proofs.CutLemmas.{cut_by_front, spelled_are_cut}
 use Rattle.copy_frames.proofs.PieceLemmas.{with_more, cut_more, more_after, after_append, frames_before, rest_after, no_fault_after, same_after}
 use Rattle.stream_laws.specs.Cutting.{if_whole, whole_by, IsCutBy, FirstPartsAreCut}
-use Rattle.stream_laws.specs.Items.{frame_in}
+use Rattle.copy_both.specs.Streams.{frame_in}
 use Rattle.filter_tree.proofs.Tests.{by_test}
 
 length_framed : (frame : Frame) → length (framed frame) ≡ length frame.body + 5

@@ -10,7 +10,7 @@ use Rattle.table_changes.specs.Tables.{is_row, found_at, no_rows}
 use Rattle.shard_checker.specs.CheckedView.{CheckedOf, setting_in}
 use Rattle.tables_log.specs.StandsFor.{Transaction, after}
 use Rattle.pgoutput_msgs.specs.Telling.{oid_of}
-use Rattle.copy_both.specs.Streams.{Move, count_before}
+use Rattle.copy_both.specs.Streams.{Item, Response, Carries, Alive, frame_in, spelled, Move, count_before}
 use Rattle.copy_frames.specs.FrameLaws.{AreFrames}
 use Rattle.copy_frames.specs.Frames.{IsFrame, Cut, Rest, Then, cut, after_frames, frames_of, rest_of}
 use Rattle.copy_frames.specs.declared.frame.Frame.{Frame}
@@ -27,13 +27,11 @@ use Rattle.test_subscriber.specs.declared.fault.SubFault.{SubFault}
 use Rattle.test_subscriber.specs.declared.subscriber.Subscriber.{Subscriber}
 use Rattle.stream_laws.specs.Cutting.{if_whole, whole_in, IsCutAt}
 use Rattle.stream_laws.specs.ShardRows.{in_shard}
-use Rattle.stream_laws.specs.Following.{position_after, own_key, HasShard, Follows, IsPublished, log_of, IsSentItem}
-use Rattle.stream_laws.specs.FollowingBytes.{items_from, AreFirst, position_in, IsFollowed, BytesAreFollowed, SubFollows, FedFollow, NothingIsFed, StopsFollowing, StoppedFollow, LostFollow, FirstFollows, FollowsLonger}
-use Rattle.stream_laws.specs.Items.{Item, Response, Carries, Alive, frame_in, spelled}
+use Rattle.stream_laws.specs.Following.{position_after, own_key, HasShard, Follows, IsPublished, items_from, IsSentItem}
+use Rattle.stream_laws.specs.FollowingBytes.{AreFirst, position_in, IsFollowed, BytesAreFollowed, SubFollows, FedFollow, NothingIsFed, StopsFollowing, StoppedFollow, LostFollow, FirstFollows, FollowsLonger}
 use Rattle.stream_laws.proofs.CommandSteps.{finds_none}
 use Rattle.stream_laws.proofs.CuttingLemmas.{first_parts_are_cut, whole_more_by}
 use Rattle.stream_laws.proofs.FollowingLemmas.{IsOpened, first_safe, stream_safe, same_item, same_items}
-use Rattle.stream_laws.proofs.ItemLemmas.{streams_are_items}
 use Rattle.stream_laws.proofs.StreamSteps.{has_rows}
 use Rattle.copy_frames.proofs.PieceLemmas.{frames_before}
 
@@ -118,8 +116,7 @@ module _ (checked : CheckedOf) (transactions : List Transaction) (published : Is
 
   pub cuts : IsCutAt limit (items_from checked transactions subscriber position moves) bytes
   cuts = first_parts_are_cut limit (items_from checked transactions subscriber position moves) bytes others
-      (item_frames (items_from checked transactions subscriber position moves) sent)
-      (first ∙ streams_are_items checked (log_of checked transactions) subscriber position moves)
+      (item_frames (items_from checked transactions subscriber position moves) sent) first
 
   pub opened_followed : IsFollowed checked transactions subscriber
       (position_in checked transactions subscriber position moves bytes) (hear_cut (cut limit bytes) machine)

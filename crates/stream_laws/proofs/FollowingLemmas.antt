@@ -15,7 +15,7 @@ use Rattle.pgoutput_msgs.specs.Spelling.{spelling_of}
 use Rattle.pgoutput_msgs.specs.Telling.{oid_of, messages_for}
 use Rattle.pgoutput_msgs.specs.declared.message.Msg.{Msg}
 use Rattle.pgoutput_msgs.proofs.SpellingLaws.{are_decoded}
-use Rattle.copy_both.specs.Streams.{Place, Move, Take, Keep, count_before, place_at, place_after, taken_place}
+use Rattle.copy_both.specs.Streams.{Item, Response, Carries, Alive, frame_in, Place, Move, Take, Keep, count_before, place_at, place_after, taken_place, head_of, take_items, keep_item, all_items}
 use Rattle.copy_both.specs.Tellings.{telling_of}
 use Rattle.copy_frames.specs.Contents.{int64, xlog_data_in}
 use Rattle.copy_frames.specs.declared.keepalive.Keepalive.{Keepalive}
@@ -27,8 +27,7 @@ use Rattle.test_subscriber.specs.Hearing.{Outcome, hear, hear_in}
 use Rattle.test_subscriber.specs.Machine.{Machine, opened}
 use Rattle.test_subscriber.specs.declared.phase.Phase.{Phase}
 use Rattle.test_subscriber.specs.declared.phase.Phase.TheVariants.{Shut, Waiting, Idle, Busy}
-use Rattle.stream_laws.specs.Following.{raised_by_message, raised_by, position_after, Follows, IsPublished, log_of, IsHead, IsSentItem, ItemsAreFollowed}
-use Rattle.stream_laws.specs.Items.{Item, Response, Carries, Alive, frame_in, head_of, take_items, all_items, stream_items}
+use Rattle.stream_laws.specs.Following.{raised_by_message, raised_by, position_after, Follows, IsPublished, log_of, items_from, IsHead, IsSentItem, ItemsAreFollowed}
 use Rattle.stream_laws.proofs.Safety.{Safe, safe_on, on_ok, ok_as}
 use Rattle.stream_laws.proofs.StreamSteps.{Between, between_follows, commit_safe, keepalive_between}
 use Rattle.filter_tree.proofs.Tests.{by_test}
@@ -152,24 +151,24 @@ all_last (x ∷ xs) ys h = all_last xs ys (All-tail IsSentItem x (xs ++ ys) h)
 -- ---- moves
 
 module _ (checked : CheckedOf) (transactions : List Transaction) (published : IsPublished checked transactions) where
+  abbrev items_on : Place → List Move → List Item
+  items_on place moves = all_items (telling_of checked) (log_of checked transactions) place moves
+
   -- what comes after a move
   abbrev Later : List Move → Type 0
   Later moves = (place : Place) (position : ℕ) (machine : Machine)
-      → Between checked transactions place position machine
-      → All IsSentItem (all_items checked (log_of checked transactions) place moves)
-      → SafeItems checked transactions place.slot position
-          (all_items checked (log_of checked transactions) place moves) machine
+      → Between checked transactions place position machine → All IsSentItem (items_on place moves)
+      → SafeItems checked transactions place.slot position (items_on place moves) machine
 
   take_safe : (moves : List Move) → Later moves
       → (place : Place) (clock position : ℕ) (machine : Machine) (found : Option CommitOf)
       → slice_get (log_of checked transactions) place.done ≡ found
       → Between checked transactions place position machine
-      → All IsSentItem (take_items checked place found clock
-          ++ all_items checked (log_of checked transactions) (taken_place (telling_of checked) place found) moves)
+      → All IsSentItem (take_items (telling_of checked) place found clock
+          ++ items_on (taken_place (telling_of checked) place found) moves)
       → SafeItems checked transactions place.slot position
-      (take_items checked place found clock
-          ++ all_items checked (log_of checked transactions) (taken_place (telling_of checked) place found) moves)
-          machine
+          (take_items (telling_of checked) place found clock
+          ++ items_on (taken_place (telling_of checked) place found) moves) machine
   take_safe moves later place clock position machine None e between sent = later place position machine between sent
   take_safe moves later place clock position machine (Some commit) e between sent =
       by_messages (messages_for checked place.slot place.told commit)
@@ -179,16 +178,13 @@ module _ (checked : CheckedOf) (transactions : List Transaction) (published : Is
           → Safe (Follows checked transactions place.slot) position messages machine
               (Between checked transactions (place_after (telling_of checked) place commit))
           → All IsSentItem (map (Carries (head_of commit.number clock)) messages
-              ++ all_items checked (log_of checked transactions) (place_after (telling_of checked) place commit)
-              moves)
+              ++ items_on (place_after (telling_of checked) place commit) moves)
           → SafeItems checked transactions place.slot position
           (map (Carries (head_of commit.number clock)) messages
-              ++ all_items checked (log_of checked transactions) (place_after (telling_of checked) place commit)
-              moves) machine
+              ++ items_on (place_after (telling_of checked) place commit) moves) machine
       by_messages [] h all = later (place_after (telling_of checked) place commit) position machine h all
       by_messages (message ∷ messages) h all =
-          let rest = all_items checked (log_of checked transactions) (place_after (telling_of checked) place commit)
-              moves in
+          let rest = items_on (place_after (telling_of checked) place commit) moves in
           let first = All-head IsSentItem (Carries (head_of commit.number clock) message)
               (map (Carries (head_of commit.number clock)) messages ++ rest) all in
           carried_safe checked transactions place.slot (head_of commit.number clock) first.0 (message ∷ messages) rest
@@ -206,23 +202,16 @@ module _ (checked : CheckedOf) (transactions : List Transaction) (published : Is
           (slice_get (log_of checked transactions) place.done) refl between sent
   walk_safe (Keep clock want ∷ moves) place position machine between sent =
       let keepalive : Keepalive = record { position = place.sent; clock = clock; wants_reply = want } in
-      let bounds = All-head IsSentItem (Alive (record { position = place.sent; clock = clock; wants_reply = want }))
-          (all_items checked (log_of checked transactions) place moves) sent in
-      let others = All-tail IsSentItem (Alive (record { position = place.sent; clock = clock; wants_reply = want }))
-          (all_items checked (log_of checked transactions) place moves) sent in (
+      let bounds = All-head IsSentItem (keep_item place clock want) (items_on place moves) sent in
+      let others = All-tail IsSentItem (keep_item place clock want) (items_on place moves) sent in (
         between_follows checked transactions place position machine between,
-        ok_as (Ok (kept_alive (record { position = place.sent; clock = clock; wants_reply = want }) machine))
-            (hear_frame (frame_in (Alive (record { position = place.sent; clock = clock; wants_reply = want })))
-            machine)
-            (SafeItems checked transactions place.slot (max position place.sent)
-                (all_items checked (log_of checked transactions) place moves))
-            (sym (kept_up (record { position = place.sent; clock = clock; wants_reply = want }) machine between.idle
-                bounds))
-            (walk_safe moves place (max position place.sent)
-                (kept_alive (record { position = place.sent; clock = clock; wants_reply = want }) machine)
-            (keepalive_between checked transactions published place position machine
-                (kept_alive (record { position = place.sent; clock = clock; wants_reply = want }) machine) between
-            refl (ap (λ phase. raised phase place.sent machine.position) between.idle) refl refl refl refl) others),
+        ok_as (Ok (kept_alive keepalive machine)) (hear_frame (frame_in (keep_item place clock want)) machine)
+            (SafeItems checked transactions place.slot (max position place.sent) (items_on place moves))
+            (sym (kept_up keepalive machine between.idle bounds))
+            (walk_safe moves place (max position place.sent) (kept_alive keepalive machine)
+            (keepalive_between checked transactions published place position machine (kept_alive keepalive machine)
+            between refl (ap (λ phase. raised phase place.sent machine.position) between.idle) refl refl refl refl)
+            others),
       )
 
 -- ---- the stream
@@ -252,45 +241,42 @@ pub stream_safe : (checked : CheckedOf) (transactions : List Transaction) → Is
     → (subscriber : ℕ) (machine : Machine) → IsOpened machine
     → (position : ℕ) → Follows checked transactions subscriber position machine
     → (moves : List Move)
-    → All IsSentItem (stream_items checked (log_of checked transactions) subscriber position moves)
-    → SafeItems checked transactions subscriber position
-        (stream_items checked (log_of checked transactions) subscriber position moves) machine
-stream_safe checked transactions published subscriber machine at_start position follows moves sent = (
-  follows,
-  ok_as (Ok (started machine)) (hear_frame (frame_in Response) machine)
-      (SafeItems checked transactions subscriber position
-          (all_items checked (log_of checked transactions)
-          (place_at subscriber (length checked.catalog.tables) position) moves))
-      (sym (ap (λ phase. hear_frame_in phase (frame_in Response) machine) at_start.waits))
-      (walk_safe checked transactions published moves (place_at subscriber (length checked.catalog.tables) position)
-          position (started machine)
-      (record {
-        idle = refl;
-        position_is = follows.position_is;
-        work_is = at_start.work_is;
-        done = follows.within;
-        counted = omega arith;
-        sent = first_sent position;
-        at_done = follows.rows;
-        at_position = follows.rows;
-        knows = record {
-          flags = length-replicate (length checked.catalog.tables) false;
-          known = λ number. at_start.known (oid_of number) ∙ sym (told_nothing (length checked.catalog.tables) number);
-          kept = λ number table there told. let nothing = told_nothing (length checked.catalog.tables) number in
-              absurd cc;
-        };
-        relations = follows.relations;
-      })
-      (All-tail IsSentItem Response
-          (all_items checked (log_of checked transactions)
-          (place_at subscriber (length checked.catalog.tables) position) moves) sent)),
-)
+    → All IsSentItem (items_from checked transactions subscriber position moves)
+    → SafeItems checked transactions subscriber position (items_from checked transactions subscriber position moves)
+        machine
+stream_safe checked transactions published subscriber machine at_start position follows moves sent =
+    let place : Place = place_at subscriber (length checked.catalog.tables) position in
+    let items : List Item = all_items (telling_of checked) (log_of checked transactions) place moves in (
+      follows,
+      ok_as (Ok (started machine)) (hear_frame (frame_in Response) machine)
+          (SafeItems checked transactions subscriber position items)
+          (sym (ap (λ phase. hear_frame_in phase (frame_in Response) machine) at_start.waits))
+          (walk_safe checked transactions published moves place position (started machine)
+          (record {
+            idle = refl;
+            position_is = follows.position_is;
+            work_is = at_start.work_is;
+            done = follows.within;
+            counted = omega arith;
+            sent = first_sent position;
+            at_done = follows.rows;
+            at_position = follows.rows;
+            knows = record {
+              flags = length-replicate (length checked.catalog.tables) false;
+              known = λ number. at_start.known (oid_of number)
+                  ∙ sym (told_nothing (length checked.catalog.tables) number);
+              kept = λ number table there told. let nothing = told_nothing (length checked.catalog.tables) number in
+                  absurd cc;
+            };
+            relations = follows.relations;
+          })
+          (All-tail IsSentItem Response items sent)),
+    )
 
 pub items_are_followed : ItemsAreFollowed
 items_are_followed checked transactions published subscriber machine follows moves sent items others e =
     first_safe checked transactions subscriber items others
-        (stream_items checked (log_of checked transactions) subscriber machine.position moves) machine.position
-        (opened machine) e
+        (items_from checked transactions subscriber machine.position moves) machine.position (opened machine) e
     (stream_safe checked transactions published subscriber (opened machine)
         (record { waits = refl; known = λ oid. refl; work_is = λ oid key. refl }) machine.position
     (record { position_is = refl; within = follows.within; rows = follows.rows; relations = follows.relations }) moves

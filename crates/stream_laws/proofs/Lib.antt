@@ -8,7 +8,6 @@ pub mod EntryLemmas
 pub mod FollowingBytesLemmas
 pub mod FollowingLemmas
 pub mod Inside
-pub mod ItemLemmas
 pub mod KeyLemmas
 pub mod NamedLemmas
 pub mod RelationSteps

@@ -4,7 +4,7 @@ use Rattle.std.specs.List.{flat_map}
 use Rattle.copy_frames.specs.FrameLaws.{AreFrames}
 use Rattle.copy_frames.specs.Frames.{Rest, framed, cut, after_frames}
 use Rattle.copy_frames.specs.declared.frame.Frame.{Frame}
-use Rattle.stream_laws.specs.Items.{Item, frame_in, spelled}
+use Rattle.copy_both.specs.Streams.{Item, frame_in, spelled}
 
 -- one whose frame is whole, and those after it
 abbrev pub if_whole : {X : Type 0} → Bool → X → List X → List X

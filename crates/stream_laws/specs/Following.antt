@@ -15,14 +15,14 @@ use Rattle.pgoutput_msgs.specs.Sent.{IsSent}
 use Rattle.pgoutput_msgs.specs.Telling.{oid_of, columns_from, relation_of}
 use Rattle.pgoutput_msgs.specs.declared.message.Msg.{Msg}
 use Rattle.pgoutput_msgs.specs.declared.message.Msg.TheVariants as m
-use Rattle.copy_both.specs.Streams.{Move, count_before}
+use Rattle.copy_both.specs.Streams.{Item, Response, Carries, Alive, frame_in, Move, count_before, stream_items}
+use Rattle.copy_both.specs.Tellings.{telling_of}
 use Rattle.copy_frames.specs.declared.xlog_data.XLogData.{XLogData}
 use Rattle.test_subscriber.specs.Feeding.{hear_frames}
 use Rattle.test_subscriber.specs.Machine.{Machine, opened}
 use Rattle.test_subscriber.specs.Shapes.{flagged_from, shape_of}
 use Rattle.test_subscriber.specs.declared.shape.TableShape.{TableShape}
 use Rattle.stream_laws.specs.ShardRows.{FindsShard}
-use Rattle.stream_laws.specs.Items.{Item, Response, Carries, Alive, frame_in, stream_items}
 
 -- ---- positions
 
@@ -88,6 +88,12 @@ pub record IsPublished (checked : CheckedOf) (transactions : List Transaction) :
 abbrev pub log_of : CheckedOf → List Transaction → List CommitOf
 log_of checked transactions = entries_from (setting_in checked) no_rows 1 transactions
 
+-- what a connection of the subscriber of this number sends that starts at this position and makes these moves
+abbrev pub items_from : CheckedOf → List Transaction → ℕ → ℕ → List Move → List Item
+items_from checked transactions subscriber position moves =
+    stream_items (telling_of checked) (log_of checked transactions) subscriber (length checked.catalog.tables) position
+    moves
+
 -- each number has 64 bits
 pub record IsHead (head : XLogData) : Type 0 where
   pub start : head.start < 2 ^ 64
@@ -108,8 +114,8 @@ abbrev pub ItemsAreFollowed : Type 0
 ItemsAreFollowed = (checked : CheckedOf) (transactions : List Transaction) → IsPublished checked transactions
     → (subscriber : ℕ) (machine : Machine) → Follows checked transactions subscriber machine.position machine
     → (moves : List Move)
-    → All IsSentItem (stream_items checked (log_of checked transactions) subscriber machine.position moves)
+    → All IsSentItem (items_from checked transactions subscriber machine.position moves)
     → (items others : List Item)
-    → items ++ others ≡ stream_items checked (log_of checked transactions) subscriber machine.position moves
+    → items ++ others ≡ items_from checked transactions subscriber machine.position moves
     → IsOkAnd (hear_frames (map frame_in items) (opened machine))
         (Follows checked transactions subscriber (position_after machine.position items))

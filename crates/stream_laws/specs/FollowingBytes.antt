@@ -3,7 +3,7 @@
 use Rattle.std.specs.Prelude.{◌≡◌, ℕ, List, [], ◌++◌, All, length, None}
 use Rattle.shard_checker.specs.CheckedView.{CheckedOf}
 use Rattle.tables_log.specs.StandsFor.{Transaction}
-use Rattle.copy_both.specs.Streams.{Move, stream}
+use Rattle.copy_both.specs.Streams.{Item, Move, stream}
 use Rattle.copy_both.specs.Tellings.{telling_of}
 use Rattle.copy_frames.specs.Frames.{cut}
 use Rattle.test_subscriber.specs.Copies.{told}
@@ -14,13 +14,7 @@ use Rattle.test_subscriber.specs.Subscribers.{sub_machine, first_machine, Loses,
 use Rattle.test_subscriber.specs.declared.fault.SubFault.{SubFault}
 use Rattle.test_subscriber.specs.declared.subscriber.Subscriber.{Subscriber}
 use Rattle.stream_laws.specs.Cutting.{whole_in}
-use Rattle.stream_laws.specs.Following.{position_after, Follows, IsPublished, log_of, IsSentItem}
-use Rattle.stream_laws.specs.Items.{Item, stream_items}
-
--- the items of the stream of these moves that starts at this position
-abbrev pub items_from : CheckedOf → List Transaction → ℕ → ℕ → List Move → List Item
-items_from checked transactions subscriber position moves =
-    stream_items checked (log_of checked transactions) subscriber position moves
+use Rattle.stream_laws.specs.Following.{position_after, Follows, IsPublished, log_of, items_from, IsSentItem}
 
 -- these are the first bytes of the stream
 abbrev pub AreFirst : CheckedOf → List Transaction → ℕ → ℕ → List Move → List ℕ → List ℕ → Type 0

@@ -10,8 +10,7 @@ use Rattle.tables_log.specs.StandsFor.{Transaction, AreAccepted}
 use Rattle.pgoutput_msgs.specs.Sent.{IsSent}
 use Rattle.pgoutput_msgs.specs.Telling.{messages_for}
 use Rattle.copy_both.specs.Streams.{Move, Take, Keep, count_before}
-use Rattle.stream_laws.specs.Following.{log_of, IsSentItem}
-use Rattle.stream_laws.specs.Items.{stream_items}
+use Rattle.stream_laws.specs.Following.{log_of, items_from, IsSentItem}
 
 -- the layouts have room for what is told of each commit
 pub record FitsLayouts (checked : CheckedOf) (transactions : List Transaction) : Type 0 where
@@ -44,4 +43,4 @@ abbrev pub StreamsCanBeSent : Type 0
 StreamsCanBeSent = (checked : CheckedOf) (transactions : List Transaction)
     → AreAccepted (setting_in checked) no_rows transactions → FitsLayouts checked transactions
     → (subscriber position : ℕ) (moves : List Move) → count_before position ≤ length transactions → All IsClocked moves
-    → All IsSentItem (stream_items checked (log_of checked transactions) subscriber position moves)
+    → All IsSentItem (items_from checked transactions subscriber position moves)

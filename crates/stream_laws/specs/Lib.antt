@@ -3,6 +3,5 @@ pub mod Cutting
 pub mod ShardRows
 pub mod Following
 pub mod FollowingBytes
-pub mod Items
 pub mod LayoutRoom
 pub mod Ups

@@ -4,17 +4,15 @@ ghost use Rattle.stream_laws.specs.Asking.{CommandsAreRead, StartsAreAnswered};
 ghost use Rattle.stream_laws.specs.Cutting.{FirstPartsAreCut};
 ghost use Rattle.stream_laws.specs.Following.{ItemsAreFollowed};
 ghost use Rattle.stream_laws.specs.FollowingBytes.{BytesAreFollowed, FedFollow, NothingIsFed, StoppedFollow, LostFollow, FirstFollows, FollowsLonger};
-ghost use Rattle.stream_laws.specs.Items.{StreamsAreItems};
 ghost use Rattle.stream_laws.specs.LayoutRoom.{LogsFitLayouts, StreamsCanBeSent};
 
-/// A law, and no code, of streams. A stream is the frames of its items, one after another (`spelled`), and bytes that
-/// are a first part of it are cut into the frames that are whole in them, and a rest that is no whole frame (`cut`).
+/// A law, and no code, of streams. Bytes that are a first part of a stream are cut into the frames that are whole in
+/// them, and a rest that is no whole frame.
 ///
-/// PostgreSQL 15, 55.4. Streaming Replication Protocol.
-#[tactic(auto, using(crate::proofs::ItemLemmas::streams_are_items, crate::proofs::CuttingLemmas::first_parts_are_cut))]
-pub fn streams_are_items()
-    ensures spelled { StreamsAreItems }
-    ensures cut { FirstPartsAreCut }
+/// PostgreSQL 15, 55.7. Message Formats.
+#[tactic(auto, using(crate::proofs::CuttingLemmas::first_parts_are_cut))]
+pub fn first_parts_are_cut()
+    ensures { FirstPartsAreCut }
 {}
 
 /// A law, and no code, of a subscriber that follows: its rows are those of its shard of the publisher's tables after

@@ -1,11 +1,11 @@
-//! Laws of the streams through which subscribers follow a publisher's tables: what a stream is made of, that a first part
-//! of it is cut into its frames, that each message of it has room, that a subscriber's command is read and answered as
-//! it was asked, and that whoever is fed a first part of its stream has its shard.
+//! Laws of the streams through which subscribers follow a publisher's tables: that a first part of a stream is cut into
+//! its frames, that each message of it has room, that a subscriber's command is read and answered as it was asked, and
+//! that whoever is fed a first part of its stream has its shard.
 #![tactic(auto)]
 
 mod laws;
 
 pub use laws::{
-    commands_are_read, fed_subscribers_follow, logs_fit_layouts, starts_are_answered,
-    streams_are_items, streams_can_be_sent, subscribers_follow_streams,
+    commands_are_read, fed_subscribers_follow, first_parts_are_cut, logs_fit_layouts,
+    starts_are_answered, streams_can_be_sent, subscribers_follow_streams,
 };

@@ -1,5 +1,4 @@
 use Rattle.std.proofs.Common.{◌≡◌, ℕ, ◌*◌, ◌++◌, Bool, List, All, length, sym, ap, subst, refl, ◌∙◌, arith, rules}
-use Rattle.std.specs.List.{flat_map}
 use Rattle.std.proofs.lemmas.Grind.{common_steps}
 use Rattle.shard_checker.specs.CheckedView.{CheckedOf, checked_view}
 use Rattle.shard_checker.proofs.LimitFacts.{checked_limited}
@@ -9,8 +8,6 @@ use Rattle.pgoutput_msgs.specs.declared.message.Msg.{Msg}
 use Rattle.pgoutput_msgs.proofs.SentLemmas.{messages_sent}
 use Rattle.copy_frames.specs.declared.xlog_data.XLogData.{XLogData}
 use Rattle.copy_both.specs.Framing.{frames_with}
-use Rattle.copy_both.specs.Streams.{sent_at}
-use Rattle.copy_both.specs.Tellings.{spelled_for}
 use Rattle.copy_both.specs.declared.taken.Taken.TheVariants.{Skipped, Sent}
 use Rattle.copy_both.proofs.FramingLemmas.{skipped_if, sent_if}
 use Rattle.copy_both.proofs.place.Place.take.Goals.{then-is_empty, else-is_empty}
@@ -39,14 +36,15 @@ returns-clause-taken c =
 
 pub returns-clause-said : goal.returns-clause-said
 returns-clause-said c =
-    let checked : CheckedOf = checked_view c.args.checked.now in
-    let told : List (List ℕ) = spelled_for checked c.args.self.now.slot c.args.self.now.told.items c.args.commit.now in
-    let framed : ℕ → List (List ℕ) → List ℕ = λ n messages. flat_map (sent_at (64 * n) c.args.now) messages in
+    let messages : List Bool → List Msg =
+        λ told. messages_for (checked_view c.args.checked.now) c.args.self.now.slot told c.args.commit.now in
+    let framed : ℕ → List Msg → List ℕ =
+        λ n messages. frames_with (record { start = 64 * n; end = 64 * n; clock = c.args.now }) messages in
     c.in_ok-append_frames.ensures.ok
     ∙ ap (λ (x : List ℕ). c.args.out.now.items ++ x) (c.in_ok-frames.ensures.frames
-    ∙ ap (λ (told : List Bool). framed c.from-lsn.result
-        (spelled_for checked c.args.self.now.slot told c.args.commit.now)) c.as_mut_slice-told.ensures.value
-    ∙ ap (λ (n : ℕ). framed n told) (c.from-lsn.ensures ∙ c.number-number.ensures.shows))
+    ∙ ap (λ (told : List Bool). framed c.from-lsn.result (messages told)) c.as_mut_slice-told.ensures.value
+    ∙ ap (λ (n : ℕ). framed n (messages c.args.self.now.told.items))
+        (c.from-lsn.ensures ∙ c.number-number.ensures.shows))
 
 -- the messages are those of the definition
 pub returns-clause-read_back : goal.returns-clause-read_back
