@@ -15,7 +15,6 @@ use Rattle.copy_both.specs.OptionValues.{publications, publications_in, names_or
 use Rattle.test_subscriber.specs.StartQuery.{names_text, lsn_text, start_text}
 use Rattle.stream_laws.specs.Asking.{IsShortName, start_command, CommandsAreRead}
 use Rattle.stream_laws.proofs.CommandPieces.{token_here, space_passes, name_token, value_token, place_token}
-use Rattle.sql_tokens.proofs.SpelledTokens.{open_front, comma_front}
 
 -- ---- names with commas between them
 
@@ -29,6 +28,10 @@ later_text names = flat_map (λ name. codes "," ++ in_quotes 34 name) names
 no_quote_next : (names : List (List ℕ)) → get_or (later_text names) 0 0 ≢ 34
 no_quote_next [] = λ e. absurd (omega (arith, e))
 no_quote_next (name ∷ names) = λ e. absurd (omega (arith, e))
+
+comma_front : (rest : List ℕ) → front (44 ∷ rest) ≡ Whole Comma 1
+unfolding front
+comma_front rest = refl
 
 later_read : (names : List (List ℕ)) → tokens_from 0 (later_text names) ≡ Some (later_tokens names)
 unfolding tokens_from
@@ -84,6 +87,10 @@ slot_front rest = refl
 logical_front : (rest : List ℕ) → front (codes "LOGICAL" ++ (32 ∷ rest)) ≡ Whole (Word (codes "logical")) 7
 unfolding front run
 logical_front rest = refl
+
+open_front : (rest : List ℕ) → front (40 ∷ rest) ≡ Whole Open 1
+unfolding front
+open_front rest = refl
 
 version_front : (rest : List ℕ) → front (codes "proto_version" ++ (32 ∷ rest)) ≡ Whole (Word (codes "proto_version")) 13
 unfolding front run
