@@ -6,7 +6,7 @@ use Rattle.replica_identity.specs.Plans.{plan_of}
 use Rattle.shard_checker.specs.CatalogRefusal.{sharding_refusal}
 use Rattle.shard_checker.specs.CatalogTruth.{ShardingIsWrong}
 use Rattle.shard_checker.specs.CheckedView.{CheckedOf}
-use Rattle.shard_checker.specs.Candidates.{Test, IsEmptiness}
+use Rattle.shard_checker.specs.Emptiness.{Test, IsEmptiness}
 use Rattle.shard_checker.specs.Sound.{IsSound}
 use Rattle.shard_checker.specs.declared.error.CheckError.{CheckError}
 use Rattle.split_cert.specs.Tree.{Tree}
