@@ -2,9 +2,6 @@
 //! and answers questions about it.
 #![tactic(auto)]
 
-#[cfg(test)]
-mod tests;
-
 ghost use Rattle.std.specs.Prelude.{◌≡◌, ◌⊎◌, IfErr};
 ghost use Rattle.program_parts.specs.Failures.{status_of_failure};
 ghost use Rattle.program_parts.specs.declared.failure.Status.TheVariants.{CommandLine, OutOfMemory};

@@ -46,21 +46,32 @@ pub(crate) fn row(alloc: Global, cells: &[Cell]) -> Result<Row, AllocError> {
     Ok(Row::from_values(values))
 }
 
+/// Two truth values, what AND makes of them, and what OR does.
+const TRUTHS: &[[Tri; 4]] = &[
+    [Tri::True, Tri::True, Tri::True, Tri::True],
+    [Tri::True, Tri::False, Tri::False, Tri::True],
+    [Tri::True, Tri::Null, Tri::Null, Tri::True],
+    [Tri::False, Tri::False, Tri::False, Tri::False],
+    [Tri::False, Tri::Null, Tri::False, Tri::Null],
+    [Tri::Null, Tri::Null, Tri::Null, Tri::Null],
+];
+
+/// That AND and OR give these of two truth values, on either side.
+fn expect_joined(rt: &impl Abort, left: Tri, right: Tri, both: Tri, either: Tri) {
+    same(rt, [left.and(right), right.and(left)], [both, both]);
+    same(rt, [left.or(right), right.or(left)], [either, either]);
+}
+
 #[test]
 fn connectives_follow_the_truth_tables(rt: HostRuntime) {
-    use Tri::{False, Null, True};
-    let cases = [
-        (True, True, True, True),
-        (True, False, False, True),
-        (True, Null, Null, True),
-        (False, False, False, False),
-        (False, Null, False, Null),
-        (Null, Null, Null, Null),
-    ];
-    for (left, right, both, either) in cases {
-        same(&rt, [left.and(right), right.and(left)], [both, both]);
-        same(&rt, [left.or(right), right.or(left)], [either, either]);
+    for [left, right, both, either] in TRUTHS {
+        expect_joined(&rt, *left, *right, *both, *either);
     }
+}
+
+#[test]
+fn truth_values_are_turned(rt: HostRuntime) {
+    use Tri::{False, Null, True};
     same(
         &rt,
         [True.not(), False.not(), Null.not()],
@@ -173,21 +184,35 @@ fn outside_or_rest(alloc: Global) -> Result<Filter, AllocError> {
     either(alloc, outside, leaves(3, -1))
 }
 
+/// Numbers, what they are divided by, and what is left.
+const REMAINDERS: &[(i64, i64, i64)] = &[
+    (7, 3, 1),
+    (-7, 3, -1),
+    (7, -3, 1),
+    (-7, -3, -1),
+    (i64::MIN, -1, 0),
+    (i64::MIN, 10, -8),
+    // no filter that is read divides by zero
+    (7, 0, 7),
+];
+
+/// That this is left of the number.
+fn expect_rest(
+    rt: &impl Abort,
+    alloc: Global,
+    number: i64,
+    divisor: i64,
+    rest: i64,
+) -> Result<(), Fail> {
+    let row = row(alloc, &[Cell::Int(number)])?;
+    same(rt, says(&leaves(divisor, rest), &row), Tri::True);
+    Ok(())
+}
+
 #[test]
 fn remainders_have_the_sign_of_the_value(rt: HostRuntime) -> Result<(), Fail> {
-    let cases = [
-        (7, 3, 1),
-        (-7, 3, -1),
-        (7, -3, 1),
-        (-7, -3, -1),
-        (i64::MIN, -1, 0),
-        (i64::MIN, 10, -8),
-        // no filter that is read divides by zero
-        (7, 0, 7),
-    ];
-    for (number, divisor, rest) in cases {
-        let row = row(rt.alloc(), &[Cell::Int(number)])?;
-        same(&rt, says(&leaves(divisor, rest), &row), Tri::True);
+    for (number, divisor, rest) in REMAINDERS {
+        expect_rest(&rt, rt.alloc(), *number, *divisor, *rest)?;
     }
     Ok(())
 }
@@ -233,26 +258,30 @@ fn a_row_shows_its_values(rt: HostRuntime) -> Result<(), Fail> {
     Ok(())
 }
 
-#[test]
-fn rows_are_copied(rt: HostRuntime) -> Result<(), Fail> {
-    let alloc = rt.alloc();
-    let cells = [
+const CELLS: &[Cell] = &[Cell::Int(7), Cell::Null, Cell::Bool(true), Cell::Text("eu")];
+
+/// A row with another text, and one that is longer.
+const OTHERS: &[&[Cell]] = &[
+    &[Cell::Int(7), Cell::Null, Cell::Bool(true), Cell::Text("e")],
+    &[
         Cell::Int(7),
         Cell::Null,
         Cell::Bool(true),
         Cell::Text("eu"),
         Cell::Null,
-    ];
-    let one = row(alloc, &cells[..4])?;
+    ],
+];
+
+#[test]
+fn rows_are_copied(rt: HostRuntime) -> Result<(), Fail> {
+    let alloc = rt.alloc();
+    let one = row(alloc, CELLS)?;
     let copy = copied_row(alloc, &one)?;
     holds(&rt, is_same(&one, &copy));
-    let other = row(
-        alloc,
-        &[Cell::Int(7), Cell::Null, Cell::Bool(true), Cell::Text("e")],
-    )?;
-    holds(&rt, !is_same(&one, &other));
-    let longer = row(alloc, &cells)?;
-    holds(&rt, !is_same(&one, &longer));
+    for cells in OTHERS {
+        let other = row(alloc, *cells)?;
+        holds(&rt, !is_same(&one, &other));
+    }
     Ok(())
 }
 

@@ -1,5 +1,5 @@
 //! Tests of connections that threads serve, and of the closing comparison, by the public calls of `senders`; and of the
-//! whole program, by `run_serving` of `serving`.
+//! whole program, by `run_serving` of `serving` and `run` of `subcommands`.
 #![tactic(auto)]
 
 #[cfg(test)]
@@ -30,5 +30,7 @@ mod sessions;
 mod sharding;
 #[cfg(test)]
 mod sockets;
+#[cfg(test)]
+mod streams;
 #[cfg(test)]
 mod work;

@@ -17,7 +17,7 @@ fn end_of(text: &str) -> Result<(), CertError> {
     NodeReader::new(text).finish()
 }
 
-const FAULTS: [(&str, CertError); 42] = [
+const FAULTS: &[(&str, CertError)] = &[
     ("", Ended),
     ("o", Ended),
     ("o ", Ended),
@@ -73,26 +73,33 @@ fn expect_fault(rt: &impl Abort, alloc: Global, text: &str, wanted: CertError) {
 #[test]
 fn faults_are_told_where_they_are_met(rt: HostRuntime) {
     for (text, wanted) in FAULTS {
-        expect_fault(&rt, rt.alloc(), text, wanted);
+        expect_fault(&rt, rt.alloc(), *text, *wanted);
     }
+}
+
+/// The nodes of a text, and twice that there are no more.
+const NODES: &[Option<Node>] = &[
+    Some(Node::Split(1)),
+    Some(Node::Split(2)),
+    Some(Node::Owner(3)),
+    Some(Node::Empty(4)),
+    Some(Node::NeverNull(5)),
+    Some(Node::Owner(4_294_967_295)),
+    Some(Node::Empty(0)),
+    None,
+    None,
+];
+
+/// Fails the test where another node is next.
+fn expect_next(rt: &impl Abort, reader: &mut NodeReader<'_>, node: Option<Node>) {
+    same(rt, reader.next(), Ok(node));
 }
 
 #[test]
 fn nodes_come_as_they_are_written(rt: HostRuntime) {
     let mut reader = NodeReader::new("s 1 s 2 o 3 e 4 n 5 o 4294967295 e 0");
-    let nodes = [
-        Some(Node::Split(1)),
-        Some(Node::Split(2)),
-        Some(Node::Owner(3)),
-        Some(Node::Empty(4)),
-        Some(Node::NeverNull(5)),
-        Some(Node::Owner(4_294_967_295)),
-        Some(Node::Empty(0)),
-        None,
-        None,
-    ];
-    for node in nodes {
-        same(&rt, reader.next(), Ok(node));
+    for node in NODES {
+        expect_next(&rt, &mut reader, *node);
     }
 }
 
@@ -107,7 +114,7 @@ fn again_in_arena(alloc: Global, text: &str) -> Result<String, Fail> {
     Ok(write(alloc, &read_in(&arena, text)?)?)
 }
 
-const TEXTS: [&str; 8] = [
+const TEXTS: &[&str] = &[
     "s 0 s 1 e 0 o 0 n 1 s 1 o 1 e 0 n 1 n 0",
     "s 0 s 1 e 0 o 0 e 0 s 1 o 1 e 0 e 0 n 0",
     "s 0 s 1 e 0 s 2 e 0 o 0 n 2 e 0 s 1 s 2 e 0 o 1 n 2 e 0 e 0 s 1 e 0 e 0 s 2 o 2 e 0 n 2",
@@ -118,12 +125,17 @@ const TEXTS: [&str; 8] = [
     "n 4294967295",
 ];
 
+/// Fails the test where a text is not read and written again.
+fn expect_again(rt: &impl Abort, alloc: Global, text: &str) -> Result<(), Fail> {
+    same(rt, again(alloc, text)?.as_str(), text);
+    same(rt, again_in_arena(alloc, text)?.as_str(), text);
+    Ok(())
+}
+
 #[test]
 fn certificates_are_read_and_written_again(rt: HostRuntime) -> Result<(), Fail> {
-    let alloc = rt.alloc();
     for text in TEXTS {
-        same(&rt, again(alloc, text)?.as_str(), text);
-        same(&rt, again_in_arena(alloc, text)?.as_str(), text);
+        expect_again(&rt, rt.alloc(), *text)?;
     }
     Ok(())
 }
@@ -174,18 +186,20 @@ fn expect_letter(rt: &impl Abort, alloc: Global, before: &str) -> Result<(), Fai
     Ok(())
 }
 
+/// What comes before and after the next split of a path.
+const BRANCHES: &[(&str, &str)] = &[
+    ("s 0 ", " e 0 n 0"),
+    ("s 0 e 0 ", " n 0"),
+    ("s 0 e 0 n 0 ", ""),
+];
+
 #[test]
 fn paths_have_at_most_64_splits(rt: HostRuntime) -> Result<(), Fail> {
     let alloc = rt.alloc();
-    let branches = [
-        ("s 0 ", " e 0 n 0"),
-        ("s 0 e 0 ", " n 0"),
-        ("s 0 e 0 n 0 ", ""),
-    ];
-    for (before, after) in branches {
-        expect_whole(&rt, alloc, before, after)?;
-        expect_too_deep(&rt, alloc, before, after)?;
-        expect_letter(&rt, alloc, before)?;
+    for (before, after) in BRANCHES {
+        expect_whole(&rt, alloc, *before, *after)?;
+        expect_too_deep(&rt, alloc, *before, *after)?;
+        expect_letter(&rt, alloc, *before)?;
     }
     Ok(())
 }

@@ -45,7 +45,7 @@ struct PassingCase {
     takers: [bool; 5],
 }
 
-const PASSING_CASES: [PassingCase; 9] = [
+const PASSING_CASES: &[PassingCase] = &[
     PassingCase {
         table: 0,
         row: "(7, 'eu', 1)",
@@ -149,29 +149,38 @@ fn expect_identity(
     Ok(())
 }
 
-/// What the identities of the first three tables of the catalog have.
-const OF_TABLES: [Covering; 3] = [
-    Covering {
-        columns: &[0, 1, 2],
-        covered: [true, true, true, false],
-    },
-    Covering {
-        columns: &[1],
-        covered: [false, true, false, false],
-    },
-    Covering {
-        columns: &[],
-        covered: [false, false, false, false],
-    },
+/// What the identities of the first three tables of the catalog have, by their numbers.
+const OF_TABLES: &[(usize, Covering)] = &[
+    (
+        0,
+        Covering {
+            columns: &[0, 1, 2],
+            covered: [true, true, true, false],
+        },
+    ),
+    (
+        1,
+        Covering {
+            columns: &[1],
+            covered: [false, true, false, false],
+        },
+    ),
+    (
+        2,
+        Covering {
+            columns: &[],
+            covered: [false, false, false, false],
+        },
+    ),
 ];
 
 #[test]
 fn identities_have_their_columns(rt: HostRuntime) -> Result<(), Fail> {
     let alloc = rt.alloc();
     let catalog = catalog(alloc)?;
-    for (number, wanted) in OF_TABLES.into_iter().enumerate() {
-        let table = catalog.tables.get(number).ok_or("a table")?;
-        expect_identity(&rt, alloc, table, wanted)?;
+    for (number, wanted) in OF_TABLES {
+        let table = catalog.tables.get(*number).ok_or("a table")?;
+        expect_identity(&rt, alloc, table, *wanted)?;
     }
     Ok(())
 }
@@ -195,7 +204,7 @@ fn identified_by(alloc: Global, identity: Identity) -> Result<Table, Fail> {
 }
 
 /// What the identities have that name an index.
-const OF_INDEXES: [(Identity, Covering); 3] = [
+const OF_INDEXES: &[(Identity, Covering)] = &[
     (
         Identity::Index(1),
         Covering {
@@ -226,8 +235,8 @@ fn an_identity_by_an_index_has_the_columns_of_the_index(rt: HostRuntime) -> Resu
     let table = catalog.tables.first().ok_or("a table")?;
     same(&rt, table.identity, Identity::Index(1));
     for (identity, wanted) in OF_INDEXES {
-        let table = identified_by(alloc, identity)?;
-        expect_identity(&rt, alloc, &table, wanted)?;
+        let table = identified_by(alloc, *identity)?;
+        expect_identity(&rt, alloc, &table, *wanted)?;
     }
     Ok(())
 }
@@ -308,20 +317,22 @@ fn expect_wide_identities(rt: &impl Abort, alloc: Global, catalog: &Catalog) -> 
     Ok(())
 }
 
+/// Rows, and whether they are taken.
+const TAKEN: &[(&str, bool)] = &[
+    ("(0)", true),
+    ("(63)", true),
+    ("(64)", false),
+    ("(NULL)", false),
+];
+
 #[test]
 fn the_largest_catalog_has_a_plan(rt: HostRuntime) -> Result<(), Fail> {
     let alloc = rt.alloc();
     let catalog = largest_catalog(alloc)?;
     let plan = plan_of(alloc, &catalog)?;
-    let cases = [
-        ("(0)", true),
-        ("(63)", true),
-        ("(64)", false),
-        ("(NULL)", false),
-    ];
-    for (spelling, is_taken) in cases {
-        let row = row_of(alloc, spelling)?;
-        expect_takers(&rt, &plan, &row, is_taken);
+    for (spelling, is_taken) in TAKEN {
+        let row = row_of(alloc, *spelling)?;
+        expect_takers(&rt, &plan, &row, *is_taken);
         holds(&rt, !takes(&plan, 32, 0, &row));
         holds(&rt, !takes(&plan, 0, 64, &row));
     }

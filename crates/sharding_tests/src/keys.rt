@@ -40,19 +40,21 @@ fn has_key(
     Ok(same_row(&key, &row(alloc, wanted)?))
 }
 
+/// Columns of a key, and its values.
+const KEYS: &[(&[usize], &[Option<i64>])] = &[
+    (&[0], &[Some(7)]),
+    (&[2, 0], &[Some(9), Some(7)]),
+    (&[1], &[None]),
+    (&[0, 5], &[Some(7), None]),
+    (&[], &[]),
+];
+
 #[test]
 fn keys_have_the_values_of_their_columns(rt: HostRuntime) -> Result<(), Fail> {
     let alloc = rt.alloc();
     let found = row(alloc, &[Some(7), None, Some(9)])?;
-    let cases: [(&[usize], &[Option<i64>]); 5] = [
-        (&[0], &[Some(7)]),
-        (&[2, 0], &[Some(9), Some(7)]),
-        (&[1], &[None]),
-        (&[0, 5], &[Some(7), None]),
-        (&[], &[]),
-    ];
-    for (key, wanted) in cases {
-        holds(&rt, has_key(alloc, &found, key, wanted)?);
+    for (key, wanted) in KEYS {
+        holds(&rt, has_key(alloc, &found, *key, *wanted)?);
     }
     Ok(())
 }

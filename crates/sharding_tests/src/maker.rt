@@ -177,7 +177,7 @@ struct LeafCase {
     kinds: LeafKinds,
 }
 
-const LEAF_CASES: [LeafCase; 3] = [
+const LEAF_CASES: &[LeafCase] = &[
     LeafCase {
         columns: ID,
         filters: "*",
@@ -225,7 +225,7 @@ struct CounterCase {
     owners: &'static [usize],
 }
 
-const COUNTER_CASES: [CounterCase; 3] = [
+const COUNTER_CASES: &[CounterCase] = &[
     CounterCase {
         columns: REGION,
         filters: "region = 'eu';region <> 'eu'",
@@ -271,7 +271,7 @@ fn a_remainder_and_a_boundary_meet_in_one_row(rt: HostRuntime) -> Result<(), Fai
 }
 
 /// Columns and filters of shardings in which each row has one owner.
-const DIVIDED: [(&str, &str); 15] = [
+const DIVIDED: &[(&str, &str)] = &[
     (REGION, "region = 'eu';region <> 'eu';region IS NULL"),
     (REGION, "region = 'eu';(region = 'eu') IS NOT TRUE"),
     (NOT_NULL_REGION, "region = 'eu';region <> 'eu'"),
@@ -290,7 +290,7 @@ const DIVIDED: [(&str, &str); 15] = [
 ];
 
 /// Columns and filters of shardings in which some row has no owner, or two.
-const NOT_DIVIDED: [(&str, &str); 7] = [
+const NOT_DIVIDED: &[(&str, &str)] = &[
     (ID, "*;*"),
     (ID, "*;id = 77"),
     (ID, "FALSE;FALSE"),
@@ -304,10 +304,10 @@ const NOT_DIVIDED: [(&str, &str); 7] = [
 fn each_sort_of_filter_is_decided(rt: HostRuntime) -> Result<(), Fail> {
     let alloc = rt.alloc();
     for (columns, filters) in DIVIDED {
-        expect_sort(&rt, alloc, columns, filters, "certificate")?;
+        expect_sort(&rt, alloc, *columns, *filters, "certificate")?;
     }
     for (columns, filters) in NOT_DIVIDED {
-        expect_sort(&rt, alloc, columns, filters, "counterexample")?;
+        expect_sort(&rt, alloc, *columns, *filters, "counterexample")?;
     }
     Ok(())
 }

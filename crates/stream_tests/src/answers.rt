@@ -6,7 +6,7 @@ use crate::answer_cases::{
 use crate::checks::{holds, same};
 use crate::largest::{published_catalog, start_text};
 use bytes::BytesMut;
-use copy_both::{StartAnswer, Offer, SqlState, answer_start};
+use copy_both::{Offer, SqlState, StartAnswer, answer_start};
 use pub_catalog::Catalog;
 use pub_reader::read_catalog;
 use std::alloc::{AllocError, Global};

@@ -19,28 +19,6 @@ CREATE PUBLICATION pb FOR TABLE t WHERE (id >= 100);
 CREATE SUBSCRIPTION s0 CONNECTION '' PUBLICATION pa;
 CREATE SUBSCRIPTION s1 CONNECTION '' PUBLICATION pb;";
 
-/// A table whose rows are identified by a unique index.
-const INDEXED: &str = "CREATE TABLE u (id integer, code text NOT NULL, note text, PRIMARY KEY (id));
-CREATE UNIQUE INDEX u_code ON u (code);
-CREATE UNIQUE INDEX u_note ON u (note, id);
-CREATE UNIQUE INDEX u_last ON u (note);
-ALTER TABLE u REPLICA IDENTITY USING INDEX u_code;
-CREATE PUBLICATION pa FOR TABLE u WHERE (code = 'a');
-CREATE PUBLICATION pb FOR TABLE u WHERE (code <> 'a');
-CREATE SUBSCRIPTION s0 CONNECTION '' PUBLICATION pa;
-CREATE SUBSCRIPTION s1 CONNECTION '' PUBLICATION pb;";
-
-/// Two tables that one subscriber takes whole.
-const TWO: &str = "CREATE TABLE t (id integer PRIMARY KEY);
-CREATE TABLE u (id integer PRIMARY KEY);
-CREATE PUBLICATION p FOR ALL TABLES;
-CREATE SUBSCRIPTION s CONNECTION '' PUBLICATION p;";
-
-/// A table whose primary key is its last column.
-const MIXED: &str = "CREATE TABLE v (region text, ok boolean, id integer PRIMARY KEY);
-CREATE PUBLICATION p FOR ALL TABLES;
-CREATE SUBSCRIPTION s CONNECTION '' PUBLICATION p;";
-
 const SPLIT: &str = "s 0 s 1 e 0 o 0 n 1 s 1 o 1 e 0 n 1 n 0";
 
 /// A book of the catalog's tables, which have these certificates.
@@ -123,18 +101,4 @@ fn made(
 /// How many commits the log has.
 fn log_len(book: &Book) -> u32 {
     book.log_len()
-}
-
-/// Whether the table has a row of this key, which is this one.
-fn has(alloc: Global, book: &Book, table: usize, key: &str, wanted: &str) -> Result<bool, Fail> {
-    let wanted = row(alloc, wanted)?;
-    Ok(match book.row(table, &row(alloc, key)?) {
-        None => false,
-        Some(found) => *found == wanted,
-    })
-}
-
-/// Whether the table has no row of this key.
-fn lacks(alloc: Global, book: &Book, table: usize, key: &str) -> Result<bool, Fail> {
-    Ok(book.row(table, &row(alloc, key)?).is_none())
 }

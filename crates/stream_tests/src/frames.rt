@@ -13,7 +13,7 @@ use std::test::Fail;
 
 /// What a publisher sends whose first commit inserts the row (7, 'eu') into `public.t`: CopyBothResponse, and then
 /// Begin, Relation, Insert and Commit as XLogData.
-const FRAMES: [&[u8]; 5] = [
+const FRAMES: &[&[u8]] = &[
     b"W\0\0\0\x07\0\0\0",
     b"d\0\0\0\x32w\0\0\0\0\0\0\0\x40\0\0\0\0\0\0\0\x40\0\0\0\0\0\0\0\x04B\0\0\0\0\0\0\0\x40\0\0\0\0\0\0\0\x01\0\0\0\x03",
     b"d\0\0\0\x4aw\0\0\0\0\0\0\0\x40\0\0\0\0\0\0\0\x40\0\0\0\0\0\0\0\x04R\0\0\x40\0public\0t\0f\0\x02\
@@ -28,7 +28,7 @@ const LIMIT: u32 = 65_536;
 fn stream(alloc: Global) -> Result<Vec<u8>, AllocError> {
     let mut bytes = Vec::new(alloc);
     for frame in FRAMES {
-        bytes.extend_from_slice(frame)?;
+        bytes.extend_from_slice(*frame)?;
     }
     Ok(bytes)
 }
@@ -86,7 +86,7 @@ fn expect_cut(rt: &impl Abort, alloc: Global, stream: &[u8], at: usize) -> Resul
     let mut deframer = deframer(alloc);
     feed(&mut deframer, first)?;
     feed(&mut deframer, second)?;
-    expect_frames(rt, alloc, &mut deframer, &FRAMES)?;
+    expect_frames(rt, alloc, &mut deframer, FRAMES)?;
     Ok(())
 }
 
@@ -116,7 +116,7 @@ fn frames_do_not_depend_on_the_pieces(rt: HostRuntime) -> Result<(), Fail> {
     }
     let mut deframer = deframer(alloc);
     for frame in FRAMES {
-        expect_bytewise(&rt, alloc, &mut deframer, frame)?;
+        expect_bytewise(&rt, alloc, &mut deframer, *frame)?;
     }
     bytes_make_frames();
     pieces_make_frames();
@@ -304,7 +304,7 @@ fn a_stream_is_written_frame_by_frame(rt: HostRuntime) -> Result<(), Fail> {
     let mut out = BytesMut::new(alloc);
     append_copy_both_response(&mut out)?;
     for frame in FRAMES {
-        append_message(&rt, &mut out, frame)?;
+        append_message(&rt, &mut out, *frame)?;
     }
     holds(&rt, out.as_slice() == bytes.as_slice());
     out.clear();

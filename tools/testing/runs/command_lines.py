@@ -1,6 +1,6 @@
 """Words of a command line that ask nothing of the input.
 
-A command line without any word, not even the program's name, is tested in crates/publisher_main.
+A command line without any word, not even the program's name, is tested in crates/sender_tests.
 """
 
 from collections.abc import Iterator

@@ -135,6 +135,49 @@ CODES = (
     ],
 )
 
+# A table with several unique indexes, and what two rows may not share.
+SEVERAL = INDEXED.replace(
+    "ALTER", "CREATE UNIQUE INDEX u_note ON u (note, id);\nCREATE UNIQUE INDEX u_last ON u (note);\nALTER")
+TAKEN = (
+    "COMMIT INSERT u (1, 'a', NULL), UPDATE u (1) (2, 'a', 'x'); COMMIT INSERT u (3, 'a', NULL);"
+    " COMMIT INSERT u (3, 'c', 'x'); COMMIT INSERT u (3, 'c', NULL), INSERT u (4, 'd', NULL);"
+    " COMMIT UPDATE u (2) (2, 'b', 'x'); COMMIT UPDATE u (3) (3, 'b', NULL);"
+    " COMMIT DELETE u (2), UPDATE u (3) (3, 'b', 'x'); VIEW;",
+    [
+        "commit 1", "refused At 1 DuplicateKey", "refused At 1 DuplicateKey", "commit 2", "commit 3",
+        "refused At 1 DuplicateKey", "commit 4", "log 4", "public.u (3, 'b', 'x')", "public.u (4, 'd', NULL)",
+        "s0 0/0 0 confirmed 0/0", "s1 0/0 0 confirmed 0/0",
+    ],
+)
+
+# Tables are emptied in the middle of a list, and by a list that is refused.
+BOTH_EMPTIED = (
+    "COMMIT INSERT t (1, 'a'), INSERT u (2, TRUE); COMMIT TRUNCATE (t, u), DELETE t (1); VIEW;"
+    " COMMIT INSERT u (3, FALSE), TRUNCATE (u, t, u), INSERT u (4, NULL), INSERT u (5, TRUE), DELETE u (5); VIEW;",
+    [
+        "commit 1", "refused At 2 NoSuchRow", "log 1", "public.t (1, 'a')", "public.u (2, TRUE)",
+        "s0 0/0 0 confirmed 0/0", "s1 0/0 0 confirmed 0/0", "commit 2", "log 2", "public.u (4, NULL)",
+        "s0 0/0 0 confirmed 0/0", "s1 0/0 0 confirmed 0/0",
+    ],
+)
+
+# Rows come in the order of their columns, whatever the key.
+KEY_LAST = """\
+CREATE TABLE v (region text, ok boolean, id integer PRIMARY KEY);
+CREATE PUBLICATION p FOR ALL TABLES;
+CREATE SUBSCRIPTION s CONNECTION '' PUBLICATION p;
+"""
+ORDERED = (
+    "COMMIT INSERT v ('b', TRUE, 1), INSERT v ('a', TRUE, 2), INSERT v (NULL, FALSE, 3), INSERT v ('a', FALSE, 4),"
+    " INSERT v ('a', NULL, 5), INSERT v ('', TRUE, 6), INSERT v ('B', TRUE, -7), INSERT v ('a', NULL, -8),"
+    " DELETE v (1); VIEW;",
+    [
+        "commit 1", "log 1", "public.v (NULL, FALSE, 3)", "public.v ('', TRUE, 6)", "public.v ('B', TRUE, -7)",
+        "public.v ('a', NULL, -8)", "public.v ('a', NULL, 5)", "public.v ('a', FALSE, 4)", "public.v ('a', TRUE, 2)",
+        "s 0/0 0 confirmed 0/0",
+    ],
+)
+
 # Words, an input, the status and the output.
 OTHERS: list[tuple[tuple[str, ...], str, int, str]] = [
     ((), f"{B}%%\no 0\n%%\nVIEW;\n", 1, "refused NotOwner public.t 0\n"),
@@ -216,6 +259,7 @@ def scripts() -> Iterator[tuple[str, str, tuple[str, list[str]]]]:
         yield f"a connection is lost after {heard} bytes of a status", B, lost_upwards(heard)
     yield "many rows come and go", B, many()
     yield "rows are identified by an index", INDEXED, CODES
+    yield "values of several indexes are taken", SEVERAL, TAKEN
 
 
 def cases() -> Iterator[Case]:
@@ -225,8 +269,10 @@ def cases() -> Iterator[Case]:
     for number, (script, lines) in enumerate(FULL, 1):
         words = ("simulate", "--limit", "2")
         yield Case(f"a log of two commits, case {number}", words, three_parts(B, C, script), 0, text_of(lines))
-    script, lines = EMPTIED
-    yield Case("a table is emptied", ("simulate",), three_parts(TWO, C + C, script), 0, text_of(lines))
+    for name, (script, lines) in ("a table is emptied", EMPTIED), ("two tables are emptied", BOTH_EMPTIED):
+        yield Case(name, ("simulate",), three_parts(TWO, C + C, script), 0, text_of(lines))
+    script, lines = ORDERED
+    yield Case("rows are ordered", ("simulate",), three_parts(KEY_LAST, "o 0\n", script), 0, text_of(lines))
     for number, (words, text, status, expected) in enumerate(OTHERS, 1):
         yield Case(f"simulate of other inputs, case {number}", ("simulate", *words), text, status, expected)
 

@@ -11,7 +11,7 @@ use std::test::Fail;
 /// Rows in ascending order, each below all that follow: by the columns from the left, in each of them as PostgreSQL has
 /// them under ORDER BY .. NULLS FIRST, with texts in the collation "C". Rows of other widths and values of other kinds
 /// are in the order of this program.
-const ASCENDING: [&[Cell]; 29] = [
+const ASCENDING: &[&[Cell]] = &[
     &[],
     &[Cell::Null],
     &[Cell::Null, Cell::Null],

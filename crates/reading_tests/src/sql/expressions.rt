@@ -10,7 +10,7 @@ use std::alloc::{AllocError, Global};
 use std::process::Abort;
 use std::test::Fail;
 
-const COLUMNS: [(&str, ColType); 5] = [
+const COLUMNS: &[(&str, ColType)] = &[
     ("id", ColType::Integer),
     ("region", ColType::Text),
     ("b", ColType::Boolean),
@@ -23,8 +23,8 @@ pub fn columns(alloc: Global) -> Result<Vec<Column>, AllocError> {
     let mut columns = Vec::new(alloc);
     for (name, kind) in COLUMNS {
         columns.push(Column {
-            name: text(alloc, name)?,
-            kind,
+            name: text(alloc, *name)?,
+            kind: *kind,
             not_null: false,
         })?;
     }

@@ -130,7 +130,7 @@ struct LastCase {
     wanted: CheckError,
 }
 
-const LAST_CASES: [LastCase; 4] = [
+const LAST_CASES: &[LastCase] = &[
     LastCase {
         identity: "FULL",
         publishes: "insert, update, delete",

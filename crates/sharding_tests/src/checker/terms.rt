@@ -15,7 +15,7 @@ struct NumberCase {
 }
 
 /// Of "8.1 Numeric Types", and of "9.3 Mathematical Functions and Operators": a remainder has the sign of the number.
-const NUMBER_CASES: [NumberCase; 9] = [
+const NUMBER_CASES: &[NumberCase] = &[
     NumberCase {
         kind: ColType::SmallInt,
         term: ID,

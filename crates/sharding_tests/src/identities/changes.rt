@@ -106,7 +106,7 @@ fn updates_are_turned_by_what_passes(rt: HostRuntime) -> Result<(), Fail> {
     let alloc = rt.alloc();
     let plan = plan_of(alloc, &catalog_of(alloc, SHARES)?)?;
     for case in UPDATES {
-        expect_update(&rt, alloc, &plan, case)?;
+        expect_update(&rt, alloc, &plan, *case)?;
     }
     Ok(())
 }
@@ -139,7 +139,7 @@ fn rows_go_where_what_is_recorded_passes(rt: HostRuntime) -> Result<(), Fail> {
     let alloc = rt.alloc();
     let plan = plan_of(alloc, &catalog_of(alloc, SHARES)?)?;
     for case in DELETIONS {
-        expect_deletion(&rt, alloc, &plan, case)?;
+        expect_deletion(&rt, alloc, &plan, *case)?;
     }
     Ok(())
 }
@@ -161,7 +161,7 @@ struct Move {
     entered: usize,
 }
 
-const MOVES: [Move; 2] = [
+const MOVES: &[Move] = &[
     Move {
         old: "(7, 'eu')",
         new: "(150, 'eu')",
@@ -188,6 +188,22 @@ fn moved(alloc: Global, catalog: &Catalog, case: Move) -> Result<Change, Fail> {
     })
 }
 
+/// Fails the test unless the row leaves the one shard and enters the other.
+fn expect_move(
+    rt: &impl Abort,
+    alloc: Global,
+    plan: &Plan,
+    change: &Change,
+    case: Move,
+) -> Result<(), Fail> {
+    let old = OldPart::Full(row_of(alloc, case.old)?);
+    let new = row_of(alloc, case.new)?;
+    expect_out(rt, plan, case.left, change, Some(Out::Delete(&old)));
+    expect_out(rt, plan, case.entered, change, Some(Out::Insert(&new)));
+    expect_copy(rt, alloc, change)?;
+    Ok(())
+}
+
 /// A row goes from the first shard to the second one, and comes back.
 #[test]
 fn a_row_goes_to_another_shard_and_comes_back(rt: HostRuntime) -> Result<(), Fail> {
@@ -195,24 +211,20 @@ fn a_row_goes_to_another_shard_and_comes_back(rt: HostRuntime) -> Result<(), Fai
     let catalog = catalog_of(alloc, TWO_SHARDS)?;
     let plan = plan_of(alloc, &catalog)?;
     for case in MOVES {
-        let change = moved(alloc, &catalog, case)?;
-        let old = OldPart::Full(row_of(alloc, case.old)?);
-        let new = row_of(alloc, case.new)?;
-        expect_out(&rt, &plan, case.left, &change, Some(Out::Delete(&old)));
-        expect_out(&rt, &plan, case.entered, &change, Some(Out::Insert(&new)));
-        expect_copy(&rt, alloc, &change)?;
+        let change = moved(alloc, &catalog, *case)?;
+        expect_move(&rt, alloc, &plan, &change, *case)?;
     }
     Ok(())
 }
 
-/// Which of the four tables each of the five subscribers, and one more, takes anything of.
-const CARRIED: [[bool; 4]; 6] = [
-    [true, false, false, false],
-    [true, false, true, false],
-    [true, true, false, false],
-    [true, true, true, false],
-    [false, false, false, false],
-    [false, false, false, false],
+/// Each of the five subscribers, and one more, and which of the four tables it takes anything of.
+const CARRIED: &[(usize, [bool; 4])] = &[
+    (0, [true, false, false, false]),
+    (1, [true, false, true, false]),
+    (2, [true, true, false, false]),
+    (3, [true, true, true, false]),
+    (4, [false, false, false, false]),
+    (5, [false, false, false, false]),
 ];
 
 /// Which of the four tables a subscriber takes anything of.
@@ -243,21 +255,23 @@ fn expect_truncate(
     Ok(())
 }
 
+/// Tables that are emptied, and which of the subscribers are told.
+const EMPTIED: &[(&[usize], [bool; 6])] = &[
+    (&[0], [true, true, true, true, false, false]),
+    (&[1, 2], [false, true, true, true, false, false]),
+    (&[3, 1], [false, false, true, true, false, false]),
+    (&[], [false, false, false, false, false, false]),
+];
+
 #[test]
 fn tables_are_emptied_whatever_the_filters(rt: HostRuntime) -> Result<(), Fail> {
     let alloc = rt.alloc();
     let plan = plan_of(alloc, &super::catalog(alloc)?)?;
-    for (subscriber, wanted) in CARRIED.into_iter().enumerate() {
-        same(&rt, carried(&plan, subscriber), wanted);
+    for (subscriber, wanted) in CARRIED {
+        same(&rt, carried(&plan, *subscriber), *wanted);
     }
-    let cases: [(&[usize], [bool; 6]); 4] = [
-        (&[0], [true, true, true, true, false, false]),
-        (&[1, 2], [false, true, true, true, false, false]),
-        (&[3, 1], [false, false, true, true, false, false]),
-        (&[], [false, false, false, false, false, false]),
-    ];
-    for (tables, takers) in cases {
-        expect_truncate(&rt, alloc, &plan, tables, takers)?;
+    for (tables, takers) in EMPTIED {
+        expect_truncate(&rt, alloc, &plan, *tables, *takers)?;
     }
     Ok(())
 }

@@ -21,19 +21,21 @@ fn tells(alloc: Global, identity: Identity) -> Result<bool, AllocError> {
     Ok(tells_rows_apart(&table(alloc, identity)?))
 }
 
+/// Identities, and whether they tell rows apart.
+const IDENTITIES: &[(Identity, bool)] = &[
+    (Identity::Default, true),
+    (Identity::Full, true),
+    (Identity::Nothing, false),
+    (Identity::Index(0), true),
+    (Identity::Index(1), false),
+    (Identity::Index(2), false),
+    (Identity::Index(3), false),
+];
+
 #[test]
 fn identities_tell_rows_apart(rt: HostRuntime) -> Result<(), Fail> {
-    let cases = [
-        (Identity::Default, true),
-        (Identity::Full, true),
-        (Identity::Nothing, false),
-        (Identity::Index(0), true),
-        (Identity::Index(1), false),
-        (Identity::Index(2), false),
-        (Identity::Index(3), false),
-    ];
-    for (identity, expected) in cases {
-        same(&rt, tells(rt.alloc(), identity)?, expected);
+    for (identity, expected) in IDENTITIES {
+        same(&rt, tells(rt.alloc(), *identity)?, *expected);
     }
     Ok(())
 }

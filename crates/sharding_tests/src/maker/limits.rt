@@ -30,17 +30,19 @@ fn wide_filters(alloc: Global, of_first: &str) -> Result<String, AllocError> {
     Ok(filters)
 }
 
+/// What the first filter asks for, and the sort of what is made.
+const FIRST: &[(&str, &str)] = &[
+    ("c99 IS NOT NULL", "certificate"),
+    ("FALSE", "counterexample"),
+];
+
 #[test]
 fn a_table_of_100_columns_and_64_atoms_is_decided(rt: HostRuntime) -> Result<(), Fail> {
     let alloc = rt.alloc();
     let columns = wide_columns(alloc)?;
-    let cases = [
-        ("c99 IS NOT NULL", "certificate"),
-        ("FALSE", "counterexample"),
-    ];
-    for (of_first, expected) in cases {
-        let filters = wide_filters(alloc, of_first)?;
-        expect_sort(&rt, alloc, &columns, &filters, expected)?;
+    for (of_first, expected) in FIRST {
+        let filters = wide_filters(alloc, *of_first)?;
+        expect_sort(&rt, alloc, &columns, &filters, *expected)?;
     }
     Ok(())
 }

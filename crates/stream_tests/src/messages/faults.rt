@@ -73,7 +73,7 @@ fn expect_short(rt: &impl Abort, alloc: Global, bytes: &[u8]) {
 fn a_message_cut_short_is_short(rt: HostRuntime) -> Result<(), Fail> {
     let alloc = rt.alloc();
     for text in SERVER_MESSAGES {
-        let bytes = bytes_of(alloc, text)?;
+        let bytes = bytes_of(alloc, *text)?;
         expect_short(&rt, alloc, &bytes);
     }
     Ok(())
@@ -84,7 +84,7 @@ fn two_messages_are_one_with_bytes_after_it(rt: HostRuntime) -> Result<(), Fail>
     let alloc = rt.alloc();
     let first = bytes_of(alloc, SERVER_MESSAGES[0])?;
     for text in SERVER_MESSAGES {
-        let mut bytes = bytes_of(alloc, text)?;
+        let mut bytes = bytes_of(alloc, *text)?;
         bytes.extend_from_slice(&first)?;
         same(&rt, fault_of(alloc, &bytes), Some(Trailing));
     }
@@ -130,7 +130,7 @@ fn what_is_decoded_is_spelled_again_whatever_byte_is_replaced(rt: HostRuntime) -
     let alloc = rt.alloc();
     let mut decoded: usize = 0;
     for text in SERVER_MESSAGES {
-        let bytes = bytes_of(alloc, text)?;
+        let bytes = bytes_of(alloc, *text)?;
         for place in 0..bytes.len() {
             let count = decoded_at(&rt, alloc, &bytes, place)?;
             decoded = decoded.saturating_add(count);

@@ -10,7 +10,7 @@ use std::alloc::Global;
 use std::process::Abort;
 use std::test::Fail;
 
-pub(super) const SERVER_MESSAGES: [&str; 24] = [
+pub(super) const SERVER_MESSAGES: &[&str] = &[
     // Begin
     "42000000000153ace0000303f0146fc589000002df",
     // Relation
@@ -76,7 +76,7 @@ fn expect_again(rt: &impl Abort, alloc: Global, text: &str) -> Result<(), Fail> 
 #[test]
 fn messages_of_a_server_are_decoded_and_spelled_again(rt: HostRuntime) -> Result<(), Fail> {
     for text in SERVER_MESSAGES {
-        expect_again(&rt, rt.alloc(), text)?;
+        expect_again(&rt, rt.alloc(), *text)?;
     }
     Ok(())
 }

@@ -65,7 +65,7 @@ const CODE_C: Recorded = Recorded::Key("(NULL, 'c', NULL)");
 
 /// Worked out from the rules by hand: which columns change, what the identity records of the old row, and whether that
 /// and the new row pass.
-pub const UPDATES: [Update; 18] = [
+pub const UPDATES: &[Update] = &[
     Update {
         identity: Identity::Default,
         table: BY_ID,
@@ -213,7 +213,7 @@ pub const UPDATES: [Update; 18] = [
 ];
 
 /// As `UPDATES`, of rows that are deleted.
-pub const DELETIONS: [Deletion; 7] = [
+pub const DELETIONS: &[Deletion] = &[
     Deletion {
         identity: Identity::Default,
         table: BY_ID,
