@@ -25,13 +25,19 @@ CALLS = [
 SECONDS = 120
 
 
+def why_not_built() -> str | None:
+    """Why the program can't be run here. One that the environment names is always run."""
+    return None if NAMED or BUILT.exists() else "the program refused_calls is not built"
+
+
 def why_skipped() -> str | None:
-    """Why no request can be refused here. A program that the environment names is always run."""
-    if shutil.which("cc") is None:
-        return "no C compiler is installed"
-    if not NAMED and not BUILT.exists():
-        return "the program refused_calls is not built"
-    return None
+    """Why no request can be refused here."""
+    return "no C compiler is installed" if shutil.which("cc") is None else why_not_built()
+
+
+def program() -> str:
+    """The program of the calls."""
+    return NAMED or str(BUILT)
 
 
 def check_refusals(tally: Tally) -> None:
@@ -54,7 +60,7 @@ def run(variables: dict[str, str]) -> tuple[int | None, str, str]:
     """The program's status, and what it writes to standard output and standard error."""
     try:
         answer = subprocess.run(
-            [NAMED or BUILT], stdin=subprocess.DEVNULL, stdout=subprocess.PIPE, stderr=subprocess.PIPE,
+            [program()], stdin=subprocess.DEVNULL, stdout=subprocess.PIPE, stderr=subprocess.PIPE,
             encoding="utf-8", timeout=SECONDS, env=os.environ | variables)
     except subprocess.TimeoutExpired as error:
         return None, os.fsdecode(error.stdout or b""), f"no end within {SECONDS} seconds\n"

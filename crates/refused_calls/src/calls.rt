@@ -1,6 +1,7 @@
 //! Calls that several trials make. What is called here has no contract, so a proof of its caller has less to go through.
 
 use copy_both::{Heard, Link, LinkFault, Taken};
+use filter_tree::Row;
 use senders::{Publisher, Publishing, Seat};
 use shard_world::{Answer, Event, View, World};
 use std::alloc::AllocError;
@@ -82,6 +83,16 @@ pub fn asked(subscriber: &Subscriber) -> &[u8] {
 /// Up to where the subscriber has the log.
 pub fn position(subscriber: &Subscriber) -> u64 {
     subscriber.position()
+}
+
+/// The rows of the table of this OID.
+pub fn rows(subscriber: &Subscriber, oid: u32) -> Result<Vec<Row>, AllocError> {
+    subscriber.rows(oid)
+}
+
+/// Whether the publisher asked how far the subscriber is.
+pub fn is_asked(subscriber: &Subscriber) -> bool {
+    subscriber.reply_wanted()
 }
 
 /// What an event is answered.

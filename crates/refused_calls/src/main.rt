@@ -3,9 +3,13 @@
 //!
 //! The refusals come from `tools/testing/refusing.c`, a library that is loaded before the C library. Without it nothing
 //! is refused, and the program says so.
+//!
+//! Where a stream is on its standard input, it feeds that to a subscriber instead, with each byte changed in turn, and
+//! writes what the subscriber answers.
 #![tactic(auto)]
 
 mod calls;
+mod changes;
 mod commands;
 mod commits;
 mod connections;
@@ -22,7 +26,10 @@ mod takes;
 mod worlds;
 
 use anyhow::{Context, Result, bail};
+use changes::write_changes;
 use std::alloc::Global;
+use std::io;
+use std::io::{BufWriter, Read, Write};
 use std::sync::Wait;
 use std::thread::Threads;
 use std::time::Clock;
@@ -86,6 +93,14 @@ fn count_refused<R: Threads + Wait + Clock + Sync>(
 }
 
 fn main(rt: HostRuntime) -> Result<()> {
+    let mut stream = Vec::new(rt.alloc());
+    rt.stdin().read_to_end(&mut stream)?;
+    if !stream.is_empty() {
+        let mut writer = BufWriter::new(rt.alloc(), io::writer(&rt))?;
+        write_changes(rt.alloc(), &stream, &mut writer)?;
+        writer.flush()?;
+        return Ok(());
+    }
     for (call, name) in CALLS {
         let count = count_refused(&rt, rt.alloc(), *call).context(*name)?;
         println!(rt; "{name}: {count} refused")?;

@@ -7,11 +7,11 @@ from programs import pgshard
 from tally import Tally
 
 from . import (
-    certificates, checks, command_lines, families, filters, forms, inputs, inserts, limits, loads, long, makes, memory,
-    most, rows, serves, simulations)
+    certificates, checks, command_lines, families, filters, forms, inputs, inserts, limits, loads, long, losses, makes,
+    memory, most, rows, serves, simulations)
 
 TOPICS = [
-    checks, certificates, forms, makes, families, simulations, serves, loads, rows, inserts, filters, inputs,
+    checks, certificates, forms, makes, families, simulations, losses, serves, loads, rows, inserts, filters, inputs,
     command_lines, limits, most, long, memory]
 
 

@@ -98,29 +98,6 @@ fn an_update_of_a_row_that_is_not_there_is_skipped(rt: HostRuntime) -> Result<()
     expect_all(&rt, rt.alloc(), &subscriber)
 }
 
-/// Feeds the stream with one byte changed. A fault leaves what there was, and anything else is an answer too.
-fn expect_changed(rt: &impl Abort, alloc: Global, place: usize, by: u8) -> Result<(), Fail> {
-    let mut changed = Vec::new(alloc);
-    for (at, byte) in STREAM.iter().enumerate() {
-        changed.push(if at == place { *byte ^ by } else { *byte })?;
-    }
-    let mut subscriber = opened(alloc)?;
-    if feed(&mut subscriber, changed.as_slice()).is_err() {
-        expect_nothing(rt, alloc, &mut subscriber)?;
-    }
-    Ok(())
-}
-
-#[test]
-fn a_fault_leaves_what_was_committed(rt: HostRuntime) -> Result<(), Fail> {
-    for place in 0..COMMITTED {
-        for by in 1..=255 {
-            expect_changed(&rt, rt.alloc(), place, by)?;
-        }
-    }
-    Ok(())
-}
-
 /// Loses the connection after the first bytes of the stream, so many of them, and follows the stream that the next one
 /// has.
 fn expect_lost(rt: &impl Abort, alloc: Global, at: usize) -> Result<(), Fail> {

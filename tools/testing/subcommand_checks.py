@@ -1,0 +1,27 @@
+"""That each subcommand has runs in which memory is refused, and runs in which a read or a write fails."""
+
+import pathlib
+import re
+
+import failed.cases
+import refused.cases
+from tally import Tally
+
+CRATES = pathlib.Path(__file__).resolve().parent.parent.parent / "crates"
+
+# Where the subcommands are declared, and how.
+SOURCES = "subcommands/src/arguments.rt", "script_server/src/arguments.rt"
+DECLARED = re.compile(r'Command::new\(\s*alloc,\s*"(\w+)"')
+
+# What listens has runs with clients in the file serves.py of each folder.
+LISTENS = {"serve"}
+
+
+def check_subcommands(tally: Tally) -> None:
+    """Compares the subcommands with the first words of the cases."""
+    texts = [(CRATES / source).read_text(encoding="utf-8") for source in SOURCES]
+    subcommands = {name for text in texts for name in DECLARED.findall(text)} - {"pgshard"}
+    tally.check("subcommands that listen", LISTENS - subcommands, set())
+    for what, cases in ("memory is refused", refused.cases), ("a read or a write fails", failed.cases):
+        words = {case.words[0] for case in cases.cases()}
+        tally.check(f"subcommands without a run in which {what}", subcommands - words - LISTENS, set())
