@@ -17,7 +17,7 @@ pub(crate) fn part_room(before: usize, part: &OldPart) -> usize
 {
     match part {
         OldPart::None => before,
-        OldPart::Key(row) | OldPart::Full(row) => row_room(before, row),
+        OldPart::Key(row) | OldPart::Full(row) => row_room(before, row.row()),
     }
 }
 
@@ -32,11 +32,11 @@ pub(crate) fn put_part(part: &OldPart, out: &mut Vec<u8>)
         OldPart::None => {}
         OldPart::Key(row) => {
             put_byte(b'K', out);
-            put_row(row, out);
+            put_row(row.row(), out);
         }
         OldPart::Full(row) => {
             put_byte(b'O', out);
-            put_row(row, out);
+            put_row(row.row(), out);
         }
     }
 }

@@ -77,8 +77,8 @@ fn maybe_old_of(alloc: Global, part: &OldPart) -> Result<Option<OldTuple>, Alloc
 {
     match part {
         OldPart::None => Ok(None),
-        OldPart::Key(row) => Ok(Some(OldTuple::Key(tuple_of(alloc, row)?))),
-        OldPart::Full(row) => Ok(Some(OldTuple::Full(tuple_of(alloc, row)?))),
+        OldPart::Key(row) => Ok(Some(OldTuple::Key(tuple_of(alloc, row.row())?))),
+        OldPart::Full(row) => Ok(Some(OldTuple::Full(tuple_of(alloc, row.row())?))),
     }
 }
 

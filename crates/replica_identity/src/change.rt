@@ -3,7 +3,8 @@
 ghost use Rattle.std.specs.Prelude.{◌≡◌, ◌≢◌, IfOk, MatchBool};
 ghost use Rattle.replica_identity.specs.ChangeView.{part_view, change_view};
 
-use filter_tree::{Row, copy_row, same_row};
+use crate::shared_row::SharedRow;
+use filter_tree::same_row;
 use std::alloc::{AllocError, Global};
 
 /// What is recorded of an old row: nothing, the row with nulls outside the columns of the replica identity, or the
@@ -13,19 +14,19 @@ use std::alloc::{AllocError, Global};
 #[derive(Debug, Drop, PartialEq, Eq)]
 pub enum OldPart {
     None,
-    Key(Row),
-    Full(Row),
+    Key(SharedRow),
+    Full(SharedRow),
 }
 
 impl OldPart {
-    /// An equal part, whose memory is taken from `alloc`. The only error is want of memory.
-    pub fn copy(&self, alloc: Global) -> Result<OldPart, AllocError>
+    /// An equal part, which shares the row. The only error is that this is shared too often.
+    pub fn share(&self) -> Result<OldPart, AllocError>
         ensures { IfOk result (λ copy. part_view copy ≡ part_view self.now) }
     {
         match self {
             OldPart::None => Ok(OldPart::None),
-            OldPart::Key(part) => Ok(OldPart::Key(copy_row(alloc, part)?)),
-            OldPart::Full(old) => Ok(OldPart::Full(copy_row(alloc, old)?)),
+            OldPart::Key(part) => Ok(OldPart::Key(part.share()?)),
+            OldPart::Full(old) => Ok(OldPart::Full(old.share()?)),
         }
     }
 
@@ -36,8 +37,11 @@ impl OldPart {
     {
         match (self, other) {
             (OldPart::None, OldPart::None) => true,
-            (OldPart::Key(part), OldPart::Key(other_part)) => same_row(part, other_part),
-            (OldPart::Full(old), OldPart::Full(other_old)) => same_row(old, other_old),
+            (OldPart::Key(part), OldPart::Key(other_part)) => same_row(
+                part.row(),
+                other_part.row(),
+            ),
+            (OldPart::Full(old), OldPart::Full(other_old)) => same_row(old.row(), other_old.row()),
             (OldPart::None | OldPart::Key(_) | OldPart::Full(_), _) => false,
         }
     }
@@ -51,12 +55,12 @@ impl OldPart {
 pub enum Change {
     Insert {
         table: usize,
-        new: Row,
+        new: SharedRow,
     },
     Update {
         table: usize,
         old: OldPart,
-        new: Row,
+        new: SharedRow,
     },
     Delete {
         table: usize,
@@ -68,23 +72,24 @@ pub enum Change {
 }
 
 impl Change {
-    /// An equal change, whose memory is taken from `alloc`. The only error is want of memory.
+    /// An equal change, which shares the rows, and whose other memory is taken from `alloc`. The only errors are want of
+    /// memory, and that a row is shared too often.
     pub fn copy(&self, alloc: Global) -> Result<Change, AllocError>
         ensures { IfOk result (λ copy. change_view copy ≡ change_view self.now) }
     {
         match self {
             Change::Insert { table, new } => Ok(Change::Insert {
                 table: *table,
-                new: copy_row(alloc, new)?,
+                new: new.share()?,
             }),
             Change::Update { table, old, new } => Ok(Change::Update {
                 table: *table,
-                old: old.copy(alloc)?,
-                new: copy_row(alloc, new)?,
+                old: old.share()?,
+                new: new.share()?,
             }),
             Change::Delete { table, old } => Ok(Change::Delete {
                 table: *table,
-                old: old.copy(alloc)?,
+                old: old.share()?,
             }),
             Change::Truncate { tables } => Ok(Change::Truncate {
                 tables: Vec::from_slice(alloc, tables.as_slice())?,
@@ -104,7 +109,7 @@ impl Change {
                     table: other_table,
                     new: other_new,
                 },
-            ) => table == other_table && same_row(new, other_new),
+            ) => table == other_table && same_row(new.row(), other_new.row()),
             (
                 Change::Update { table, old, new },
                 Change::Update {
@@ -112,7 +117,9 @@ impl Change {
                     old: other_old,
                     new: other_new,
                 },
-            ) => table == other_table && old.same(other_old) && same_row(new, other_new),
+            ) => table == other_table
+                && old.same(other_old)
+                && same_row(new.row(), other_new.row()),
             (
                 Change::Delete { table, old },
                 Change::Delete {

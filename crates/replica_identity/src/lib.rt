@@ -7,6 +7,7 @@ mod laws;
 mod part;
 mod planning;
 mod share;
+mod shared_row;
 mod shares;
 mod transforms;
 
@@ -16,5 +17,6 @@ pub use laws::{catalogs_make_settings, settings_record_parts};
 pub use part::old_part;
 pub use planning::plan;
 pub use share::Share;
+pub use shared_row::SharedRow;
 pub use shares::Plan;
 pub use transforms::{Out, carries, transform};

@@ -1,16 +1,18 @@
 //! What is recorded of an old row.
 
-ghost use Rattle.std.specs.Prelude.{◌≡◌, IfOk, if◌then◌else◌};
+ghost use Rattle.std.specs.Prelude.{◌≡◌, IfOk, Some, if◌then◌else◌};
 ghost use Rattle.std.specs.Option.{option_map};
 ghost use Rattle.filter_tree.specs.Datum.{Missing};
 ghost use Rattle.filter_tree.specs.Values.{datum_view};
 ghost use Rattle.table_changes.specs.Columns.{blanked_from};
+ghost use Rattle.table_changes.specs.Records.{Key};
 ghost use Rattle.replica_identity.specs.ChangeView.{part_view};
 ghost use Rattle.replica_identity.specs.Parts as spec;
 
 use crate::change::OldPart;
 use crate::identity::index_columns;
-use filter_tree::{Identity, Row, Table, Value, copy_row, copy_value};
+use crate::shared_row::SharedRow;
+use filter_tree::{Identity, Row, Table, Value, copy_value};
 use std::alloc::{AllocError, Global};
 
 /// Whether both rows have the same value in the column; past a row's end it has null.
@@ -60,6 +62,14 @@ fn blanked(alloc: Global, columns: &[usize], row: &Row) -> Result<Row, AllocErro
     Ok(Row::from_values(kept))
 }
 
+/// The row with nulls outside these columns, as a part.
+fn blanked_part(alloc: Global, columns: &[usize], old: &Row) -> Result<OldPart, AllocError>
+    ensures { IfOk result (λ part. part_view part ≡ Some (Key (blanked_from columns.now 0 old.now))) }
+{
+    let blanked = blanked(alloc, columns, old)?;
+    Ok(OldPart::Key(SharedRow::new(alloc, blanked)?))
+}
+
 /// What is recorded of the old row, where these columns identify rows.
 #[tactic(auto, using(crate::proofs::PartLemmas::none_of_kept, crate::proofs::PartLemmas::key_of_changed))]
 fn key_part(
@@ -72,12 +82,12 @@ fn key_part(
         (λ part. part_view part ≡ spec.key_part columns.now old.now (option_map (λ row. row.now) new.entry)) }
 {
     match new {
-        None => Ok(OldPart::Key(blanked(alloc, columns, old)?)),
+        None => Ok(blanked_part(alloc, columns, old)?),
         Some(new) => {
             if agree(old, new, columns) {
                 Ok(OldPart::None)
             } else {
-                Ok(OldPart::Key(blanked(alloc, columns, old)?))
+                Ok(blanked_part(alloc, columns, old)?)
             }
         }
     }
@@ -85,7 +95,8 @@ fn key_part(
 
 /// What is recorded of an old row that goes, or that a new one replaces. For `Full` it is the whole row, for `Nothing`
 /// nothing. For the primary key or a unique index it is the row with nulls outside the columns of that, if there is no
-/// new row or one of these columns changes; otherwise nothing. The only error is want of memory.
+/// new row or one of these columns changes; otherwise nothing. The whole row is shared, and not copied. The only errors
+/// are want of memory, and that the row is shared too often.
 ///
 /// PostgreSQL 15, SQL Commands, ALTER TABLE (REPLICA IDENTITY).
 #[tactic(auto, using(
@@ -97,16 +108,16 @@ fn key_part(
 pub fn old_part(
     alloc: Global,
     table: &Table,
-    old: &Row,
+    old: &SharedRow,
     new: Option<&Row>,
 ) -> Result<OldPart, AllocError>
     ensures { IfOk result
         (λ part. part_view part ≡ spec.part_in table.now old.now (option_map (λ row. row.now) new.entry)) }
 {
     match table.identity {
-        Identity::Default => key_part(alloc, table.key.as_slice(), old, new),
-        Identity::Index(number) => key_part(alloc, index_columns(table, number), old, new),
-        Identity::Full => Ok(OldPart::Full(copy_row(alloc, old)?)),
+        Identity::Default => key_part(alloc, table.key.as_slice(), old.row(), new),
+        Identity::Index(number) => key_part(alloc, index_columns(table, number), old.row(), new),
+        Identity::Full => Ok(OldPart::Full(old.share()?)),
         Identity::Nothing => Ok(OldPart::None),
     }
 }

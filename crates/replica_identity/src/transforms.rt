@@ -53,8 +53,8 @@ fn asked<'a>(old: &'a OldPart, new: &'a Row) -> &'a Row
 {
     match old {
         OldPart::None => new,
-        OldPart::Key(part) => part,
-        OldPart::Full(row) => row,
+        OldPart::Key(part) => part.row(),
+        OldPart::Full(row) => row.row(),
     }
 }
 
@@ -70,10 +70,12 @@ pub fn transform<'a>(plan: &Plan, subscriber: usize, change: &'a Change) -> Opti
 {
     match change {
         Change::Insert { table, new } => {
+            let new = new.row();
             let passes = plan.share(subscriber, *table).takes(new);
             if passes { Some(Out::Insert(new)) } else { None }
         }
         Change::Update { table, old, new } => {
+            let new = new.row();
             let share = plan.share(subscriber, *table);
             match (share.takes(asked(old, new)), share.takes(new)) {
                 (false, false) => None,
@@ -85,7 +87,7 @@ pub fn transform<'a>(plan: &Plan, subscriber: usize, change: &'a Change) -> Opti
         Change::Delete { table, old } => match old {
             OldPart::None => None,
             OldPart::Key(row) | OldPart::Full(row) => {
-                let passes = plan.share(subscriber, *table).takes(row);
+                let passes = plan.share(subscriber, *table).takes(row.row());
                 if passes { Some(Out::Delete(old)) } else { None }
             }
         },

@@ -14,11 +14,13 @@ use Rattle.pub_catalog.specs.contracts.catalog.Catalog as Cat
 use Rattle.pub_catalog.specs.contracts.catalog.Publication as Pub
 use Rattle.pub_catalog.specs.contracts.catalog.Subscription as Sub
 use Rattle.replica_identity.specs.contracts.share.Share as Sh
+use Rattle.replica_identity.specs.contracts.shared_row.SharedRow as R
 use Rattle.replica_identity.specs.contracts.shares.Plan as Pl
 use Rattle.shard_checker.specs.contracts.checked.Checked as C
 use Rattle.tables_log.specs.contracts.book.Book as B
 use Rattle.tables_log.specs.contracts.commit.Commit as M
 use Rattle.tables_log.specs.contracts.slots.Slot as S
+use Rattle.tables_log.specs.contracts.table_row.TableRow as W
 use Rattle.tables_log.specs.contracts.table_rows.TableRows as T
 
 ruleset all = (sendable, crosses, maps.crosses, K.crosses)
@@ -83,8 +85,14 @@ commit_send = search all depth 200 fits 3000 parts 0
 pub commit_sync : IsSync M.the_row
 commit_sync = search all depth 200 fits 3000 parts 0
 
+shared_row_send : IsSend R.the_row
+shared_row_send = search all depth 200 fits 3000 parts 0
+
+row_send : IsSend W.the_row
+row_send = search (shared_row_send, all) depth 200 fits 3000 parts 0
+
 rows_send : IsSend T.the_row
-rows_send = search all depth 200 fits 30000 parts 0
+rows_send = search (row_send, all) depth 200 fits 30000 parts 0
 
 slot_send : IsSend S.the_row
 slot_send = search all depth 200 fits 3000 parts 0

@@ -14,16 +14,16 @@ ghost use Rattle.tables_log.specs.Places.{seen_at, seen_in, values_in, KeepsRows
 
 use crate::error::{CommandFault, Refused};
 use crate::keys::key_values;
-use crate::shared_row::SharedRow;
+use crate::table_row::TableRow;
 use crate::table_rows::TableRows;
 use filter_tree::{Row, Table, copy_row, valid};
-use replica_identity::{Change, old_part};
+use replica_identity::{Change, SharedRow, old_part};
 use shard_checker::Checked;
 use std::alloc::Global;
 
 /// The row, if it fits the table.
 #[tactic(auto, using(crate::proofs::SendableLemmas::valid_sendable, crate::proofs::SendableLemmas::no_fault_of_ok))]
-fn fitting(alloc: Global, table: &Table, row: &Row) -> Result<SharedRow, Refused>
+fn fitting(alloc: Global, table: &Table, row: &Row) -> Result<TableRow, Refused>
     requires { length table.now.columns ≤ 100 }
     ensures fault { Finds (unless_unfit (row_fault table.now.columns row.now) None) result }
     ensures ok { IfOk result (λ shared. shared ≡ row.now) }
@@ -33,13 +33,14 @@ fn fitting(alloc: Global, table: &Table, row: &Row) -> Result<SharedRow, Refused
         Err(fault) => Err(Refused::Fault(CommandFault::Row(fault))),
         Ok(()) => {
             let copy = copy_row(alloc, row)?;
-            Ok(SharedRow::new(alloc, copy)?)
+            let shared = SharedRow::new(alloc, copy)?;
+            Ok(TableRow::new(shared))
         }
     }
 }
 
 /// Stages the row, unless another row has its value in one of the table's unique keys.
-fn place(alloc: Global, table: &Table, rows: &mut TableRows, row: &SharedRow) -> Result<(), Refused>
+fn place(alloc: Global, table: &Table, rows: &mut TableRows, row: &TableRow) -> Result<(), Refused>
     requires { length rows.old.maps.items ≡ length (keys_in (Some table.now)) }
     ensures fault { Finds (unless_taken (keys_in (Some table.now)) (seen_at rows.old.maps.items) row.now) result }
     ensures keeps { KeepsRows rows.old rows.new }
@@ -55,7 +56,7 @@ fn place(alloc: Global, table: &Table, rows: &mut TableRows, row: &SharedRow) ->
 }
 
 /// Stages that the row of this primary key is gone, and gives that row.
-fn take(alloc: Global, table: &Table, rows: &mut TableRows, key: &Row) -> Result<SharedRow, Refused>
+fn take(alloc: Global, table: &Table, rows: &mut TableRows, key: &Row) -> Result<TableRow, Refused>
     requires { length rows.old.maps.items ≡ length (keys_in (Some table.now)) }
     ensures fault { Finds (delete_fault (seen_at rows.old.maps.items) key.now) result }
     ensures keeps { KeepsRows rows.old rows.new }
@@ -77,8 +78,8 @@ fn replace(
     table: &Table,
     rows: &mut TableRows,
     key: &Row,
-    row: &SharedRow,
-) -> Result<SharedRow, Refused>
+    row: &TableRow,
+) -> Result<TableRow, Refused>
     requires { length rows.old.maps.items ≡ length (keys_in (Some table.now)) }
     ensures fault { Finds (replace_fault (keys_in (Some table.now))
         (seen_at rows.old.maps.items) key.now row.now) result }
@@ -120,10 +121,9 @@ fn insert_in(
 {
     let new = fitting(alloc, table, row)?;
     place(alloc, table, rows, &new)?;
-    let copy = copy_row(alloc, row)?;
     Ok(Change::Insert {
         table: number,
-        new: copy,
+        new: new.into_shared(),
     })
 }
 
@@ -146,12 +146,11 @@ fn update_in(
 {
     let new = fitting(alloc, table, row)?;
     let gone = replace(alloc, table, rows, key, &new)?;
-    let part = old_part(alloc, table, gone.row(), Some(row))?;
-    let copy = copy_row(alloc, row)?;
+    let part = old_part(alloc, table, gone.shared(), Some(row))?;
     Ok(Change::Update {
         table: number,
         old: part,
-        new: copy,
+        new: new.into_shared(),
     })
 }
 
@@ -169,7 +168,7 @@ fn delete_in(
     ensures ok { IfOk result (λ change. DeletesRow table.now number rows.old rows.new key.now (change_view change)) }
 {
     let gone = take(alloc, table, rows, key)?;
-    let part = old_part(alloc, table, gone.row(), None)?;
+    let part = old_part(alloc, table, gone.shared(), None)?;
     Ok(Change::Delete {
         table: number,
         old: part,

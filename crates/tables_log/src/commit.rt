@@ -34,7 +34,7 @@ impl Model for Commit {
     ghost invariant = { λ c. IsSendable (commit_of c.number c.time (map change_view c.changes.items)) };
 }
 
-/// Equal changes, whose memory is taken from `alloc`. The only error is want of memory.
+/// Equal changes, which share the rows, and whose other memory is taken from `alloc`.
 fn copy_changes(alloc: Global, changes: &[Change]) -> Result<Vec<Change>, AllocError>
     ensures { IfOk result (λ copies. map change_view copies.items ≡ map change_view changes.now) }
 {
@@ -97,7 +97,8 @@ impl Commit {
         self.changes.as_slice()
     }
 
-    /// An equal commit, whose memory is taken from `alloc`. The only error is want of memory.
+    /// An equal commit, which shares the rows, and whose other memory is taken from `alloc`. The only errors are want of
+    /// memory, and that a row is shared too often.
     pub fn copy(&self, alloc: Global) -> Result<Commit, AllocError>
         ensures { IfOk result (λ copy. copy ≡ self.now) }
     {

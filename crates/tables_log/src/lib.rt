@@ -10,10 +10,10 @@ mod keys;
 mod laws;
 mod layers;
 mod settling;
-mod shared_row;
 mod slots;
 mod staged;
 mod staging;
+mod table_row;
 mod table_rows;
 mod truncating;
 

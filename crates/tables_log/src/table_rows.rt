@@ -3,8 +3,8 @@
 ghost use Rattle.std.specs.Prelude.{◌≡◌, map, IfOk};
 ghost use Rattle.std.specs.Option.{option_map};
 
-use crate::shared_row::SharedRow;
 use crate::staged::Staged;
+use crate::table_row::TableRow;
 use filter_tree::{Row, copy_row};
 use std::alloc::{AllocError, Global};
 
@@ -13,10 +13,10 @@ use std::alloc::{AllocError, Global};
 /// PostgreSQL 15, 5.4.4 Primary Keys, 11.6 Unique Indexes.
 #[derive(Drop)]
 pub(crate) struct TableRows {
-    maps: Vec<Staged<SharedRow>>,
+    maps: Vec<Staged<TableRow>>,
 }
 
-fn share(row: Option<&SharedRow>) -> Result<Option<SharedRow>, AllocError>
+fn share(row: Option<&TableRow>) -> Result<Option<TableRow>, AllocError>
     ensures { IfOk result (λ shared. shared ≡ option_map (λ one. one.now) row.entry) }
 {
     match row {
@@ -26,7 +26,7 @@ fn share(row: Option<&SharedRow>) -> Result<Option<SharedRow>, AllocError>
 }
 
 /// Copies of the rows. The only error is want of memory.
-fn copies(alloc: Global, shared: &[&SharedRow]) -> Result<Vec<Row>, AllocError>
+fn copies(alloc: Global, shared: &[&TableRow]) -> Result<Vec<Row>, AllocError>
     ensures { IfOk result (λ rows. rows.items ≡ map (λ row. row.now) shared.now) }
 {
     let mut rows = Vec::with_capacity(alloc, shared.len())?;
@@ -62,7 +62,7 @@ impl TableRows {
     }
 
     /// The row that is seen by this value of the unique key of this number.
-    pub(crate) fn find(&self, number: usize, value: &Row) -> Option<&SharedRow>
+    pub(crate) fn find(&self, number: usize, value: &Row) -> Option<&TableRow>
         ensures { option_map (λ row. row.now) result ≡ seen_at self.now.maps.items number value.now }
     {
         match self.maps.get(number) {
@@ -72,7 +72,7 @@ impl TableRows {
     }
 
     /// The row that is kept by this value of the unique key of this number.
-    pub(crate) fn get(&self, number: usize, value: &Row) -> Option<&SharedRow>
+    pub(crate) fn get(&self, number: usize, value: &Row) -> Option<&TableRow>
         ensures { option_map (λ row. row.now) result ≡ kept_at self.now.maps.items number value.now }
     {
         match self.maps.get(number) {
@@ -130,7 +130,7 @@ impl TableRows {
         &mut self,
         number: usize,
         value: Option<Row>,
-        row: Option<&SharedRow>,
+        row: Option<&TableRow>,
     ) -> Result<(), AllocError>
         requires { number < length self.old.maps.items }
         ensures keeps { KeepsRows self.old self.new }
@@ -150,7 +150,7 @@ impl TableRows {
     pub(crate) fn put(
         &mut self,
         values: Vec<Option<Row>>,
-        row: Option<&SharedRow>,
+        row: Option<&TableRow>,
     ) -> Result<(), AllocError>
         requires { length values.items ≡ length self.old.maps.items }
         ensures keeps { KeepsRows self.old self.new }

@@ -8,7 +8,7 @@ use crate::tables::{columns_alike, table_of};
 use cases::{DELETIONS, Deletion, Recorded, SHARES, Side, UPDATES, Update};
 use filter_tree::{ColType, Identity, Row, Table, Text, Value, copy_value};
 use pub_catalog::Catalog;
-use replica_identity::{Change, OldPart, Out, Plan, carries, old_part, transform};
+use replica_identity::{Change, OldPart, Out, Plan, SharedRow, carries, old_part, transform};
 use std::alloc::{AllocError, Global};
 use std::process::Abort;
 use std::test::Fail;
@@ -25,11 +25,16 @@ fn table(
     table_of(alloc, "t", columns, key, &[indexed], identity)
 }
 
+/// The row of this spelling, to be shared.
+fn shared_of(alloc: Global, spelling: &str) -> Result<SharedRow, Fail> {
+    Ok(SharedRow::new(alloc, row_of(alloc, spelling)?)?)
+}
+
 /// What is recorded of a row of the table, which becomes the new one, if there is one.
 fn part_of(
     alloc: Global,
     table: &Table,
-    old: &Row,
+    old: &SharedRow,
     new: Option<&Row>,
 ) -> Result<OldPart, AllocError> {
     old_part(alloc, table, old, new)
@@ -57,8 +62,8 @@ fn expect_copy(rt: &impl Abort, alloc: Global, change: &Change) -> Result<(), Al
 fn wanted_part(alloc: Global, recorded: Recorded, old: &str) -> Result<OldPart, Fail> {
     match recorded {
         Recorded::Nothing => Ok(OldPart::None),
-        Recorded::Key(spelling) => Ok(OldPart::Key(row_of(alloc, spelling)?)),
-        Recorded::Whole => Ok(OldPart::Full(row_of(alloc, old)?)),
+        Recorded::Key(spelling) => Ok(OldPart::Key(shared_of(alloc, spelling)?)),
+        Recorded::Whole => Ok(OldPart::Full(shared_of(alloc, old)?)),
     }
 }
 
@@ -71,7 +76,7 @@ fn found_part(
     new: Option<&Row>,
 ) -> Result<OldPart, Fail> {
     let table = table(alloc, 3, &[0], &[1], identity)?;
-    let old = row_of(alloc, old)?;
+    let old = shared_of(alloc, old)?;
     Ok(part_of(alloc, &table, &old, new)?)
 }
 
@@ -94,7 +99,7 @@ fn expect_update(rt: &impl Abort, alloc: Global, plan: &Plan, case: Update) -> R
     let change = Change::Update {
         table: case.table,
         old: found,
-        new: row_of(alloc, case.new)?,
+        new: shared_of(alloc, case.new)?,
     };
     let out = wanted_out(case.side, &wanted, &new);
     expect_out(rt, plan, 0, &change, out);
@@ -179,11 +184,11 @@ const MOVES: &[Move] = &[
 /// The change of a row of the first table into another one.
 fn moved(alloc: Global, catalog: &Catalog, case: Move) -> Result<Change, Fail> {
     let table = catalog.tables.first().ok_or("a table")?;
-    let old = row_of(alloc, case.old)?;
-    let new = row_of(alloc, case.new)?;
+    let old = shared_of(alloc, case.old)?;
+    let new = shared_of(alloc, case.new)?;
     Ok(Change::Update {
         table: 0,
-        old: part_of(alloc, table, &old, Some(&new))?,
+        old: part_of(alloc, table, &old, Some(new.row()))?,
         new,
     })
 }
@@ -196,7 +201,7 @@ fn expect_move(
     change: &Change,
     case: Move,
 ) -> Result<(), Fail> {
-    let old = OldPart::Full(row_of(alloc, case.old)?);
+    let old = OldPart::Full(shared_of(alloc, case.old)?);
     let new = row_of(alloc, case.new)?;
     expect_out(rt, plan, case.left, change, Some(Out::Delete(&old)));
     expect_out(rt, plan, case.entered, change, Some(Out::Insert(&new)));
@@ -277,14 +282,14 @@ fn tables_are_emptied_whatever_the_filters(rt: HostRuntime) -> Result<(), Fail> 
 }
 
 /// One of the longest texts, then this value 98 times, then this text.
-fn wide_row(alloc: Global, filling: &Value, last: &str) -> Result<Row, AllocError> {
+fn wide_row(alloc: Global, filling: &Value, last: &str) -> Result<SharedRow, AllocError> {
     let mut values = Vec::new(alloc);
     values.push(Value::Text(Text::new(longest_text(alloc)?)))?;
     for _ in 0..98 {
         values.push(copy_value(&alloc, filling)?)?;
     }
     values.push(Value::Text(text(alloc, last)?))?;
-    Ok(Row::from_values(values))
+    Ok(SharedRow::new(alloc, Row::from_values(values))?)
 }
 
 /// Fails the test where another part is recorded of a wide row in a table with this identity.
@@ -298,7 +303,7 @@ fn expect_part(
     let table = table(alloc, 100, &key, &[99, 0], identity)?;
     let old = wide_row(alloc, &Value::Int(7), "")?;
     let new = wide_row(alloc, &Value::Int(7), "b")?;
-    let found = part_of(alloc, &table, &old, Some(&new))?;
+    let found = part_of(alloc, &table, &old, Some(new.row()))?;
     holds(rt, found == wanted);
     let change = Change::Update {
         table: 0,

@@ -61,10 +61,10 @@ fn go_and_return(changes: &[Change], near: &Row, far: &Row) -> bool {
                 old: OldPart::Full(second_old),
                 new: second_new,
             },
-        ] => *first_old == *near
-            && *first_new == *far
-            && *second_old == *far
-            && *second_new == *near,
+        ] => *first_old.row() == *near
+            && *first_new.row() == *far
+            && *second_old.row() == *far
+            && *second_new.row() == *near,
         _ => false,
     }
 }

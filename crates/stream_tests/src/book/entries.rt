@@ -17,7 +17,7 @@ fn is_same(one: &Commit, other: &Commit) -> bool {
 fn is_insert(alloc: Global, changes: &[Change], text: &str) -> Result<bool, Fail> {
     let wanted = row(alloc, text)?;
     Ok(match changes {
-        [Change::Insert { table: 0, new }] => *new == wanted,
+        [Change::Insert { table: 0, new }] => *new.row() == wanted,
         _ => false,
     })
 }

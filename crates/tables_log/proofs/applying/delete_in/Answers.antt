@@ -8,7 +8,7 @@ returns-clause-ok c = record {
   gone = c.in_ok-gone.gone;
   found = c.in_ok-gone.ensures.found;
   puts = c.in_ok-gone.ensures.puts;
-  gone_sendable = c.row.ensures.sendable;
+  gone_sendable = c.shared.ensures.sendable;
   records = ap (r.Delete c.args.number)
-      (c.in_ok-part.ensures ∙ ap (λ gone. part_in c.args.table.now gone None) c.row.ensures.shows);
+      (c.in_ok-part.ensures ∙ ap (λ gone. part_in c.args.table.now gone None) c.shared.ensures.shows);
 }

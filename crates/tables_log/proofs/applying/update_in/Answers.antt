@@ -11,10 +11,10 @@ returns-clause-ok c = record {
   found = c.in_ok-gone.ensures.found;
   puts = subst (λ row. ReplacesRow c.args.rows.now c.replace.new.rows (keys_in (Some c.args.table.now))
       c.in_ok-gone.gone row) c.in_ok-new.ensures.ok c.in_ok-gone.ensures.puts;
-  gone_sendable = c.row.ensures.sendable;
+  gone_sendable = c.shared.ensures.sendable;
   sendable = c.in_ok-new.ensures.sendable;
-  records = ap (λ part. r.Update c.args.number part c.in_ok-copy.copy)
-      (c.in_ok-part.ensures ∙ ap (λ gone. part_in c.args.table.now gone (Some c.args.row.now)) c.row.ensures.shows)
+  records = ap (λ part. r.Update c.args.number part c.into_shared.result)
+      (c.in_ok-part.ensures ∙ ap (λ gone. part_in c.args.table.now gone (Some c.args.row.now)) c.shared.ensures.shows)
       ∙ ap (r.Update c.args.number (part_in c.args.table.now c.in_ok-gone.gone (Some c.args.row.now)))
-          c.in_ok-copy.ensures;
+          (c.into_shared.ensures ∙ c.in_ok-new.ensures.ok);
 }
