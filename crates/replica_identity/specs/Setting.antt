@@ -23,7 +23,7 @@ recorded_as (Index number) = Columns
 recorded_as Full = Whole
 recorded_as Nothing = Nowhere
 
--- ---- of a table that is there; where there is none, a row has no fault, its key has no column, and it is its own identity
+-- ---- of a table that is there; elsewhere a row has no fault, its key has no column, and it is its own identity
 
 abbrev pub fault_in : Option Table → List Datum → Option RowFault
 fault_in None row = None

@@ -59,7 +59,7 @@ pub record IsBegunSimulation (limit : ℕ) (input : List ℕ) (lines : List (Lis
   pub later : List LineOf
   pub first : IsSimulation limit input (step ∷ later) lines Done
 
--- ---- why there is no answer: a fault of the catalog goes before one of a certificate, and that before one of the script
+-- ---- why there is no answer: faults of the catalog go before those of certificates, and these before the script's
 
 -- the input has three parts, and the first is no catalog, for the fault that the error tells
 pub record IsBadCatalog (input : List ℕ) (error : ReadError) : Type 0 where
