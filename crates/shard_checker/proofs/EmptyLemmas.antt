@@ -1,10 +1,9 @@
 -- A term is empty exactly if no value is left to it, null among them.
-use Rattle.std.proofs.Common.{◌≡◌, ℕ, Bool, true, false, not, ◌&&◌, ◌||◌, List, refl, sym, ap, ◌∙◌}
+use Rattle.std.proofs.Common.{◌≡◌, Bool, true, false, not, ◌&&◌, ◌||◌, List, refl}
 use Rattle.filter_tree.specs.Datum.{Datum, Missing, Known}
 use Rattle.filter_tree.specs.Lists.{column_of}
 use Rattle.filter_tree.specs.Paths.{Path}
 use Rattle.filter_tree.specs.declared.filter.Term.{Term}
-use Rattle.filter_tree.specs.declared.table.ColType.{ColType}
 use Rattle.filter_tree.specs.declared.table.Column.{Column}
 use Rattle.shard_checker.specs.Domain.{kind_at}
 use Rattle.shard_checker.specs.Emptiness.{IsLeft, HasValue, IsEmptiness, CanBeTold}
@@ -29,13 +28,16 @@ pub not_empty_has : (columns : List Column) (term : Term) (path : Path) → is_e
     → HasValue columns term path
 not_empty_has columns term path h = by_test (is_present columns (column_of term) path)
     (λ present. let rest =
-        second_false (is_present columns (column_of term) path)
-        (is_null (column_of term) path || not (has_value (kind_at columns (column_of term)) term path)) present h in
+    second_false (is_present columns (column_of term) path)
+    (is_null (column_of term) path || not (has_value (kind_at columns (column_of term)) term path)) present h in
     let both = both_false (is_null (column_of term) path)
-        (not (has_value (kind_at columns (column_of term)) term path)) rest in
+    (not (has_value (kind_at columns (column_of term)) term path)) rest in
     let some = value_exists (kind_at columns (column_of term)) term path (not_false _ both.1) in
-    record { value = Known some.value; left =
-        record { in_domain = some.in_domain; may_be_known = both.0; agrees = some.left } })
+    record {
+      value = Known some.value;
+      left =
+          record { in_domain = some.in_domain; may_be_known = both.0; agrees = some.left };
+    })
     (λ absent. record { value = Missing; left = absent })
 
 -- ---- a term that has a value isn't empty
@@ -52,44 +54,15 @@ left_not_empty : (columns : List Column) (term : Term) (path : Path) (value : Da
     → is_empty columns term path ≡ false
 left_not_empty columns term path Missing absent =
     first_fails (is_present columns (column_of term) path) (is_null (column_of term) path)
-        (has_value (kind_at columns (column_of term)) term path) absent
+    (has_value (kind_at columns (column_of term)) term path) absent
 left_not_empty columns term path (Known constant) left =
     rest_fails (is_present columns (column_of term) path) (is_null (column_of term) path)
-        (has_value (kind_at columns (column_of term)) term path) left.may_be_known
+    (has_value (kind_at columns (column_of term)) term path) left.may_be_known
     (value_found (kind_at columns (column_of term)) term path constant left.in_domain left.agrees)
 
 pub has_not_empty : (columns : List Column) (term : Term) (path : Path) → HasValue columns term path
     → is_empty columns term path ≡ false
 has_not_empty columns term path has = left_not_empty columns term path has.value has.left
-
--- ---- what the code looks at, one after another
-
-module _ (columns : List Column) (term : Term) (path : Path) (column : ℕ) (of : column ≡ column_of term) where
-  present_of : {present : Bool} → present ≡ is_present columns column path
-      → is_present columns (column_of term) path ≡ present
-  present_of h = sym (h ∙ ap (λ (column : ℕ). is_present columns column path) of)
-
-  null_of : {null : Bool} → null ≡ is_null column path → is_null (column_of term) path ≡ null
-  null_of h = sym (h ∙ ap (λ (column : ℕ). is_null column path) of)
-
-  value_of : {value : Bool} {kind : ColType} → kind ≡ kind_at columns column → value ≡ has_value kind term path
-      → has_value (kind_at columns (column_of term)) term path ≡ value
-  value_of known h = sym (h ∙ ap (λ (kind : ColType). has_value kind term path) (known ∙ ap (kind_at columns) of))
-
-  pub none_where_absent : {present : Bool} → present ≡ false → present ≡ is_present columns column path
-      → present ≡ is_empty columns term path
-  none_where_absent absent h = absent
-      ∙ sym (first_fails (is_present columns (column_of term) path) (is_null (column_of term) path)
-      (has_value (kind_at columns (column_of term)) term path) (present_of h ∙ absent))
-
-  pub empty_where_null : {present null : Bool} → present ≡ true → present ≡ is_present columns column path
-      → null ≡ true → null ≡ is_null column path → null ≡ is_empty columns term path
-  empty_where_null there h missing k = rw (missing, present_of h ∙ there, null_of k ∙ missing) refl
-
-  pub by_values : {present null value : Bool} {kind : ColType} → present ≡ true
-      → present ≡ is_present columns column path → null ≡ false → null ≡ is_null column path
-      → kind ≡ kind_at columns column → value ≡ has_value kind term path → not value ≡ is_empty columns term path
-  by_values there h known k of_kind v = rw (present_of h ∙ there, null_of k ∙ known, value_of of_kind v) refl
 
 -- ---- the law
 

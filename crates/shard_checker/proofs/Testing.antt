@@ -1,5 +1,5 @@
 -- Tests and their answers, and the places of lists.
-use Rattle.std.proofs.Common.{◌≡◌, ℕ, ◌+◌, Bool, true, false, not, ◌&&◌, ◌||◌, refl}
+use Rattle.std.proofs.Common.{◌≡◌, ℕ, Bool, true, false, not, ◌&&◌, ◌||◌, refl}
 use Rattle.std.specs.Prelude.{◌==◌}
 use Rattle.std.specs.Cmp.{unsigned_Decides}
 
@@ -44,4 +44,3 @@ same_number m n h = (unsigned_Decides m n).0 h
 
 pub number_itself : (n : ℕ) → (n == n) ≡ true
 number_itself n = (unsigned_Decides n n).1 refl
-

@@ -20,7 +20,7 @@ use Rattle.filter_tree.specs.declared.tri.Tri.{Tri}
 use Rattle.filter_tree.specs.declared.tri.Tri.TheVariants.{True, False, Null}
 use Rattle.shard_checker.specs.Domain.{range_of, IsIn, IsInDomain}
 use Rattle.shard_checker.specs.Facts.{compares, holds_of, is_about, leaves, may_be}
-use Rattle.shard_checker.specs.Candidates.{serves, serves_nearby, constants_of, gives_number, names_number, has_number, gives_text, names_text, has_text, has_value}
+use Rattle.shard_checker.specs.Candidates.{serves, constants_of, gives_number, names_number, has_number, gives_text, names_text, has_text, has_value}
 use Rattle.shard_checker.specs.declared.domain.Range.{Range}
 use Rattle.shard_checker.proofs.Testing.{two_true, two_false, both_false, left_true, right_true, clash, not_true_false}
 use Rattle.filter_tree.proofs.Tests.{by_test, from_test}
@@ -82,9 +82,9 @@ serves_when : (range : Range) (term : Term) (path : Path) (number : ℤ) → IsI
     → may_be term path (Some (Number number)) ≡ true → serves range term path number ≡ true
 serves_when range term path number inside left =
     two_true (int_le range.least number) (int_le number range.greatest && may_be term path (Some (Number number)))
-        (le_test range.least number inside.above_least)
+    (le_test range.least number inside.above_least)
     (two_true (int_le number range.greatest) (may_be term path (Some (Number number)))
-        (le_test number range.greatest inside.below_greatest) left)
+    (le_test number range.greatest inside.below_greatest) left)
 
 -- a number and the one before compare alike with each other number
 same_side : (op : Op) (before number constant : ℤ) → number ≡ before +ℤ pos 1 → (constant ≡ number → ⊥)
@@ -106,12 +106,12 @@ numbers_alike : (range : Range) (term : Term) (path : Path) (before number : ℤ
 numbers_alike range term path before number e here [] none = tt
 numbers_alike range term path before number e here (Number k ∷ constants) none =
     let both = both_false (serves range term path k || serves range term path (k +ℤ pos 1))
-        (list_any (gives_number range term path) constants) none in
+    (list_any (gives_number range term path) constants) none in
     let gone = both_false (serves range term path k) (serves range term path (k +ℤ pos 1)) both.0 in (
       (λ op. same_side op before number k e
           (λ is. clash _ (subst (λ n. serves range term path n ≡ true) (sym is) here) gone.0)
           (λ is. clash _ (subst (λ n. serves range term path n ≡ true) (e ∙ ap (λ n. n +ℤ pos 1) (sym is)) here)
-              gone.1)),
+          gone.1)),
       numbers_alike range term path before number e here constants both.1,
     )
 numbers_alike range term path before number e here (Truth b ∷ constants) none =
@@ -143,7 +143,7 @@ descend : (range : Range) (term : Term) (path : Path) (steps : ℕ) (number : �
 descend range term path zero number e inside left =
     let least : number ≡ range.least = omega (arith, ints) in
     left_true (serves range term path range.least) _
-        (subst (λ n. serves range term path n ≡ true) least (serves_when range term path number inside left))
+    (subst (λ n. serves range term path n ≡ true) least (serves_when range term path number inside left))
 descend range term path (suc steps) number e inside left =
     by_test (list_any (λ entry. names_number range term path entry.0) path)
     (λ named. right_true (serves range term path range.least) _ named)
@@ -154,7 +154,7 @@ descend range term path (suc steps) number e inside left =
     let high : before ≤ℤ range.greatest = omega (arith, ints, inside.below_greatest) in
     descend range term path steps before refl (record { above_least = low; below_greatest = high })
     (sym (all_before range term path before number next (serves_when range term path number inside left) unnamed)
-        ∙ left))
+    ∙ left))
 
 -- how far a number is above another
 distance : (low high : ℤ) → low ≤ℤ high → (steps : ℕ) × (high ≡ low +ℤ pos steps)
@@ -205,7 +205,7 @@ texts_alike : (text : List ℕ) (constants : List Constant)
 texts_alike text [] apart = tt
 texts_alike text (constant ∷ constants) apart =
     let both = both_false (compares Eq (Some (Bytes text)) constant)
-        (list_any (compares Eq (Some (Bytes text))) constants) apart in
+    (list_any (compares Eq (Some (Bytes text))) constants) apart in
     ((λ op. unnamed_text op text constant both.0), texts_alike text constants both.1)
 
 -- the atom names the text
@@ -220,7 +220,7 @@ pub all_unnamed : (term : Term) (text : List ℕ) (test : AtomOf → Bool)
 all_unnamed term text test apart path none =
     all_alike term (Some (Bytes text)) None test
     (λ atom unnamed about. holds_alike (Some (Bytes text)) None atom
-        (texts_alike text (constants_of atom) (apart atom unnamed about)))
+    (texts_alike text (constants_of atom) (apart atom unnamed about)))
     path none
 
 -- constants that are not left differ from a text that is
@@ -231,7 +231,7 @@ named_apart term path text left [] none = refl
 named_apart term path text left (Bytes named ∷ constants) none =
     let both = both_false (may_be term path (Some (Bytes named))) (list_any (gives_text term path) constants) none in
     two_false (bytes_eq text named) _ (text_apart term path text named left both.0)
-        (named_apart term path text left constants both.1)
+    (named_apart term path text left constants both.1)
 named_apart term path text left (Number k ∷ constants) none = named_apart term path text left constants none
 named_apart term path text left (Truth b ∷ constants) none = named_apart term path text left constants none
 
@@ -241,7 +241,7 @@ text_found term path text left = by_test (list_any (λ entry. names_text term pa
     (λ named. right_true (may_be term path None) _ named)
     (λ unnamed. left_true (may_be term path None) _ (sym (all_unnamed term text (names_text term path)
     (λ atom names about. named_apart term path text left (constants_of atom)
-        (under (is_about term atom) (list_any (gives_text term path) (constants_of atom)) names about))
+    (under (is_about term atom) (list_any (gives_text term path) (constants_of atom)) names about))
     path unnamed) ∙ left))
 
 -- ---- a value that is left is found
@@ -268,12 +268,3 @@ value_found Boolean term path (Number n) inside left = absurd inside
 value_found Boolean term path (Bytes s) inside left = absurd inside
 value_found Text term path (Number n) inside left = absurd inside
 value_found Text term path (Truth b) inside left = absurd inside
-
--- ---- a number beside one that doesn't serve
-
-pub next_alone : (range : Range) (term : Term) (path : Path) (number : ℤ) {one next : Bool} {same before : ℤ}
-    → one ≡ false → one ≡ serves range term path same → same ≡ number
-    → next ≡ serves range term path (before +ℤ pos 1) → before ≡ number → next ≡ serves_nearby range term path number
-next_alone range term path number none h same k before =
-    let nothing : serves range term path number ≡ false = sym (h ∙ ap (serves range term path) same) ∙ none in
-    k ∙ ap (λ (before : ℤ). serves range term path (before +ℤ pos 1)) before ∙ rw nothing refl

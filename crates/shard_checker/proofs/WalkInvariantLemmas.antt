@@ -1,5 +1,5 @@
 -- What a walk keeps of the path, as it enters branches and leaves them, and what it tells of owners.
-use Rattle.std.proofs.Common.{◌≡◌, ℕ, ◌+◌, ◌<◌, true, false, not, ◌&&◌, List, [], ◌∷◌, ◌++◌, length, refl, sym, ap, subst, ◌∙◌, arith, length-append}
+use Rattle.std.proofs.Common.{◌≡◌, ℕ, ◌+◌, ◌<◌, get_or, true, false, not, ◌&&◌, List, [], ◌∷◌, ◌++◌, length, refl, sym, ap, subst, ◌∙◌, arith, length-append}
 use Rattle.std.specs.Prelude.{◌==◌, if◌then◌else◌, Option, Some, None, Result, slice_get, slice_set, map}
 use Rattle.std.specs.Option.{option_map}
 use Rattle.std.specs.Borrow.{Bor}
@@ -17,56 +17,71 @@ use Rattle.shard_checker.specs.Blocks.{Marks, IsSettledBut, blocks_in}
 use Rattle.shard_checker.specs.Checks.{Finds}
 use Rattle.shard_checker.specs.KnownAtoms.{AreBefore, IsKnown, Learns, TakesBack, atom_masks, met}
 use Rattle.shard_checker.specs.Owners.{is_surely_true, must_take, may_take, second_owner}
-use Rattle.shard_checker.specs.WalkInvariants.{AgreesWithPath, GoesBack}
+use Rattle.shard_checker.specs.CandidateSets.{AreAtomSets}
+use Rattle.shard_checker.specs.Remaining.{Keeps, Restores, Remain}
+use Rattle.shard_checker.specs.WalkInvariants.{AgreesWithPath, GoesBack, candidates_of_table}
 use Rattle.shard_checker.specs.Refusal.{Subject, owner_refusal, second_refusal}
 use Rattle.shard_checker.specs.Steps.{AreFilters, IsSettled, filter_of, mask_in, second_among}
 use Rattle.shard_checker.specs.Walking.{onward}
 use Rattle.shard_checker.specs.declared.error.CheckError.{CheckError}
 use Rattle.shard_checker.specs.declared.error.CheckError.TheVariants.{BadIndex, NotOwner}
+use Rattle.shard_checker.specs.declared.candidate_sets.AtomSets.{AtomSets}
+use Rattle.shard_checker.specs.declared.candidate_sets.CandidateSets.{CandidateSets}
 use Rattle.shard_checker.specs.declared.formulas.Formulas.{Formulas}
 use Rattle.shard_checker.specs.declared.known.Before.{Before}
 use Rattle.shard_checker.specs.declared.known.Known.{Known}
 use Rattle.shard_checker.specs.declared.masks.Masks.{Masks}
+use Rattle.shard_checker.specs.declared.remaining.Remaining.{Remaining}
 use Rattle.shard_checker.specs.declared.steps.Step.{Step}
 use Rattle.shard_checker.specs.declared.users.Users.{Users}
 use Rattle.shard_checker.proofs.BlockLemmas.{marked_atom}
+use Rattle.shard_checker.proofs.CandidateSetLemmas.{zip_read}
 use Rattle.shard_checker.proofs.KnownLemmas.{known_learned, known_taken_back, was_named}
 use Rattle.shard_checker.proofs.MaskLemmas.{filter_mask}
+use Rattle.shard_checker.proofs.RemainingLemmas.{more_known, less_known}
 use Rattle.shard_checker.proofs.OnwardLemmas.{onward_true, onward_false, onward_null}
 
 -- ---- a branch is entered
 
-changed_ready : (subject : Subject) (formulas : Formulas) (users : Users) (old new : Known) (was masks : Masks)
-    (path : Path) (number : ℕ) (mask : Mask) (atom : AtomOf)
-    → AgreesWithPath subject formulas users old was path → slice_get subject.atoms number ≡ Some atom
+changed_ready : (subject : Subject) (formulas : Formulas) (users : Users) (sets : CandidateSets) (old new : Known)
+    (was masks : Masks) (left : Remaining) (path : Path) (number : ℕ) (mask : Mask) (atom : AtomOf)
+    → AgreesWithPath subject formulas users sets old was left path → slice_get subject.atoms number ≡ Some atom
     → new.atoms.items ≡ slice_set old.atoms.items number mask → masks.list.items ≡ was.list.items
     → Marks was.stale.items masks.stale.items (blocks_in users.of_atoms.items number)
     → IsSettledBut 0 formulas.steps.list.items new.atoms.items masks
-changed_ready subject formulas users old new was masks path number mask atom ready named put list_same marks =
+changed_ready subject formulas users sets old new was masks left path number mask atom ready named put list_same marks =
     let within : number < length subject.atoms = slice_get_within subject.atoms number atom named in
     subst (λ (atoms : List Mask). IsSettledBut 0 formulas.steps.list.items atoms masks) (sym put)
     (marked_atom number formulas.steps.list.items old.atoms.items mask users was masks ready.prepared.used
-        ready.settled list_same marks (omega (arith, within, ready.prepared.sized)))
+    ready.settled list_same marks (omega (arith, within, ready.prepared.sized)))
 
-pub ready_entered : {A : _} (subject : Subject) (formulas : Formulas) (users : Users) (old new : Known)
-    (was masks : Masks) (entries more : List (Bor (Atom A) × Tri)) (number : ℕ) (atom : Bor (Atom A)) (value : Tri)
-    → AgreesWithPath subject formulas users old was (path_view entries)
+pub ready_entered : {A : _} (subject : Subject) (formulas : Formulas) (users : Users) (sets : CandidateSets)
+    (found : AtomSets) (old new : Known) (was masks : Masks) (left kept : Remaining)
+    (entries more : List (Bor (Atom A) × Tri)) (number : ℕ) (atom : Bor (Atom A)) (value : Tri)
+    → AgreesWithPath subject formulas users sets old was left (path_view entries)
     → Some (atom_view atom.now) ≡ slice_get subject.atoms number → Learns old new number value
     → more ≡ entries ++ (atom, value) ∷ [] → masks.list.items ≡ was.list.items
     → Marks was.stale.items masks.stale.items (blocks_in users.of_atoms.items number)
-    → AgreesWithPath subject formulas users new masks (path_view more)
-ready_entered {A} subject formulas users old new was masks entries more number atom value ready named learns pushed
-    list_same marks = record {
-  prepared = ready.prepared;
-  knows = subst (λ (path : Path). IsKnown subject.atoms new path)
-      (sym (map-append (λ (e : Bor (Atom A) × Tri). (atom_view e.0.now, e.1)) entries ((atom, value) ∷ []))
+    → found ≡ get_or sets.of_atoms.items number found → Keeps left kept found value
+    → AgreesWithPath subject formulas users sets new masks kept (path_view more)
+ready_entered {A} subject formulas users sets found old new was masks left kept entries more number atom value ready
+    named learns pushed list_same marks is keeps = record {
+      prepared = ready.prepared;
+      knows = subst (λ (path : Path). IsKnown subject.atoms new path)
+          (sym (map-append (λ (e : Bor (Atom A) × Tri). (atom_view e.0.now, e.1)) entries ((atom, value) ∷ []))
           ∙ ap path_view (sym pushed))
-      (known_learned subject.atoms old new (path_view entries) number (atom_view atom.now) value ready.prepared.differ
-          ready.knows (sym named) learns);
-  settled = changed_ready subject formulas users old new was masks (path_view entries) number
-      (met (mask_in old.atoms.items number) value) (atom_view atom.now) ready (sym named)
-      learns.masks list_same marks;
-}
+          (known_learned subject.atoms old new (path_view entries) number (atom_view atom.now) value
+          ready.prepared.differ ready.knows (sym named) learns);
+      settled = changed_ready subject formulas users sets old new was masks left (path_view entries) number
+          (met (mask_in old.atoms.items number) value) (atom_view atom.now) ready (sym named)
+          learns.masks list_same marks;
+      left = subst (λ (path : Path). Remain (candidates_of_table subject) kept path)
+          (sym (map-append (λ (e : Bor (Atom A) × Tri). (atom_view e.0.now, e.1)) entries ((atom, value) ∷ []))
+          ∙ ap path_view (sym pushed))
+          (more_known (candidates_of_table subject) left kept (path_view entries) (atom_view atom.now) value found
+          ready.left (zip_read (AreAtomSets (candidates_of_table subject)) subject.atoms sets.of_atoms.items number
+          (atom_view atom.now) found ready.prepared.tried.of_atoms (sym named) is) keeps);
+    }
 
 pub ruleset entering = (ready_entered)
 
@@ -82,39 +97,43 @@ not_at_end : (path : Path) (entry : AtomOf × Tri) → path ++ entry ∷ [] ≡ 
 not_at_end [] entry e = cc
 not_at_end (first ∷ path) entry e = cc
 
-module _ {A : _} (subject : Subject) (formulas : Formulas) (users : Users) (was now : Known) (held : Masks)
-    (old new : List (Bor (Atom A) × Tri)) (last : Bor (Atom A) × Tri)
-    (ready : AgreesWithPath subject formulas users was held (path_view old)) (pops : old ≡ new ++ last ∷ []) where
-  whole : path_view old ≡ path_view new ++ (atom_view last.0.now, last.1) ∷ []
-  whole = ap path_view pops ∙ map-append (λ (e : Bor (Atom A) × Tri). (atom_view e.0.now, e.1)) new (last ∷ [])
+module _ {A : _} (subject : Subject) (formulas : Formulas) (users : Users) (sets : CandidateSets) (was now : Known)
+    (held : Masks) (left : Remaining) (old new : List (Bor (Atom A) × Tri)) (last : Bor (Atom A) × Tri)
+    (ready : AgreesWithPath subject formulas users sets was held left (path_view old)) (pops : old ≡ new ++ last ∷ [])
+  where
+    whole : path_view old ≡ path_view new ++ (atom_view last.0.now, last.1) ∷ []
+    whole = ap path_view pops ∙ map-append (λ (e : Bor (Atom A) × Tri). (atom_view e.0.now, e.1)) new (last ∷ [])
 
-  knew : IsKnown subject.atoms was (path_view new ++ (atom_view last.0.now, last.1) ∷ [])
-  knew = subst (λ (path : Path). IsKnown subject.atoms was path) whole ready.knows
+    knew : IsKnown subject.atoms was (path_view new ++ (atom_view last.0.now, last.1) ∷ [])
+    knew = subst (λ (path : Path). IsKnown subject.atoms was path) whole ready.knows
 
-  pub back_ready : (before : Before) (masks : Masks) → TakesBack was now before → masks.list.items ≡ held.list.items
-      → Marks held.stale.items masks.stale.items (blocks_in users.of_atoms.items before.number)
-      → AgreesWithPath subject formulas users now masks (path_view new)
-  back_ready before masks takes list_same marks = record {
-    prepared = ready.prepared;
-    knows = known_taken_back subject.atoms was now (path_view new) before (atom_view last.0.now) last.1 knew takes
-        ready.prepared.differ;
-    settled = changed_ready subject formulas users was now held masks (path_view old) before.number before.mask
-        (atom_view last.0.now) ready
-        (was_named subject.atoms was now (path_view new) before (atom_view last.0.now) last.1 knew takes) takes.masks
-            list_same marks;
-  }
+    pub back_ready : (before : Before) (masks : Masks) (kept : Remaining) → TakesBack was now before
+        → masks.list.items ≡ held.list.items
+        → Marks held.stale.items masks.stale.items (blocks_in users.of_atoms.items before.number)
+        → Restores left kept → AgreesWithPath subject formulas users sets now masks kept (path_view new)
+    back_ready before masks kept takes list_same marks restores = record {
+      prepared = ready.prepared;
+      knows = known_taken_back subject.atoms was now (path_view new) before (atom_view last.0.now) last.1 knew takes
+          ready.prepared.differ;
+      settled = changed_ready subject formulas users sets was now held masks left (path_view old) before.number
+          before.mask (atom_view last.0.now) ready
+          (was_named subject.atoms was now (path_view new) before (atom_view last.0.now) last.1 knew takes) takes.masks
+          list_same marks;
+      left = less_known (candidates_of_table subject) left kept (path_view new) (atom_view last.0.now, last.1)
+          (subst (λ (path : Path). Remain (candidates_of_table subject) left path) whole ready.left) restores;
+    }
 
-  pub goes_back : (before : Before) → TakesBack was now before
-      → GoesBack subject.atoms (path_view old) (path_view new) before.number last.1
-  goes_back before takes = record {
-    atom = atom_view last.0.now;
-    path = whole;
-    named = was_named subject.atoms was now (path_view new) before (atom_view last.0.now) last.1 knew takes;
-  }
+    pub goes_back : (before : Before) → TakesBack was now before
+        → GoesBack subject.atoms (path_view old) (path_view new) before.number last.1
+    goes_back before takes = record {
+      atom = atom_view last.0.now;
+      path = whole;
+      named = was_named subject.atoms was now (path_view new) before (atom_view last.0.now) last.1 knew takes;
+    }
 
-  pub always_known : was.befores.items ≡ [] → ⊥
-  always_known e = not_at_end (path_view new) (atom_view last.0.now, last.1)
-      (nothing_before subject.atoms [] was.befores.items _ knew.befores e)
+    pub always_known : was.befores.items ≡ [] → ⊥
+    always_known e = not_at_end (path_view new) (atom_view last.0.now, last.1)
+        (nothing_before subject.atoms [] was.befores.items _ knew.befores e)
 
 pub ruleset returning = (back_ready, goes_back)
 
@@ -123,14 +142,14 @@ module _ (atoms : List AtomOf) (old new : Path) (number : ℕ) where
       → found ≡ option_map (λ atom. new ++ (atom, False) ∷ []) (slice_get atoms number) → found ≡ start
   true_turns start found back goes is =
       is ∙ ap (option_map (λ atom. new ++ (atom, False) ∷ [])) back.named ∙ sym (onward_true new back.atom)
-          ∙ ap onward (sym back.path) ∙ goes
+      ∙ ap onward (sym back.path) ∙ goes
 
   pub false_turns : (start : Option Path) (found : Option Path) → GoesBack atoms old new number False
       → onward old ≡ start
       → found ≡ option_map (λ atom. new ++ (atom, Null) ∷ []) (slice_get atoms number) → found ≡ start
   false_turns start found back goes is =
       is ∙ ap (option_map (λ atom. new ++ (atom, Null) ∷ [])) back.named ∙ sym (onward_false new back.atom)
-          ∙ ap onward (sym back.path) ∙ goes
+      ∙ ap onward (sym back.path) ∙ goes
 
   pub null_goes : (start : Option Path) → GoesBack atoms old new number Null → onward old ≡ start → onward new ≡ start
   null_goes start back goes = sym (onward_null new back.atom) ∙ ap onward (sym back.path) ∙ goes
@@ -138,7 +157,7 @@ module _ (atoms : List AtomOf) (old new : Path) (number : ℕ) where
   pub goes_shorter : (value : Tri) → GoesBack atoms old new number value → length new < length old
   goes_shorter value back =
       let shorter : length old ≡ length new + 1 = ap length back.path ∙ length-append new ((back.atom, value) ∷ []) in
-          omega arith
+      omega arith
 
 pub ended : (path : Path) (start : Option Path) → path ≡ [] → onward path ≡ start → None ≡ start
 ended path start none goes = ap onward (sym none) ∙ goes
@@ -166,9 +185,9 @@ second_by_masks : (owner number : ℕ) (shares : List ShareOf) (path : Path)
 second_by_masks owner number [] path = refl
 second_by_masks owner number (share ∷ shares) path =
     ap (λ may. if not (number == owner) && may then Some number else second_owner owner (number + 1) shares path)
-        (may_by_mask share path)
+    (may_by_mask share path)
     ∙ ap (λ next. if not (number == owner) && (share_mask path share).truth then Some number else next)
-        (second_by_masks owner (number + 1) shares path)
+    (second_by_masks owner (number + 1) shares path)
 
 roots_masks : (atoms : List AtomOf) (path : Path) (steps : List Step) (masks : List Mask)
     → IsSettled steps (atom_masks atoms path) masks → (roots : List ℕ) (shares : List ShareOf)
@@ -180,13 +199,14 @@ roots_masks atoms path steps masks settled (root ∷ roots) (share ∷ shares) h
     ap (λ m. m ∷ map (mask_in masks) roots) (filter_mask atoms path steps masks settled root (filter_of share) h.0)
     ∙ ap (λ ms. share_mask path share ∷ ms) (roots_masks atoms path steps masks settled roots shares h.1)
 
-module _ (subject : Subject) (formulas : Formulas) (users : Users) (known : Known) (held : Masks) (path : Path)
-    (ready : AgreesWithPath subject formulas users known held path)
+module _ (subject : Subject) (formulas : Formulas) (users : Users) (sets : CandidateSets) (known : Known)
+    (held : Masks) (left : Remaining) (path : Path)
+    (ready : AgreesWithPath subject formulas users sets known held left path)
     (settled : IsSettled formulas.steps.list.items known.atoms.items held.list.items) (node number : ℕ) where
   same_masks : map (mask_in held.list.items) formulas.roots.items ≡ map (share_mask path) subject.shares
   same_masks = roots_masks subject.atoms path formulas.steps.list.items held.list.items
       (subst (λ found. IsSettled formulas.steps.list.items found held.list.items) ready.knows.masks settled)
-          formulas.roots.items subject.shares ready.prepared.compiled.filters
+      formulas.roots.items subject.shares ready.prepared.compiled.filters
 
   by_mask : (found : Option ShareOf) → Option CheckError
   by_mask found = owner_refusal subject path node number found
@@ -213,7 +233,7 @@ module _ (subject : Subject) (formulas : Formulas) (users : Users) (known : Know
   taken : (found : Option ShareOf) (mask : Mask) → Some mask ≡ option_map (share_mask path) found
       → is_surely_true mask ≡ true
       → owner_refusal subject path node number found
-          ≡ second_refusal subject node (second_owner number 0 subject.shares path)
+      ≡ second_refusal subject node (second_owner number 0 subject.shares path)
   taken None mask h sure = absurd cc
   taken (Some share) mask h sure =
       let same : mask ≡ share_mask path share = same_Some mask (share_mask path share) h in
@@ -235,13 +255,13 @@ module _ (subject : Subject) (formulas : Formulas) (users : Users) (known : Know
   pub owner_found : {X : Type 0} (root : ℕ) (result : Result X CheckError)
       → slice_get formulas.roots.items number ≡ Some root → is_surely_true (mask_in held.list.items root) ≡ true
       → Finds (second_refusal subject node
-          (second_among number 0 (map (mask_in held.list.items) formulas.roots.items))) result
+      (second_among number 0 (map (mask_in held.list.items) formulas.roots.items))) result
       → Finds (owner_refusal subject path node number (slice_get subject.shares number)) result
   owner_found root result h sure found =
       subst (λ refusal. Finds refusal result)
       (ap (λ ms. second_refusal subject node (second_among number 0 ms)) same_masks
-          ∙ ap (second_refusal subject node) (sym (second_by_masks number 0 subject.shares path))
+      ∙ ap (second_refusal subject node) (sym (second_by_masks number 0 subject.shares path))
       ∙ sym (taken (slice_get subject.shares number) (mask_in held.list.items root)
-          (ap (option_map (mask_in held.list.items)) (sym h) ∙ same_at) sure)) found
+      (ap (option_map (mask_in held.list.items)) (sym h) ∙ same_at) sure)) found
 
 pub ruleset owning = (owner_unknown, owner_refused, owner_found)

@@ -1,37 +1,25 @@
 -- How the code tells whether a value is left to a term, which no public contract speaks of: it tries the least number
--- of the term's range, the numbers that atoms name and those after them, and the texts that atoms name and one that
--- none does. `Emptiness` defines what it tells. Certificates are this project's own, and restate no section of
+-- of the term's range, the numbers that atoms name and those after them, the texts that atoms name and one that none
+-- does, and null. `Emptiness` defines what it tells. Certificates are this project's own, and restate no section of
 -- PostgreSQL's documentation.
-use Rattle.std.specs.Prelude.{ℤ, pos, ◌+ℤ◌, int_le, Bool, true, false, not, ◌&&◌, ◌||◌, List, [], ◌∷◌, if◌then◌else◌, Option, Some, None}
-use Rattle.std.specs.Borrow.{Bor}
-use Rattle.std.specs.List.{list_any}
+use Rattle.std.specs.Prelude.{ℤ, pos, ◌+ℤ◌, int_le, Bool, true, false, not, ◌&&◌, ◌||◌, List, [], ◌∷◌, ◌++◌, map, flat_map, if◌then◌else◌, Option, Some, None}
+use Rattle.std.specs.List.{list_any, list_all}
 use Rattle.std.specs.Option.{option_map}
 use Rattle.filter_tree.specs.Datum.{Constant, Number, Truth, Bytes}
 use Rattle.filter_tree.specs.Expr.{AtomOf, Cmp, IsNull, In, Between, Distinct}
 use Rattle.filter_tree.specs.Lists.{column_of}
 use Rattle.filter_tree.specs.Paths.{Path}
-use Rattle.filter_tree.specs.Values.{constant_view}
-use Rattle.filter_tree.specs.declared.value.Literal.{Literal}
 use Rattle.filter_tree.specs.declared.filter.Term.{Term}
 use Rattle.filter_tree.specs.declared.table.ColType.{ColType}
 use Rattle.filter_tree.specs.declared.table.ColType.TheVariants.{SmallInt, Integer, BigInt, Boolean, Text}
 use Rattle.filter_tree.specs.declared.table.Column.{Column}
-use Rattle.shard_checker.specs.Domain.{kind_at, range_of}
-use Rattle.shard_checker.specs.Facts.{is_null, is_present, is_about, may_be}
-use Rattle.filter_tree.specs.Same.{same_term}
 use Rattle.filter_tree.specs.declared.tri.Tri.{Tri}
-use Rattle.filter_tree.specs.declared.tri.Tri.TheVariants.{True}
+use Rattle.shard_checker.specs.Domain.{kind_at, range_of}
+use Rattle.shard_checker.specs.Facts.{is_declared, is_null, is_present, is_about, leaves, may_be, says_null, says_present}
+use Rattle.shard_checker.specs.declared.candidates.Candidate as d
+use Rattle.shard_checker.specs.declared.candidates.Tried.{Tried}
+use Rattle.shard_checker.specs.declared.candidates.Tried.TheVariants as t
 use Rattle.shard_checker.specs.declared.domain.Range.{Range}
-
-abbrev pub a_number : ℤ → Option Constant
-a_number number = Some (Number number)
-
-abbrev pub a_truth : Bool → Option Constant
-a_truth truth = Some (Truth truth)
-
--- a value that is tried; none is a text that differs from each constant that atoms name
-abbrev pub tried_view : {A : _} → Option (Bor (Literal A)) → Option Constant
-tried_view value = option_map (λ literal. constant_view literal.now) value
 
 -- the number is in the range, and left to the term
 abbrev pub serves : Range → Term → Path → ℤ → Bool
@@ -94,32 +82,103 @@ has_value BigInt term path = has_number (range_of BigInt term) term path
 has_value Boolean term path = may_be term path (Some (Truth true)) || may_be term path (Some (Truth false))
 has_value Text term path = has_text term path
 
--- ---- a list that the term's value is in
-
-abbrev pub list_of : Term → AtomOf → Tri → Option (List Constant)
-list_of term (In other constants) True = if same_term other term then Some constants else None
-list_of term atom found = None
-
-abbrev pub list_or : Option (List Constant) → Option (List Constant) → Option (List Constant)
-list_or None later = later
-list_or (Some constants) later = Some constants
-
--- the first list that the path has the term's value in, if it has one
-abbrev pub first_list : Term → Path → Option (List Constant)
-first_list term [] = None
-first_list term (entry ∷ path) = list_or (list_of term entry.0 entry.1) (first_list term path)
-
--- the constant is a value of the term of a column of this type, and left to it
-abbrev pub is_tried : ColType → Term → Path → Constant → Bool
-is_tried SmallInt term path (Number number) = serves (range_of SmallInt term) term path number
-is_tried Integer term path (Number number) = serves (range_of Integer term) term path number
-is_tried BigInt term path (Number number) = serves (range_of BigInt term) term path number
-is_tried Boolean term path (Truth truth) = may_be term path (Some (Truth truth))
-is_tried Text term path (Bytes text) = may_be term path (Some (Bytes text))
-is_tried kind term path constant = false
-
 -- no value is left: the column isn't null, and would have to be, or none of the values that are tried is left
 abbrev pub is_empty : List Column → Term → Path → Bool
 is_empty columns term path =
     is_present columns (column_of term) path
-        && (is_null (column_of term) path || not (has_value (kind_at columns (column_of term)) term path))
+    && (is_null (column_of term) path || not (has_value (kind_at columns (column_of term)) term path))
+
+-- ---- the candidates of a table
+
+-- a value that a term may have: none is null, and a value that is none a text that differs from each constant
+pub record Candidate : Type 0 where
+  pub term : Term
+  pub value : Option (Option Constant)
+
+abbrev pub candidate : Term → Option (Option Constant) → Candidate
+candidate term value = record { term = term; value = value }
+
+-- a constant as a candidate
+abbrev pub constant_candidate : Term → Constant → Candidate
+constant_candidate term constant = candidate term (Some (Some constant))
+
+-- the number, if it is in the range
+abbrev pub number_in : Range → Term → ℤ → List Candidate
+number_in range term number =
+    if int_le range.least number && int_le number range.greatest
+    then constant_candidate term (Number number) ∷ [] else []
+
+-- the number and the next one, where they are in the range
+abbrev pub numbers_nearby : Range → Term → ℤ → List Candidate
+numbers_nearby range term number = number_in range term number ++ number_in range term (number +ℤ pos 1)
+
+-- what is tried of a term, whose column has this type, where an atom names the constant
+abbrev pub named_by : ColType → Term → Constant → List Candidate
+named_by SmallInt term (Number number) = numbers_nearby (range_of SmallInt term) term number
+named_by Integer term (Number number) = numbers_nearby (range_of Integer term) term number
+named_by BigInt term (Number number) = numbers_nearby (range_of BigInt term) term number
+named_by Text term (Bytes text) = constant_candidate term (Bytes text) ∷ []
+named_by kind term constant = []
+
+-- what is tried of the term because of the atom
+abbrev pub named_in : ColType → Term → AtomOf → List Candidate
+named_in kind term atom = if is_about term atom then flat_map (named_by kind term) (constants_of atom) else []
+
+-- what is tried of the term whatever atoms there are
+abbrev pub first_of : ColType → Term → List Candidate
+first_of SmallInt term = number_in (range_of SmallInt term) term (range_of SmallInt term).least
+first_of Integer term = number_in (range_of Integer term) term (range_of Integer term).least
+first_of BigInt term = number_in (range_of BigInt term) term (range_of BigInt term).least
+first_of Boolean term = constant_candidate term (Truth true) ∷ constant_candidate term (Truth false) ∷ []
+first_of Text term = candidate term (Some None) ∷ []
+
+-- null, unless the term's column is declared NOT NULL
+abbrev pub null_of : List Column → Term → List Candidate
+null_of columns term = if is_declared columns (column_of term) then [] else candidate term None ∷ []
+
+-- what is tried of the term
+abbrev pub candidates_of : List Column → List AtomOf → Term → List Candidate
+candidates_of columns atoms term =
+    null_of columns term
+    ++ (first_of (kind_at columns (column_of term)) term
+    ++ flat_map (named_in (kind_at columns (column_of term)) term) atoms)
+
+-- what is tried of the terms
+abbrev pub candidates_in : List Column → List AtomOf → List Term → List Candidate
+candidates_in columns atoms terms = flat_map (candidates_of columns atoms) terms
+
+-- ---- which candidates remain
+
+-- the atom with this value leaves null to the term
+abbrev pub leaves_null : Term → AtomOf → Tri → Bool
+leaves_null term atom found = not (says_present (column_of term) atom found)
+
+-- the atom with this value leaves the value to the term
+abbrev pub leaves_value : Term → Option Constant → AtomOf → Tri → Bool
+leaves_value term value atom found = not (says_null (column_of term) atom found) && leaves term value atom found
+
+abbrev pub leaves_to : Term → Option (Option Constant) → AtomOf → Tri → Bool
+leaves_to term None atom found = leaves_null term atom found
+leaves_to term (Some value) atom found = leaves_value term value atom found
+
+-- the atom with this value leaves the candidate
+abbrev pub leaves_candidate : Candidate → AtomOf → Tri → Bool
+leaves_candidate candidate atom found = leaves_to candidate.term candidate.value atom found
+
+-- all that was found does
+abbrev pub remains : Path → Candidate → Bool
+remains path candidate = list_all (λ entry. leaves_candidate candidate entry.0 entry.1) path
+
+-- ---- the code's candidates
+
+abbrev pub tried_view : Tried → Option Constant
+tried_view (t.Int number) = Some (Number number)
+tried_view (t.Bool truth) = Some (Truth truth)
+tried_view (t.Text text) = Some (Bytes text.now)
+tried_view t.OtherText = None
+
+abbrev pub candidate_view : d.Candidate → Candidate
+candidate_view tried = candidate tried.term (option_map tried_view tried.value)
+
+abbrev pub candidates_view : List d.Candidate → List Candidate
+candidates_view candidates = map candidate_view candidates

@@ -1,4 +1,6 @@
+pub mod BitSets
 pub mod Blocks
+pub mod CandidateSets
 pub mod CatalogRefusal
 pub mod CatalogTruth
 pub mod CheckedView
@@ -7,10 +9,12 @@ pub mod Domain
 pub mod Emptiness
 pub mod Facts
 pub mod KnownAtoms
+pub mod Members
 pub mod Numbering
 pub mod Owners
 pub mod WalkInvariants
 pub mod Refusal
+pub mod Remaining
 pub mod Rows
 pub mod Sound
 pub mod Steps

@@ -4,7 +4,6 @@
 ghost use Rattle.std.specs.Prelude.{◌≡◌, ◌||◌};
 ghost use Rattle.filter_tree.specs.Expr.{term_of};
 ghost use Rattle.filter_tree.specs.Lists.{column_of};
-ghost use Rattle.filter_tree.specs.Paths.{path_view};
 ghost use Rattle.filter_tree.specs.Shape.{atom_view};
 ghost use Rattle.shard_checker.specs.Facts as spec;
 
@@ -35,57 +34,27 @@ fn tells_present<A: Allocator>(atom: &Atom<A>, value: Tri) -> bool
 }
 
 /// Whether the atom with this value says that the column is null.
-fn says_null<A: Allocator>(column: usize, atom: &Atom<A>, value: Tri) -> bool
+pub fn says_null<A: Allocator>(column: usize, atom: &Atom<A>, value: Tri) -> bool
     ensures { result ≡ spec.says_null column (atom_view atom.now) value }
 {
     tells_null(atom, value) && atom.term().column() == column
 }
 
 /// Whether the atom with this value says that the column isn't null.
-fn says_present<A: Allocator>(column: usize, atom: &Atom<A>, value: Tri) -> bool
+pub fn says_present<A: Allocator>(column: usize, atom: &Atom<A>, value: Tri) -> bool
     ensures { result ≡ spec.says_present column (atom_view atom.now) value }
 {
     tells_present(atom, value) && atom.term().column() == column
 }
 
 /// Whether the column is declared NOT NULL.
-fn is_declared(columns: &[Column], column: usize) -> bool
+pub fn is_declared(columns: &[Column], column: usize) -> bool
     ensures { result ≡ spec.is_declared columns.now column }
 {
     match columns.get(column) {
         None => false,
         Some(column) => column.not_null,
     }
-}
-
-/// Whether some atom of the path says that the column is null.
-pub fn is_null<A: Allocator>(column: usize, path: &[(&Atom<A>, Tri)]) -> bool
-    ensures { result ≡ spec.is_null column (path_view path.now) }
-{
-    for (atom, value) in path {
-        if says_null(column, *atom, *value) {
-            return true;
-        }
-    }
-    false
-}
-
-/// Whether the column is declared NOT NULL, or some atom of the path says that it isn't null.
-pub fn is_present<A: Allocator>(columns: &[Column], column: usize, path: &[(&Atom<A>, Tri)]) -> bool
-    ensures { result ≡ spec.is_present columns.now column (path_view path.now) }
-{
-    is_declared(columns, column) || is_found_present(column, path)
-}
-
-fn is_found_present<A: Allocator>(column: usize, path: &[(&Atom<A>, Tri)]) -> bool
-    ensures { result ≡ spec.is_found_present column (path_view path.now) }
-{
-    for (atom, value) in path {
-        if says_present(column, *atom, *value) {
-            return true;
-        }
-    }
-    false
 }
 
 /// Whether the atom is true or false of each value, and of null.

@@ -2,6 +2,9 @@
 //! say why, and the check relies on nothing else that their maker says.
 #![tactic(auto)]
 
+mod bit_sets;
+mod candidate_sets;
+mod candidates;
 mod checked;
 mod covering;
 mod domain;
@@ -10,14 +13,15 @@ mod facts;
 mod formulas;
 mod known;
 mod laws;
-mod listed;
 mod masks;
+mod members;
 mod nodes;
 mod nulls;
 mod numbering;
 mod one_table;
 mod owners;
 mod publishing;
+mod remaining;
 mod sharding;
 mod source;
 mod steps;

@@ -1,6 +1,6 @@
 //! What a node that isn't a split says of the rows at the end of its path.
 
-ghost use Rattle.std.specs.Prelude.{◌≡◌, map, slice_get};
+ghost use Rattle.std.specs.Prelude.{◌≡◌, ◌<◌, length, map, slice_get, IfSome};
 ghost use Rattle.filter_tree.specs.Paths.{path_view};
 ghost use Rattle.shard_checker.specs.Checks.{Finds};
 ghost use Rattle.shard_checker.specs.WalkInvariants.{WalkAgrees};
@@ -9,28 +9,25 @@ ghost use Rattle.shard_checker.specs.Steps.{IsSettled, mask_in, second_among};
 ghost use Rattle.shard_checker.specs.Candidates as trying;
 ghost use Rattle.shard_checker.specs.Walking as spec;
 
-use crate::domain::kind_at;
 use crate::error::CheckError;
-use crate::facts::{is_null, is_present};
 use crate::formulas::root_at;
-use crate::listed::has_value;
 use crate::masks::mask_at;
 use crate::nulls::is_never_null;
 use crate::owners::{is_surely_true, second_owner};
 use crate::subject::{Subject, atom_at, term_at};
 use crate::walk::Walk;
-use filter_tree::{Atom, Column, Term, Tri};
 use split_cert::Node;
 use std::alloc::Allocator;
 
-/// Whether no value is left to the term at the end of the path: its column isn't null, and would have to be, or none of
-/// the values that are tried is left.
-fn is_empty<A: Allocator>(columns: &[Column], term: Term, path: &[(&Atom<A>, Tri)]) -> bool
-    ensures { result ≡ trying.is_empty columns.now term (path_view path.now) }
+/// Whether no value, not even null, is left at the end of the path to the term of this number.
+fn is_empty<A: Allocator>(subject: &Subject<'_, A>, walk: &Walk<'_, A>, number: u32) -> bool
+    requires agrees { WalkAgrees subject.now walk.now }
+    requires there { number < length subject.now.terms.now }
+    ensures { IfSome (slice_get subject.now.terms.now number)
+        (λ term. result ≡ trying.is_empty subject.now.columns.now term (path_view walk.now.path.items)) }
 {
-    let column = term.column();
-    is_present(columns, column, path)
-        && (is_null(column, path) || !has_value(kind_at(columns, column), term, path))
+    let places = &subject.candidates.of_terms[number as usize];
+    !walk.remaining.places.meets(places)
 }
 
 /// Checks that the atom by which a node splits is there.
@@ -54,18 +51,19 @@ pub fn check_split<A: Allocator>(
 /// Checks a node that says that no row is there, since the term has no value.
 pub fn check_empty<A: Allocator>(
     subject: &Subject<'_, A>,
-    path: &[(&Atom<A>, Tri)],
-    node: usize,
+    walk: &Walk<'_, A>,
     number: u32,
 ) -> Result<(), CheckError>
+    requires { WalkAgrees subject.now walk.now }
     ensures { Finds
-        (spec.node_refusal trying.is_empty (subject_view subject.now) (Node.Empty number) (path_view path.now) node)
-        result }
+        (spec.node_refusal trying.is_empty (subject_view subject.now) (Node.Empty number)
+        (path_view walk.now.path.items) walk.now.node) result }
 {
     let table = subject.table;
+    let node = walk.node;
     match term_at(subject.terms, number) {
         None => Err(CheckError::BadIndex { table, node }),
-        Some(term) if is_empty(subject.columns, term, path) => Ok(()),
+        Some(_) if is_empty(subject, walk, number) => Ok(()),
         Some(_) => Err(CheckError::NotEmpty { table, node }),
     }
 }

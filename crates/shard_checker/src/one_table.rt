@@ -14,6 +14,7 @@ ghost use Rattle.shard_checker.specs.Candidates.{is_empty};
 ghost use Rattle.shard_checker.specs.Truth.{CertificateIsWrong};
 ghost use Rattle.shard_checker.specs.Walking.{walk, nodes_refusal};
 
+use crate::candidate_sets::CandidateSets;
 use crate::error::CheckError;
 use crate::formulas::formulas_of;
 use crate::numbering::{numbered_atoms, numbered_terms};
@@ -56,6 +57,7 @@ pub fn check_table<A: Allocator, C: Source>(
     let terms = numbered_terms(alloc, shares)?;
     let formulas = formulas_of(alloc, &atoms, shares)?;
     let users = Users::new(alloc, atoms.len(), &formulas.steps.list)?;
+    let candidates = CandidateSets::new(alloc, table.columns.as_slice(), &atoms, &terms)?;
     let subject = Subject {
         table: number,
         columns: table.columns.as_slice(),
@@ -64,6 +66,7 @@ pub fn check_table<A: Allocator, C: Source>(
         terms: &terms,
         formulas: &formulas,
         users: &users,
+        candidates: &candidates,
     };
     check_subject(alloc, &subject, cert)
 }

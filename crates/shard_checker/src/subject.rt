@@ -4,6 +4,7 @@ ghost use Rattle.std.specs.Prelude.{◌≡◌, slice_get};
 ghost use Rattle.std.specs.Option.{option_map};
 ghost use Rattle.filter_tree.specs.Shape.{atom_view, atoms_view};
 
+use crate::candidate_sets::CandidateSets;
 use crate::formulas::Formulas;
 use crate::users::Users;
 use filter_tree::{Atom, Column, Term};
@@ -23,6 +24,8 @@ pub struct Subject<'a, A: Allocator> {
     pub formulas: &'a Formulas,
     /// What the atoms and the filters' steps are parts of.
     pub users: &'a Users,
+    /// What is tried for the terms.
+    pub candidates: &'a CandidateSets,
 }
 
 /// The atom of this number.

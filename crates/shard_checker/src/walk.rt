@@ -17,6 +17,7 @@ use crate::error::CheckError;
 use crate::known::Known;
 use crate::masks::{Masks, refresh};
 use crate::nodes::{check_empty, check_never_null, check_owner, check_split};
+use crate::remaining::Remaining;
 use crate::subject::{Subject, atom_at};
 use crate::users::blocks_in;
 use filter_tree::{Atom, Tri};
@@ -32,6 +33,8 @@ pub struct Walk<'a, A: Allocator> {
     pub known: Known,
     /// What each step of the filters may be, and which of them have to be computed again.
     pub masks: Masks,
+    /// What is left to the terms.
+    pub remaining: Remaining,
     pub node: usize,
     /// Whether no node is due.
     pub is_over: bool,
@@ -50,6 +53,7 @@ pub fn begin<'a, A: Allocator>(
         path: Vec::new(alloc),
         known: Known::new(alloc, subject.atoms)?,
         masks: Masks::new(alloc, subject.formulas.steps.list.len())?,
+        remaining: Remaining::new(alloc, subject.candidates.count)?,
         node: 0,
         is_over: false,
     })
@@ -95,6 +99,8 @@ fn enter<'a, A: Allocator>(
             walk.known.learn(number, value)?;
             walk.masks
                 .mark(blocks_in(&subject.users.of_atoms, number as usize));
+            walk.remaining
+                .keep(&subject.candidates.of_atoms[number as usize], value)?;
             extend(&mut walk.path, atom, value)?;
         }
     }
@@ -116,6 +122,7 @@ fn go_back<'a, A: Allocator>(subject: &Subject<'a, A>, walk: &mut Walk<'a, A>) -
     let before = walk.known.take_back()?;
     walk.masks
         .mark(blocks_in(&subject.users.of_atoms, before.number as usize));
+    walk.remaining.restore();
     Some((before.number, value))
 }
 
@@ -199,7 +206,7 @@ fn check_node<A: Allocator>(
             settle(subject, walk);
             check_owner(subject, walk, number)
         }
-        Node::Empty(number) => check_empty(subject, &walk.path, walk.node, number),
+        Node::Empty(number) => check_empty(subject, walk, number),
         Node::NeverNull(number) => check_never_null(subject, walk, number),
     }
 }

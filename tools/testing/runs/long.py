@@ -1,9 +1,10 @@
-"""Long inputs, whose runs have to end soon: many commits, many rows of a table, many rows that are read, and many commits
-of many tables. Runs of many steps and of many nodes are in most.py and limits.py."""
+"""Long inputs, whose runs have to end soon: many commits, many rows of a table, many rows that are read, many commits of
+many tables, and many leaves of a certificate below many lists. Runs of many steps and of many nodes are in most.py and
+limits.py."""
 
 from collections.abc import Iterator
 
-from .case import LONG_SECONDS, Case, two_parts
+from .case import ACCEPTED, LONG_SECONDS, Case, two_parts
 from .catalogs import C, halves
 from .checks import HIGH, LOW
 from .limits import catalog_of_remainders, inserts, tree_of_remainders
@@ -17,6 +18,10 @@ TABLES, SUBSCRIBERS = 64, 32
 
 # How many commands a commit may have.
 COMMANDS = 1_000
+
+# Lists that have all remainders by 2500, and how often their certificate splits below them.
+LISTS, ENTRIES = 50, 100
+FURTHER = 12
 
 B = halves(LOW, HIGH, "flag boolean")
 
@@ -34,6 +39,7 @@ def cases() -> Iterator[Case]:
     commits = [inserts([(number % TABLES, number)]) for number in range(ROWS_OF_TABLES)]
     certificates = f"{tree_of_remainders()}\n" * TABLES
     yield simulation("many rows of many tables", catalog_of_remainders(), certificates, commits, SUBSCRIBERS)
+    yield below_lists()
 
 
 def simulation(name: str, catalog: str, certificates: str, commits: list[str], subscribers: int) -> Case:
@@ -51,3 +57,24 @@ def reading() -> Case:
     rows = "".join(f"({key}, NULL)\n" for key in range(READ_ROWS))
     lines = ["pa=true pb=false"] * 100 + ["pa=false pb=true"] * (READ_ROWS - 100)
     return Case("eval of many rows", ("eval", "t"), two_parts(B, rows), 0, text_of(lines), LONG_SECONDS)
+
+
+def below_lists() -> Case:
+    """A certificate that finds each list false, and then splits by atoms that tell nothing more: 797,314 nodes, of which
+    531,441 say that no remainder is left."""
+    lists = ["n % 2500 IN (" + ", ".join(str(-2500 + ENTRIES * at + more) for more in range(ENTRIES)) + ")" for at in range(LISTS)]
+    others = " OR ".join(f"n = {at}" for at in range(FURTHER))
+    catalog = (
+        "CREATE TABLE t (n bigint PRIMARY KEY);\n"
+        f"CREATE PUBLICATION p FOR TABLE t WHERE ({' OR '.join(lists)});\n"
+        f"CREATE PUBLICATION q FOR TABLE t WHERE (({others}) AND n % 1 = 1);\n"
+        "CREATE SUBSCRIPTION a CONNECTION '' PUBLICATION p;\nCREATE SUBSCRIPTION b CONNECTION '' PUBLICATION q;\n"
+    )
+    tree = "e 0"
+    for atom in reversed(range(LISTS, LISTS + FURTHER)):
+        tree = f"s {atom} {tree} {tree} {tree}"
+    for atom in reversed(range(LISTS)):
+        tree = f"s {atom} o 0 {tree} n {atom}"
+    last = LISTS + FURTHER
+    text = two_parts(catalog, f"s {last} e 2 {tree} n {last}\n")
+    return Case("check of many leaves below lists", ("check",), text, 0, ACCEPTED, LONG_SECONDS)

@@ -12,8 +12,9 @@ pub returns-in-None : goal.returns-in-None
 returns-in-None g c =
     let subject = c.args.subject.now in
     let walk = c.args.walk.now in
-    owner_unknown (subject_view subject) subject.formulas.now subject.users.now walk.known walk.masks
-        (path_view walk.path.items) c.requires.ready c.requires.settled walk.node c.args.number
+    owner_unknown (subject_view subject) subject.formulas.now subject.users.now subject.candidates.now
+    walk.known walk.masks walk.remaining (path_view walk.path.items) c.requires.ready c.requires.settled walk.node
+    c.args.number
     (ap (λ roots. slice_get roots c.args.number) (sym c.deref.ensures.value) ∙ sym c.root_at.ensures ∙ c.in-None.is)
 
 -- the share's filter can only be true
@@ -22,11 +23,12 @@ returns-in-Some g c =
     let subject = c.args.subject.now in
     let walk = c.args.walk.now in
     let sure : is_surely_true (mask_in walk.masks.list.items c.in-Some.root) ≡ true = grind arith in
-    owner_found (subject_view subject) subject.formulas.now subject.users.now walk.known walk.masks
-        (path_view walk.path.items) c.requires.ready c.requires.settled walk.node c.args.number
+    owner_found (subject_view subject) subject.formulas.now subject.users.now subject.candidates.now
+    walk.known walk.masks walk.remaining (path_view walk.path.items) c.requires.ready c.requires.settled walk.node
+    c.args.number
     c.in-Some.root c.check_others.result
-        (ap (λ roots. slice_get roots c.args.number) (sym c.deref.ensures.value) ∙ sym c.root_at.ensures
-        ∙ c.in-Some.is) sure c.check_others.ensures
+    (ap (λ roots. slice_get roots c.args.number) (sym c.deref.ensures.value) ∙ sym c.root_at.ensures
+    ∙ c.in-Some.is) sure c.check_others.ensures
 
 -- it may be something else
 pub returns-in-Some-2 : goal.returns-in-Some-2
@@ -34,7 +36,8 @@ returns-in-Some-2 g c =
     let subject = c.args.subject.now in
     let walk = c.args.walk.now in
     let not_sure : is_surely_true (mask_in walk.masks.list.items c.in-Some.root) ≡ false = grind arith in
-    owner_refused (subject_view subject) subject.formulas.now subject.users.now walk.known walk.masks
-        (path_view walk.path.items) c.requires.ready c.requires.settled walk.node c.args.number
+    owner_refused (subject_view subject) subject.formulas.now subject.users.now subject.candidates.now
+    walk.known walk.masks walk.remaining (path_view walk.path.items) c.requires.ready c.requires.settled walk.node
+    c.args.number
     c.in-Some.root (ap (λ roots. slice_get roots c.args.number) (sym c.deref.ensures.value) ∙ sym c.root_at.ensures
-        ∙ c.in-Some.is) not_sure
+    ∙ c.in-Some.is) not_sure

@@ -1,22 +1,25 @@
+use Rattle.std.proofs.Common.{arith}
+use Rattle.shard_checker.specs.CandidateSets.{IsTermSet}
+use Rattle.shard_checker.specs.WalkInvariants.{candidates_of_table}
 use Rattle.filter_tree.specs.Paths.{path_view}
-use Rattle.shard_checker.proofs.EmptyLemmas.{none_where_absent, empty_where_null, by_values}
+use Rattle.shard_checker.specs.Refusal.{subject_view}
+use Rattle.shard_checker.proofs.TermLemmas.{empty_is_told}
+use Rattle.shard_checker.proofs.CandidateSetLemmas.{zip_long}
 use Rattle.shard_checker.proofs.nodes.is_empty.Goals as goal
 
--- the column may be null
-pub returns-else-is_present : goal.returns-else-is_present
-returns-else-is_present g c =
-    none_where_absent c.args.columns.now c.args.term (path_view c.args.path.now) c.column-column.result
-        c.column-column.ensures c.if-is_present.false c.is_present.ensures
+-- there is a set for each term
+pub index-places-requires : goal.index-places-requires
+index-places-requires g c =
+    let subject = subject_view c.args.subject.now in
+    let sets = c.args.subject.now.candidates.now in
+    let long = zip_long (IsTermSet (candidates_of_table subject)) subject.terms sets.of_terms.items
+    c.requires.agrees.prepared.tried.of_terms in
+    omega (arith, long, c.requires.there)
 
--- it would have to be null
-pub returns-then-is_null : goal.returns-then-is_null
-returns-then-is_null g c =
-    empty_where_null c.args.columns.now c.args.term (path_view c.args.path.now) c.column-column.result
-        c.column-column.ensures
-    c.if-is_present.true c.is_present.ensures c.if-is_null.true c.is_null.ensures
-
--- values are tried
-pub returns-else-is_null : goal.returns-else-is_null
-returns-else-is_null g c =
-    by_values c.args.columns.now c.args.term (path_view c.args.path.now) c.column-column.result c.column-column.ensures
-    c.if-is_present.true c.is_present.ensures c.if-is_null.false c.is_null.ensures c.kind_at.ensures c.has_value.ensures
+pub returns : goal.returns
+returns g c =
+    let subject = c.args.subject.now in
+    let walk = c.args.walk.now in
+    empty_is_told (subject_view subject) subject.formulas.now subject.users.now subject.candidates.now walk.known
+    walk.masks walk.remaining (path_view walk.path.items) c.requires.agrees c.args.number c.index-places.result.now
+    c.index-places.ensures c.meets.result c.meets.ensures
