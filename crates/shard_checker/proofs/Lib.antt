@@ -8,6 +8,7 @@ pub mod ExistingLemmas
 pub mod FactLemmas
 pub mod KnownLemmas
 pub mod LimitFacts
+pub mod ListTests
 pub mod MaskLemmas
 pub mod MemberLemmas
 pub mod NamingLemmas
