@@ -1,6 +1,6 @@
 -- What calls on a subscriber and its connection do in each world.
 use Rattle.std.proofs.Common.{◌≡◌, ◌≢◌, ℕ, ◌≤◌, Bool, true, false, List, length, take, refl, sym, ap, subst, ◌∙◌}
-use Rattle.std.specs.Prelude.{IfOk, Option, Some, None, OnErr, Result, Ok, Err, is_some}
+use Rattle.std.specs.Prelude.{IfOk, Option, Some, None, Result, Ok, Err, is_some}
 use Rattle.std.proofs.lemmas.List.{take_all, take_min}
 use Rattle.shard_checker.specs.CheckedView.{CheckedOf}
 use Rattle.tables_log.specs.BookView.{book_slots}
@@ -215,10 +215,6 @@ drops_lose_so checked now before after old new there drops = by_link old.link re
 pub none_is : {A : Type 0} (option : Option A) → is_some option ≡ false → option ≡ None
 none_is None h = refl
 none_is (Some value) h = absurd cc
-
-pub on_err_so : {A E : Type 0} (result : Result A E) (P Q : Type 0) → OnErr result P → (P → Q) → OnErr result Q
-on_err_so (Ok value) P Q so then = tt
-on_err_so (Err error) P Q so then = then so
 
 pub if_ok_so : {A E : Type 0} (result : Result A E) (P Q : A → Type 0) → IfOk result P
     → ((value : A) → P value → Q value) → IfOk result Q

@@ -1,6 +1,6 @@
 -- What calls on a subscriber and its connection do, in each world that they match at a time: PostgreSQL 15, 31.2.
 -- Subscription, and 55.4. Streaming Replication Protocol.
-use Rattle.std.specs.Prelude.{◌≡◌, ◌<◌, ◌⊎◌, ◌^◌, ℕ, Option, Some, None}
+use Rattle.std.specs.Prelude.{◌≡◌, ◌<◌, ◌⊎◌, ◌^◌, ℕ, Option, Some, None, Result, IfOk, OnErr}
 use Rattle.shard_checker.specs.CheckedView.{CheckedOf}
 use Rattle.tables_log.specs.BookView.{book_slots}
 use Rattle.tables_log.specs.Committing.{IsKept}
@@ -12,6 +12,7 @@ use Rattle.shard_world.specs.Joined.{PeerOf}
 use Rattle.shard_world.specs.PeerSteps.{Case, ChangesOwn, HasLog, IsCase, StandsIn, StepsTo, stepped}
 use Rattle.shard_world.specs.Refusals.{BreaksOn, HaltsOn}
 use Rattle.shard_world.specs.World.{Answer, AsksMemory, Heard, Delivered, OutOfMemory, PeerEvent}
+use Rattle.shard_world.specs.declared.halted.Halted.{Halted}
 
 -- ---- memory is not refused
 
@@ -83,3 +84,12 @@ abbrev pub IsCounted : Answer → Type 0
 IsCounted (Heard bytes) = bytes < 2 ^ 63
 IsCounted (Delivered bytes) = bytes < 2 ^ 63
 IsCounted answer = Unit {0}
+
+-- ---- a call that memory may be refused to
+
+-- its step is made, and answered so, or the connection can't go on
+pub record Tries (checked : CheckedOf) (now : ℕ) (event : PeerEvent) (before after : Book) (old : PeerOf)
+    (result : Result Answer Halted) (new : PeerOf) : Type 0 where
+  pub made : IfOk result (λ answer. Makes checked now event before after old new answer)
+  pub counted : IfOk result IsCounted
+  pub stops : OnErr result (Stops checked now event before after old new)

@@ -44,11 +44,11 @@ pub(crate) struct Peer {
 }
 
 impl Peer {
-    ghost use Rattle.std.specs.Prelude.{ℕ, IfOk, OnErr};
+    ghost use Rattle.std.specs.Prelude.{ℕ, Ok};
     ghost use Rattle.std.specs.Arc.{arc_value};
     ghost use Rattle.shard_checker.specs.CheckedView.{CheckedOf, checked_view};
     ghost use Rattle.tables_log.specs.declared.book.Book.{Book as BookType};
-    ghost use Rattle.shard_world.specs.PeerCalls.{Drops, IsCounted, Makes, Moves, Stops};
+    ghost use Rattle.shard_world.specs.PeerCalls.{Drops, IsCounted, Moves, Tries};
     ghost use Rattle.shard_world.specs.World.{Open, Hear, Take, Keep, Deliver, Report, Lose};
 
     /// The subscriber connects, and asks for the stream from its position on.
@@ -59,11 +59,8 @@ impl Peer {
         crate::proofs::StopLemmas::open_is_refused
     ))]
     fn open(&mut self, alloc: Global, checked: &Arc<Checked, Global>) -> Result<Answer, Halted>
-        ensures made { (now : ℕ) (book : BookType) → IfOk result (λ answer.
-            Makes (checked_view (arc_value checked.now)) now Open book book self.old self.new answer) }
-        ensures counted { IfOk result IsCounted }
-        ensures stops { OnErr result ((now : ℕ) (book : BookType)
-            → Stops (checked_view (arc_value checked.now)) now Open book book self.old self.new) }
+        ensures { (now : ℕ) (book : BookType) → Tries (checked_view (arc_value checked.now)) now Open book book
+            self.old result self.new }
     {
         if self.link.is_some() {
             return Ok(Answer::AlreadyOpen);
@@ -77,11 +74,7 @@ impl Peer {
     /// The publisher hears the next bytes of the subscriber, at most so many.
     #[tactic(auto, using(crate::proofs::CallLemmas::is_not_open, crate::proofs::CallLemmas::hears_piece, crate::proofs::StopLemmas::hear_stops))]
     fn hear(&mut self, book: &mut Book, now: u64, bytes: usize) -> Result<Answer, Halted>
-        ensures made { (checked : CheckedOf) → IfOk result (λ answer.
-            Makes checked now (Hear bytes) book.old book.new self.old self.new answer) }
-        ensures counted { IfOk result IsCounted }
-        ensures stops { OnErr result ((checked : CheckedOf)
-            → Stops checked now (Hear bytes) book.old book.new self.old self.new) }
+        ensures { (checked : CheckedOf) → Tries checked now (Hear bytes) book.old book.new self.old result self.new }
     {
         let Some(link) = &mut self.link else {
             return Ok(Answer::NotOpen);
@@ -96,11 +89,7 @@ impl Peer {
     /// The publisher takes the next commit up.
     #[tactic(auto, using(crate::proofs::CallLemmas::is_not_open, crate::proofs::CallLemmas::takes_one, crate::proofs::StopLemmas::take_stops))]
     fn take(&mut self, book: &Book, now: u64) -> Result<Answer, Halted>
-        ensures made { (checked : CheckedOf) → IfOk result (λ answer.
-            Makes checked now Take book.now book.now self.old self.new answer) }
-        ensures counted { IfOk result IsCounted }
-        ensures stops { OnErr result ((checked : CheckedOf)
-            → Stops checked now Take book.now book.now self.old self.new) }
+        ensures { (checked : CheckedOf) → Tries checked now Take book.now book.now self.old result self.new }
     {
         let Some(link) = &mut self.link else {
             return Ok(Answer::NotOpen);
@@ -116,11 +105,8 @@ impl Peer {
     /// The publisher says a keepalive.
     #[tactic(auto, using(crate::proofs::CallLemmas::is_not_open, crate::proofs::CallLemmas::keeps_one, crate::proofs::StopLemmas::keep_stops))]
     fn keep(&mut self, now: u64, want: bool) -> Result<Answer, Halted>
-        ensures made { (checked : CheckedOf) (book : BookType) → IfOk result (λ answer.
-            Makes checked now (Keep want) book book self.old self.new answer) }
-        ensures counted { IfOk result IsCounted }
-        ensures stops { OnErr result ((checked : CheckedOf) (book : BookType)
-            → Stops checked now (Keep want) book book self.old self.new) }
+        ensures { (checked : CheckedOf) (book : BookType) → Tries checked now (Keep want) book book
+            self.old result self.new }
     {
         let Some(link) = &mut self.link else {
             return Ok(Answer::NotOpen);
@@ -135,11 +121,8 @@ impl Peer {
     /// The next bytes of the publisher, at most so many, come to the subscriber.
     #[tactic(auto, using(crate::proofs::CallLemmas::is_not_open, crate::proofs::CallLemmas::delivers_piece, crate::proofs::StopLemmas::deliver_stops))]
     fn deliver(&mut self, bytes: usize) -> Result<Answer, Halted>
-        ensures made { (checked : CheckedOf) (now : ℕ) (book : BookType) → IfOk result (λ answer.
-            Makes checked now (Deliver bytes) book book self.old self.new answer) }
-        ensures counted { IfOk result IsCounted }
-        ensures stops { OnErr result ((checked : CheckedOf) (now : ℕ) (book : BookType)
-            → Stops checked now (Deliver bytes) book book self.old self.new) }
+        ensures { (checked : CheckedOf) (now : ℕ) (book : BookType) → Tries checked now (Deliver bytes) book book
+            self.old result self.new }
     {
         let Some(link) = &mut self.link else {
             return Ok(Answer::NotOpen);
@@ -154,11 +137,8 @@ impl Peer {
     /// The subscriber says how far it is.
     #[tactic(auto, using(crate::proofs::CallLemmas::is_not_open, crate::proofs::CallLemmas::reports_one, crate::proofs::StopLemmas::report_stops))]
     fn report(&mut self, now: u64, want: bool) -> Result<Answer, Halted>
-        ensures made { (checked : CheckedOf) (book : BookType) → IfOk result (λ answer.
-            Makes checked now (Report want) book book self.old self.new answer) }
-        ensures counted { IfOk result IsCounted }
-        ensures stops { OnErr result ((checked : CheckedOf) (book : BookType)
-            → Stops checked now (Report want) book book self.old self.new) }
+        ensures { (checked : CheckedOf) (book : BookType) → Tries checked now (Report want) book book
+            self.old result self.new }
     {
         if self.link.is_none() {
             return Ok(Answer::NotOpen);
@@ -178,9 +158,8 @@ impl Peer {
     /// The connection is lost.
     #[tactic(auto, using(crate::proofs::CallLemmas::is_not_open, crate::proofs::CallLemmas::drops_lose))]
     fn lose(&mut self, book: &mut Book) -> Answer
-        ensures made { (checked : CheckedOf) (now : ℕ)
-            → Makes checked now Lose book.old book.new self.old self.new result }
-        ensures counted { IsCounted result }
+        ensures { (checked : CheckedOf) (now : ℕ) → Tries checked now Lose book.old book.new
+            self.old (Ok result) self.new }
     {
         if self.link.is_none() {
             return Answer::NotOpen;
@@ -198,11 +177,7 @@ impl Peer {
         now: u64,
         event: PeerEvent,
     ) -> Result<Answer, Halted>
-        ensures made { IfOk result (λ answer.
-            Makes (checked_view (arc_value checked.now)) now event book.old book.new self.old self.new answer) }
-        ensures counted { IfOk result IsCounted }
-        ensures stops { OnErr result
-            (Stops (checked_view (arc_value checked.now)) now event book.old book.new self.old self.new) }
+        ensures { Tries (checked_view (arc_value checked.now)) now event book.old book.new self.old result self.new }
     {
         match event {
             PeerEvent::Open => self.open(alloc, checked),

@@ -3,14 +3,15 @@ use Rattle.std.proofs.Common.{◌≡◌, ℕ, Bool, true, false, List, get_or, r
 use Rattle.std.specs.Prelude.{Option, Some, None, Result, Ok, Err, ◌==◌, slice_set}
 use Rattle.filter_tree.specs.Memory.{TellsFault}
 use Rattle.tables_log.specs.Staging.{seen}
-use Rattle.test_subscriber.specs.Answers.{Reaches, Stays}
-use Rattle.test_subscriber.specs.Copies.{told, RefusedBy, Leaves, StaysCopy}
+use Rattle.test_subscriber.specs.Answers.{Reaches, Stages, Stays}
+use Rattle.test_subscriber.specs.Copies.{told, RefusedBy, ChangesCopy, Leaves, StaysCopy}
 use Rattle.test_subscriber.specs.Hearing.{Change, change_of, change_in, staged}
 use Rattle.test_subscriber.specs.RowChanges.{Found}
-use Rattle.test_subscriber.specs.Views.{copy_of, IsKnownAt, shape_in, known_in, kept_in, seen_in, machine_with}
+use Rattle.test_subscriber.specs.Views.{copy_of, IsKnownAt, shape_in, known_in, kept_in, seen_in, machine_view, machine_with}
 use Rattle.test_subscriber.specs.declared.fault.SubFault.{SubFault}
 use Rattle.test_subscriber.specs.declared.fault.SubFault.TheVariants.{NoRelation}
 use Rattle.test_subscriber.specs.declared.phase.Phase.{Phase}
+use Rattle.test_subscriber.specs.declared.replica.Replica.{Replica}
 use Rattle.test_subscriber.specs.declared.shape.TableShape.{TableShape}
 use Rattle.test_subscriber.specs.declared.table_copy.TableCopy.{TableCopy}
 use Rattle.test_subscriber.proofs.CopyLemmas.{IsFirst, first_has, first_there, found_at, written}
@@ -32,7 +33,7 @@ module _ (phase : Phase) (at : ℕ) (wants : Bool) (copies : List TableCopy) (oi
   is_staged change =
       let came : known_in (copy_of copies oid) ≡ true = known.known in
       rw came (ap (λ found. change_of (shape_in found) (seen_in found) oid change
-          (machine_with phase at wants copies)) old_there)
+      (machine_with phase at wants copies)) old_there)
 
   module _ (has : new.shape ≡ old.shape) where
     new_oid : new.shape.relation.oid ≡ oid
@@ -61,7 +62,7 @@ module _ (phase : Phase) (at : ℕ) (wants : Bool) (copies : List TableCopy) (oi
 
     reaches : (outcome : Result Found SubFault) → Leaves outcome (seen new.rows)
         → Reaches (machine_with phase at wants (slice_set copies place new))
-            (staged (machine_with phase at wants copies) oid outcome)
+        (staged (machine_with phase at wants copies) oid outcome)
     reaches (Err fault) leaves = leaves
     reaches (Ok found) leaves = record {
       phase = refl;
@@ -77,7 +78,7 @@ module _ (phase : Phase) (at : ℕ) (wants : Bool) (copies : List TableCopy) (oi
 
     pub changes : (change : Change) → Leaves (change old.shape (seen old.rows)) (seen new.rows)
         → Reaches (machine_with phase at wants (slice_set copies place new))
-            (change_in oid change (machine_with phase at wants copies))
+        (change_in oid change (machine_with phase at wants copies))
     changes change leaves =
         subst (Reaches (machine_with phase at wants (slice_set copies place new))) (sym (is_staged change))
         (reaches (change old.shape (seen old.rows)) leaves)
@@ -91,6 +92,31 @@ module _ (phase : Phase) (at : ℕ) (wants : Bool) (copies : List TableCopy) (oi
   pub refuses : (change : Change) (error : SubFault) → RefusedBy (change old.shape (seen old.rows)) error
       → RefusedBy (change_in oid change (machine_with phase at wants copies)) error
   refuses change error refused = by_told change (told error) refused
+
+-- what it answers and leaves to stage a change in the copy at a place
+module _ (self after : Replica) (oid place : ℕ) (old new : TableCopy) (known : IsKnownAt self.copies.items oid place)
+    (is : old ≡ get_or self.copies.items place old)
+    (written_is : machine_view after ≡ machine_with self.phase self.position self.wants_reply
+    (slice_set self.copies.items place new)) (change : Change) where
+  stays_staged : StaysCopy old new → Stays (machine_view self) (machine_view after)
+  stays_staged stays = subst (Stays (machine_view self)) (sym written_is)
+      (stays_there self.phase self.position self.wants_reply self.copies.items oid place old new known is stays)
+
+  pub stages : (result : Result (Unit {0}) SubFault) → ChangesCopy change old result new
+      → Stages (change_in oid change) self result after
+  stages (Ok done) changed = record {
+    ok = subst (λ machine. Reaches machine (change_in oid change (machine_view self))) (sym written_is)
+        (changes self.phase self.position self.wants_reply self.copies.items oid place old new known is changed.stays
+        change changed.ok);
+    fault = tt;
+    stays = stays_staged changed.stays;
+  }
+  stages (Err error) changed = record {
+    ok = tt;
+    fault = refuses self.phase self.position self.wants_reply self.copies.items oid place old new known is change
+        error changed.fault;
+    stays = stays_staged changed.stays;
+  }
 
 -- a change of a table whose Relation did not come
 pub unknown_refuses : (phase : Phase) (at : ℕ) (wants : Bool) (copies : List TableCopy) (oid : ℕ) (change : Change)

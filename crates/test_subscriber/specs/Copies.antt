@@ -1,9 +1,10 @@
 -- What calls do to a subscriber's copy of a table, in which the changes of a transaction are staged until it commits:
 -- PostgreSQL 15, 3.4. Transactions.
-use Rattle.std.specs.Prelude.{◌≡◌, false, List, Option, Some, None, Result, Ok, Err}
+use Rattle.std.specs.Prelude.{◌≡◌, false, List, Option, Some, None, Result, Ok, Err, OnOk, IfErr}
 use Rattle.filter_tree.specs.Datum.{Datum}
 use Rattle.filter_tree.specs.Memory.{TellsFault}
 use Rattle.tables_log.specs.Staging.{kept, seen}
+use Rattle.test_subscriber.specs.Hearing.{Change}
 use Rattle.test_subscriber.specs.RowChanges.{Found}
 use Rattle.test_subscriber.specs.declared.fault.SubFault.{SubFault}
 use Rattle.test_subscriber.specs.declared.fault.SubFault.TheVariants.{Frame, Msg, OutOfPlace, NoRelation, BadValue, DuplicateKey, Refused, Closed, OutOfMemory}
@@ -35,6 +36,13 @@ pub record StaysCopy (old new : TableCopy) : Type 0 where
   pub shape : new.shape ≡ old.shape
   pub is_known : new.is_known ≡ old.is_known
   pub keeps : (key : List Datum) → kept new.rows key ≡ kept old.rows key
+
+-- the change is staged, or refused by its fault or for want of memory
+pub record ChangesCopy (change : Change) (old : TableCopy) (result : Result (Unit {0}) SubFault) (new : TableCopy) :
+    Type 0 where
+  pub stays : StaysCopy old new
+  pub ok : OnOk result (Leaves (change old.shape (seen old.rows)) (seen new.rows))
+  pub fault : IfErr result (RefusedBy (change old.shape (seen old.rows)))
 
 -- what was seen of a copy is kept
 pub record SettlesCopy (old new : TableCopy) : Type 0 where

@@ -1,12 +1,13 @@
 -- The frame that asks for the stream of a slot: PostgreSQL 15, 55.4. Streaming Replication Protocol
 -- (START_REPLICATION SLOT slot_name LOGICAL), 55.5.1. Logical Streaming Replication Parameters, 8.20. pg_lsn Type,
 -- 4.1.1. Identifiers and Key Words, 4.1.2.1. String Constants, and 55.7. Message Formats (Query).
-use Rattle.std.specs.Prelude.{◌≡◌, ℕ, ◌/◌, ◌%◌, ◌^◌, nat_lt, true, if◌then◌else◌, List, [], ◌∷◌, ◌++◌, length, codes, Result, Ok, Err}
+use Rattle.std.specs.Prelude.{◌≡◌, ℕ, ◌/◌, ◌%◌, ◌^◌, nat_lt, true, if◌then◌else◌, List, [], ◌∷◌, ◌++◌, length, codes, Result, Ok, Err, OnOk, OnErr, IfErr}
 use Rattle.std.specs.Fmt.{digits}
 use Rattle.std.specs.List.{join_by}
 use Rattle.copy_frames.specs.Frames.{framed}
 use Rattle.copy_frames.specs.declared.fault.FrameFault.TheVariants.{FrameTooLong}
 use Rattle.sql_tokens.specs.Doubled.{in_quotes}
+use Rattle.test_subscriber.specs.Copies.{RefusedBy}
 use Rattle.test_subscriber.specs.declared.fault.SubFault.{SubFault}
 use Rattle.test_subscriber.specs.declared.fault.SubFault.TheVariants as f
 
@@ -38,3 +39,10 @@ start_query slot publications lsn = query_of (start_text slot publications lsn)
 abbrev pub Asks : Result (List ℕ) SubFault → List ℕ → List ℕ → Type 0
 Asks (Ok frame) old new = new ≡ old ++ frame
 Asks (Err fault) old new = ⊥
+
+-- the frame is appended, or an error says its fault or want of memory, and nothing is appended
+pub record Appends (frame : Result (List ℕ) SubFault) (old : List ℕ) (result : Result (Unit {0}) SubFault)
+    (new : List ℕ) : Type 0 where
+  pub ok : OnOk result (Asks frame old new)
+  pub fault : IfErr result (RefusedBy frame)
+  pub err : OnErr result (new ≡ old)

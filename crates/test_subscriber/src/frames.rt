@@ -69,9 +69,7 @@ fn message_in(alloc: Global, bytes: &[u8]) -> Result<Msg, SubFault>
 }
 
 impl Replica {
-    ghost use Rattle.std.specs.Prelude.{IfErr, OnOk, OnErr};
-    ghost use Rattle.test_subscriber.specs.Answers.{Reaches, Stays};
-    ghost use Rattle.test_subscriber.specs.Copies.{RefusedBy};
+    ghost use Rattle.test_subscriber.specs.Answers.{Hears};
     ghost use Rattle.test_subscriber.specs.Frames.{hear_response, hear_start, hear_keepalive, hear_data, hear_content, hear_stream, hear_frame};
     ghost use Rattle.test_subscriber.specs.Machine.{Alike};
     ghost use Rattle.test_subscriber.specs.Frames.{kept_alive};
@@ -82,9 +80,7 @@ impl Replica {
 
     /// Hears a CopyBothResponse.
     fn hear_response(&mut self, body: &[u8]) -> Result<(), SubFault>
-        ensures ok { OnOk result (Reaches (machine_view self.new) (hear_response body.now (machine_view self.old))) }
-        ensures fault { IfErr result (RefusedBy (hear_response body.now (machine_view self.old))) }
-        ensures stays { OnErr result (Stays (machine_view self.old) (machine_view self.new)) }
+        ensures { Hears (hear_response body.now) self.old result self.new }
     {
         if body != b"\0\0\0".as_slice() {
             return Err(SubFault::OutOfPlace);
@@ -95,9 +91,7 @@ impl Replica {
 
     /// Hears the answer to the command that starts the stream.
     fn hear_start(&mut self, frame: &Frame) -> Result<(), SubFault>
-        ensures ok { OnOk result (Reaches (machine_view self.new) (hear_start frame.now (machine_view self.old))) }
-        ensures fault { IfErr result (RefusedBy (hear_start frame.now (machine_view self.old))) }
-        ensures stays { OnErr result (Stays (machine_view self.old) (machine_view self.new)) }
+        ensures { Hears (hear_start frame.now) self.old result self.new }
     {
         match frame.kind {
             b'W' => self.hear_response(frame.body.as_slice()),
@@ -118,10 +112,7 @@ impl Replica {
     }
 
     fn hear_keepalive(&mut self, body: &[u8]) -> Result<(), SubFault>
-        ensures ok { OnOk result (Reaches (machine_view self.new)
-            (hear_keepalive (keepalive_in body.now) (machine_view self.old))) }
-        ensures fault { IfErr result (RefusedBy (hear_keepalive (keepalive_in body.now) (machine_view self.old))) }
-        ensures stays { OnErr result (Stays (machine_view self.old) (machine_view self.new)) }
+        ensures { Hears (hear_keepalive (keepalive_in body.now)) self.old result self.new }
     {
         let Some(keepalive) = read_keepalive(body) else {
             return Err(SubFault::Frame(FrameFault::BadLength));
@@ -131,10 +122,7 @@ impl Replica {
     }
 
     fn hear_data(&mut self, body: &[u8]) -> Result<(), SubFault>
-        ensures ok { OnOk result (Reaches (machine_view self.new)
-            (hear_data (xlog_data_in body.now) (machine_view self.old))) }
-        ensures fault { IfErr result (RefusedBy (hear_data (xlog_data_in body.now) (machine_view self.old))) }
-        ensures stays { OnErr result (Stays (machine_view self.old) (machine_view self.new)) }
+        ensures { Hears (hear_data (xlog_data_in body.now)) self.old result self.new }
     {
         let Some((_, bytes)) = read_xlog_data(body) else {
             return Err(SubFault::Frame(FrameFault::BadLength));
@@ -144,10 +132,7 @@ impl Replica {
 
     /// Hears the message that the bytes spell.
     fn hear_bytes(&mut self, bytes: &[u8]) -> Result<(), SubFault>
-        ensures ok { OnOk result (Reaches (machine_view self.new)
-            (hear_decoded (decoded bytes.now) (machine_view self.old))) }
-        ensures fault { IfErr result (RefusedBy (hear_decoded (decoded bytes.now) (machine_view self.old))) }
-        ensures stays { OnErr result (Stays (machine_view self.old) (machine_view self.new)) }
+        ensures { Hears (hear_decoded (decoded bytes.now)) self.old result self.new }
     {
         let message = message_in(self.alloc, bytes)?;
         self.hear(message)?;
@@ -156,9 +141,7 @@ impl Replica {
 
     /// Hears what CopyData carries.
     fn hear_content(&mut self, body: &[u8]) -> Result<(), SubFault>
-        ensures ok { OnOk result (Reaches (machine_view self.new) (hear_content body.now (machine_view self.old))) }
-        ensures fault { IfErr result (RefusedBy (hear_content body.now (machine_view self.old))) }
-        ensures stays { OnErr result (Stays (machine_view self.old) (machine_view self.new)) }
+        ensures { Hears (hear_content body.now) self.old result self.new }
     {
         if body.is_empty() {
             return Err(SubFault::OutOfPlace);
@@ -172,9 +155,7 @@ impl Replica {
 
     /// Hears a frame of the stream.
     fn hear_stream(&mut self, frame: &Frame) -> Result<(), SubFault>
-        ensures ok { OnOk result (Reaches (machine_view self.new) (hear_stream frame.now (machine_view self.old))) }
-        ensures fault { IfErr result (RefusedBy (hear_stream frame.now (machine_view self.old))) }
-        ensures stays { OnErr result (Stays (machine_view self.old) (machine_view self.new)) }
+        ensures { Hears (hear_stream frame.now) self.old result self.new }
     {
         if frame.kind != b'd' {
             return Err(SubFault::OutOfPlace);
@@ -185,9 +166,7 @@ impl Replica {
 
     /// Hears a frame. An error leaves what stays after a fault.
     pub(crate) fn hear_frame(&mut self, frame: &Frame) -> Result<(), SubFault>
-        ensures ok { OnOk result (Reaches (machine_view self.new) (hear_frame frame.now (machine_view self.old))) }
-        ensures fault { IfErr result (RefusedBy (hear_frame frame.now (machine_view self.old))) }
-        ensures stays { OnErr result (Stays (machine_view self.old) (machine_view self.new)) }
+        ensures { Hears (hear_frame frame.now) self.old result self.new }
     {
         match self.phase {
             Phase::Shut => Err(SubFault::Closed),

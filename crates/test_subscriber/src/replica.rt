@@ -1,8 +1,5 @@
 //! What a subscriber has of tables, and how messages change it.
 
-ghost use Rattle.std.specs.Prelude.{◌≡◌, ℕ, List, IfOk, IfErr, OnOk, OnErr, None, Ok};
-ghost use Rattle.filter_tree.specs.Datum.{Datum};
-
 use crate::fault::SubFault;
 use crate::passes::{forget, settle};
 use crate::phase::Phase;
@@ -24,13 +21,12 @@ pub(crate) struct Replica {
 }
 
 impl Replica {
-    ghost use Rattle.std.specs.Prelude.{◌≡◌, ℕ, List, IfOk, IfErr, OnOk, OnErr, Some, None, Ok, false};
+    ghost use Rattle.std.specs.Prelude.{◌≡◌, IfOk, IfErr, OnOk, OnErr, Some, None, false};
     ghost use Rattle.test_subscriber.specs.declared.fault.SubFault.TheVariants.{NoRelation};
     ghost use Rattle.tables_log.specs.Listing.{ListsFound};
     ghost use Rattle.tables_log.specs.Places.{IsInOrder};
     ghost use Rattle.test_subscriber.specs.Views.{machine_view, copy_of, known_in, listed_in, place_of, IsKnownAt};
-    ghost use Rattle.test_subscriber.specs.Answers.{Reaches, Stays};
-    ghost use Rattle.test_subscriber.specs.Copies.{RefusedBy};
+    ghost use Rattle.test_subscriber.specs.Answers.{Hears, Stages};
     ghost use Rattle.test_subscriber.specs.Machine.{Alike, stopped, lost, opened};
     ghost use Rattle.test_subscriber.specs.Hearing.{committed, hear_commit, hear_idle, hear_busy, hear};
     ghost use Rattle.test_subscriber.specs.Hearing.{hear_relation, hear_insert, hear_update, hear_delete, hear_empty, hear_truncate};
@@ -76,9 +72,7 @@ impl Replica {
     /// Keeps what a new Relation says.
     fn learn(&mut self, relation: Relation) -> Result<(), SubFault>
         requires { place_of self.old.copies.items relation.oid ≡ None }
-        ensures ok { OnOk result (Reaches (machine_view self.new) (hear_relation relation (machine_view self.old))) }
-        ensures fault { IfErr result (RefusedBy (hear_relation relation (machine_view self.old))) }
-        ensures stays { OnErr result (Stays (machine_view self.old) (machine_view self.new)) }
+        ensures { Hears (hear_relation relation) self.old result self.new }
     {
         let Some(shape) = TableShape::of(self.alloc, relation)? else {
             return Err(SubFault::BadValue);
@@ -90,10 +84,7 @@ impl Replica {
     /// Hears the Relation of a table whose copy has this place.
     fn recognize(&mut self, place: usize, relation: &Relation) -> Result<(), SubFault>
         requires { place_of self.old.copies.items relation.now.oid ≡ Some place }
-        ensures ok { OnOk result
-            (Reaches (machine_view self.new) (hear_relation relation.now (machine_view self.old))) }
-        ensures fault { IfErr result (RefusedBy (hear_relation relation.now (machine_view self.old))) }
-        ensures stays { OnErr result (Stays (machine_view self.old) (machine_view self.new)) }
+        ensures { Hears (hear_relation relation.now) self.old result self.new }
     {
         if same_relation(&self.copies[place].shape.relation, relation) {
             self.copies[place].is_known = true;
@@ -104,9 +95,7 @@ impl Replica {
     }
 
     fn hear_relation(&mut self, relation: Relation) -> Result<(), SubFault>
-        ensures ok { OnOk result (Reaches (machine_view self.new) (hear_relation relation (machine_view self.old))) }
-        ensures fault { IfErr result (RefusedBy (hear_relation relation (machine_view self.old))) }
-        ensures stays { OnErr result (Stays (machine_view self.old) (machine_view self.new)) }
+        ensures { Hears (hear_relation relation) self.old result self.new }
     {
         match self.place_of(relation.oid) {
             None => self.learn(relation),
@@ -116,42 +105,31 @@ impl Replica {
 
     /// Stages a new row of the table with this OID.
     fn insert(&mut self, oid: u32, new: Tuple) -> Result<(), SubFault>
-        ensures ok { OnOk result (Reaches (machine_view self.new) (hear_insert oid new (machine_view self.old))) }
-        ensures fault { IfErr result (RefusedBy (hear_insert oid new (machine_view self.old))) }
-        ensures stays { Stays (machine_view self.old) (machine_view self.new) }
+        ensures { Stages (hear_insert oid new) self.old result self.new }
     {
         let place = self.known_place(oid)?;
-        self.copies[place].insert(self.alloc, new)?;
-        Ok(())
+        self.copies[place].insert(self.alloc, new)
     }
 
     /// Stages a row of the table with this OID in place of an old one.
     fn update(&mut self, oid: u32, old: Option<OldTuple>, new: Tuple) -> Result<(), SubFault>
-        ensures ok { OnOk result (Reaches (machine_view self.new) (hear_update oid old new (machine_view self.old))) }
-        ensures fault { IfErr result (RefusedBy (hear_update oid old new (machine_view self.old))) }
-        ensures stays { Stays (machine_view self.old) (machine_view self.new) }
+        ensures { Stages (hear_update oid old new) self.old result self.new }
     {
         let place = self.known_place(oid)?;
-        self.copies[place].update(self.alloc, old, new)?;
-        Ok(())
+        self.copies[place].update(self.alloc, old, new)
     }
 
     /// Stages that a row of the table with this OID is gone.
     fn delete(&mut self, oid: u32, old: OldTuple) -> Result<(), SubFault>
-        ensures ok { OnOk result (Reaches (machine_view self.new) (hear_delete oid old (machine_view self.old))) }
-        ensures fault { IfErr result (RefusedBy (hear_delete oid old (machine_view self.old))) }
-        ensures stays { Stays (machine_view self.old) (machine_view self.new) }
+        ensures { Stages (hear_delete oid old) self.old result self.new }
     {
         let place = self.known_place(oid)?;
-        self.copies[place].delete(self.alloc, old)?;
-        Ok(())
+        self.copies[place].delete(self.alloc, old)
     }
 
     /// Stages that the table with this OID has no rows.
     fn empty(&mut self, oid: u32) -> Result<(), SubFault>
-        ensures ok { OnOk result (Reaches (machine_view self.new) (hear_empty oid (machine_view self.old))) }
-        ensures fault { IfErr result (RefusedBy (hear_empty oid (machine_view self.old))) }
-        ensures stays { Stays (machine_view self.old) (machine_view self.new) }
+        ensures { Stages (hear_empty oid) self.old result self.new }
     {
         let place = self.known_place(oid)?;
         self.copies[place].empty();
@@ -160,9 +138,7 @@ impl Replica {
 
     /// Stages that the tables with these OIDs have no rows.
     fn truncate(&mut self, oids: &[u32]) -> Result<(), SubFault>
-        ensures ok { OnOk result (Reaches (machine_view self.new) (hear_truncate oids.now (machine_view self.old))) }
-        ensures fault { IfErr result (RefusedBy (hear_truncate oids.now (machine_view self.old))) }
-        ensures stays { Stays (machine_view self.old) (machine_view self.new) }
+        ensures { Stages (hear_truncate oids.now) self.old result self.new }
     {
         for oid in oids {
             self.empty(*oid)?;
@@ -181,9 +157,7 @@ impl Replica {
 
     /// Hears a message between transactions.
     fn hear_idle(&mut self, message: Msg) -> Result<(), SubFault>
-        ensures ok { OnOk result (Reaches (machine_view self.new) (hear_idle message (machine_view self.old))) }
-        ensures fault { IfErr result (RefusedBy (hear_idle message (machine_view self.old))) }
-        ensures stays { OnErr result (Stays (machine_view self.old) (machine_view self.new)) }
+        ensures { Hears (hear_idle message) self.old result self.new }
     {
         match message {
             Msg::Begin { final_lsn, .. } => {
@@ -201,9 +175,7 @@ impl Replica {
 
     /// Hears a message in a transaction whose Begin had this LSN.
     fn hear_busy(&mut self, begin: u64, message: Msg) -> Result<(), SubFault>
-        ensures ok { OnOk result (Reaches (machine_view self.new) (hear_busy begin message (machine_view self.old))) }
-        ensures fault { IfErr result (RefusedBy (hear_busy begin message (machine_view self.old))) }
-        ensures stays { OnErr result (Stays (machine_view self.old) (machine_view self.new)) }
+        ensures { Hears (hear_busy begin message) self.old result self.new }
     {
         match message {
             Msg::Begin { .. } => Err(SubFault::OutOfPlace),
@@ -218,10 +190,7 @@ impl Replica {
 
     /// Hears a Commit in a transaction whose Begin had this LSN.
     fn hear_commit(&mut self, begin: u64, lsn: u64, end_lsn: u64) -> Result<(), SubFault>
-        ensures ok { OnOk result
-            (Reaches (machine_view self.new) (hear_commit begin lsn end_lsn (machine_view self.old))) }
-        ensures fault { IfErr result (RefusedBy (hear_commit begin lsn end_lsn (machine_view self.old))) }
-        ensures stays { OnErr result (Stays (machine_view self.old) (machine_view self.new)) }
+        ensures { Hears (hear_commit begin lsn end_lsn) self.old result self.new }
     {
         if lsn != begin {
             return Err(SubFault::OutOfPlace);
@@ -232,9 +201,7 @@ impl Replica {
 
     /// Hears a message of the stream. An error leaves what stays after a fault.
     pub(crate) fn hear(&mut self, message: Msg) -> Result<(), SubFault>
-        ensures ok { OnOk result (Reaches (machine_view self.new) (hear message (machine_view self.old))) }
-        ensures fault { IfErr result (RefusedBy (hear message (machine_view self.old))) }
-        ensures stays { OnErr result (Stays (machine_view self.old) (machine_view self.new)) }
+        ensures { Hears (hear message) self.old result self.new }
     {
         match self.phase {
             Phase::Shut => Err(SubFault::Closed),

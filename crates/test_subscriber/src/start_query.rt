@@ -1,9 +1,8 @@
 //! The command that starts a stream.
 
-ghost use Rattle.std.specs.Prelude.{◌≡◌, ◌++◌, ◌∷◌, IfOk, IfErr, OnOk, OnErr, map};
+ghost use Rattle.std.specs.Prelude.{◌≡◌, ◌++◌, ◌∷◌, IfOk, OnOk, map};
 ghost use Rattle.std.specs.String.{string_bytes};
 ghost use Rattle.sql_tokens.specs.Doubled.{in_quotes};
-ghost use Rattle.test_subscriber.specs.Copies.{RefusedBy};
 ghost use Rattle.test_subscriber.specs.StartQuery as spec;
 
 use crate::fault::SubFault;
@@ -78,9 +77,7 @@ const LONGEST: usize = 65_531;
 
 /// Appends a text as a Query.
 fn append_query(out: &mut BytesMut, text: &[u8]) -> Result<(), SubFault>
-    ensures ok { OnOk result (spec.Asks (spec.query_of text.now) out.old.items out.new.items) }
-    ensures fault { IfErr result (RefusedBy (spec.query_of text.now)) }
-    ensures err { OnErr result (out.new.items ≡ out.old.items) }
+    ensures { spec.Appends (spec.query_of text.now) out.old.items result out.new.items }
 {
     if text.len() > LONGEST {
         return Err(SubFault::Frame(FrameFault::FrameTooLong));
@@ -105,10 +102,8 @@ pub(crate) fn append_start(
     publications: &[String],
     lsn: u64,
 ) -> Result<(), SubFault>
-    ensures ok { OnOk result (spec.Asks (spec.start_query slot.now (map string_bytes publications.now) lsn)
-        out.old.items out.new.items) }
-    ensures fault { IfErr result (RefusedBy (spec.start_query slot.now (map string_bytes publications.now) lsn)) }
-    ensures err { OnErr result (out.new.items ≡ out.old.items) }
+    ensures { spec.Appends (spec.start_query slot.now (map string_bytes publications.now) lsn)
+        out.old.items result out.new.items }
 {
     let text = start_text(alloc, slot, publications, lsn)?;
     append_query(out, text.as_slice())?;

@@ -1,6 +1,6 @@
 //! A subscriber's copy of a table.
 
-ghost use Rattle.std.specs.Prelude.{◌≡◌, map, IfOk, IfErr, OnOk};
+ghost use Rattle.std.specs.Prelude.{◌≡◌, map, IfOk};
 
 use crate::fault::SubFault;
 use crate::reading::row_of;
@@ -32,16 +32,16 @@ fn copies(alloc: Global, rows: &[&Row]) -> Result<Vec<Row>, AllocError>
 }
 
 impl TableCopy {
-    ghost use Rattle.std.specs.Prelude.{◌≡◌, List, None, Ok, true, IfOk, IfErr, OnOk};
-    ghost use Rattle.std.specs.Option.{option_map};
+    ghost use Rattle.std.specs.Prelude.{◌≡◌, List, None, Ok, true, IfOk, OnOk};
     ghost use Rattle.filter_tree.specs.Datum.{Datum};
-    ghost use Rattle.pgoutput_msgs.specs.ValueText.{row_in};
+    ghost use Rattle.filter_tree.specs.Memory.{Answers};
     ghost use Rattle.table_changes.specs.Columns.{values_at};
     ghost use Rattle.tables_log.specs.Listing.{ListsFound};
     ghost use Rattle.tables_log.specs.Places.{IsInOrder};
     ghost use Rattle.tables_log.specs.Staging.{kept, kept_values, seen};
+    ghost use Rattle.test_subscriber.specs.Hearing.{emptied};
     ghost use Rattle.test_subscriber.specs.RowChanges.{placed, inserted, read_in, key_in, gone_of, replaced, updated, deleted};
-    ghost use Rattle.test_subscriber.specs.Copies.{StaysCopy, Leaves, RefusedBy, SettlesCopy, ForgetsCopy};
+    ghost use Rattle.test_subscriber.specs.Copies.{told, ChangesCopy, StaysCopy, SettlesCopy, ForgetsCopy};
 
     /// The copy of a table without rows, whose Relation came.
     pub(crate) fn new(alloc: Global, shape: TableShape) -> TableCopy
@@ -70,8 +70,7 @@ impl TableCopy {
 
     /// The row of a tuple.
     fn read(&self, alloc: Global, tuple: Tuple) -> Result<Row, SubFault>
-        ensures ok { IfOk result (λ row. read_in self.now.shape tuple ≡ Ok row) }
-        ensures fault { IfErr result (RefusedBy (read_in self.now.shape tuple)) }
+        ensures { Answers (λ row. row) told (read_in self.now.shape tuple) result }
     {
         match row_of(alloc, self.shape.kinds.as_slice(), tuple.into_cells())? {
             None => Err(SubFault::BadValue),
@@ -88,9 +87,7 @@ impl TableCopy {
 
     /// Stages a row under its key, where there is none.
     fn place(&mut self, key: Row, row: Row) -> Result<(), SubFault>
-        ensures stays { StaysCopy self.old self.new }
-        ensures ok { OnOk result (Leaves (placed (seen self.old.rows) key row) (seen self.new.rows)) }
-        ensures fault { IfErr result (RefusedBy (placed (seen self.old.rows) key row)) }
+        ensures { ChangesCopy (λ shape found. placed found key row) self.old result self.new }
     {
         if self.rows.find(&key).is_some() {
             return Err(SubFault::DuplicateKey);
@@ -101,9 +98,7 @@ impl TableCopy {
 
     /// Stages a new row.
     pub(crate) fn insert(&mut self, alloc: Global, new: Tuple) -> Result<(), SubFault>
-        ensures stays { StaysCopy self.old self.new }
-        ensures ok { OnOk result (Leaves (inserted self.old.shape (seen self.old.rows) new) (seen self.new.rows)) }
-        ensures fault { IfErr result (RefusedBy (inserted self.old.shape (seen self.old.rows) new)) }
+        ensures { ChangesCopy (λ shape found. inserted shape found new) self.old result self.new }
     {
         let row = self.read(alloc, new)?;
         let key = self.key_of(alloc, &row)?;
@@ -113,8 +108,7 @@ impl TableCopy {
 
     /// The key of the row that an update or a delete is about, by what is sent of the old row.
     fn key_in(&self, alloc: Global, old: OldTuple) -> Result<Row, SubFault>
-        ensures ok { IfOk result (λ key. key_in self.now.shape old ≡ Ok key) }
-        ensures fault { IfErr result (RefusedBy (key_in self.now.shape old)) }
+        ensures { Answers (λ key. key) told (key_in self.now.shape old) result }
     {
         let tuple = match old {
             OldTuple::Key(tuple) | OldTuple::Full(tuple) => tuple,
@@ -126,8 +120,7 @@ impl TableCopy {
     /// The key of the row that gives way to this one: by what is sent of the old row, or by the new row where nothing
     /// is.
     fn gone_key(&self, alloc: Global, old: Option<OldTuple>, row: &Row) -> Result<Row, SubFault>
-        ensures ok { IfOk result (λ key. gone_of self.now.shape old row.now ≡ Ok key) }
-        ensures fault { IfErr result (RefusedBy (gone_of self.now.shape old row.now)) }
+        ensures { Answers (λ key. key) told (gone_of self.now.shape old row.now) result }
     {
         match old {
             None => Ok(self.key_of(alloc, row)?),
@@ -137,9 +130,7 @@ impl TableCopy {
 
     /// Stages the row in place of the one of this key, if there is one.
     fn replace(&mut self, gone: Row, key: Row, row: Row) -> Result<(), SubFault>
-        ensures stays { StaysCopy self.old self.new }
-        ensures ok { OnOk result (Leaves (replaced (seen self.old.rows) gone key row) (seen self.new.rows)) }
-        ensures fault { IfErr result (RefusedBy (replaced (seen self.old.rows) gone key row)) }
+        ensures { ChangesCopy (λ shape found. replaced found gone key row) self.old result self.new }
     {
         if self.rows.find(&gone).is_none() {
             return Ok(());
@@ -156,9 +147,7 @@ impl TableCopy {
         old: Option<OldTuple>,
         new: Tuple,
     ) -> Result<(), SubFault>
-        ensures stays { StaysCopy self.old self.new }
-        ensures ok { OnOk result (Leaves (updated self.old.shape (seen self.old.rows) old new) (seen self.new.rows)) }
-        ensures fault { IfErr result (RefusedBy (updated self.old.shape (seen self.old.rows) old new)) }
+        ensures { ChangesCopy (λ shape found. updated shape found old new) self.old result self.new }
     {
         let row = self.read(alloc, new)?;
         let gone = self.gone_key(alloc, old, &row)?;
@@ -169,9 +158,7 @@ impl TableCopy {
 
     /// Stages that there is no row of this key.
     pub(crate) fn delete(&mut self, alloc: Global, old: OldTuple) -> Result<(), SubFault>
-        ensures stays { StaysCopy self.old self.new }
-        ensures ok { OnOk result (Leaves (deleted self.old.shape (seen self.old.rows) old) (seen self.new.rows)) }
-        ensures fault { IfErr result (RefusedBy (deleted self.old.shape (seen self.old.rows) old)) }
+        ensures { ChangesCopy (λ shape found. deleted shape found old) self.old result self.new }
     {
         let key = self.key_in(alloc, old)?;
         self.rows.stage(key, None)?;
@@ -180,8 +167,7 @@ impl TableCopy {
 
     /// Stages that there are no rows.
     pub(crate) fn empty(&mut self)
-        ensures stays { StaysCopy self.old self.new }
-        ensures empty { (key : List Datum) → seen self.new.rows key ≡ None }
+        ensures { ChangesCopy emptied self.old (Ok tt) self.new }
     {
         self.rows.empty();
     }

@@ -1,6 +1,4 @@
-use Rattle.std.proofs.Common.{ap, ◌∙◌, ℕ}
-use Rattle.shard_checker.specs.CheckedView.{CheckedOf}
-use Rattle.tables_log.specs.declared.book.Book.{Book}
+use Rattle.std.proofs.Common.{ap, ◌∙◌, arith, rules}
 use Rattle.std.specs.Prelude.{Some}
 use Rattle.copy_both.proofs.RepliesLemmas.{on_err}
 use Rattle.shard_world.specs.Connections.{front_of}
@@ -10,18 +8,25 @@ use Rattle.shard_world.proofs.CallLemmas.{delivers_piece}
 use Rattle.shard_world.proofs.StopLemmas.{deliver_stops}
 use Rattle.shard_world.proofs.peer.Peer.deliver.Goals as goal
 
-pub returns-clause-made : goal.returns-clause-made
-returns-clause-made c checked now book =
-    delivers_piece checked now book c.args.self.now c.in-Some.link c.passed.new.self c.feed.new.self c.args.bytes
-        c.front-piece.result.now c.in-Some.is
-    (c.front-piece.ensures ∙ ap (front_of c.args.bytes) c.output.ensures) c.in_ok-feed.ensures.ok c.passed.ensures
+pub returns : goal.returns
+returns c checked now book = record {
+  made =
+      delivers_piece checked now book c.args.self.now c.in-Some.link c.passed.new.self c.feed.new.self c.args.bytes
+      c.front-piece.result.now c.in-Some.is
+      (c.front-piece.ensures ∙ ap (front_of c.args.bytes) c.output.ensures) c.in_ok-feed.ensures.ok c.passed.ensures;
+  counted = omega arith;
+  stops = tt;
+}
 
-pub returns-in_err-feed-clause-stops : goal.returns-in_err-feed-clause-stops
-returns-in_err-feed-clause-stops c =
-    on_err c.from_residual.result
-        ((checked : CheckedOf) (now : ℕ) (book : Book)
-        → Stops checked now (Deliver c.args.bytes) book book c.args.self.now
-        (record { link = Some c.in-Some.link; subscriber = c.feed.new.self }))
-    (λ checked now book. deliver_stops checked now book c.args.self.now c.in-Some.link c.feed.new.self c.args.bytes
-        c.in_err-feed.field-0.0 c.front-piece.result.now c.in-Some.is
-    (c.front-piece.ensures ∙ ap (front_of c.args.bytes) c.output.ensures) c.in_err-feed.ensures.stops)
+pub returns-in_err-feed : goal.returns-in_err-feed
+returns-in_err-feed c checked now book = record {
+  made = search rules;
+  counted = search rules;
+  stops =
+      on_err c.from_residual.result
+      (Stops checked now (Deliver c.args.bytes) book book c.args.self.now
+      (record { link = Some c.in-Some.link; subscriber = c.feed.new.self }))
+      (deliver_stops checked now book c.args.self.now c.in-Some.link c.feed.new.self c.args.bytes
+      c.in_err-feed.field-0.0 c.front-piece.result.now c.in-Some.is
+      (c.front-piece.ensures ∙ ap (front_of c.args.bytes) c.output.ensures) c.in_err-feed.ensures.stops);
+}

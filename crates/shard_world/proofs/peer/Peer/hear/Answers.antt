@@ -1,5 +1,4 @@
-use Rattle.std.proofs.Common.{ap, ◌∙◌}
-use Rattle.shard_checker.specs.CheckedView.{CheckedOf}
+use Rattle.std.proofs.Common.{ap, ◌∙◌, arith, rules}
 use Rattle.std.specs.Prelude.{Some}
 use Rattle.copy_both.proofs.RepliesLemmas.{on_err}
 use Rattle.shard_world.specs.Connections.{front_of}
@@ -9,21 +8,28 @@ use Rattle.shard_world.proofs.CallLemmas.{hears_piece}
 use Rattle.shard_world.proofs.StopLemmas.{hear_stops}
 use Rattle.shard_world.proofs.peer.Peer.hear.Goals as goal
 
-pub returns-clause-made : goal.returns-clause-made
-returns-clause-made c checked =
-    hears_piece checked c.args.now c.args.book.now c.hear.new.book c.args.self.now c.in-Some.link c.hear.new.self
-        c.passed.new.self c.args.bytes c.in_ok-hear.field-0
-    c.front-piece.result.now c.in-Some.is (c.front-piece.ensures ∙ ap (front_of c.args.bytes) c.output.ensures)
-        c.in_ok-hear.ensures.answer c.in_ok-hear.ensures.left
-    c.in_ok-hear.ensures.says c.passed.ensures
+pub returns : goal.returns
+returns c checked = record {
+  made =
+      hears_piece checked c.args.now c.args.book.now c.hear.new.book c.args.self.now c.in-Some.link c.hear.new.self
+      c.passed.new.self c.args.bytes c.in_ok-hear.field-0
+      c.front-piece.result.now c.in-Some.is (c.front-piece.ensures ∙ ap (front_of c.args.bytes) c.output.ensures)
+      c.in_ok-hear.ensures.answer c.in_ok-hear.ensures.left
+      c.in_ok-hear.ensures.says c.passed.ensures;
+  counted = omega arith;
+  stops = tt;
+}
 
-pub returns-in_err-hear-clause-stops : goal.returns-in_err-hear-clause-stops
-returns-in_err-hear-clause-stops c =
-    on_err c.from_residual.result
-        ((checked : CheckedOf)
-        → Stops checked c.args.now (Hear c.args.bytes) c.args.book.now c.hear.new.book c.args.self.now
-        (record { link = Some c.hear.new.self; subscriber = c.args.self.now.subscriber }))
-    (λ checked. hear_stops checked c.args.now c.args.book.now c.hear.new.book c.args.self.now c.in-Some.link
-        c.hear.new.self c.args.bytes c.in_err-hear.field-0.0
-    c.front-piece.result.now c.in-Some.is (c.front-piece.ensures ∙ ap (front_of c.args.bytes) c.output.ensures)
-        c.in_err-hear.ensures.answer c.in_err-hear.ensures.left)
+pub returns-in_err-hear : goal.returns-in_err-hear
+returns-in_err-hear c checked = record {
+  made = search rules;
+  counted = search rules;
+  stops =
+      on_err c.from_residual.result
+      (Stops checked c.args.now (Hear c.args.bytes) c.args.book.now c.hear.new.book c.args.self.now
+      (record { link = Some c.hear.new.self; subscriber = c.args.self.now.subscriber }))
+      (hear_stops checked c.args.now c.args.book.now c.hear.new.book c.args.self.now c.in-Some.link
+      c.hear.new.self c.args.bytes c.in_err-hear.field-0.0
+      c.front-piece.result.now c.in-Some.is (c.front-piece.ensures ∙ ap (front_of c.args.bytes) c.output.ensures)
+      c.in_err-hear.ensures.answer c.in_err-hear.ensures.left);
+}

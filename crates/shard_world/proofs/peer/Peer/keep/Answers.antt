@@ -6,18 +6,26 @@ use Rattle.shard_world.specs.World.{Keep}
 use Rattle.shard_world.proofs.CallLemmas.{keeps_one}
 use Rattle.shard_world.proofs.peer.Peer.keep.Goals as goal
 
-pub returns-then-branch-clause-made : goal.returns-then-branch-clause-made
-returns-then-branch-clause-made c checked book case stands =
-    subst (λ said. Made case (Keep c.args.want) (kept_or_not said) book book
-        (record { link = Some c.keepalive.new.self; subscriber = c.args.self.now.subscriber })) c.if-branch.true
-    (keeps_one checked c.args.now book c.args.self.now c.in-Some.link c.keepalive.new.self c.args.want
-        c.in_ok-keepalive.field-0 c.in-Some.is (sym c.in_ok-keepalive.ensures.answer)
-    c.in_ok-keepalive.ensures.ok case stands)
+pub returns-then-branch : goal.returns-then-branch
+returns-then-branch c checked book = record {
+  made = λ case stands.
+      subst (λ said. Made case (Keep c.args.want) (kept_or_not said) book book
+      (record { link = Some c.keepalive.new.self; subscriber = c.args.self.now.subscriber })) c.if-branch.true
+      (keeps_one checked c.args.now book c.args.self.now c.in-Some.link c.keepalive.new.self c.args.want
+      c.in_ok-keepalive.field-0 c.in-Some.is (sym c.in_ok-keepalive.ensures.answer)
+      c.in_ok-keepalive.ensures.ok case stands);
+  counted = tt;
+  stops = tt;
+}
 
-pub returns-else-branch-clause-made : goal.returns-else-branch-clause-made
-returns-else-branch-clause-made c checked book case stands =
-    subst (λ said. Made case (Keep c.args.want) (kept_or_not said) book book
-        (record { link = Some c.keepalive.new.self; subscriber = c.args.self.now.subscriber })) c.if-branch.false
-    (keeps_one checked c.args.now book c.args.self.now c.in-Some.link c.keepalive.new.self c.args.want
-        c.in_ok-keepalive.field-0 c.in-Some.is (sym c.in_ok-keepalive.ensures.answer)
-    c.in_ok-keepalive.ensures.ok case stands)
+pub returns-else-branch : goal.returns-else-branch
+returns-else-branch c checked book = record {
+  made = λ case stands.
+      subst (λ said. Made case (Keep c.args.want) (kept_or_not said) book book
+      (record { link = Some c.keepalive.new.self; subscriber = c.args.self.now.subscriber })) c.if-branch.false
+      (keeps_one checked c.args.now book c.args.self.now c.in-Some.link c.keepalive.new.self c.args.want
+      c.in_ok-keepalive.field-0 c.in-Some.is (sym c.in_ok-keepalive.ensures.answer)
+      c.in_ok-keepalive.ensures.ok case stands);
+  counted = tt;
+  stops = tt;
+}

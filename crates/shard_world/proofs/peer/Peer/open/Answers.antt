@@ -1,7 +1,6 @@
-use Rattle.std.proofs.Common.{ℕ, sym, ◌∙◌}
+use Rattle.std.proofs.Common.{sym, ◌∙◌, rules}
 use Rattle.std.specs.Arc.{arc_value}
 use Rattle.shard_checker.specs.CheckedView.{checked_view}
-use Rattle.tables_log.specs.declared.book.Book.{Book}
 use Rattle.copy_both.proofs.RepliesLemmas.{on_err}
 use Rattle.shard_world.specs.PeerCalls.{Stops}
 use Rattle.shard_world.specs.World.{Open}
@@ -9,12 +8,15 @@ use Rattle.shard_world.proofs.CallLemmas.{none_is}
 use Rattle.shard_world.proofs.StopLemmas.{open_is_refused}
 use Rattle.shard_world.proofs.peer.Peer.open.Goals as goal
 
-pub returns-in_err-open-clause-stops : goal.returns-in_err-open-clause-stops
-returns-in_err-open-clause-stops c =
-    on_err c.from_residual-in_err-open.result
-        ((now : ℕ) (book : Book)
-        → Stops (checked_view (arc_value c.args.checked.now)) now Open book book c.args.self.now
-        (record { link = c.args.self.now.link; subscriber = c.open.new.self }))
-    (λ now book. open_is_refused (checked_view (arc_value c.args.checked.now)) now book c.args.self.now
-        c.open.new.self (none_is c.args.self.now.link (sym c.is_some.ensures ∙ c.if-is_some.false))
-    c.in_err-open.ensures.lost)
+pub returns-in_err-open : goal.returns-in_err-open
+returns-in_err-open c now book = record {
+  made = search rules;
+  counted = search rules;
+  stops =
+      on_err c.from_residual-in_err-open.result
+      (Stops (checked_view (arc_value c.args.checked.now)) now Open book book c.args.self.now
+      (record { link = c.args.self.now.link; subscriber = c.open.new.self }))
+      (open_is_refused (checked_view (arc_value c.args.checked.now)) now book c.args.self.now
+      c.open.new.self (none_is c.args.self.now.link (sym c.is_some.ensures ∙ c.if-is_some.false))
+      c.in_err-open.ensures.lost);
+}

@@ -7,8 +7,10 @@ use Rattle.test_subscriber.proofs.AlikeLemmas.{alike_itself, alike_both, same_it
 use Rattle.test_subscriber.proofs.replica.Replica.truncate.Goals as goal
 
 pub loop-oid-init : goal.loop-oid-init
-loop-oid-init c = (same_itself (hear_truncate c.args.oids.now (machine_view c.args.self.now)),
-    alike_itself (stopped (machine_view c.args.self.now)))
+loop-oid-init c = (
+  same_itself (hear_truncate c.args.oids.now (machine_view c.args.self.now)),
+  alike_itself (stopped (machine_view c.args.self.now)),
+)
 
 pub loop-oid-preserved : goal.loop-oid-preserved
 loop-oid-preserved c = (
@@ -19,23 +21,23 @@ loop-oid-preserved c = (
       (stopped (machine_view c.args.self.now)) c.empty.ensures.stays c.loop-oid.invariant.1,
 )
 
-pub returns-in_err-empty-clause-fault : goal.returns-in_err-empty-clause-fault
-returns-in_err-empty-clause-fault c =
-    let refused : RefusedBy (hear_truncate c.args.oids.now (machine_view c.args.self.now)) c.in_err-empty.field-0.0 =
-    refuses_next c.args.oids.now c.loop-oid.oid-index (machine_view c.loop-oid.self)
-        (hear_truncate c.args.oids.now (machine_view c.args.self.now))
-    c.in_err-empty.field-0.0 (omega arith) c.in_err-empty.ensures.fault c.loop-oid.invariant.0 in
-    search rules
+pub returns-in_err-empty : goal.returns-in_err-empty
+returns-in_err-empty c = record {
+  ok = search rules;
+  fault =
+      let refused : RefusedBy (hear_truncate c.args.oids.now (machine_view c.args.self.now)) c.in_err-empty.field-0.0 =
+      refuses_next c.args.oids.now c.loop-oid.oid-index (machine_view c.loop-oid.self)
+      (hear_truncate c.args.oids.now (machine_view c.args.self.now))
+      c.in_err-empty.field-0.0 (omega arith) c.in_err-empty.ensures.fault c.loop-oid.invariant.0 in
+      search rules;
+  stays = alike_both (stopped (machine_view c.empty.new.self)) (stopped (machine_view c.loop-oid.self))
+      (stopped (machine_view c.args.self.now)) c.empty.ensures.stays c.loop-oid.invariant.1;
+}
 
-pub returns-in_err-empty-clause-stays : goal.returns-in_err-empty-clause-stays
-returns-in_err-empty-clause-stays c =
-    alike_both (stopped (machine_view c.empty.new.self)) (stopped (machine_view c.loop-oid.self))
-        (stopped (machine_view c.args.self.now)) c.empty.ensures.stays c.loop-oid.invariant.1
-
-pub returns-clause-ok : goal.returns-clause-ok
-returns-clause-ok c =
-    all_emptied c.args.oids.now c.loop-oid.oid-index (machine_view c.loop-oid.self)
-        (hear_truncate c.args.oids.now (machine_view c.args.self.now)) (omega arith) c.loop-oid.invariant.0
-
-pub returns-clause-stays : goal.returns-clause-stays
-returns-clause-stays c = c.loop-oid.invariant.1
+pub returns : goal.returns
+returns c = record {
+  ok = all_emptied c.args.oids.now c.loop-oid.oid-index (machine_view c.loop-oid.self)
+      (hear_truncate c.args.oids.now (machine_view c.args.self.now)) (omega arith) c.loop-oid.invariant.0;
+  fault = tt;
+  stays = c.loop-oid.invariant.1;
+}

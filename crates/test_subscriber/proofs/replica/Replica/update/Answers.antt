@@ -1,37 +1,10 @@
-use Rattle.test_subscriber.specs.Copies.{RefusedBy}
-use Rattle.test_subscriber.specs.Hearing.{hear_update}
+use Rattle.std.proofs.Common.{refl}
 use Rattle.test_subscriber.specs.RowChanges.{updated}
-use Rattle.test_subscriber.specs.Views.{machine_view}
-use Rattle.std.proofs.Common.{rules}
-use Rattle.test_subscriber.proofs.MachineLemmas.{changes, refuses, stays_there}
+use Rattle.test_subscriber.proofs.MachineLemmas.{stages}
 use Rattle.test_subscriber.proofs.replica.Replica.update.Goals as goal
 
-pub returns-in_err-update-clause-fault : goal.returns-in_err-update-clause-fault
-returns-in_err-update-clause-fault c =
-    let refused : RefusedBy (hear_update c.args.oid c.args.old c.args.new (machine_view c.args.self.now))
-        c.in_err-update.field-0.0 =
-        refuses c.args.self.now.phase c.args.self.now.position c.args.self.now.wants_reply
-        c.args.self.now.copies.items c.args.oid c.in_ok-place.place
-    c.index_mut.result.now c.update.new.self c.in_ok-place.ensures.ok c.index_mut.ensures.value
-    (λ shape found. updated shape found c.args.old c.args.new) c.in_err-update.field-0.0 c.in_err-update.ensures.fault
-        in
-    search rules
-
-pub returns-in_err-update-clause-stays : goal.returns-in_err-update-clause-stays
-returns-in_err-update-clause-stays c =
-    stays_there c.args.self.now.phase c.args.self.now.position c.args.self.now.wants_reply
-    c.args.self.now.copies.items c.args.oid c.in_ok-place.place
-    c.index_mut.result.now c.update.new.self c.in_ok-place.ensures.ok c.index_mut.ensures.value c.update.ensures.stays
-
-pub returns-clause-ok : goal.returns-clause-ok
-returns-clause-ok c =
-    changes c.args.self.now.phase c.args.self.now.position c.args.self.now.wants_reply c.args.self.now.copies.items
-    c.args.oid c.in_ok-place.place
-    c.index_mut.result.now c.update.new.self c.in_ok-place.ensures.ok c.index_mut.ensures.value c.update.ensures.stays
-    (λ shape found. updated shape found c.args.old c.args.new) c.in_ok-update.ensures.ok
-
-pub returns-clause-stays : goal.returns-clause-stays
-returns-clause-stays c =
-    stays_there c.args.self.now.phase c.args.self.now.position c.args.self.now.wants_reply
-    c.args.self.now.copies.items c.args.oid c.in_ok-place.place
-    c.index_mut.result.now c.update.new.self c.in_ok-place.ensures.ok c.index_mut.ensures.value c.update.ensures.stays
+pub returns : goal.returns
+returns c =
+    stages c.args.self.now _ c.args.oid c.in_ok-place.place c.index_mut.result.now c.update.new.self
+    c.in_ok-place.ensures.ok c.index_mut.ensures.value refl
+    (λ shape found. updated shape found c.args.old c.args.new) c.update.result c.update.ensures
