@@ -65,7 +65,7 @@ fn serve_reader<
 }
 
 /// Does what the words ask.
-#[tactic(auto, using(script_server::proofs::Asking::asked_within))]
+#[tactic(auto, using(script_server::proofs::Invocations::asked_within))]
 fn answer_words<
     'a,
     S: AsStr,
