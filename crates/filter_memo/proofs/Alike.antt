@@ -98,7 +98,7 @@ truths_alike op false true false h = absurd cc
 equal_texts : (s u : List ℕ) → bytes_eq s u ≡ is_eq (slice_cmp nat_cmp u s)
 equal_texts s u =
     both_ways (bytes_eq s u) (bytes_eq u s) (λ h. (bytes_eq-Decides u s).1 (sym ((bytes_eq-Decides s u).0 h)))
-        (λ h. (bytes_eq-Decides s u).1 (sym ((bytes_eq-Decides u s).0 h)))
+    (λ h. (bytes_eq-Decides s u).1 (sym ((bytes_eq-Decides u s).0 h)))
     ∙ sym (is_eq-slice_cmp u s)
 
 texts_by : (op : Op) (s t u : List ℕ) → bytes_eq s u ≡ bytes_eq t u → compare_texts_of op s u ≡ compare_texts_of op t u

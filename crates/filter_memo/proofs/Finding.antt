@@ -25,8 +25,8 @@ pub found_is_bound : {A : _} (bounds : List (Value A)) (value : Value A) (consta
     → is_ok result ≡ true → has bounds constant ≡ true
 found_is_bound bounds value constant (Ok index) e within holds h =
     list_any_at (λ bound. eq_by_cmp datum_cmp (datum_view bound) (Known constant)) bounds index Null within
-        ((Equal-is _).1 (subst (λ datum. datum_cmp (datum_view (slice_index_or bounds index Null)) datum ≡ Equal) e
-            (holds Null)))
+    ((Equal-is _).1 (subst (λ datum. datum_cmp (datum_view (slice_index_or bounds index Null)) datum ≡ Equal) e
+    (holds Null)))
 found_is_bound bounds value constant (Err index) e within holds h = absurd cc
 
 -- the place of an element that passes a test

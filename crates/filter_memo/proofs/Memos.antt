@@ -37,8 +37,8 @@ module _ (one other : List Datum) where
       let v = term_value scale.term one in
       let w = term_value scale.term other in
       let said : said_of atom v ≡ said_of atom w =
-          atom_alike scale.bounds.items v w (sym at_one.kind ∙ at_other.kind)
-              (same_side scale.bounds.items sorted v w place at_one at_other) atom constants in
+      atom_alike scale.bounds.items v w (sym at_one.kind ∙ at_other.kind)
+      (same_side scale.bounds.items sorted v w place at_one at_other) atom constants in
       ap (λ t. said_of atom (term_value t one)) (sym term)
       ∙ (said ∙ ap (λ t. said_of atom (term_value t other)) term)
 
@@ -49,10 +49,10 @@ module _ (one other : List Datum) where
   atoms_say (scale ∷ scales) [] sorted at_one at_other atom h = absurd at_one
   atoms_say (scale ∷ scales) (place ∷ places) sorted at_one at_other atom h =
       by_test (same_term scale.term (term_of atom) && has_constants scale.bounds.items atom)
-          (λ here. let both = both_true _ _ here in
-          at_scale scale place (All-head sorted_scale scale scales sorted) at_one.0 at_other.0 atom both.0 both.1)
-          (λ no. let later : covers_atom scales atom ≡ true = rw no at h in
-          atoms_say scales places (All-tail sorted_scale scale scales sorted) at_one.1 at_other.1 atom later)
+      (λ here. let both = both_true _ _ here in
+      at_scale scale place (All-head sorted_scale scale scales sorted) at_one.0 at_other.0 atom both.0 both.1)
+      (λ no. let later : covers_atom scales atom ≡ true = rw no at h in
+      atoms_say scales places (All-tail sorted_scale scale scales sorted) at_one.1 at_other.1 atom later)
 
   module _ (scales : List Scale) (places : List Place) (sorted : AreSorted scales) (at_one : ArePlaces scales one places)
       (at_other : ArePlaces scales other places) where
@@ -101,5 +101,5 @@ pub kept_text : (memo : Memo) (text_of : List Datum → List ℕ) (row : List Da
 kept_text memo text_of row slot kept is found at =
     let within : slot < length memo.slots.items = slice_get_within memo.slots.items slot (Some kept) found in
     let held : get_or memo.slots.items slot None ≡ Some kept =
-        get_or_from_slice_get memo.slots.items slot (Some kept) None found in
+    get_or_from_slice_get memo.slots.items slot (Some kept) None found in
     (subst (λ it. IsKept memo.scales.items text_of it) held (is.kept slot None within)) row at

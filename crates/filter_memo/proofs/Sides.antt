@@ -33,7 +33,7 @@ module _ {A : _} (bounds : List (Value A)) (sorted : IsSorted value_cmp bounds) 
       → IsBinarySearchResult (λ bound. datum_cmp (datum_view bound) w) bounds (searched is_bound index)
       → (place : ℕ) → place < length bounds
       → datum_cmp (datum_view (slice_index_or bounds place Null)) v
-          ≡ datum_cmp (datum_view (slice_index_or bounds place Null)) w
+      ≡ datum_cmp (datum_view (slice_index_or bounds place Null)) w
   side_at true index at_v at_w place within =
       let same : v ≡ w = sym (tied _ _ (at_v Null)) ∙ tied _ _ (at_w Null) in
       ap (λ datum. datum_cmp (datum_view (slice_index_or bounds place Null)) datum) same
@@ -51,6 +51,6 @@ module _ {A : _} (bounds : List (Value A)) (sorted : IsSorted value_cmp bounds) 
   same_side place at_v at_w constant h =
       let bound = index_of (λ (value : Value A). eq_by_cmp datum_cmp (datum_view value) (Known constant)) bounds h in
       let is : datum_view (slice_index_or bounds bound.0 Null) ≡ Known constant =
-          tied _ _ ((Equal-is _).0 (bound.1.1 Null)) in
+      tied _ _ ((Equal-is _).0 (bound.1.1 Null)) in
       subst (λ datum. datum_cmp datum v ≡ datum_cmp datum w) is
-          (side_at place.is_bound place.index at_v.found at_w.found bound.0 bound.1.0)
+      (side_at place.is_bound place.index at_v.found at_w.found bound.0 bound.1.0)

@@ -32,11 +32,7 @@ fn add_bound(bounds: &mut Vec<Value>, value: Value) -> Result<(), AllocError> {
 }
 
 /// Adds the constants of an atom.
-fn add_constants(
-    alloc: Global,
-    bounds: &mut Vec<Value>,
-    atom: &Atom,
-) -> Result<(), AllocError> {
+fn add_constants(alloc: Global, bounds: &mut Vec<Value>, atom: &Atom) -> Result<(), AllocError> {
     match atom {
         Atom::IsNull(_) => Ok(()),
         Atom::Cmp(_, _, literal) | Atom::Distinct(_, literal) => {

@@ -57,7 +57,11 @@ fn number_of(place: &Place) -> usize {
     if place.kind == 0 {
         return 0;
     }
-    place.index.wrapping_mul(2).wrapping_add(1).wrapping_add(usize::from(place.is_bound))
+    place
+        .index
+        .wrapping_mul(2)
+        .wrapping_add(1)
+        .wrapping_add(usize::from(place.is_bound))
 }
 
 /// How many slots there are: one for each list of places, if these are not too many.
@@ -73,9 +77,15 @@ fn slot_count(scales: &[Scale]) -> usize {
 fn slot_of(scales: &[Scale], places: &[Place], count: usize) -> usize {
     let mut number: usize = 0;
     for (scale, place) in scales.iter().zip(places) {
-        number = number.wrapping_mul(width(scale)).wrapping_add(number_of(place));
+        number = number
+            .wrapping_mul(width(scale))
+            .wrapping_add(number_of(place));
     }
-    if number < count { number } else { number % count.max(1) }
+    if number < count {
+        number
+    } else {
+        number % count.max(1)
+    }
 }
 
 /// So many slots with nothing in them.

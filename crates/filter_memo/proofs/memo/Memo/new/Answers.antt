@@ -10,5 +10,5 @@ use Rattle.filter_memo.proofs.memo.Memo.new.Goals as goal
 pub returns : goal.returns
 returns c = λ text_of follows. fresh _ (filters_view c.args.filters.now) text_of c.in_ok-scales.ensures
     (λ used. subst (λ (scales : List Scale). list_all (covers scales) (filters_view c.args.filters.now) ≡ true)
-        c.deref.ensures.value (c.in_ok-is_used.ensures used))
+    c.deref.ensures.value (c.in_ok-is_used.ensures used))
     c.in_ok-empty_slots.ensures follows
