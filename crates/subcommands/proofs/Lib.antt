@@ -1,3 +1,4 @@
+pub mod Answering
 pub mod BadLines
 pub mod Digits
 pub mod Evaluating

@@ -4,5 +4,6 @@ pub mod Carriers
 pub mod Evaluation
 pub mod Hexadecimal
 pub mod Inserts
+pub mod Memos
 pub mod Printing
 pub mod Tables

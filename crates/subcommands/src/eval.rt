@@ -4,7 +4,8 @@ ghost use Rattle.std.specs.Prelude.{◌≡◌, [], IfOk, OnOk};
 ghost use Rattle.std.specs.String.{string_bytes};
 ghost use Rattle.filter_tree.specs.Valid.{IsValid};
 ghost use Rattle.subcommands.specs.Eval.BadRows.{is_answered};
-ghost use Rattle.subcommands.specs.Eval.Printing.{IsLineIn, WritesRowsIn, told_in};
+ghost use Rattle.subcommands.specs.Eval.Memos.{IsLineMemo};
+ghost use Rattle.subcommands.specs.Eval.Printing.{IsLineIn, WritesRowsIn, carriers_in, told_in};
 ghost use Rattle.program_parts.specs.Parts.{lines_of};
 ghost use Rattle.subcommands.specs.Requests.{EndsRequest};
 ghost use Rattle.subcommands.specs.declared.arguments.Request.TheVariants.{Eval};
@@ -14,13 +15,14 @@ pub mod bad_row;
 pub mod carriers;
 pub mod hexadecimal;
 pub mod inserts;
+pub mod memory;
 pub mod tables;
 
 use crate::arguments::RowOutput;
-use crate::eval::answers::push_answers;
 use crate::eval::bad_row::table_row;
 use crate::eval::carriers::carriers_of;
-use crate::eval::inserts::{Spelling, push_insert};
+use crate::eval::inserts::push_insert;
+use crate::eval::memory::RowMemory;
 use crate::eval::tables::{CatalogTable, find_table};
 use filter_tree::Row;
 use program_parts::{Failure, InputFault, Lines, Status, two_parts, write_line};
@@ -32,18 +34,20 @@ use std::mem;
 /// Writes what is wanted of a row on an empty line.
 fn push_told(
     line: &mut String,
-    spelling: &mut Spelling,
+    memory: &mut RowMemory,
     carried: CatalogTable<'_>,
     wanted: RowOutput,
     row: &Row,
 ) -> Result<(), AllocError>
     requires empty { string_bytes line.old ≡ [] }
     requires fits { IsValid carried.table.now.columns row.now }
-    ensures { OnOk result (string_bytes line.new ≡ told_in wanted carried.entry row.now) }
+    requires memo { IsLineMemo (carriers_in carried) memory.old.answers }
+    ensures line { OnOk result (string_bytes line.new ≡ told_in wanted carried.entry row.now) }
+    ensures memo { OnOk result (IsLineMemo (carriers_in carried.entry) memory.new.answers) }
 {
     match wanted {
-        RowOutput::Answers => push_answers(line, carried.carriers, row),
-        RowOutput::Insert => push_insert(line, spelling, carried, row),
+        RowOutput::Answers => memory.push_answers(line, carried.carriers, row),
+        RowOutput::Insert => push_insert(line, &mut memory.spelling, carried, row),
     }
 }
 
@@ -54,19 +58,21 @@ fn push_line(
     alloc: Global,
     before: &mut Row,
     line: &mut String,
-    spelling: &mut Spelling,
+    memory: &mut RowMemory,
     carried: CatalogTable<'_>,
     wanted: RowOutput,
     text: &str,
 ) -> Result<bool, AllocError>
-    requires { string_bytes line.old ≡ [] }
+    requires empty { string_bytes line.old ≡ [] }
+    requires memo { IsLineMemo (carriers_in carried) memory.old.answers }
     ensures answered { IfOk result (λ answered. answered ≡ is_answered carried.entry.table.now.columns text.now) }
     ensures line { OnOk result (IsLineIn wanted carried.entry text.now (string_bytes line.new)) }
+    ensures memo { OnOk result (IsLineMemo (carriers_in carried.entry) memory.new.answers) }
 {
     let used = mem::replace(before, Row::from_values(Vec::new(alloc)));
     match table_row(alloc, used, carried.table, text) {
         Ok(row) => {
-            push_told(line, spelling, carried, wanted, &row)?;
+            push_told(line, memory, carried, wanted, &row)?;
             *before = row;
             Ok(true)
         }
@@ -93,7 +99,7 @@ pub fn write_rows<'a, W: Write>(
 {
     let mut status = Status::Done;
     let mut line = String::new(alloc);
-    let mut spelling = Spelling::new(alloc);
+    let mut memory = RowMemory::new(alloc);
     let mut before = Row::from_values(Vec::new(alloc));
     for row in Lines::new(rows) {
         line.clear();
@@ -101,7 +107,7 @@ pub fn write_rows<'a, W: Write>(
             alloc,
             &mut before,
             &mut line,
-            &mut spelling,
+            &mut memory,
             carried,
             wanted,
             row,

@@ -1,0 +1,4 @@
+pub mod Alike
+pub mod Finding
+pub mod Memos
+pub mod Sides

@@ -1,0 +1,56 @@
+-- Values at one place have the same order to each bound.
+use Rattle.std.proofs.Common.{◌≡◌, ℕ, zero, ◌<◌, ◌≤◌, Bool, true, false, List, [], ◌∷◌, length, refl, sym, ap, subst, ◌∙◌, arith}
+use Rattle.std.specs.Prelude.{◌⊎◌, slice_index_or}
+use Rattle.std.proofs.Common.{inl, inr}
+use Rattle.std.specs.Cmp.{Equal-is}
+use Rattle.std.specs.List.Sorted.{IsSorted, IsBinarySearchResult}
+use Rattle.std.specs.Ordering.{eq_by_cmp}
+use Rattle.std.proofs.lemmas.Bool.{cases_lt}
+use Rattle.std.proofs.lemmas.List.Sorted.{searchable_from_sorted}
+use Rattle.std.specs.declared.cmp.Ordering.TheVariants.{Less, Equal, Greater}
+use Rattle.filter_tree.specs.Datum.{Constant, Datum, Known}
+use Rattle.filter_tree.specs.Order.{datum_cmp, row_cmp}
+use Rattle.filter_tree.specs.Values.{datum_view}
+use Rattle.filter_tree.specs.declared.value.Value.{Value}
+use Rattle.filter_tree.specs.declared.value.Value.TheVariants.{Null}
+use Rattle.filter_tree.proofs.OrderLemmas.{datum_total, row_tie}
+use Rattle.filter_memo.specs.Covering.{has}
+use Rattle.filter_memo.specs.Places.{value_cmp, searched, IsPlace}
+use Rattle.filter_memo.specs.declared.place.Place.{Place}
+use Rattle.filter_memo.proofs.Finding.{index_of}
+
+-- values that tie are the same
+tied : (v w : Datum) → datum_cmp v w ≡ Equal → v ≡ w
+tied v w e =
+    let rows : row_cmp (v ∷ []) (w ∷ []) ≡ Equal = rw e refl in
+    let same : (v ∷ []) ≡ (w ∷ []) = row_tie _ _ rows in
+    cc
+
+module _ {A : _} (bounds : List (Value A)) (sorted : IsSorted value_cmp bounds) (v w : Datum) where
+  -- of a bound both are on one side
+  side_at : (is_bound : Bool) (index : ℕ)
+      → IsBinarySearchResult (λ bound. datum_cmp (datum_view bound) v) bounds (searched is_bound index)
+      → IsBinarySearchResult (λ bound. datum_cmp (datum_view bound) w) bounds (searched is_bound index)
+      → (place : ℕ) → place < length bounds
+      → datum_cmp (datum_view (slice_index_or bounds place Null)) v
+      ≡ datum_cmp (datum_view (slice_index_or bounds place Null)) w
+  side_at true index at_v at_w place within =
+      let same : v ≡ w = sym (tied _ _ (at_v Null)) ∙ tied _ _ (at_w Null) in
+      ap (λ datum. datum_cmp (datum_view (slice_index_or bounds place Null)) datum) same
+  side_at false index at_v at_w place within =
+      let of_v = at_v (searchable_from_sorted datum_total (λ bound. datum_view bound) bounds v sorted) in
+      let of_w = at_w (searchable_from_sorted datum_total (λ bound. datum_view bound) bounds w sorted) in
+      elim (cases_lt place index) [
+        | inl below ↦ of_v.0 place Null (omega arith) below ∙ sym (of_w.0 place Null (omega arith) below)
+        | inr from ↦ of_v.1 place Null from within ∙ sym (of_w.1 place Null from within)
+      ]
+
+  pub same_side : (place : Place) → IsPlace bounds v place → IsPlace bounds w place
+      → (constant : Constant) → has bounds constant ≡ true
+      → datum_cmp (Known constant) v ≡ datum_cmp (Known constant) w
+  same_side place at_v at_w constant h =
+      let bound = index_of (λ (value : Value A). eq_by_cmp datum_cmp (datum_view value) (Known constant)) bounds h in
+      let is : datum_view (slice_index_or bounds bound.0 Null) ≡ Known constant =
+      tied _ _ ((Equal-is _).0 (bound.1.1 Null)) in
+      subst (λ datum. datum_cmp datum v ≡ datum_cmp datum w) is
+      (side_at place.is_bound place.index at_v.found at_w.found bound.0 bound.1.0)

@@ -1,0 +1,108 @@
+//! Whether scales have all that filters compare.
+
+ghost use Rattle.std.specs.Prelude.{◌≡◌, true, map, IfOk, IsTrue};
+ghost use Rattle.std.specs.List.{list_all};
+ghost use Rattle.filter_tree.specs.Datum.{Known, Number};
+ghost use Rattle.filter_tree.specs.Shape.{atom_view, expr_view};
+ghost use Rattle.filter_tree.specs.Values.{constant_view, datum_view};
+ghost use Rattle.filter_memo.specs.Covering as spec;
+ghost use Rattle.filter_memo.specs.Memos.{filters_view};
+
+use crate::bounds::value_of;
+use crate::scale::Scale;
+use filter_tree::{Atom, Filter, Literal, Value, same_term};
+use std::alloc::{AllocError, Global};
+
+/// A number as a value.
+fn number_value(number: i64) -> Value
+    ensures { datum_view result ≡ Known (Number number) }
+{
+    Value::Int(number)
+}
+
+fn has_number(bounds: &[Value], number: i64) -> bool
+    ensures { IsTrue result → spec.has bounds.now (Number number) ≡ true }
+{
+    let value = number_value(number);
+    bounds.binary_search(&value).is_ok()
+}
+
+fn has(alloc: Global, bounds: &[Value], literal: &Literal) -> Result<bool, AllocError>
+    ensures { IfOk result (λ it. IsTrue it → spec.has bounds.now (constant_view literal.now) ≡ true) }
+{
+    let value = value_of(alloc, literal)?;
+    Ok(bounds.binary_search(&value).is_ok())
+}
+
+fn has_each(alloc: Global, bounds: &[Value], literals: &[Literal]) -> Result<bool, AllocError>
+    ensures { IfOk result (λ all. IsTrue all → list_all (spec.has bounds.now) (map constant_view literals.now)
+        ≡ true) }
+{
+    match literals {
+        [] => Ok(true),
+        [literal, rest @ ..] => {
+            if !has(alloc, bounds, literal)? {
+                return Ok(false);
+            }
+            has_each(alloc, bounds, rest)
+        }
+    }
+}
+
+/// Whether the constants of the atom are bounds. A no may be wrong.
+fn has_constants(alloc: Global, bounds: &[Value], atom: &Atom) -> Result<bool, AllocError>
+    ensures { IfOk result (λ all. IsTrue all → spec.has_constants bounds.now (atom_view atom.now) ≡ true) }
+{
+    match atom {
+        Atom::IsNull(_) => Ok(true),
+        Atom::Cmp(_, _, literal) | Atom::Distinct(_, literal) => has(alloc, bounds, literal),
+        Atom::In(_, literals) => has_each(alloc, bounds, literals),
+        Atom::Between(_, low, high) => Ok(has_number(bounds, *low) && has_number(bounds, *high)),
+    }
+}
+
+fn covers_atom(alloc: Global, scales: &[Scale], atom: &Atom) -> Result<bool, AllocError>
+    ensures { IfOk result (λ it. IsTrue it → spec.covers_atom scales.now (atom_view atom.now) ≡ true) }
+{
+    match scales {
+        [] => Ok(false),
+        [scale, rest @ ..] => {
+            if same_term(scale.term, atom.term()) {
+                return has_constants(alloc, &scale.bounds, atom);
+            }
+            covers_atom(alloc, rest, atom)
+        }
+    }
+}
+
+/// Whether the filter compares terms of scales with bounds of them alone. A no may be wrong.
+fn covers(alloc: Global, scales: &[Scale], filter: &Filter) -> Result<bool, AllocError>
+    ensures { IfOk result (λ it. IsTrue it → spec.covers scales.now (expr_view filter.now) ≡ true) }
+{
+    match filter {
+        Filter::Const(_) => Ok(true),
+        Filter::Atom(atom) => covers_atom(alloc, scales, atom),
+        Filter::Not(part) | Filter::Is(_, part) => covers(alloc, scales, part),
+        Filter::And(left, right) | Filter::Or(left, right) => {
+            if !covers(alloc, scales, left)? {
+                return Ok(false);
+            }
+            covers(alloc, scales, right)
+        }
+    }
+}
+
+/// Whether each of the filters does. A no may be wrong. The only error is want of memory.
+pub fn covers_all(alloc: Global, scales: &[Scale], filters: &[&Filter]) -> Result<bool, AllocError>
+    ensures { IfOk result (λ all. IsTrue all → list_all (spec.covers scales.now) (filters_view filters.now) ≡ true) }
+{
+    match filters {
+        [] => Ok(true),
+        [filter, rest @ ..] => {
+            if !covers(alloc, scales, *filter)? {
+                return Ok(false);
+            }
+            covers_all(alloc, scales, rest)
+        }
+    }
+}

@@ -1,0 +1,61 @@
+//! Scales: a term of filters, and the constants that it is compared with.
+
+ghost use Rattle.std.specs.Prelude.{◌≡◌};
+ghost use Rattle.std.specs.List.Sorted.{IsSorted};
+ghost use Rattle.filter_tree.specs.Expr.{remainder_of, term_value};
+ghost use Rattle.filter_tree.specs.Values.{datum_view};
+ghost use Rattle.filter_memo.specs.Places.{AreSorted, IsPlace, value_cmp};
+
+use crate::place::{Place, place_of};
+use filter_tree::{Row, Term, Value};
+
+/// A term, and in ascending order the values that filters compare it with.
+#[derive(Drop)]
+pub struct Scale {
+    pub term: Term,
+    pub bounds: Vec<Value>,
+}
+
+fn sort_scale(scale: &mut Scale)
+    ensures { IsSorted value_cmp scale.new.bounds.items }
+{
+    scale.bounds.sort_unstable();
+}
+
+/// Puts the bounds of each scale in order.
+pub fn sort_bounds(scales: &mut [Scale])
+    ensures { AreSorted scales.new }
+{
+    for scale in scales.iter_mut() {
+        sort_scale(scale);
+    }
+}
+
+/// Where the remainder of the value lies. A remainder has the sign of the value.
+fn place_of_remainder(bounds: &[Value], value: &Value, divisor: i64) -> Place
+    ensures { IsPlace bounds.now (remainder_of (datum_view value.now) divisor) result }
+{
+    match value {
+        Value::Int(number) if divisor != 0 => {
+            place_of(bounds, &Value::Int(number.wrapping_rem(divisor)))
+        }
+        Value::Null | Value::Int(_) | Value::Bool(_) | Value::Text(_) => place_of(bounds, value),
+    }
+}
+
+/// Where the value of the scale's term lies in the row.
+pub fn place_in(scale: &Scale, row: &Row) -> Place
+    ensures { IsPlace scale.now.bounds.items (term_value scale.now.term row.now) result }
+{
+    let bounds = scale.bounds.as_slice();
+    match scale.term {
+        Term::Col(column) => match row.get(column) {
+            None => place_of(bounds, &Value::Null),
+            Some(value) => place_of(bounds, value),
+        },
+        Term::Mod(column, divisor) => match row.get(column) {
+            None => place_of(bounds, &Value::Null),
+            Some(value) => place_of_remainder(bounds, value, divisor),
+        },
+    }
+}
