@@ -16,12 +16,12 @@ use Rattle.replica_identity.specs.Parts.{part_in}
 use Rattle.replica_identity.specs.Plans.{PlanOf}
 use Rattle.replica_identity.specs.Setting.{fault_in, keys_in, setting_of}
 use Rattle.replica_identity.proofs.PartLemmas.{records_parts}
-use Rattle.table_changes.specs.Commands.{Insert, Update, Delete, CommandFault, NoTable, NoSuchRow, DuplicateKey, unless, unless_unfit, named, fault_of}
+use Rattle.table_changes.specs.Commands.{Command, Insert, Update, Delete, CommandFault, NoTable, NoSuchRow, DuplicateKey, unless, unless_unfit, named, fault_of}
 use Rattle.table_changes.specs.Records as r
 use Rattle.table_changes.specs.Tables.{Tables, SameTables, put, put_in, take_out, without, is_free_from, is_free}
 use Rattle.table_changes.proofs.CommandListLemmas.{free_from_alike}
 use Rattle.table_changes.proofs.TableLemmas.{some_is}
-use Rattle.tables_log.specs.Applying.{without_at, unless_taken, delete_fault, replace_fault, ReplacesRow, InsertsRow, DeletesRow, UpdatesRow, widths_of, HasMaps, Applies}
+use Rattle.tables_log.specs.Applying.{without_at, unless_taken, delete_fault, replace_fault, ReplacesRow, InsertsRow, DeletesRow, UpdatesRow, TriesRows, widths_of, HasMaps, Applies, Tries}
 use Rattle.tables_log.specs.Places.{Places, put_at, seen_at, seen_in, widths, values_in, PutsRow, KeepsRows, KeepsTables}
 use Rattle.tables_log.specs.Faults.{Finds}
 use Rattle.tables_log.specs.Sendable.{IsSendableRow, IsSendableChange}
@@ -307,7 +307,7 @@ module _ (checked : CheckedOf) (tables : List TableRows) (number : ℕ) (table :
   wide_here = has_width checked.catalog.tables tables number table (slice_index_or tables number missing_rows)
       maps.wide there here
 
-  pub keeps_here : KeepsRows (slice_index_or tables number missing_rows) new
+  keeps_here : KeepsRows (slice_index_or tables number missing_rows) new
       → KeepsTables tables (slice_set tables number new)
   keeps_here keeps = keeps_tables tables number (slice_index_or tables number missing_rows) new here keeps
 
@@ -318,76 +318,63 @@ module _ (checked : CheckedOf) (tables : List TableRows) (number : ℕ) (table :
   low : number < 64
   low = low_number checked.catalog.tables number table maps.narrow.few there
 
-  pub insert_finds : {V : Type 0} (result : Result V Refused) (row : List Datum)
-      → Finds (unless_unfit (row_fault table.columns row)
+  -- what holds of the call on this table's rows holds of all tables
+  tries_here : (command : Command) (refusal : Option CommandFault) (IsDone : r.ChangeOf → Type 0)
+      (result : Result Change Refused)
+      → fault_of (setting_in checked) (seen_in tables) command ≡ refusal
+      → ((change : r.ChangeOf) → refusal ≡ None → IsDone change
+          → Applies (setting_in checked) tables (slice_set tables number new) command change)
+      → TriesRows refusal (λ change. IsDone (change_view change)) (slice_index_or tables number missing_rows) result new
+      → Tries (setting_in checked) command tables result (slice_set tables number new)
+  tries_here command refusal IsDone result same applies tries = record {
+    fault = subst (λ fault. Finds fault result) (sym same) tries.fault;
+    keeps = keeps_here tries.keeps;
+    ok = if_ok result refusal (λ change. IsDone (change_view change))
+        (λ change. Applies (setting_in checked) tables (slice_set tables number new) command (change_view change))
+        tries.fault tries.ok (λ change none done. applies (change_view change) none done);
+  }
+
+  pub tries_insert : (result : Result Change Refused) (row : List Datum)
+      → TriesRows (unless_unfit (row_fault table.columns row)
           (unless_taken (keys_in (Some table)) (seen_at (slice_index_or tables number missing_rows).maps.items) row))
-          result
-      → Finds (fault_of (setting_in checked) (seen_in tables) (Insert number row)) result
-  insert_finds result row finds = subst (λ fault. Finds fault result)
-      (sym (insert_fault checked.catalog checked.plan (seen_in tables) number table there
-          (seen_at (slice_index_or tables number missing_rows).maps.items) before row)) finds
-
-  pub delete_finds : {V : Type 0} (result : Result V Refused) (key : List Datum)
-      → Finds (delete_fault (seen_at (slice_index_or tables number missing_rows).maps.items) key) result
-      → Finds (fault_of (setting_in checked) (seen_in tables) (Delete number key)) result
-  delete_finds result key finds = subst (λ fault. Finds fault result)
-      (sym (delete_fault_is checked.catalog checked.plan (seen_in tables) number table there
-          (seen_at (slice_index_or tables number missing_rows).maps.items) before key)) finds
-
-  pub update_finds : {V : Type 0} (result : Result V Refused) (key row : List Datum)
-      → Finds (unless_unfit (row_fault table.columns row)
-          (replace_fault (keys_in (Some table)) (seen_at (slice_index_or tables number missing_rows).maps.items) key
-          row)) result
-      → Finds (fault_of (setting_in checked) (seen_in tables) (Update number key row)) result
-  update_finds result key row finds = subst (λ fault. Finds fault result)
-      (sym (update_fault_is checked.catalog checked.plan (seen_in tables) number table there
-          (seen_at (slice_index_or tables number missing_rows).maps.items) before key row)) finds
-
-  pub insert_does : (result : Result Change Refused) (row : List Datum)
-      → Finds (unless_unfit (row_fault table.columns row)
-          (unless_taken (keys_in (Some table)) (seen_at (slice_index_or tables number missing_rows).maps.items) row))
-          result
-      → IfOk result (λ change. InsertsRow table number (slice_index_or tables number missing_rows) new row
-          (change_view change))
-      → IfOk result (λ change. Applies (setting_in checked) tables (slice_set tables number new) (Insert number row)
-          (change_view change))
-  insert_does result row finds ok = if_ok result
+          (λ change. InsertsRow table number (slice_index_or tables number missing_rows) new row (change_view change))
+          (slice_index_or tables number missing_rows) result new
+      → Tries (setting_in checked) (Insert number row) tables result (slice_set tables number new)
+  tries_insert result row = tries_here (Insert number row)
       (unless_unfit (row_fault table.columns row)
           (unless_taken (keys_in (Some table)) (seen_at (slice_index_or tables number missing_rows).maps.items) row))
-      (λ change. InsertsRow table number (slice_index_or tables number missing_rows) new row (change_view change))
-      (λ change. Applies (setting_in checked) tables (slice_set tables number new) (Insert number row)
-          (change_view change)) finds ok
+      (InsertsRow table number (slice_index_or tables number missing_rows) new row) result
+      (insert_fault checked.catalog checked.plan (seen_in tables) number table there
+          (seen_at (slice_index_or tables number missing_rows).maps.items) before row)
       (λ change none inserts. insert_applies checked.catalog checked.plan tables number table
-          (slice_index_or tables number missing_rows) new there here row (change_view change) low none inserts)
+          (slice_index_or tables number missing_rows) new there here row change low none inserts)
 
-  pub delete_does : (result : Result Change Refused) (key : List Datum)
-      → Finds (delete_fault (seen_at (slice_index_or tables number missing_rows).maps.items) key) result
-      → IfOk result (λ change. DeletesRow table number (slice_index_or tables number missing_rows) new key
-          (change_view change))
-      → IfOk result (λ change. Applies (setting_in checked) tables (slice_set tables number new) (Delete number key)
-          (change_view change))
-  delete_does result key finds ok =
-      if_ok result (delete_fault (seen_at (slice_index_or tables number missing_rows).maps.items) key)
-      (λ change. DeletesRow table number (slice_index_or tables number missing_rows) new key (change_view change))
-      (λ change. Applies (setting_in checked) tables (slice_set tables number new) (Delete number key)
-          (change_view change)) finds ok
+  pub tries_delete : (result : Result Change Refused) (key : List Datum)
+      → TriesRows (delete_fault (seen_at (slice_index_or tables number missing_rows).maps.items) key)
+          (λ change. DeletesRow table number (slice_index_or tables number missing_rows) new key (change_view change))
+          (slice_index_or tables number missing_rows) result new
+      → Tries (setting_in checked) (Delete number key) tables result (slice_set tables number new)
+  tries_delete result key = tries_here (Delete number key)
+      (delete_fault (seen_at (slice_index_or tables number missing_rows).maps.items) key)
+      (DeletesRow table number (slice_index_or tables number missing_rows) new key) result
+      (delete_fault_is checked.catalog checked.plan (seen_in tables) number table there
+          (seen_at (slice_index_or tables number missing_rows).maps.items) before key)
       (λ change none deletes. delete_applies checked.catalog checked.plan tables number table
-          (slice_index_or tables number missing_rows) new there here key (change_view change) low deletes)
+          (slice_index_or tables number missing_rows) new there here key change low deletes)
 
-  pub update_does : (result : Result Change Refused) (key row : List Datum)
-      → Finds (unless_unfit (row_fault table.columns row)
+  pub tries_update : (result : Result Change Refused) (key row : List Datum)
+      → TriesRows (unless_unfit (row_fault table.columns row)
           (replace_fault (keys_in (Some table)) (seen_at (slice_index_or tables number missing_rows).maps.items) key
-          row)) result
-      → IfOk result (λ change. UpdatesRow table number (slice_index_or tables number missing_rows) new key row
-          (change_view change))
-      → IfOk result (λ change. Applies (setting_in checked) tables (slice_set tables number new)
-          (Update number key row) (change_view change))
-  update_does result key row finds ok = if_ok result
+          row))
+          (λ change. UpdatesRow table number (slice_index_or tables number missing_rows) new key row
+          (change_view change)) (slice_index_or tables number missing_rows) result new
+      → Tries (setting_in checked) (Update number key row) tables result (slice_set tables number new)
+  tries_update result key row = tries_here (Update number key row)
       (unless_unfit (row_fault table.columns row)
           (replace_fault (keys_in (Some table)) (seen_at (slice_index_or tables number missing_rows).maps.items) key
           row))
-      (λ change. UpdatesRow table number (slice_index_or tables number missing_rows) new key row (change_view change))
-      (λ change. Applies (setting_in checked) tables (slice_set tables number new) (Update number key row)
-          (change_view change)) finds ok
+      (UpdatesRow table number (slice_index_or tables number missing_rows) new key row) result
+      (update_fault_is checked.catalog checked.plan (seen_in tables) number table there
+          (seen_at (slice_index_or tables number missing_rows).maps.items) before key row)
       (λ change none updates. update_applies checked.catalog checked.plan tables number table
-          (slice_index_or tables number missing_rows) new there here key row (change_view change) low none updates)
+          (slice_index_or tables number missing_rows) new there here key row change low none updates)

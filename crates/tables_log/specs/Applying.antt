@@ -1,18 +1,22 @@
 -- What commands do to the rows of one table and of all: PostgreSQL 15, Chapter 6 Data Manipulation, and SQL Commands,
 -- TRUNCATE.
-use Rattle.std.specs.Prelude.{◌≡◌, ℕ, ◌≤◌, List, map, length, slice_get, is_some, Option, Some, None}
+use Rattle.std.specs.Prelude.{◌≡◌, ℕ, ◌≤◌, List, map, length, slice_get, is_some, Option, Some, None, Result, IfOk}
 use Rattle.filter_tree.specs.Datum.{Datum}
 use Rattle.filter_tree.specs.declared.table.Table.{Table}
+use Rattle.replica_identity.specs.ChangeView.{change_view}
 use Rattle.replica_identity.specs.Parts.{part_in}
 use Rattle.replica_identity.specs.Setting.{keys_in}
+use Rattle.replica_identity.specs.declared.change.Change.{Change}
 use Rattle.table_changes.specs.Commands.{Command, CommandFault, NoSuchRow, DuplicateKey, unless, fault_of, applied}
 use Rattle.table_changes.specs.Keys.{UniqueKey}
 use Rattle.table_changes.specs.Records.{ChangeOf, change_of}
 use Rattle.table_changes.specs.Records as r
 use Rattle.table_changes.specs.Setting.{Setting}
 use Rattle.table_changes.specs.Tables.{SameTables, is_free_from}
-use Rattle.tables_log.specs.Places.{Places, put_at, values_in, seen_at, seen_in, widths, PutsRow}
+use Rattle.tables_log.specs.Faults.{Finds}
+use Rattle.tables_log.specs.Places.{Places, put_at, values_in, seen_at, seen_in, widths, KeepsRows, KeepsTables, PutsRow}
 use Rattle.tables_log.specs.Sendable.{IsSendableRow, IsSendableChange}
+use Rattle.tables_log.specs.declared.error.Refused.{Refused}
 use Rattle.tables_log.specs.declared.table_rows.TableRows.{TableRows}
 
 -- ---- one table, which is there
@@ -62,6 +66,23 @@ pub record UpdatesRow (table : Table) (number : ℕ) (old new : TableRows) (key 
   pub sendable : IsSendableRow row
   pub records : change ≡ r.Update number (part_in table gone (Some row)) row
 
+-- ---- what calls on one table answer and leave: they tell this fault, if there is one, and what was kept stays
+
+-- a value is answered only if it is such a one
+pub record TriesRows {V : Type 0} (refusal : Option CommandFault) (IsGood : V → Type 0) (old : TableRows)
+    (result : Result V Refused) (new : TableRows) : Type 0 where
+  pub fault : Finds refusal result
+  pub keeps : KeepsRows old new
+  pub ok : IfOk result IsGood
+
+-- the row of this primary key is answered, if this is done to the rows with it
+pub record TakesRow (refusal : Option CommandFault) (key : List Datum) (IsDone : List Datum → Type 0)
+    (old : TableRows) (result : Result (List Datum) Refused) (new : TableRows) : Type 0 where
+  pub fault : Finds refusal result
+  pub keeps : KeepsRows old new
+  pub found : IfOk result (λ gone. seen_at old.maps.items 0 key ≡ Some gone)
+  pub puts : IfOk result IsDone
+
 -- ---- all tables of a catalog
 
 -- at most 64 tables, of at most 100 columns
@@ -83,3 +104,10 @@ pub record Applies (setting : Setting) (old new : List TableRows) (command : Com
   pub leaves : SameTables (seen_in new) (applied setting (seen_in old) command)
   pub records : change ≡ change_of setting (seen_in old) command
   pub sendable : IsSendableChange change
+
+-- The command is applied, or an error is its fault or want of memory. What was kept stays.
+pub record Tries (setting : Setting) (command : Command) (old : List TableRows) (result : Result Change Refused)
+    (new : List TableRows) : Type 0 where
+  pub fault : Finds (fault_of setting (seen_in old) command) result
+  pub keeps : KeepsTables old new
+  pub ok : IfOk result (λ change. Applies setting old new command (change_view change))

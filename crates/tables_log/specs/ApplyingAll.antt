@@ -1,13 +1,13 @@
 -- What lists of commands do to the rows of tables, and how they are refused: PostgreSQL 15, Chapter 6 Data
 -- Manipulation, and 3.4. Transactions.
-use Rattle.std.specs.Prelude.{◌≡◌, ℕ, ◌<◌, List, All, Some, None}
+use Rattle.std.specs.Prelude.{◌≡◌, ℕ, ◌<◌, List, All, Some, None, Result, IfOk, IfErr}
 use Rattle.table_changes.specs.Commands.{Command, first_fault, all_applied}
 use Rattle.table_changes.specs.Records.{ChangeOf, record_of}
 use Rattle.table_changes.specs.Setting.{Setting}
 use Rattle.table_changes.specs.Tables.{Tables, SameTables}
 use Rattle.tables_log.specs.Commits.{CommitOf, commit_of}
 use Rattle.tables_log.specs.Faults.{fault_view}
-use Rattle.tables_log.specs.Places.{kept_in, seen_in, widths}
+use Rattle.tables_log.specs.Places.{kept_in, seen_in, widths, KeepsTables}
 use Rattle.tables_log.specs.Sendable.{IsSendableChange}
 use Rattle.tables_log.specs.declared.error.CommitError.{CommitError}
 use Rattle.tables_log.specs.declared.error.CommitError.TheVariants as e
@@ -55,3 +55,11 @@ StopsAt setting tables commands (e.At number fault) =
     first_fault setting tables 1 commands ≡ Some (number, fault_view fault)
 StopsAt setting tables commands e.OutOfMemory = Unit {0}
 StopsAt setting tables commands _ = ⊥
+
+-- A value is answered only if it is such a one, and an error is the first fault of the commands or want of memory. What
+-- was kept stays.
+pub record TriesAll {V : Type 0} (setting : Setting) (commands : List Command) (IsGood : V → Type 0)
+    (old : List TableRows) (result : Result V CommitError) (new : List TableRows) : Type 0 where
+  pub keeps : KeepsTables old new
+  pub ok : IfOk result IsGood
+  pub err : IfErr result (StopsAt setting (seen_in old) commands)

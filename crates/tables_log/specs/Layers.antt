@@ -1,9 +1,10 @@
 -- A map that is changed in place, beside what undoes the changes: what is seen in it, what was kept, and that each
 -- key that was changed has a place.
-use Rattle.std.specs.Prelude.{◌≡◌, Bool, true, List, [], ◌∷◌, map, is_some, Option, Some, None, if◌then◌else◌}
+use Rattle.std.specs.Prelude.{◌≡◌, Bool, true, List, [], ◌∷◌, map, is_some, Option, Some, None, Result, OnOk, OnErr, if◌then◌else◌}
 use Rattle.std.specs.BTreeMap.{BTreeMap, get, is_at}
 use Rattle.std.specs.List.{list_any}
 use Rattle.std.specs.Map.{lookup}
+use Rattle.std.specs.Ordering.{eq_by_cmp}
 use Rattle.std.specs.declared.cmp.Ordering.{Ordering}
 
 -- a place may be empty
@@ -59,3 +60,11 @@ kept_places cmp base made undo = map (λ entry. rewound cmp made undo entry.0 en
 -- each key whose place was changed has it still
 abbrev pub HasRoom : {K V : Type 0} → (K → K → Ordering) → BTreeMap K (Option V) → List (K × Option V) → Type 0
 HasRoom {K} cmp base undo = (key : K) → is_some (was_in cmp undo key) ≡ true → has_place cmp base key ≡ true
+
+-- what a call leaves that puts this value, or none, under a key: what was kept stays, and so does what was seen where
+-- memory is wanting
+pub record PutsUnder {K V E : Type 0} (cmp : K → K → Ordering) (key : K) (value : Option V)
+    (old_kept old_seen : K → Option V) (result : Result (Unit {0}) E) (new_kept new_seen : K → Option V) : Type 0 where
+  pub keeps : (other : K) → new_kept other ≡ old_kept other
+  pub puts : OnOk result ((other : K) → new_seen other ≡ (if eq_by_cmp cmp key other then value else old_seen other))
+  pub err : OnErr result ((other : K) → new_seen other ≡ old_seen other)

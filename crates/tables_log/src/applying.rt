@@ -6,11 +6,11 @@ ghost use Rattle.replica_identity.specs.ChangeView.{change_view};
 ghost use Rattle.replica_identity.specs.Setting.{keys_in};
 ghost use Rattle.shard_checker.specs.CheckedView.{checked_view, setting_in};
 ghost use Rattle.table_changes.specs.Commands as c;
-ghost use Rattle.table_changes.specs.Commands.{unless_unfit, fault_of};
-ghost use Rattle.tables_log.specs.Applying.{unless_taken, delete_fault, replace_fault, ReplacesRow, InsertsRow, UpdatesRow, DeletesRow, HasMaps, Applies};
+ghost use Rattle.table_changes.specs.Commands.{unless_unfit};
+ghost use Rattle.tables_log.specs.Applying.{unless_taken, delete_fault, replace_fault, ReplacesRow, InsertsRow, UpdatesRow, DeletesRow, TriesRows, TakesRow, HasMaps, Tries};
 ghost use Rattle.tables_log.specs.Faults.{Finds};
 ghost use Rattle.tables_log.specs.Sendable.{IsSendableRow};
-ghost use Rattle.tables_log.specs.Places.{seen_at, seen_in, values_in, KeepsRows, PutsRow, KeepsTables};
+ghost use Rattle.tables_log.specs.Places.{seen_at, values_in, PutsRow};
 
 use crate::error::{CommandFault, Refused};
 use crate::keys::key_values;
@@ -42,10 +42,9 @@ fn fitting(alloc: Global, table: &Table, row: &Row) -> Result<TableRow, Refused>
 /// Stages the row, unless another row has its value in one of the table's unique keys.
 fn place(alloc: Global, table: &Table, rows: &mut TableRows, row: &TableRow) -> Result<(), Refused>
     requires { length rows.old.maps.items ≡ length (keys_in (Some table.now)) }
-    ensures fault { Finds (unless_taken (keys_in (Some table.now)) (seen_at rows.old.maps.items) row.now) result }
-    ensures keeps { KeepsRows rows.old rows.new }
-    ensures puts { OnOk result (PutsRow rows.old rows.new (values_in (keys_in (Some table.now)) row.now)
-        (Some row.now)) }
+    ensures { TriesRows (unless_taken (keys_in (Some table.now)) (seen_at rows.old.maps.items) row.now)
+        (λ _. PutsRow rows.old rows.new (values_in (keys_in (Some table.now)) row.now) (Some row.now))
+        rows.old result rows.new }
 {
     let values = key_values(alloc, table, row.row())?;
     if !rows.is_free(&values) {
@@ -58,10 +57,9 @@ fn place(alloc: Global, table: &Table, rows: &mut TableRows, row: &TableRow) -> 
 /// Stages that the row of this primary key is gone, and gives that row.
 fn take(alloc: Global, table: &Table, rows: &mut TableRows, key: &Row) -> Result<TableRow, Refused>
     requires { length rows.old.maps.items ≡ length (keys_in (Some table.now)) }
-    ensures fault { Finds (delete_fault (seen_at rows.old.maps.items) key.now) result }
-    ensures keeps { KeepsRows rows.old rows.new }
-    ensures found { IfOk result (λ old. seen_at rows.old.maps.items 0 key.now ≡ Some old) }
-    ensures puts { IfOk result (λ old. PutsRow rows.old rows.new (values_in (keys_in (Some table.now)) old) None) }
+    ensures { TakesRow (delete_fault (seen_at rows.old.maps.items) key.now) key.now
+        (λ gone. PutsRow rows.old rows.new (values_in (keys_in (Some table.now)) gone) None)
+        rows.old result rows.new }
 {
     let Some(found) = rows.find(0, key) else {
         return Err(Refused::Fault(CommandFault::NoSuchRow));
@@ -81,11 +79,8 @@ fn replace(
     row: &TableRow,
 ) -> Result<TableRow, Refused>
     requires { length rows.old.maps.items ≡ length (keys_in (Some table.now)) }
-    ensures fault { Finds (replace_fault (keys_in (Some table.now))
-        (seen_at rows.old.maps.items) key.now row.now) result }
-    ensures keeps { KeepsRows rows.old rows.new }
-    ensures found { IfOk result (λ old. seen_at rows.old.maps.items 0 key.now ≡ Some old) }
-    ensures puts { IfOk result (λ old. ReplacesRow rows.old rows.new (keys_in (Some table.now)) old row.now) }
+    ensures { TakesRow (replace_fault (keys_in (Some table.now)) (seen_at rows.old.maps.items) key.now row.now) key.now
+        (λ gone. ReplacesRow rows.old rows.new (keys_in (Some table.now)) gone row.now) rows.old result rows.new }
 {
     let old = take(alloc, table, rows, key)?;
     place(alloc, table, rows, row)?;
@@ -114,10 +109,10 @@ fn insert_in(
 ) -> Result<Change, Refused>
     requires narrow { length table.now.columns ≤ 100 }
     requires wide { length rows.old.maps.items ≡ length (keys_in (Some table.now)) }
-    ensures fault { Finds (unless_unfit (row_fault table.now.columns row.now)
-        (unless_taken (keys_in (Some table.now)) (seen_at rows.old.maps.items) row.now)) result }
-    ensures keeps { KeepsRows rows.old rows.new }
-    ensures ok { IfOk result (λ change. InsertsRow table.now number rows.old rows.new row.now (change_view change)) }
+    ensures { TriesRows (unless_unfit (row_fault table.now.columns row.now)
+        (unless_taken (keys_in (Some table.now)) (seen_at rows.old.maps.items) row.now))
+        (λ change. InsertsRow table.now number rows.old rows.new row.now (change_view change))
+        rows.old result rows.new }
 {
     let new = fitting(alloc, table, row)?;
     place(alloc, table, rows, &new)?;
@@ -138,11 +133,10 @@ fn update_in(
 ) -> Result<Change, Refused>
     requires narrow { length table.now.columns ≤ 100 }
     requires wide { length rows.old.maps.items ≡ length (keys_in (Some table.now)) }
-    ensures fault { Finds (unless_unfit (row_fault table.now.columns row.now)
-        (replace_fault (keys_in (Some table.now)) (seen_at rows.old.maps.items) key.now row.now)) result }
-    ensures keeps { KeepsRows rows.old rows.new }
-    ensures ok { IfOk result (λ change. UpdatesRow table.now number rows.old rows.new key.now row.now
-        (change_view change)) }
+    ensures { TriesRows (unless_unfit (row_fault table.now.columns row.now)
+        (replace_fault (keys_in (Some table.now)) (seen_at rows.old.maps.items) key.now row.now))
+        (λ change. UpdatesRow table.now number rows.old rows.new key.now row.now (change_view change))
+        rows.old result rows.new }
 {
     let new = fitting(alloc, table, row)?;
     let gone = replace(alloc, table, rows, key, &new)?;
@@ -163,9 +157,9 @@ fn delete_in(
     key: &Row,
 ) -> Result<Change, Refused>
     requires { length rows.old.maps.items ≡ length (keys_in (Some table.now)) }
-    ensures fault { Finds (delete_fault (seen_at rows.old.maps.items) key.now) result }
-    ensures keeps { KeepsRows rows.old rows.new }
-    ensures ok { IfOk result (λ change. DeletesRow table.now number rows.old rows.new key.now (change_view change)) }
+    ensures { TriesRows (delete_fault (seen_at rows.old.maps.items) key.now)
+        (λ change. DeletesRow table.now number rows.old rows.new key.now (change_view change))
+        rows.old result rows.new }
 {
     let gone = take(alloc, table, rows, key)?;
     let part = old_part(alloc, table, gone.shared(), None)?;
@@ -184,12 +178,8 @@ pub(crate) fn insert(
     row: &Row,
 ) -> Result<Change, Refused>
     requires { HasMaps (checked_view checked.now).catalog.tables tables.old }
-    ensures fault { Finds (fault_of (setting_in (checked_view checked.now)) (seen_in tables.old)
-        (c.Insert number row.now)) result }
-    ensures keeps { KeepsTables tables.old tables.new }
-    ensures ok { IfOk result (λ change.
-        Applies (setting_in (checked_view checked.now)) tables.old tables.new (c.Insert number row.now)
-        (change_view change)) }
+    ensures { Tries (setting_in (checked_view checked.now)) (c.Insert number row.now)
+        tables.old result tables.new }
 {
     let table = known(checked, number)?;
     insert_in(alloc, table, number, &mut tables[number], row)
@@ -205,12 +195,8 @@ pub(crate) fn update(
     row: &Row,
 ) -> Result<Change, Refused>
     requires { HasMaps (checked_view checked.now).catalog.tables tables.old }
-    ensures fault { Finds (fault_of (setting_in (checked_view checked.now)) (seen_in tables.old)
-        (c.Update number key.now row.now)) result }
-    ensures keeps { KeepsTables tables.old tables.new }
-    ensures ok { IfOk result (λ change.
-        Applies (setting_in (checked_view checked.now)) tables.old tables.new (c.Update number key.now row.now)
-        (change_view change)) }
+    ensures { Tries (setting_in (checked_view checked.now)) (c.Update number key.now row.now)
+        tables.old result tables.new }
 {
     let table = known(checked, number)?;
     update_in(alloc, table, number, &mut tables[number], key, row)
@@ -225,12 +211,8 @@ pub(crate) fn delete(
     key: &Row,
 ) -> Result<Change, Refused>
     requires { HasMaps (checked_view checked.now).catalog.tables tables.old }
-    ensures fault { Finds (fault_of (setting_in (checked_view checked.now)) (seen_in tables.old)
-        (c.Delete number key.now)) result }
-    ensures keeps { KeepsTables tables.old tables.new }
-    ensures ok { IfOk result (λ change.
-        Applies (setting_in (checked_view checked.now)) tables.old tables.new (c.Delete number key.now)
-        (change_view change)) }
+    ensures { Tries (setting_in (checked_view checked.now)) (c.Delete number key.now)
+        tables.old result tables.new }
 {
     let table = known(checked, number)?;
     delete_in(alloc, table, number, &mut tables[number], key)

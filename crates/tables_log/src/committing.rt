@@ -7,8 +7,8 @@ ghost use Rattle.shard_checker.specs.CheckedView.{checked_view, setting_in};
 ghost use Rattle.table_changes.specs.Commands.{command_view};
 ghost use Rattle.table_changes.specs.Tables.{SameTables, no_rows};
 ghost use Rattle.tables_log.specs.Applying.{HasMaps, widths_of};
-ghost use Rattle.tables_log.specs.ApplyingAll.{RefusesCount, StopsAt, StagesCommit, CommitsTables};
-ghost use Rattle.tables_log.specs.Places.{kept_in, seen_in, widths, KeepsTables};
+ghost use Rattle.tables_log.specs.ApplyingAll.{RefusesCount, StopsAt, StagesCommit, CommitsTables, TriesAll};
+ghost use Rattle.tables_log.specs.Places.{kept_in, widths, KeepsTables};
 ghost use Rattle.tables_log.specs.Settling.{IsSettled};
 
 use crate::commit::Commit;
@@ -66,11 +66,9 @@ fn stage(
     requires few { length commands.now ≤ 1000 }
     requires first { 1 ≤ number }
     requires last { number ≤ 1000000000 }
-    ensures keeps { KeepsTables tables.old tables.new }
-    ensures ok { IfOk result (λ commit. StagesCommit (setting_in (checked_view checked.now)) tables.old tables.new
-        (map command_view commands.now) time number (arc_value commit)) }
-    ensures err { IfErr result (StopsAt (setting_in (checked_view checked.now)) (seen_in tables.old)
-        (map command_view commands.now)) }
+    ensures { TriesAll (setting_in (checked_view checked.now)) (map command_view commands.now)
+        (λ commit. StagesCommit (setting_in (checked_view checked.now)) tables.old tables.new
+        (map command_view commands.now) time number (arc_value commit)) tables.old result tables.new }
 {
     let changes = apply_all(alloc, checked, tables, commands)?;
     let commit = Commit::new(number, time, changes);

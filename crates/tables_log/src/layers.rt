@@ -261,11 +261,10 @@ fn take_alone<K: Ord + Drop, V: Drop>(fresh: &mut BTreeMap<K, Option<V>, Global>
 }
 
 impl<K: Ord + Drop, V: Drop> Layers<K, V> {
-    ghost use Rattle.std.specs.Prelude.{◌≡◌, None, Some, map, ◌++◌, IfOk, OnOk, OnErr, if◌then◌else◌};
+    ghost use Rattle.std.specs.Prelude.{◌≡◌, None, Some, map, ◌++◌, IfOk};
     ghost use Rattle.std.specs.BTreeMap.{IsOrdered};
     ghost use Rattle.std.specs.Option.{option_map};
-    ghost use Rattle.std.specs.Ordering.{eq_by_cmp};
-    ghost use Rattle.tables_log.specs.Layers.{kept_under, kept_places, shown, filled, HasRoom};
+    ghost use Rattle.tables_log.specs.Layers.{kept_under, kept_places, shown, filled, HasRoom, PutsUnder};
 
     /// A map without any key.
     pub(crate) fn new(alloc: Global) -> Layers<K, V>
@@ -323,13 +322,11 @@ impl<K: Ord + Drop, V: Drop> Layers<K, V> {
     /// what is seen stays too.
     pub(crate) fn put(&mut self, key: K, copy: K, value: V) -> Result<(), AllocError>
         requires { copy ≡ key }
-        ensures keeps { (other : K) → kept_under K.cmp self.new.base self.new.made.items self.new.undo.items other
-            ≡ kept_under K.cmp self.old.base self.old.made.items self.old.undo.items other }
-        ensures puts { OnOk result ((other : K) → shown K.cmp self.new.base self.new.fresh self.new.emptied other
-            ≡ (if eq_by_cmp K.cmp key other then Some value
-            else shown K.cmp self.old.base self.old.fresh self.old.emptied other)) }
-        ensures err { OnErr result ((other : K) → shown K.cmp self.new.base self.new.fresh self.new.emptied other
-            ≡ shown K.cmp self.old.base self.old.fresh self.old.emptied other) }
+        ensures { PutsUnder K.cmp key (Some value)
+            (kept_under K.cmp self.old.base self.old.made.items self.old.undo.items)
+            (shown K.cmp self.old.base self.old.fresh self.old.emptied) result
+            (kept_under K.cmp self.new.base self.new.made.items self.new.undo.items)
+            (shown K.cmp self.new.base self.new.fresh self.new.emptied) }
     {
         if self.emptied {
             put_alone(&mut self.fresh, key, value)
@@ -347,13 +344,11 @@ impl<K: Ord + Drop, V: Drop> Layers<K, V> {
 
     /// Leaves nothing under the key. What is kept stays. The only error is want of memory; then what is seen stays too.
     pub(crate) fn take(&mut self, key: K) -> Result<(), AllocError>
-        ensures keeps { (other : K) → kept_under K.cmp self.new.base self.new.made.items self.new.undo.items other
-            ≡ kept_under K.cmp self.old.base self.old.made.items self.old.undo.items other }
-        ensures puts { OnOk result ((other : K) → shown K.cmp self.new.base self.new.fresh self.new.emptied other
-            ≡ (if eq_by_cmp K.cmp key other then None
-            else shown K.cmp self.old.base self.old.fresh self.old.emptied other)) }
-        ensures err { OnErr result ((other : K) → shown K.cmp self.new.base self.new.fresh self.new.emptied other
-            ≡ shown K.cmp self.old.base self.old.fresh self.old.emptied other) }
+        ensures { PutsUnder K.cmp key None
+            (kept_under K.cmp self.old.base self.old.made.items self.old.undo.items)
+            (shown K.cmp self.old.base self.old.fresh self.old.emptied) result
+            (kept_under K.cmp self.new.base self.new.made.items self.new.undo.items)
+            (shown K.cmp self.new.base self.new.fresh self.new.emptied) }
     {
         if self.emptied {
             take_alone(&mut self.fresh, &key);

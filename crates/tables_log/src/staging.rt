@@ -1,13 +1,12 @@
 //! Lists of commands on the rows of tables.
 
-ghost use Rattle.std.specs.Prelude.{◌≡◌, ◌≤◌, length, map, IfOk, IfErr};
+ghost use Rattle.std.specs.Prelude.{◌≡◌, ◌≤◌, length, map};
 ghost use Rattle.replica_identity.specs.ChangeView.{change_view};
 ghost use Rattle.shard_checker.specs.CheckedView.{checked_view, setting_in};
-ghost use Rattle.table_changes.specs.Commands.{command_view, fault_of};
-ghost use Rattle.tables_log.specs.Applying.{HasMaps, Applies};
-ghost use Rattle.tables_log.specs.Faults.{Finds};
-ghost use Rattle.tables_log.specs.Places.{seen_in, KeepsTables, DiscardsTables};
-ghost use Rattle.tables_log.specs.ApplyingAll.{AppliesAll, StopsAt, error_at};
+ghost use Rattle.table_changes.specs.Commands.{command_view};
+ghost use Rattle.tables_log.specs.Applying.{HasMaps, Tries};
+ghost use Rattle.tables_log.specs.Places.{DiscardsTables};
+ghost use Rattle.tables_log.specs.ApplyingAll.{AppliesAll, TriesAll, error_at};
 
 use crate::applying::{delete, insert, update};
 use crate::error::{CommitError, Refused};
@@ -26,11 +25,7 @@ fn apply(
     command: &Command,
 ) -> Result<Change, Refused>
     requires { HasMaps (checked_view checked.now).catalog.tables tables.old }
-    ensures fault { Finds (fault_of (setting_in (checked_view checked.now)) (seen_in tables.old)
-        (command_view command.now)) result }
-    ensures keeps { KeepsTables tables.old tables.new }
-    ensures ok { IfOk result (λ change. Applies
-        (setting_in (checked_view checked.now)) tables.old tables.new (command_view command.now) (change_view change)) }
+    ensures { Tries (setting_in (checked_view checked.now)) (command_view command.now) tables.old result tables.new }
 {
     match command {
         Command::Insert { table, row } => insert(alloc, checked, tables, *table, row),
@@ -60,12 +55,9 @@ pub(crate) fn apply_all(
 ) -> Result<Vec<Change>, CommitError>
     requires maps { HasMaps (checked_view checked.now).catalog.tables tables.old }
     requires few { length commands.now ≤ 1000 }
-    ensures keeps { KeepsTables tables.old tables.new }
-    ensures ok { IfOk result (λ changes. AppliesAll
-        (setting_in (checked_view checked.now)) tables.old tables.new (map command_view commands.now)
-        (map change_view changes.items)) }
-    ensures err { IfErr result (StopsAt (setting_in (checked_view checked.now)) (seen_in tables.old)
-        (map command_view commands.now)) }
+    ensures { TriesAll (setting_in (checked_view checked.now)) (map command_view commands.now)
+        (λ changes. AppliesAll (setting_in (checked_view checked.now)) tables.old tables.new
+        (map command_view commands.now) (map change_view changes.items)) tables.old result tables.new }
 {
     let mut changes = Vec::with_capacity(alloc, commands.len())?;
     for (index, command) in commands.iter().enumerate() {

@@ -2,13 +2,11 @@
 
 ghost use Rattle.std.specs.Prelude.{◌≡◌, nat_eq, map, IfOk};
 ghost use Rattle.filter_tree.specs.Lists.{distinct};
-ghost use Rattle.replica_identity.specs.ChangeView.{change_view};
 ghost use Rattle.shard_checker.specs.CheckedView.{checked_view, setting_in};
 ghost use Rattle.table_changes.specs.Commands as c;
-ghost use Rattle.table_changes.specs.Commands.{fault_of, all_known};
+ghost use Rattle.table_changes.specs.Commands.{all_known};
 ghost use Rattle.table_changes.specs.Tables.{SameTables, emptied};
-ghost use Rattle.tables_log.specs.Applying.{HasMaps, Applies};
-ghost use Rattle.tables_log.specs.Faults.{Finds};
+ghost use Rattle.tables_log.specs.Applying.{HasMaps, Tries};
 ghost use Rattle.tables_log.specs.Places.{seen_in, KeepsTables, EmptiesTable};
 
 use crate::error::{CommandFault, Refused};
@@ -73,12 +71,7 @@ pub(crate) fn truncate(
     numbers: &[usize],
 ) -> Result<Change, Refused>
     requires { HasMaps (checked_view checked.now).catalog.tables tables.old }
-    ensures fault { Finds (fault_of (setting_in (checked_view checked.now)) (seen_in tables.old)
-        (c.Truncate numbers.now)) result }
-    ensures keeps { KeepsTables tables.old tables.new }
-    ensures ok { IfOk result (λ change.
-        Applies (setting_in (checked_view checked.now)) tables.old tables.new (c.Truncate numbers.now)
-        (change_view change)) }
+    ensures { Tries (setting_in (checked_view checked.now)) (c.Truncate numbers.now) tables.old result tables.new }
 {
     if !are_known(checked, numbers) {
         return Err(Refused::Fault(CommandFault::NoTable));

@@ -1,5 +1,5 @@
 use Rattle.shard_checker.specs.CheckedView.{checked_view}
-use Rattle.tables_log.proofs.CommandLemmas.{wide_here, keeps_here, insert_finds, insert_does}
+use Rattle.tables_log.proofs.CommandLemmas.{wide_here, tries_insert}
 use Rattle.tables_log.proofs.applying.insert.Goals as goal
 
 pub insert_in-requires-clause-wide : goal.insert_in-requires-clause-wide
@@ -8,22 +8,9 @@ insert_in-requires-clause-wide c =
         c.index-tables-number.result
     c.index-tables-number.result c.requires c.in_ok-table.ensures.known
 
-pub returns-clause-fault : goal.returns-clause-fault
-returns-clause-fault c =
-    insert_finds (checked_view c.args.checked.now) c.args.tables.now c.args.number c.in_ok-table.table.now
+pub returns : goal.returns
+returns c =
+    tries_insert (checked_view c.args.checked.now) c.args.tables.now c.args.number c.in_ok-table.table.now
         c.index-tables-number.result
     c.insert_in.new.rows c.requires c.in_ok-table.ensures.known c.insert_in.result c.args.row.now
-        c.insert_in.ensures.fault
-
-pub returns-clause-keeps : goal.returns-clause-keeps
-returns-clause-keeps c =
-    keeps_here (checked_view c.args.checked.now) c.args.tables.now c.args.number c.in_ok-table.table.now
-        c.index-tables-number.result
-    c.insert_in.new.rows c.requires c.in_ok-table.ensures.known c.insert_in.ensures.keeps
-
-pub returns-clause-ok : goal.returns-clause-ok
-returns-clause-ok c =
-    insert_does (checked_view c.args.checked.now) c.args.tables.now c.args.number c.in_ok-table.table.now
-        c.index-tables-number.result
-    c.insert_in.new.rows c.requires c.in_ok-table.ensures.known c.insert_in.result c.args.row.now
-        c.insert_in.ensures.fault c.insert_in.ensures.ok
+        c.insert_in.ensures

@@ -26,29 +26,31 @@ loop-index-preserved c =
     ∙ ap (λ one. one ∷ drop (c.loop-index.index + 1) c.args.commands.now) (sym c.index-commands-index.is))
         c.loop-index.invariant))
 
-pub returns-in-Err-clause-err : goal.returns-in-Err-clause-err
-returns-in-Err-clause-err c =
-    subst (StopsAt (setting_in (checked_view c.args.checked.now)) (seen_in c.args.tables.now)
-        (map command_view c.args.commands.now)) (sym c.refused_at.ensures)
-    (stops_at (setting_in (checked_view c.args.checked.now)) c.loop-index.tables c.args.tables.now
-        (map change_view c.loop-index.changes.items) (c.loop-index.index + 1)
-    (command_view c.index-commands-index.result)
-        (map command_view (drop (c.loop-index.index + 1) c.args.commands.now)) (map command_view c.args.commands.now)
-        c.in-Err.refused c.in-Err.ensures.fault
-    (subst (λ left. SoFar (setting_in (checked_view c.args.checked.now)) c.loop-index.tables c.args.tables.now
-        (map change_view c.loop-index.changes.items) (c.loop-index.index + 1)
-    (map command_view left) (map command_view c.args.commands.now))
-    (drop_next c.args.commands.now c.loop-index.index c.index-commands-index.result (omega arith)
-    ∙ ap (λ one. one ∷ drop (c.loop-index.index + 1) c.args.commands.now) (sym c.index-commands-index.is))
-        c.loop-index.invariant))
+pub returns-in-Err : goal.returns-in-Err
+returns-in-Err c = record {
+  keeps = keeps_both c.args.tables.now c.loop-index.tables c.apply.new.tables c.loop-index.invariant.keeps
+      c.apply.ensures.keeps;
+  ok = tt;
+  err = subst (StopsAt (setting_in (checked_view c.args.checked.now)) (seen_in c.args.tables.now)
+      (map command_view c.args.commands.now)) (sym c.refused_at.ensures)
+      (stops_at (setting_in (checked_view c.args.checked.now)) c.loop-index.tables c.args.tables.now
+          (map change_view c.loop-index.changes.items) (c.loop-index.index + 1)
+      (command_view c.index-commands-index.result)
+          (map command_view (drop (c.loop-index.index + 1) c.args.commands.now))
+          (map command_view c.args.commands.now) c.in-Err.refused c.in-Err.ensures.fault
+      (subst (λ left. SoFar (setting_in (checked_view c.args.checked.now)) c.loop-index.tables c.args.tables.now
+          (map change_view c.loop-index.changes.items) (c.loop-index.index + 1)
+      (map command_view left) (map command_view c.args.commands.now))
+      (drop_next c.args.commands.now c.loop-index.index c.index-commands-index.result (omega arith)
+      ∙ ap (λ one. one ∷ drop (c.loop-index.index + 1) c.args.commands.now) (sym c.index-commands-index.is))
+          c.loop-index.invariant));
+}
 
-pub returns-in-Err-clause-keeps : goal.returns-in-Err-clause-keeps
-returns-in-Err-clause-keeps c =
-    keeps_both c.args.tables.now c.loop-index.tables c.apply.new.tables c.loop-index.invariant.keeps
-    c.apply.ensures.keeps
-
-pub returns-clause-ok : goal.returns-clause-ok
-returns-clause-ok c =
-    applied_to_end (setting_in (checked_view c.args.checked.now)) c.loop-index.tables c.args.tables.now
-        (map change_view c.loop-index.changes.items) (c.loop-index.index + 1) c.loop-index.index
-    c.args.commands.now (omega arith) c.loop-index.invariant
+pub returns : goal.returns
+returns c = record {
+  keeps = c.loop-index.invariant.keeps;
+  ok = applied_to_end (setting_in (checked_view c.args.checked.now)) c.loop-index.tables c.args.tables.now
+      (map change_view c.loop-index.changes.items) (c.loop-index.index + 1) c.loop-index.index
+      c.args.commands.now (omega arith) c.loop-index.invariant;
+  err = tt;
+}
