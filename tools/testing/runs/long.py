@@ -1,6 +1,6 @@
-"""Long inputs, whose runs have to end soon: many commits, many rows of a table, many rows that are read, many commits of
-many tables, and many leaves of a certificate below many lists. Runs of many steps and of many nodes are in most.py and
-limits.py."""
+"""Long inputs, whose runs have to end soon: many commits, many rows of a table, many rows that are read, many commits
+of many tables, and many leaves of a certificate below many lists. Runs of many steps and of many nodes are in most.py
+and limits.py."""
 
 from collections.abc import Iterator
 
@@ -60,9 +60,10 @@ def reading() -> Case:
 
 
 def below_lists() -> Case:
-    """A certificate that finds each list false, and then splits by atoms that tell nothing more: 797,314 nodes, of which
-    531,441 say that no remainder is left."""
-    lists = ["n % 2500 IN (" + ", ".join(str(-2500 + ENTRIES * at + more) for more in range(ENTRIES)) + ")" for at in range(LISTS)]
+    """A certificate that finds each list false, and then splits by atoms that tell nothing more: 797,314 nodes, of
+    which 531,441 say that no remainder is left."""
+    starts = range(-ENTRIES * LISTS // 2, ENTRIES * LISTS // 2, ENTRIES)
+    lists = [f"n % 2500 IN ({', '.join(map(str, range(start, start + ENTRIES)))})" for start in starts]
     others = " OR ".join(f"n = {at}" for at in range(FURTHER))
     catalog = (
         "CREATE TABLE t (n bigint PRIMARY KEY);\n"
