@@ -1,7 +1,7 @@
 //! A subscriber and its connection.
 
 ghost use Rattle.std.specs.Prelude.{◌≡◌};
-ghost use Rattle.shard_world.specs.Connections.{front_of};
+ghost use Rattle.shard_world.specs.Connections.{answer_of, front_of};
 ghost use Rattle.shard_world.specs.PeerCalls.{LosesIfThere};
 
 use crate::answer::Answer;
@@ -23,6 +23,18 @@ fn front(bytes: &[u8], count: usize) -> &[u8]
         &bytes[..count]
     } else {
         bytes
+    }
+}
+
+/// What is answered where the next commit was to be taken up.
+fn answer_of(taken: Taken) -> Answer
+    ensures { result ≡ answer_of taken }
+{
+    match taken {
+        Taken::NotStarted => Answer::NotStarted,
+        Taken::Idle => Answer::Idle,
+        Taken::Skipped(number) => Answer::Skipped(number),
+        Taken::Sent(number) => Answer::Sent(number),
     }
 }
 
@@ -94,12 +106,8 @@ impl Peer {
         let Some(link) = &mut self.link else {
             return Ok(Answer::NotOpen);
         };
-        Ok(match link.take(book, now)? {
-            Taken::NotStarted => Answer::NotStarted,
-            Taken::Idle => Answer::Idle,
-            Taken::Skipped(number) => Answer::Skipped(number),
-            Taken::Sent(number) => Answer::Sent(number),
-        })
+        let taken = link.take(book, now)?;
+        Ok(answer_of(taken))
     }
 
     /// The publisher says a keepalive.
