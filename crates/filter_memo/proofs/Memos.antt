@@ -54,7 +54,8 @@ module _ (one other : List Datum) where
       (λ no. let later : covers_atom scales atom ≡ true = rw no at h in
       atoms_say scales places (All-tail sorted_scale scale scales sorted) at_one.1 at_other.1 atom later)
 
-  module _ (scales : List Scale) (places : List Place) (sorted : AreSorted scales) (at_one : ArePlaces scales one places)
+  module _ (scales : List Scale) (places : List Place) (sorted : AreSorted scales)
+      (at_one : ArePlaces scales one places)
       (at_other : ArePlaces scales other places) where
     filters_say : (filter : Expr) → covers scales filter ≡ true → meaning filter one ≡ meaning filter other
     filters_say (Const known) h = refl
@@ -76,7 +77,8 @@ module _ (one other : List Datum) where
     all_say [] h = All-nil (λ it. meaning it one ≡ meaning it other)
     all_say (filter ∷ filters) h =
         let both = both_true (covers scales filter) (list_all (covers scales) filters) h in
-        All-cons (λ it. meaning it one ≡ meaning it other) filter filters (filters_say filter both.0) (all_say filters both.1)
+        All-cons (λ it. meaning it one ≡ meaning it other) filter filters (filters_say filter both.0)
+        (all_say filters both.1)
 
 settled : (scales : List Scale) (filters : List Expr) (text_of : List Datum → List ℕ) → AreSorted scales
     → list_all (covers scales) filters ≡ true → Follows filters text_of → IsSettled scales text_of

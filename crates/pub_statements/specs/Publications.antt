@@ -39,9 +39,11 @@ published (Some listed) = listed
 -- the draft with one more publication
 abbrev pub with_publication : {S : Type 0} → DraftOf S → PlacedName → CoverageOf S → Given → DraftOf S
 with_publication draft called coverage given =
-    record draft { publications =
-    draft.publications ++ record { name = called.text; publishes = published given.publishes; coverage = coverage }
-    ∷ [] }
+    record draft {
+      publications =
+          draft.publications
+          ++ record { name = called.text; publishes = published given.publishes; coverage = coverage } ∷ [];
+    }
 
 module _ {S : Type 0} (forms : Forms S) where
   unfoldable pub listed_objects : DraftOf S → Rule (CoverageOf S)

@@ -34,59 +34,60 @@ abbrev Walked : Test → Subject → Tree → Type 0
 Walked is_empty subject tree =
     (more : List Node) (path : Path) (node : ℕ) → walk is_empty subject (preorder tree ++ more) (Some path) node
     ≡ first_of (refusal is_empty subject tree path node)
-        (walk is_empty subject more (onward path) (later node (nodes tree)))
+    (walk is_empty subject more (onward path) (later node (nodes tree)))
 
 regrouped : (t f u more : List Node) → (t ++ f ++ u) ++ more ≡ t ++ (f ++ (u ++ more))
 regrouped t f u more = simp append_assoc refl
 
 module _ (is_empty : Test) (subject : Subject) (t f u : Tree) (one : Walked is_empty subject t)
     (two : Walked is_empty subject f) (three : Walked is_empty subject u) (more : List Node) (path : Path) (node : ℕ)
-    where
-  branches_walked : (atom : AtomOf)
-      → walk is_empty subject ((preorder t ++ preorder f ++ preorder u) ++ more) (Some (path ++ (atom, True) ∷ []))
-      (later node 1)
-      ≡ first_of (split_refusal subject path node (Some atom)
-      (λ longer. refusal is_empty subject t longer (later node 1))
-      (λ longer. refusal is_empty subject f longer (later (later node 1) (nodes t)))
-      (λ longer. refusal is_empty subject u longer (later (later (later node 1) (nodes t)) (nodes f))))
-      (walk is_empty subject more (onward path) (later node (1 + nodes t + nodes f + nodes u)))
-  branches_walked atom =
-      let n1 = later node 1 in
-      let n2 = later n1 (nodes t) in
-      let n3 = later n2 (nodes f) in
-      let p1 = path ++ (atom, True) ∷ [] in
-      let p2 = path ++ (atom, False) ∷ [] in
-      let p3 = path ++ (atom, Null) ∷ [] in
-      let r1 = refusal is_empty subject t p1 n1 in
-      let r2 = refusal is_empty subject f p2 n2 in
-      let r3 = refusal is_empty subject u p3 n3 in
-      let last : later n3 (nodes u) ≡ later node (1 + nodes t + nodes f + nodes u) = omega arith in
-      ap (λ ns. walk is_empty subject ns (Some p1) n1) (regrouped (preorder t) (preorder f) (preorder u) more)
-      ∙ one (preorder f ++ (preorder u ++ more)) p1 n1
-      ∙ ap (λ p. first_of r1 (walk is_empty subject (preorder f ++ (preorder u ++ more)) p n2)) (onward_true path atom)
-      ∙ ap (first_of r1) (two (preorder u ++ more) p2 n2)
-      ∙ ap (λ p. first_of r1 (first_of r2 (walk is_empty subject (preorder u ++ more) p n3))) (onward_false path atom)
-      ∙ ap (λ x. first_of r1 (first_of r2 x)) (three more p3 n3)
-      ∙ ap (λ p. first_of r1 (first_of r2 (first_of r3 (walk is_empty subject more p (later n3 (nodes u))))))
-          (onward_null path atom)
-      ∙ ap (λ n. first_of r1 (first_of r2 (first_of r3 (walk is_empty subject more (onward path) n)))) last
-      ∙ three_first r1 r2 r3 (walk is_empty subject more (onward path) (later node (1 + nodes t + nodes f + nodes u)))
+  where
+    branches_walked : (atom : AtomOf)
+        → walk is_empty subject ((preorder t ++ preorder f ++ preorder u) ++ more) (Some (path ++ (atom, True) ∷ []))
+        (later node 1)
+        ≡ first_of (split_refusal subject path node (Some atom)
+        (λ longer. refusal is_empty subject t longer (later node 1))
+        (λ longer. refusal is_empty subject f longer (later (later node 1) (nodes t)))
+        (λ longer. refusal is_empty subject u longer (later (later (later node 1) (nodes t)) (nodes f))))
+        (walk is_empty subject more (onward path) (later node (1 + nodes t + nodes f + nodes u)))
+    branches_walked atom =
+        let n1 = later node 1 in
+        let n2 = later n1 (nodes t) in
+        let n3 = later n2 (nodes f) in
+        let p1 = path ++ (atom, True) ∷ [] in
+        let p2 = path ++ (atom, False) ∷ [] in
+        let p3 = path ++ (atom, Null) ∷ [] in
+        let r1 = refusal is_empty subject t p1 n1 in
+        let r2 = refusal is_empty subject f p2 n2 in
+        let r3 = refusal is_empty subject u p3 n3 in
+        let last : later n3 (nodes u) ≡ later node (1 + nodes t + nodes f + nodes u) = omega arith in
+        ap (λ ns. walk is_empty subject ns (Some p1) n1) (regrouped (preorder t) (preorder f) (preorder u) more)
+        ∙ one (preorder f ++ (preorder u ++ more)) p1 n1
+        ∙ ap (λ p. first_of r1 (walk is_empty subject (preorder f ++ (preorder u ++ more)) p n2))
+        (onward_true path atom)
+        ∙ ap (first_of r1) (two (preorder u ++ more) p2 n2)
+        ∙ ap (λ p. first_of r1 (first_of r2 (walk is_empty subject (preorder u ++ more) p n3))) (onward_false path atom)
+        ∙ ap (λ x. first_of r1 (first_of r2 x)) (three more p3 n3)
+        ∙ ap (λ p. first_of r1 (first_of r2 (first_of r3 (walk is_empty subject more p (later n3 (nodes u))))))
+        (onward_null path atom)
+        ∙ ap (λ n. first_of r1 (first_of r2 (first_of r3 (walk is_empty subject more (onward path) n)))) last
+        ∙ three_first r1 r2 r3 (walk is_empty subject more (onward path) (later node (1 + nodes t + nodes f + nodes u)))
 
-  split_walked : (found : Option AtomOf) → first_of (known_atom subject node found)
-      (walk is_empty subject ((preorder t ++ preorder f ++ preorder u) ++ more)
-          (option_map (λ atom. path ++ (atom, True) ∷ []) found) (later node 1))
-      ≡ first_of (split_refusal subject path node found
-      (λ longer. refusal is_empty subject t longer (later node 1))
-      (λ longer. refusal is_empty subject f longer (later (later node 1) (nodes t)))
-      (λ longer. refusal is_empty subject u longer (later (later (later node 1) (nodes t)) (nodes f))))
-      (walk is_empty subject more (onward path) (later node (1 + nodes t + nodes f + nodes u)))
-  split_walked None = refl
-  split_walked (Some atom) = branches_walked atom
+    split_walked : (found : Option AtomOf) → first_of (known_atom subject node found)
+        (walk is_empty subject ((preorder t ++ preorder f ++ preorder u) ++ more)
+        (option_map (λ atom. path ++ (atom, True) ∷ []) found) (later node 1))
+        ≡ first_of (split_refusal subject path node found
+        (λ longer. refusal is_empty subject t longer (later node 1))
+        (λ longer. refusal is_empty subject f longer (later (later node 1) (nodes t)))
+        (λ longer. refusal is_empty subject u longer (later (later (later node 1) (nodes t)) (nodes f))))
+        (walk is_empty subject more (onward path) (later node (1 + nodes t + nodes f + nodes u)))
+    split_walked None = refl
+    split_walked (Some atom) = branches_walked atom
 
 tree_walked : (is_empty : Test) (subject : Subject) (tree : Tree) → Walked is_empty subject tree
 tree_walked is_empty subject (Split index t f u) more path node =
     split_walked is_empty subject t f u (tree_walked is_empty subject t) (tree_walked is_empty subject f)
-        (tree_walked is_empty subject u) more path node (slice_get subject.atoms index)
+    (tree_walked is_empty subject u) more path node (slice_get subject.atoms index)
 tree_walked is_empty subject (Owner subscriber) more path node = refl
 tree_walked is_empty subject (Empty term) more path node = refl
 tree_walked is_empty subject (NeverNull index) more path node = refl
@@ -108,24 +109,24 @@ tree_by_nodes is_empty number table shares tree =
 tables_by_nodes : (is_empty : Test) (plan : PlanOf) (subscriptions : List Subscription) (number : ℕ)
     (tables : List Table) (trees : List Tree)
     → tables_refusal is_empty plan subscriptions number tables (map preorder trees)
-        ≡ certificates_refusal is_empty plan subscriptions number tables trees
+    ≡ certificates_refusal is_empty plan subscriptions number tables trees
 tables_by_nodes is_empty plan subscriptions number [] trees = refl
 tables_by_nodes is_empty plan subscriptions number (table ∷ tables) [] = refl
 tables_by_nodes is_empty plan subscriptions number (table ∷ tables) (tree ∷ trees) =
     ap (λ x. first_of x (tables_refusal is_empty plan subscriptions (number + 1) tables (map preorder trees)))
-        (tree_by_nodes is_empty number table (table_shares plan number 0 subscriptions) tree)
+    (tree_by_nodes is_empty number table (table_shares plan number 0 subscriptions) tree)
     ∙ ap (first_of (certificate_refusal is_empty plan subscriptions number table tree))
-        (tables_by_nodes is_empty plan subscriptions (number + 1) tables trees)
+    (tables_by_nodes is_empty plan subscriptions (number + 1) tables trees)
 
 pub sharding_by_nodes : (is_empty : Test) (catalog : CatalogOf Expr) (plan : PlanOf) (trees : List Tree)
     → refusal_by_nodes is_empty catalog plan (map preorder trees) ≡ sharding_refusal is_empty catalog plan trees
 sharding_by_nodes is_empty catalog plan trees =
     ap (λ n. first_of (catalog_refusal catalog)
-        (first_of (count_refusal (length catalog.tables) n)
-        (tables_refusal is_empty plan catalog.subscriptions 0 catalog.tables (map preorder trees))))
-        (length-map trees preorder)
+    (first_of (count_refusal (length catalog.tables) n)
+    (tables_refusal is_empty plan catalog.subscriptions 0 catalog.tables (map preorder trees))))
+    (length-map trees preorder)
     ∙ ap (λ x. first_of (catalog_refusal catalog) (first_of (count_refusal (length catalog.tables) (length trees)) x))
-        (tables_by_nodes is_empty plan catalog.subscriptions 0 catalog.tables trees)
+    (tables_by_nodes is_empty plan catalog.subscriptions 0 catalog.tables trees)
 
 each_tree : {A : _} (certs : List (Cert A))
     → map (λ cert. preorder (tree_view cert)) certs ≡ map preorder (map tree_view certs)
@@ -135,6 +136,6 @@ each_tree (cert ∷ certs) = ap (λ lists. preorder (tree_view cert) ∷ lists) 
 -- certificates as trees, given by their nodes
 pub certs_by_nodes : {A : _} (is_empty : Test) (catalog : CatalogOf Expr) (plan : PlanOf) (certs : List (Cert A))
     → refusal_by_nodes is_empty catalog plan (map (λ cert. preorder (tree_view cert)) certs)
-        ≡ sharding_refusal is_empty catalog plan (map tree_view certs)
+    ≡ sharding_refusal is_empty catalog plan (map tree_view certs)
 certs_by_nodes is_empty catalog plan certs = ap (refusal_by_nodes is_empty catalog plan) (each_tree certs)
     ∙ sharding_by_nodes is_empty catalog plan (map tree_view certs)
