@@ -38,11 +38,11 @@ COMMANDS = 1_000
 SOME_BLOCKS = 5
 SOME_BYTES = 4_000
 
-# The log keeps blocks of each commit: one for itself, and one for its list of changes. Of a row that comes it keeps one
-# for its list of values, and one for its text; of the key of a row that goes one for its list of values. The lists of
-# what undoes a commit keep the room of the largest one, which is some 60 bytes for each of its changes.
+# The log keeps blocks of each commit: one for itself, and one for its list of changes. Of a row that comes, and of the
+# key of a row that goes, it keeps one that is shared, and one for the list of values; and one for the row's text. The
+# lists of what undoes a commit keep the room of the largest one, which is some 60 bytes for each of its changes.
 COMMIT_BLOCKS = 2
-ROW_BLOCKS = 3
+ROW_BLOCKS = 5
 
 COUNTS = re.compile("([0-9]+) blocks, ([0-9]+) bytes")
 
@@ -175,6 +175,6 @@ def cases() -> Iterator[Kept]:
     yield Kept("10,000 refused commits", FIRST + refusals(range(100)), refusals(range(100, 100 + MANY)))
     full = Script([commit(insert(key)) for key in KEYS], ["refused LogFull"] * MANY)
     yield Kept("10,000 commits into a full log", FIRST, full, words=("--limit", "1"))
-    for name, lists, most in ("one by one", one_by_one(), 520), ("1,000 at once", all_at_once(), 388):
+    for name, lists, most in ("one by one", one_by_one(), 540), ("1,000 at once", all_at_once(), 408):
         blocks = COMMIT_BLOCKS * len(lists) + ROW_BLOCKS * MANY
         yield Kept(f"10,000 rows that come and go {name}", FIRST, commits(lists, 2), blocks, most * MANY)
